@@ -1,0 +1,71 @@
+-- What is read of a text that may still go on, and which fault a text has. These are this project's rules.
+use Rattle.std.specs.Prelude.{◌≡◌, ◌⊎◌, ◌≤◌, ℕ, List, [], ◌∷◌, ◌++◌, length, Bool, true, false, Option, Some, None}
+use Rattle.smt_text.specs.Grammar.{Forest}
+use Rattle.smt_text.specs.Lexical.{class_of}
+use Rattle.smt_text.specs.Sexp.{Sexp, Sexps, Items, Nil, Cons, append}
+use Rattle.smt_text.specs.declared.lexical.Class.TheVariants.{White, Open, Close}
+use Rattle.smt_text.specs.declared.fault.TextFault.{TextFault}
+use Rattle.smt_text.specs.declared.fault.TextFault.TheVariants.{Byte, Deep, End, Memory}
+
+-- some text of trees begins so
+abbrev pub Begins : ℕ → List ℕ → Type 0
+Begins limit front = (more : List ℕ) × (trees : Sexps) × Forest limit (front ++ more) trees
+
+-- the text has trees
+abbrev pub IsForest : ℕ → List ℕ → Type 0
+IsForest limit text = (trees : Sexps) × Forest limit text trees
+
+-- the longest front of the text that begins some text of trees, and what follows it
+pub record GoodFront (limit : ℕ) (text front rest : List ℕ) : Type 0 where
+  pub parts : text ≡ front ++ rest
+  pub begins : Begins limit front
+  pub longest : (longer other : List ℕ) → text ≡ longer ++ other → Begins limit longer → length longer ≤ length front
+
+-- the last tree is a list
+abbrev pub EndsWithList : Sexps → Type 0
+EndsWithList trees = (front : Sexps) × (parts : Sexps) × (trees ≡ append front (Cons (Items parts) Nil))
+
+-- white space or a parenthesis follows
+abbrev pub IsFollowed : List ℕ → Type 0
+IsFollowed rest =
+    (b : ℕ) × (bs : List ℕ) × (rest ≡ b ∷ bs) × ((class_of b ≡ White) ⊎ ((class_of b ≡ Open) ⊎ (class_of b ≡ Close)))
+
+-- these are the trees of a beginning of the front that is empty, ends with a list, or is followed by white space or a parenthesis:
+-- so the last of them is whole, whatever comes
+pub record AreSettled (limit : ℕ) (front : List ℕ) (trees : Sexps) : Type 0 where
+  pub beginning : List ℕ
+  pub rest : List ℕ
+  pub parts : front ≡ beginning ++ rest
+  pub forest : Forest limit beginning trees
+  pub settled : (beginning ≡ []) ⊎ (EndsWithList trees ⊎ IsFollowed rest)
+
+-- the whole trees of a front: those of its longest such beginning
+pub record AreWhole (limit : ℕ) (front : List ℕ) (trees : Sexps) : Type 0 where
+  pub settled : AreSettled limit front trees
+  pub most : (others : Sexps) → AreSettled limit front others → (later : Sexps) × (trees ≡ append others later)
+
+-- which fault a text has that is none of trees
+--     End      it might have gone on, and ends inside a list
+--     Deep     with the byte at this place, the text might go on if lists could be of any depth
+--     Byte     with the byte at this place, it is the beginning of no text
+abbrev pub HasFault : ℕ → List ℕ → TextFault → Type 0
+HasFault limit text (End place) = (place ≡ length text) × Begins limit text × (IsForest limit text → ⊥)
+HasFault limit text (Deep place) =
+    (front : List ℕ) × (b : ℕ) × (rest : List ℕ) × (place ≡ length front) × GoodFront limit text front (b ∷ rest) × ((depth : ℕ) × Begins depth (front ++ b ∷ []))
+HasFault limit text (Byte place) =
+    (front : List ℕ) × (b : ℕ) × (rest : List ℕ) × (place ≡ length front) × GoodFront limit text front (b ∷ rest) × (((depth : ℕ) × Begins depth (front ++ b ∷ [])) → ⊥)
+HasFault limit text Memory = ⊥
+
+-- a text that ends inside a list has this fault only once its end was told
+abbrev pub IsTold : Bool → TextFault → Type 0
+IsTold ended (End place) = ended ≡ true
+IsTold ended (Byte place) = Unit {0}
+IsTold ended (Deep place) = Unit {0}
+IsTold ended Memory = Unit {0}
+
+-- what is read of the text: the trees, and the fault after them, if there is one. `ended` says that no more of the text comes
+abbrev pub Reads : ℕ → Bool → List ℕ → Sexps → Option TextFault → Type 0
+Reads limit true text trees None = Forest limit text trees
+Reads limit false text trees None = Begins limit text × AreWhole limit text trees
+Reads limit ended text trees (Some fault) =
+    HasFault limit text fault × IsTold ended fault × ((front rest : List ℕ) × GoodFront limit text front rest × AreWhole limit front trees)

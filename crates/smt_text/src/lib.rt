@@ -1,0 +1,16 @@
+//! Text of the SMT-LIB language: tokens and S-expressions.
+#![tactic(auto)]
+
+mod building;
+mod byte_string;
+mod fault;
+mod lexical;
+mod reading;
+mod reserved;
+mod syntax;
+
+pub use byte_string::Bytes;
+pub use fault::TextFault;
+pub use reading::{Next, Reader};
+pub use reserved::Word;
+pub use syntax::{Tree, Trees, split};
