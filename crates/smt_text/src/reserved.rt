@@ -1,8 +1,7 @@
 //! The reserved words.
 
-ghost use Rattle.std.specs.Prelude.{◌≡◌, ◌≢◌, MatchOption};
+ghost use Rattle.std.specs.Prelude.{◌≡◌, IfSome};
 ghost use Rattle.smt_text.specs.Reserved.{spelling_of};
-ghost use Rattle.smt_text.specs.declared.reserved.Word.{Word};
 
 /// A reserved word (SMT-LIB 2.6, section 3.1): no symbol has its spelling, unless it stands between bars.
 #[derive(Clone, Copy, Debug, PartialEq, Eq)]
@@ -195,7 +194,7 @@ pub fn spelling(word: Word) -> &'static [u8]
 
 /// The reserved word that is written so, if there is one.
 pub fn word_of(bytes: &[u8]) -> Option<Word>
-    ensures { MatchOption result ((word : Word) → bytes.now ≢ spelling_of word) (λ word. bytes.now ≡ spelling_of word) }
+    ensures { IfSome result (λ word. bytes.now ≡ spelling_of word) }
 {
     for word in WORDS {
         if spelling(word) == bytes {

@@ -1,0 +1,4 @@
+pub mod Meaning
+pub mod Known
+pub mod Agreement
+pub mod Model

@@ -1,0 +1,5 @@
+pub mod Operators
+pub mod Sorts
+pub mod Signature
+pub mod Checking
+pub mod View

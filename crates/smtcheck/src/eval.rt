@@ -1,0 +1,7 @@
+//! Known values of terms.
+
+pub mod checked;
+pub mod evaluator;
+pub mod operations;
+pub mod plain;
+pub mod values;
