@@ -1,2 +1,4 @@
 pub mod Terms
 pub mod Eval
+pub mod Dialogue
+pub mod Report

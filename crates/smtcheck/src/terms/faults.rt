@@ -27,6 +27,11 @@ pub enum TermFault {
 }
 
 impl fmt::Display for TermFault {
+    ghost use Rattle.std.specs.Prelude.{Some};
+    ghost use Rattle.smtcheck.specs.Report.Text.{text_of_term_fault};
+
+    ghost output = { λ x. Some (text_of_term_fault x) };
+
     fn fmt<W: fmt::Write>(&self, f: &mut fmt::Formatter<W>) -> fmt::Result {
         f.write_str(match self {
             TermFault::Form => "F1",

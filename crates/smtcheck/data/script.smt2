@@ -1,0 +1,4 @@
+(declare-const p Bool)
+(assert p)
+(check-sat)
+(get-model)

@@ -1,0 +1,126 @@
+-- The lines of a report on pairs of commands and answers. These are this project's rules.
+use Rattle.std.specs.Prelude.{◌≡◌, ℕ, ◌+◌, ◌<◌, List, [], ◌∷◌, ◌++◌, length, Bool, true, false, not, ◌||◌, Option, Some, None, codes, count_by, nat_lt, if◌then◌else◌}
+use Rattle.std.specs.List.{list_any}
+use Rattle.smt_text.specs.Sexp.{Sexp, Sexps}
+use Rattle.smtcheck.specs.Dialogue.Command.{Command, DeclareConst, Assert, CheckSat, GetModel}
+use Rattle.smtcheck.specs.Dialogue.InForce.{Assertion, names_after, assertions_after}
+use Rattle.smtcheck.specs.Dialogue.Pairing.{Pair, is_symbol}
+use Rattle.smtcheck.specs.Dialogue.Window.{Printed, closes, judged, models_from, window}
+use Rattle.smtcheck.specs.Terms.Signature.{Entry}
+use Rattle.smtcheck.specs.declared.judging.Judgement.{Judgement}
+use Rattle.smtcheck.specs.declared.judging.Judgement.TheVariants as judgements
+use Rattle.smtcheck.specs.declared.report.CheckAnswer.TheVariants.{Unsat, Unknown}
+use Rattle.smtcheck.specs.declared.report.Line.{Line}
+use Rattle.smtcheck.specs.declared.report.Line.TheVariants as lines
+use Rattle.smtcheck.specs.declared.report.Tally.{Tally}
+use Rattle.smtcheck.specs.declared.report.Verdict.{Verdict}
+use Rattle.smtcheck.specs.declared.report.Verdict.TheVariants as verdicts
+
+-- the line on check k at command n for a model of command g, if it isn't confirmed
+abbrev pub line_of_judgement : ℕ → ℕ → ℕ → Judgement → Option Line
+line_of_judgement k n g (judgements.ItemFault item fault) = Some (lines.ItemFault k n g item fault)
+line_of_judgement k n g (judgements.Lacks declaration) = Some (lines.Lacks k n g declaration)
+line_of_judgement k n g (judgements.Refuted assertion) = Some (lines.Refuted k n g assertion)
+line_of_judgement k n g (judgements.NotDecided assertion) = Some (lines.NotDecided k n g assertion)
+line_of_judgement k n g judgements.Confirmed = None
+
+-- the first of two that is there
+abbrev pub or_line : Option Line → Option Line → Option Line
+or_line None later = later
+or_line (Some line) later = Some line
+
+-- the line of the first model that isn't confirmed
+abbrev pub unconfirmed_line : ℕ → ℕ → List Entry → List Assertion → List Printed → Option Line
+unconfirmed_line k n names assertions [] = None
+unconfirmed_line k n names assertions (m ∷ ms) =
+    or_line (line_of_judgement k n m.command (judged names assertions m.parts)) (unconfirmed_line k n names assertions ms)
+
+abbrev pub is_empty : {A : Type 0} → List A → Bool
+is_empty [] = true
+is_empty (x ∷ xs) = false
+
+-- the line of a check whose models are all confirmed
+abbrev pub confirmed_line : ℕ → ℕ → Bool → Line
+confirmed_line k n some_model = if some_model then lines.Confirmed k n else lines.NoModel k n
+
+-- the line on a check that was answered `sat`: that of a model that isn't confirmed; else, once the window has closed, that
+-- all models are confirmed, or that there is none
+abbrev pub sat_lines : ℕ → ℕ → Option Line → Bool → Bool → List Line
+sat_lines k n (Some line) some_model closed = line ∷ []
+sat_lines k n None some_model closed = if closed then confirmed_line k n some_model ∷ [] else []
+
+-- the lines of a check that was answered `sat`, the pairs `after` it beginning with command m. `ended` says that no command follows them
+abbrev pub lines_of_sat : Bool → ℕ → ℕ → List Entry → List Assertion → ℕ → List Pair → List Line
+lines_of_sat ended k n names assertions m after =
+    let models = models_from m (window after) in
+    sat_lines k n (unconfirmed_line k n names assertions models) (not (is_empty models)) (ended || list_any closes after)
+
+-- the lines of a check with its answer
+abbrev pub lines_of_answer : Bool → List Pair → ℕ → Option Sexp → List Pair → List Line
+lines_of_answer ended before k None after = []
+lines_of_answer ended before k (Some answer) after =
+    let n = length before + 1 in
+    if is_symbol (codes "unsat") answer then lines.Answered k n Unsat ∷ [] else if is_symbol (codes "unknown") answer then lines.Answered k n Unknown ∷ [] else if is_symbol (codes "sat") answer then lines_of_sat ended k n (names_after before) (assertions_after before) (n + 1) after else []
+
+abbrev pub is_check : Command → Bool
+is_check (DeclareConst x sort) = false
+is_check (Assert term) = false
+is_check CheckSat = true
+is_check GetModel = false
+
+-- how many checks there are among pairs
+abbrev pub checks_in : List Pair → ℕ
+checks_in [] = 0
+checks_in (pair ∷ pairs) = (if is_check pair.command then 1 else 0) + checks_in pairs
+
+-- the lines that a pair has, for what stands before and after it: a check has one, once it is decided
+abbrev pub lines_of_pair : Bool → List Pair → Pair → List Pair → List Line
+lines_of_pair ended before pair after =
+    if is_check pair.command then lines_of_answer ended before (checks_in before + 1) pair.answer after else []
+
+-- the lines that pairs have, for what stands before and after them
+abbrev pub lines_in : Bool → List Pair → List Pair → List Pair → List Line
+lines_in ended before [] after = []
+lines_in ended before (pair ∷ pairs) after =
+    lines_of_pair ended before pair (pairs ++ after) ++ lines_in ended (before ++ pair ∷ []) pairs after
+
+abbrev pub is_confirmed_line : Line → Bool
+is_confirmed_line (lines.Confirmed k n) = true
+is_confirmed_line _ = false
+
+abbrev pub is_refuted_line : Line → Bool
+is_refuted_line (lines.Refuted k n g a) = true
+is_refuted_line _ = false
+
+abbrev pub is_undecided_line : Line → Bool
+is_undecided_line (lines.NoModel k n) = true
+is_undecided_line (lines.ItemFault k n g i f) = true
+is_undecided_line (lines.Lacks k n g d) = true
+is_undecided_line (lines.NotDecided k n g a) = true
+is_undecided_line _ = false
+
+abbrev pub is_unchecked_line : Line → Bool
+is_unchecked_line (lines.Answered k n answer) = true
+is_unchecked_line _ = false
+
+abbrev pub is_fault_line : Line → Bool
+is_fault_line (lines.TextFault side kind place) = true
+is_fault_line (lines.CommandFault n fault) = true
+is_fault_line (lines.NoAnswer n) = true
+is_fault_line (lines.Misfit n m) = true
+is_fault_line (lines.LeftOver m) = true
+is_fault_line _ = false
+
+-- how many lines there are of each kind
+abbrev pub tally_of : List Line → Tally
+tally_of ls =
+    record { confirmed = count_by is_confirmed_line ls; refuted = count_by is_refuted_line ls; undecided = count_by is_undecided_line ls; unchecked = count_by is_unchecked_line ls }
+
+-- what lines come to: refused at a fault, else invalid at a refuted model, else not decided at an undecided `sat`
+abbrev pub verdict_of : List Line → Verdict
+verdict_of ls =
+    if list_any is_fault_line ls then verdicts.Refused else if list_any is_refuted_line ls then verdicts.Invalid else if list_any is_undecided_line ls then verdicts.NotDecided else verdicts.Valid
+
+-- the lines, and then that of the verdict
+abbrev pub with_verdict : List Line → List Line
+with_verdict ls = ls ++ lines.Verdict (verdict_of ls) (tally_of ls) ∷ []

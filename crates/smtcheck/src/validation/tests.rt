@@ -1,0 +1,488 @@
+use super::*;
+use crate::report::status_of;
+use std::process::Abort;
+use std::test::Fail;
+
+/// A dialogue, the text of its report, and the status.
+struct Row {
+    what: &'static str,
+    script: &'static str,
+    answers: &'static str,
+    report: &'static str,
+    status: u8,
+}
+
+const DIALOGUES: [Row; 10] = [
+    Row {
+        what: "a model that makes the assertion false",
+        script: "(declare-const p Bool)(assert (and p (not p)))(check-sat)(get-model)",
+        answers: "success success sat ((define-fun p () Bool true))",
+        report: "check 1 at command 3: sat, model of command 4: refuted by the assertion of command 2\nverdict: invalid, confirmed 0, refuted 1, undecided 0, unchecked 0\n",
+        status: 1,
+    },
+    Row {
+        what: "an application without arguments",
+        script: "(declare-const p Bool)(assert (p))",
+        answers: "success success",
+        report: "fault C7 F1 at command 2\nverdict: refused, confirmed 0, refuted 0, undecided 0, unchecked 0\n",
+        status: 3,
+    },
+    Row {
+        what: "both texts empty",
+        script: "",
+        answers: "",
+        report: "verdict: valid, confirmed 0, refuted 0, undecided 0, unchecked 0\n",
+        status: 0,
+    },
+    Row {
+        what: "the window had closed",
+        script: "(declare-const p Bool)(assert p)(check-sat)(assert (or p p))(get-model)",
+        answers: "success success sat success ((define-fun p () Bool true))",
+        report: "check 1 at command 3: sat, no model\nverdict: not decided, confirmed 0, refuted 0, undecided 1, unchecked 0\n",
+        status: 2,
+    },
+    Row {
+        what: "a numeral with a leading zero",
+        script: "(assert (= 01 x))",
+        answers: "",
+        report: "fault X1 in the script at byte 12\nverdict: refused, confirmed 0, refuted 0, undecided 0, unchecked 0\n",
+        status: 3,
+    },
+    Row {
+        what: "a command that isn't supported",
+        script: "(declare-datatypes () ())",
+        answers: "success",
+        report: "fault C2 at command 1\nverdict: refused, confirmed 0, refuted 0, undecided 0, unchecked 0\n",
+        status: 3,
+    },
+    Row {
+        what: "an answer that is left over",
+        script: "(check-sat)",
+        answers: "unsat sat",
+        report: "check 1 at command 1: unsat\nfault P3 at answer 2\nverdict: refused, confirmed 0, refuted 0, undecided 0, unchecked 1\n",
+        status: 3,
+    },
+    Row {
+        what: "two models, the second false",
+        script: "(declare-const p Bool)(assert p)(check-sat)(get-model)(get-model)",
+        answers: "success success sat ((define-fun p () Bool true)) ((define-fun p () Bool false))",
+        report: "check 1 at command 3: sat, model of command 5: refuted by the assertion of command 2\nverdict: invalid, confirmed 0, refuted 1, undecided 0, unchecked 0\n",
+        status: 1,
+    },
+    Row {
+        what: "a check answered success",
+        script: "(check-sat)",
+        answers: "success",
+        report: "fault P2 at command 1, answer 1\nverdict: refused, confirmed 0, refuted 0, undecided 0, unchecked 0\n",
+        status: 3,
+    },
+    Row {
+        what: "the example",
+        script: "(declare-const p Bool)(assert p)(check-sat)(get-model)",
+        answers: "success success sat ((define-fun p () Bool true))",
+        report: "check 1 at command 3: sat, confirmed\nverdict: valid, confirmed 1, refuted 0, undecided 0, unchecked 0\n",
+        status: 0,
+    },
+];
+
+const FAULTS: [Row; 49] = [
+    Row {
+        what: "a word of another logic command is C2 whatever follows",
+        script: "(set-logic QF_UF)",
+        answers: "success",
+        report: "fault C2 at command 1\nverdict: refused, confirmed 0, refuted 0, undecided 0, unchecked 0\n",
+        status: 3,
+    },
+    Row {
+        what: "exit is no command yet",
+        script: "(exit 1)",
+        answers: "success",
+        report: "fault C2 at command 1\nverdict: refused, confirmed 0, refuted 0, undecided 0, unchecked 0\n",
+        status: 3,
+    },
+    Row {
+        what: "a tree that is no list",
+        script: "p",
+        answers: "success",
+        report: "fault C1 at command 1\nverdict: refused, confirmed 0, refuted 0, undecided 0, unchecked 0\n",
+        status: 3,
+    },
+    Row {
+        what: "the form is told before the answer",
+        script: "(check-sat 1)",
+        answers: "",
+        report: "fault C1 at command 1\nverdict: refused, confirmed 0, refuted 0, undecided 0, unchecked 0\n",
+        status: 3,
+    },
+    Row {
+        what: "a list that begins with a word of terms",
+        script: "(let)",
+        answers: "",
+        report: "fault C1 at command 1\nverdict: refused, confirmed 0, refuted 0, undecided 0, unchecked 0\n",
+        status: 3,
+    },
+    Row {
+        what: "a declaration without a sort",
+        script: "(declare-const p)",
+        answers: "success",
+        report: "fault C1 at command 1\nverdict: refused, confirmed 0, refuted 0, undecided 0, unchecked 0\n",
+        status: 3,
+    },
+    Row {
+        what: "a declaration of a word",
+        script: "(declare-const let Bool)",
+        answers: "success",
+        report: "fault C1 at command 1\nverdict: refused, confirmed 0, refuted 0, undecided 0, unchecked 0\n",
+        status: 3,
+    },
+    Row {
+        what: "an assertion of two terms",
+        script: "(assert p q)",
+        answers: "success",
+        report: "fault C1 at command 1\nverdict: refused, confirmed 0, refuted 0, undecided 0, unchecked 0\n",
+        status: 3,
+    },
+    Row {
+        what: "a list of nothing",
+        script: "()",
+        answers: "",
+        report: "fault C1 at command 1\nverdict: refused, confirmed 0, refuted 0, undecided 0, unchecked 0\n",
+        status: 3,
+    },
+    Row {
+        what: "C1 inside a window",
+        script: "(declare-const p Bool)(assert p)(check-sat)(get-model)(get-model 1)",
+        answers: "success success sat ((define-fun p () Bool true))",
+        report: "check 1 at command 3: sat, confirmed\nfault C1 at command 5\nverdict: refused, confirmed 1, refuted 0, undecided 0, unchecked 0\n",
+        status: 3,
+    },
+    Row {
+        what: "C2 inside a window without a model",
+        script: "(declare-const p Bool)(check-sat)(push 1)",
+        answers: "success sat",
+        report: "check 1 at command 2: sat, no model\nfault C2 at command 3\nverdict: refused, confirmed 0, refuted 0, undecided 1, unchecked 0\n",
+        status: 3,
+    },
+    Row {
+        what: "C7 inside a window",
+        script: "(declare-const p Bool)(assert p)(check-sat)(get-model)(assert q)",
+        answers: "success success sat ((define-fun p () Bool true)) success",
+        report: "check 1 at command 3: sat, confirmed\nfault C7 F3 at command 5\nverdict: refused, confirmed 1, refuted 0, undecided 0, unchecked 0\n",
+        status: 3,
+    },
+    Row {
+        what: "C7 behind a window",
+        script: "(declare-const p Bool)(check-sat)(check-sat)(assert (and p))",
+        answers: "success sat unsat success",
+        report: "check 1 at command 2: sat, no model\ncheck 2 at command 3: unsat\nfault C7 F4 at command 4\nverdict: refused, confirmed 0, refuted 0, undecided 1, unchecked 1\n",
+        status: 3,
+    },
+    Row {
+        what: "C7 before a window",
+        script: "(assert x)(check-sat)(get-model)",
+        answers: "success sat ()",
+        report: "fault C7 F3 at command 1\nverdict: refused, confirmed 0, refuted 0, undecided 0, unchecked 0\n",
+        status: 3,
+    },
+    Row {
+        what: "the answer is told before the effect",
+        script: "(assert x)",
+        answers: "sat",
+        report: "fault P2 at command 1, answer 1\nverdict: refused, confirmed 0, refuted 0, undecided 0, unchecked 0\n",
+        status: 3,
+    },
+    Row {
+        what: "want of an answer is told before the effect",
+        script: "(assert x)",
+        answers: "",
+        report: "fault P1 at command 1\nverdict: refused, confirmed 0, refuted 0, undecided 0, unchecked 0\n",
+        status: 3,
+    },
+    Row {
+        what: "P1 inside a window",
+        script: "(declare-const p Bool)(assert p)(check-sat)(get-model)",
+        answers: "success success sat",
+        report: "check 1 at command 3: sat, no model\nfault P1 at command 4\nverdict: refused, confirmed 0, refuted 0, undecided 1, unchecked 0\n",
+        status: 3,
+    },
+    Row {
+        what: "P1 behind a model",
+        script: "(declare-const p Bool)(check-sat)(get-model)(get-model)",
+        answers: "success sat ((define-fun p () Bool true))",
+        report: "check 1 at command 2: sat, confirmed\nfault P1 at command 4\nverdict: refused, confirmed 1, refuted 0, undecided 0, unchecked 0\n",
+        status: 3,
+    },
+    Row {
+        what: "P2 inside a window",
+        script: "(declare-const p Bool)(check-sat)(get-model)",
+        answers: "success sat sat",
+        report: "check 1 at command 2: sat, no model\nfault P2 at command 3, answer 3\nverdict: refused, confirmed 0, refuted 0, undecided 1, unchecked 0\n",
+        status: 3,
+    },
+    Row {
+        what: "P2 at the last command",
+        script: "(declare-const p Bool)(check-sat)",
+        answers: "success unsupported",
+        report: "fault P2 at command 2, answer 2\nverdict: refused, confirmed 0, refuted 0, undecided 0, unchecked 0\n",
+        status: 3,
+    },
+    Row {
+        what: "P3 behind an open window",
+        script: "(declare-const p Bool)(assert p)(check-sat)(get-model)",
+        answers: "success success sat ((define-fun p () Bool true)) success",
+        report: "check 1 at command 3: sat, confirmed\nfault P3 at answer 5\nverdict: refused, confirmed 1, refuted 0, undecided 0, unchecked 0\n",
+        status: 3,
+    },
+    Row {
+        what: "P3 with nothing asked",
+        script: "",
+        answers: "sat",
+        report: "fault P3 at answer 1\nverdict: refused, confirmed 0, refuted 0, undecided 0, unchecked 0\n",
+        status: 3,
+    },
+    Row {
+        what: "P3 is told before the fault of the answers",
+        script: "(check-sat)",
+        answers: "unsat sat )",
+        report: "check 1 at command 1: unsat\nfault P3 at answer 2\nverdict: refused, confirmed 0, refuted 0, undecided 0, unchecked 1\n",
+        status: 3,
+    },
+    Row {
+        what: "the answers' fault stands for a needed answer",
+        script: "(check-sat)",
+        answers: "sat)",
+        report: "fault X1 in the answers at byte 3\nverdict: refused, confirmed 0, refuted 0, undecided 0, unchecked 0\n",
+        status: 3,
+    },
+    Row {
+        what: "the answers' fault behind the last answer",
+        script: "(check-sat)",
+        answers: "sat )",
+        report: "check 1 at command 1: sat, no model\nfault X1 in the answers at byte 4\nverdict: refused, confirmed 0, refuted 0, undecided 1, unchecked 0\n",
+        status: 3,
+    },
+    Row {
+        what: "the answers end inside a model",
+        script: "(declare-const p Bool)(assert p)(check-sat)(get-model)",
+        answers: "success success sat ((define-fun p () Bool true)",
+        report: "check 1 at command 3: sat, no model\nfault X3 in the answers at byte 48\nverdict: refused, confirmed 0, refuted 0, undecided 1, unchecked 0\n",
+        status: 3,
+    },
+    Row {
+        what: "an error is no text of the fragment",
+        script: "(check-sat)",
+        answers: "(error \"x\")",
+        report: "fault X1 in the answers at byte 7\nverdict: refused, confirmed 0, refuted 0, undecided 0, unchecked 0\n",
+        status: 3,
+    },
+    Row {
+        what: "a comment is no text of the fragment",
+        script: "; x",
+        answers: "",
+        report: "fault X1 in the script at byte 0\nverdict: refused, confirmed 0, refuted 0, undecided 0, unchecked 0\n",
+        status: 3,
+    },
+    Row {
+        what: "the script's fault inside a window",
+        script: "(declare-const p Bool)(assert p)(check-sat)(get-model))",
+        answers: "success success sat ((define-fun p () Bool true))",
+        report: "check 1 at command 3: sat, confirmed\nfault X1 in the script at byte 54\nverdict: refused, confirmed 1, refuted 0, undecided 0, unchecked 0\n",
+        status: 3,
+    },
+    Row {
+        what: "the script's fault is told before answers left over",
+        script: "(check-sat))",
+        answers: "unsat sat",
+        report: "check 1 at command 1: unsat\nfault X1 in the script at byte 11\nverdict: refused, confirmed 0, refuted 0, undecided 0, unchecked 1\n",
+        status: 3,
+    },
+    Row {
+        what: "the script ends inside a command",
+        script: "(declare-const p Bool)(check-sat)(get",
+        answers: "success sat",
+        report: "check 1 at command 2: sat, no model\nfault X3 in the script at byte 37\nverdict: refused, confirmed 0, refuted 0, undecided 1, unchecked 0\n",
+        status: 3,
+    },
+    Row {
+        what: "unknown and unsat",
+        script: "(check-sat)(check-sat)",
+        answers: "unknown unsat",
+        report: "check 1 at command 1: unknown\ncheck 2 at command 2: unsat\nverdict: valid, confirmed 0, refuted 0, undecided 0, unchecked 2\n",
+        status: 0,
+    },
+    Row {
+        what: "a model outside every window",
+        script: "(declare-const p Bool)(get-model)(check-sat)(get-model)",
+        answers: "success () unsat (no model)",
+        report: "check 1 at command 3: unsat\nverdict: valid, confirmed 0, refuted 0, undecided 0, unchecked 1\n",
+        status: 0,
+    },
+    Row {
+        what: "a model after a declaration is not looked at",
+        script: "(check-sat)(declare-const p Bool)(get-model)",
+        answers: "sat success ()",
+        report: "check 1 at command 1: sat, no model\nverdict: not decided, confirmed 0, refuted 0, undecided 1, unchecked 0\n",
+        status: 2,
+    },
+    Row {
+        what: "a model that lacks a symbol",
+        script: "(declare-const p Bool)(declare-const q Bool)(assert p)(check-sat)(get-model)",
+        answers: "success success success sat ((define-fun p () Bool true))",
+        report: "check 1 at command 4: sat, model of command 5: lacks the symbol of command 2\nverdict: not decided, confirmed 0, refuted 0, undecided 1, unchecked 0\n",
+        status: 2,
+    },
+    Row {
+        what: "an item fault before a lacking symbol",
+        script: "(declare-const p Bool)(check-sat)(get-model)",
+        answers: "success sat ((define-fun q () Bool x))",
+        report: "check 1 at command 2: sat, model of command 3: item 1 F3\nverdict: not decided, confirmed 0, refuted 0, undecided 1, unchecked 0\n",
+        status: 2,
+    },
+    Row {
+        what: "the second item of a model",
+        script: "(declare-const p Bool)(check-sat)(get-model)",
+        answers: "success sat (model (define-fun p () Bool true) (define-fun p () Bool true))",
+        report: "check 1 at command 2: sat, model of command 3: item 2 F6\nverdict: not decided, confirmed 0, refuted 0, undecided 1, unchecked 0\n",
+        status: 2,
+    },
+    Row {
+        what: "an empty model where nothing is declared",
+        script: "(assert true)(check-sat)(get-model)",
+        answers: "success sat ()",
+        report: "check 1 at command 2: sat, confirmed\nverdict: valid, confirmed 1, refuted 0, undecided 0, unchecked 0\n",
+        status: 0,
+    },
+    Row {
+        what: "helpers, and definitions by earlier ones",
+        script: "(declare-const p Bool)(declare-const q Bool)(assert (= p (not q)))(check-sat)(get-model)",
+        answers: "success success success sat ((define-fun h () Bool (or false true)) (define-fun p () Bool h) (define-fun q () Bool (not p)))",
+        report: "check 1 at command 4: sat, confirmed\nverdict: valid, confirmed 1, refuted 0, undecided 0, unchecked 0\n",
+        status: 0,
+    },
+    Row {
+        what: "the first of two false assertions",
+        script: "(declare-const p Bool)(assert p)(assert (not p))(assert p)(check-sat)(get-model)",
+        answers: "success success success success sat ((define-fun p () Bool false))",
+        report: "check 1 at command 5: sat, model of command 6: refuted by the assertion of command 2\nverdict: invalid, confirmed 0, refuted 1, undecided 0, unchecked 0\n",
+        status: 1,
+    },
+    Row {
+        what: "a lacking model, and then a false one",
+        script: "(declare-const p Bool)(assert p)(check-sat)(get-model)(get-model)",
+        answers: "success success sat () ((define-fun p () Bool false))",
+        report: "check 1 at command 3: sat, model of command 4: lacks the symbol of command 1\nverdict: not decided, confirmed 0, refuted 0, undecided 1, unchecked 0\n",
+        status: 2,
+    },
+    Row {
+        what: "a false model, and then a confirmed one",
+        script: "(declare-const p Bool)(assert p)(check-sat)(get-model)(get-model)",
+        answers: "success success sat ((define-fun p () Bool false)) ((define-fun p () Bool true))",
+        report: "check 1 at command 3: sat, model of command 4: refuted by the assertion of command 2\nverdict: invalid, confirmed 0, refuted 1, undecided 0, unchecked 0\n",
+        status: 1,
+    },
+    Row {
+        what: "two checks, one refuted and one not decided",
+        script: "(declare-const p Bool)(assert p)(check-sat)(get-model)(check-sat)(check-sat)(get-model)",
+        answers: "success success sat ((define-fun p () Bool false)) sat sat ((define-fun p () Bool true))",
+        report: "check 1 at command 3: sat, model of command 4: refuted by the assertion of command 2\ncheck 2 at command 5: sat, no model\ncheck 3 at command 6: sat, confirmed\nverdict: invalid, confirmed 1, refuted 1, undecided 1, unchecked 0\n",
+        status: 1,
+    },
+    Row {
+        what: "a name declared twice",
+        script: "(declare-const p Bool)(declare-const p Bool)",
+        answers: "success success",
+        report: "fault C7 F7 at command 2\nverdict: refused, confirmed 0, refuted 0, undecided 0, unchecked 0\n",
+        status: 3,
+    },
+    Row {
+        what: "an operator declared",
+        script: "(declare-const and Bool)",
+        answers: "success",
+        report: "fault C7 F7 at command 1\nverdict: refused, confirmed 0, refuted 0, undecided 0, unchecked 0\n",
+        status: 3,
+    },
+    Row {
+        what: "a free name that is an operator elsewhere",
+        script: "(declare-const xor Bool)(assert xor)(check-sat)(get-model)",
+        answers: "success success sat ((define-fun xor () Bool true))",
+        report: "check 1 at command 3: sat, confirmed\nverdict: valid, confirmed 1, refuted 0, undecided 0, unchecked 0\n",
+        status: 0,
+    },
+    Row {
+        what: "a sort that isn't supported",
+        script: "(declare-const x Int)",
+        answers: "success",
+        report: "fault C7 F2 at command 1\nverdict: refused, confirmed 0, refuted 0, undecided 0, unchecked 0\n",
+        status: 3,
+    },
+    Row {
+        what: "a name in use is told before its sort",
+        script: "(declare-const p Bool)(declare-const p Int)",
+        answers: "success success",
+        report: "fault C7 F7 at command 2\nverdict: refused, confirmed 0, refuted 0, undecided 0, unchecked 0\n",
+        status: 3,
+    },
+    Row {
+        what: "a numeral is not supported",
+        script: "(assert 1)",
+        answers: "success",
+        report: "fault C7 F2 at command 1\nverdict: refused, confirmed 0, refuted 0, undecided 0, unchecked 0\n",
+        status: 3,
+    },
+];
+
+fn text_of(alloc: Global, report: &Report) -> Result<String, Fail> {
+    let mut text = String::new(alloc);
+    for line in &report.lines {
+        let line = format!(in alloc; "{line}\n")?;
+        text.push_str(line.as_str())?;
+    }
+    Ok(text)
+}
+
+fn check<R: Abort + AllocGlobal>(rt: &R, row: &Row) -> Result<(), Fail> {
+    let what = row.what;
+    let report = validate(
+        rt.alloc(),
+        row.script.as_bytes(),
+        row.answers.as_bytes(),
+        true,
+    )?;
+    let text = text_of(rt.alloc(), &report)?;
+    assert_eq!(rt; text.as_str(), row.report, "{what}");
+    assert_eq!(rt; status_of(report.verdict), row.status, "{what}");
+    Ok(())
+}
+
+#[test]
+fn dialogues(rt: HostRuntime) -> Result<(), Fail> {
+    for row in &DIALOGUES {
+        check(&rt, row)?;
+    }
+    Ok(())
+}
+
+#[test]
+fn faults_in_each_position(rt: HostRuntime) -> Result<(), Fail> {
+    for row in &FAULTS {
+        check(&rt, row)?;
+    }
+    Ok(())
+}
+
+// So many open parentheses, as a script without answers.
+fn of_open<R: Abort + AllocGlobal>(rt: &R, count: usize) -> Result<String, Fail> {
+    let script = vec![in rt.alloc(); b'('; count]?;
+    let report = validate(rt.alloc(), script.as_slice(), b"", true)?;
+    text_of(rt.alloc(), &report)
+}
+
+#[test]
+fn depth(rt: HostRuntime) -> Result<(), Fail> {
+    let verdict = "verdict: refused, confirmed 0, refuted 0, undecided 0, unchecked 0\n";
+    let deep = format!(in rt.alloc(); "fault X2 in the script at byte 1000\n{verdict}")?;
+    let ended = format!(in rt.alloc(); "fault X3 in the script at byte 1000\n{verdict}")?;
+    assert_eq!(rt; of_open(&rt, 1001)?.as_str(), deep.as_str());
+    assert_eq!(rt; of_open(&rt, 1000)?.as_str(), ended.as_str());
+    Ok(())
+}
