@@ -1,1 +1,2 @@
 pub mod SexpLemmas
+pub mod Words

@@ -6,3 +6,4 @@ pub mod TreeFalls
 pub mod Lexical
 pub mod Grammar
 pub mod Reading
+pub mod Machine
