@@ -1,2 +1,3 @@
 pub mod SexpLemmas
 pub mod Words
+pub mod Spell
