@@ -1,3 +1,4 @@
 pub mod SexpLemmas
 pub mod Words
 pub mod Spell
+pub mod Sound
