@@ -2,3 +2,5 @@ pub mod SexpLemmas
 pub mod Words
 pub mod Spell
 pub mod Sound
+pub mod Fronts
+pub mod Whole

@@ -295,7 +295,7 @@ extend_more : (x : Sexp) (xs : Sexps) (levels : Levels) → extend xs (add x lev
 extend_more x xs (On [] top) = ap (λ z. On [] z) (sexps_assoc top (Cons x Nil) xs)
 extend_more x xs (On (parts ∷ lists) top) = ap (λ z. On (z ∷ lists) top) (sexps_assoc parts (Cons x Nil) xs)
 
-depth_of-add : (x : Sexp) (levels : Levels) → depth_of (add x levels) ≡ depth_of levels
+pub depth_of-add : (x : Sexp) (levels : Levels) → depth_of (add x levels) ≡ depth_of levels
 depth_of-add x (On [] top) = refl
 depth_of-add x (On (parts ∷ lists) top) = refl
 

@@ -1,5 +1,5 @@
 -- How a reader goes over a text, byte by byte. Proofs and private contracts name this; what a text means is in Grammar and Reading.
-use Rattle.std.specs.Prelude.{ℕ, List, [], ◌∷◌, ◌++◌, length, Option, Some, None, nat_lt, if◌then◌else◌}
+use Rattle.std.specs.Prelude.{◌≡◌, ℕ, List, [], ◌∷◌, ◌++◌, length, Option, Some, None, nat_lt, if◌then◌else◌}
 use Rattle.std.specs.Str.{bytes_eq}
 use Rattle.smt_text.specs.Grammar.{Token, OpenParenthesis, CloseParenthesis, AtomToken, WordToken}
 use Rattle.smt_text.specs.Lexical.{class_of}
@@ -116,3 +116,25 @@ run limit s (b ∷ bs) = go_on (step limit s b) (λ next. run limit next bs)
 abbrev pub blame : ℕ → Class → TextFault
 blame place Open = Deep place
 blame place _ = Byte place
+
+-- the text, in which no text goes on with one byte, up to that byte
+pub record IsStuck (limit : ℕ) (text : List ℕ) (s : State) (fault : TextFault) : Type 0 where
+  pub front : List ℕ
+  pub byte : ℕ
+  pub rest : List ℕ
+  pub parts : text ≡ front ++ byte ∷ rest
+  pub runs : run limit start front ≡ Some s
+  pub stops : step limit s byte ≡ None
+  pub is : fault ≡ blame (length front) (class_of byte)
+
+-- the state and the fault that a text leaves, while more of it may come
+abbrev pub Leaves : ℕ → List ℕ → State → Option TextFault → Type 0
+Leaves limit text s None = run limit start text ≡ Some s
+Leaves limit text s (Some fault) = IsStuck limit text s fault
+
+abbrev pub top_of : Levels → Sexps
+top_of (On lists top) = top
+
+-- the trees that are whole
+abbrev pub whole_of : State → Sexps
+whole_of (At shape bytes levels) = top_of levels
