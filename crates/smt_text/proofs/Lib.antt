@@ -4,3 +4,4 @@ pub mod Spell
 pub mod Sound
 pub mod Fronts
 pub mod Whole
+pub mod Faults

@@ -277,7 +277,7 @@ reads-tokens limit (token ∷ tokens) text s levels h r e =
         let t = after-token limit g.next token h.1 h.2 nearer h.5 h.6 g.rests (ap (act limit token) g.trees ∙ a) in
         let rest_acts : acts limit tokens nearer ≡ Some levels = sym (ap (λ o. act_next o (λ next. acts limit tokens next)) a) ∙ e in
         let end = later h.2 t.next h.7 t.rests (ap (acts limit tokens) t.trees ∙ rest_acts) in
-        record { next = end.next; runs = ap (run limit s) h.3 ∙ g.runs ∙ t.runs ∙ end.runs; trees = end.trees }
+        record { next = end.next; runs = ◌∙◌ {c = Some end.next} (ap (run limit s) h.3 ∙ g.runs) (t.runs ∙ end.runs); trees = end.trees }
 
 abbrev pub depth_of : Levels → ℕ
 depth_of (On lists top) = length lists
