@@ -4,10 +4,10 @@ use Rattle.std.proofs.lemmas.Bool.{ltb-true, lt-ltb, cases_lt}
 use Rattle.std.proofs.lemmas.List.{append-nil, append_assoc, length-append}
 use Rattle.smt_text.proofs.SexpLemmas.{append_nil, append_assoc as sexps_assoc}
 use Rattle.smt_text.proofs.Sound.{forest-read, levels_of}
-use Rattle.smt_text.proofs.Spell.{step-at, run-cons, run-append, reads-forest, depth_of, depth_of-add}
+use Rattle.smt_text.proofs.Spell.{step-at, run-cons, run-append, reads-forest, depth_of-add}
 use Rattle.smt_text.specs.Grammar.{Token, OpenParenthesis, CloseParenthesis, AtomToken, WordToken, Forest}
 use Rattle.smt_text.specs.Lexical.{class_of}
-use Rattle.smt_text.specs.Machine.{Levels, On, State, At, start, add, word_named, name_or_word, atom_of, add_if, flush, after, act, settle, grow, step_by, step, go_on, run, top_of, whole_of, IsStuck, Leaves, blame}
+use Rattle.smt_text.specs.Machine.{Levels, On, State, At, start, add, word_named, name_or_word, atom_of, add_if, flush, after, act, settle, grow, step_by, step, go_on, run, depth_of, top_of, whole_of, IsStuck, Leaves, blame}
 use Rattle.smt_text.specs.Reading.{Begins, IsForest, GoodFront, EndsWithList, IsFollowed, AreSettled, AreWhole, HasFault, IsTold, Reads}
 use Rattle.smt_text.specs.Reserved.{spelling_of, all_words}
 use Rattle.smt_text.specs.Sexp as sexp

@@ -5,3 +5,4 @@ pub mod Sound
 pub mod Fronts
 pub mod Whole
 pub mod Faults
+pub mod Levels

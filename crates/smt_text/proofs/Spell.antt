@@ -7,7 +7,7 @@ use Rattle.smt_text.proofs.SexpLemmas.{append_nil, append_assoc as sexps_assoc}
 use Rattle.smt_text.proofs.Words.{word_named-spelling, word_named-none, find_word-some}
 use Rattle.smt_text.specs.Grammar.{Token, OpenParenthesis, CloseParenthesis, AtomToken, WordToken, IsWhite, IsDigit, IsSymbolByte, IsNumeral, IsSimpleSymbol, IsSpelling, EndsAtom, IsApart, IsText, tokens_of, tokens_of_all, Forest}
 use Rattle.smt_text.specs.Lexical.{class_of}
-use Rattle.smt_text.specs.Machine.{Levels, On, State, At, start, add, find_word, word_named, name_or_word, atom_of, add_if, flush, after, act, settle, grow, step_by, step, go_on, run}
+use Rattle.smt_text.specs.Machine.{Levels, On, State, At, start, add, find_word, word_named, name_or_word, atom_of, add_if, flush, after, act, settle, grow, step_by, step, go_on, run, depth_of}
 use Rattle.smt_text.specs.Reserved.{spelling_of, all_words}
 use Rattle.smt_text.specs.Sexp as sexp
 use Rattle.smt_text.specs.Sexp.{Sexp, Sexps, Atom, Reserved, Items, Nil, Cons, append, depth, depth_all}
@@ -278,9 +278,6 @@ reads-tokens limit (token ∷ tokens) text s levels h r e =
         let rest_acts : acts limit tokens nearer ≡ Some levels = sym (ap (λ o. act_next o (λ next. acts limit tokens next)) a) ∙ e in
         let end = later h.2 t.next h.7 t.rests (ap (acts limit tokens) t.trees ∙ rest_acts) in
         record { next = end.next; runs = ◌∙◌ {c = Some end.next} (ap (run limit s) h.3 ∙ g.runs) (t.runs ∙ end.runs); trees = end.trees }
-
-abbrev pub depth_of : Levels → ℕ
-depth_of (On lists top) = length lists
 
 -- trees side by side at the innermost place
 abbrev pub extend : Sexps → Levels → Levels

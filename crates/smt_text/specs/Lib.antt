@@ -7,3 +7,5 @@ pub mod Lexical
 pub mod Grammar
 pub mod Reading
 pub mod Machine
+pub mod ReaderState
+pub mod History

@@ -72,6 +72,15 @@ after Symbol Digit = Some Symbol
 after Symbol Letter = Some Symbol
 after _ _ = None
 
+-- a list begins
+abbrev pub begun : Levels → Levels
+begun (On lists top) = On (Nil ∷ lists) top
+
+-- the innermost list ends
+abbrev pub ended : Levels → Levels
+ended (On [] top) = On [] top
+ended (On (parts ∷ lists) top) = add (Items parts) (On lists top)
+
 -- what a token does to the trees, if it may come
 abbrev pub act : ℕ → Token → Levels → Option Levels
 act limit OpenParenthesis (On lists top) = if nat_lt (length lists) limit then Some (On (Nil ∷ lists) top) else None
@@ -135,6 +144,17 @@ Leaves limit text s (Some fault) = IsStuck limit text s fault
 abbrev pub top_of : Levels → Sexps
 top_of (On lists top) = top
 
+-- how many lists are not closed
+abbrev pub depth_of : Levels → ℕ
+depth_of (On lists top) = length lists
+
+abbrev pub depth_in : State → ℕ
+depth_in (At shape bytes levels) = depth_of levels
+
 -- the trees that are whole
 abbrev pub whole_of : State → Sexps
 whole_of (At shape bytes levels) = top_of levels
+
+-- the atom that has begun ends here
+abbrev pub at_rest : State → State
+at_rest s = At Nothing [] (flush s)
