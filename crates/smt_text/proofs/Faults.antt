@@ -1,27 +1,23 @@
 -- What is read of a text, by its run: there is always one answer.
-use Rattle.std.proofs.Common.{◌≡◌, ◌⊎◌, ◌<◌, ◌≤◌, ◌+◌, ℕ, suc, zero, List, [], ◌∷◌, ◌++◌, length, Option, Some, None, Bool, true, false, ltb, cond, refl, sym, ap, ◌∙◌, inl, inr, arith, subst, max}
-use Rattle.std.proofs.lemmas.Bool.{ltb-true, lt-ltb, cases_lt}
+use Rattle.std.proofs.Common.{◌≡◌, ◌⊎◌, ◌≤◌, ◌+◌, ℕ, suc, List, [], ◌∷◌, ◌++◌, length, Option, Some, None, Bool, true, false, ltb, cond, refl, sym, ap, ◌∙◌, inl, inr, arith, subst}
+use Rattle.std.proofs.lemmas.Bool.{ltb-true, lt-ltb}
 use Rattle.std.proofs.lemmas.List.{append-nil, append_assoc, length-append}
-use Rattle.smt_text.proofs.SexpLemmas.{append_nil, append_assoc as sexps_assoc, count-append, nil_if_none}
-use Rattle.smt_text.proofs.Fronts.{Runs, runs_if_begins, begins_if_runs, stuck_front, whole_front}
-use Rattle.smt_text.proofs.Sound.{forest-read, levels_of}
+use Rattle.smt_text.proofs.SexpLemmas.{append_nil, count-append, nil_if_none}
+use Rattle.smt_text.proofs.Fronts.{runs_if_begins, begins_if_runs, stuck_front, whole_front}
+use Rattle.smt_text.proofs.Sound.{forest-read}
 use Rattle.smt_text.proofs.Whole.{whole_run, settled_more}
-use Rattle.smt_text.proofs.Spell.{step-at, run-cons, run-append, reads-forest, depth_of-add}
-use Rattle.smt_text.specs.Grammar.{Token, OpenParenthesis, CloseParenthesis, AtomToken, WordToken, Forest}
+use Rattle.smt_text.proofs.Spell.{step-at, run-cons, run-append, reads-forest}
+use Rattle.smt_text.specs.Grammar.{OpenParenthesis, CloseParenthesis, Forest}
 use Rattle.smt_text.specs.Lexical.{class_of}
-use Rattle.smt_text.specs.Machine.{Levels, On, State, At, start, add, word_named, name_or_word, atom_of, add_if, flush, after, act, settle, grow, step_by, step, go_on, run, depth_of, top_of, whole_of, IsStuck, Leaves, blame}
-use Rattle.smt_text.specs.Reading.{Begins, IsForest, GoodFront, EndsWithList, IsFollowed, AreSettled, AreWhole, HasFault, IsTold, Reads}
-use Rattle.smt_text.specs.Reserved.{spelling_of, all_words}
-use Rattle.smt_text.specs.Sexp as sexp
-use Rattle.smt_text.specs.Sexp.{Sexp, Sexps, Atom, Reserved, Items, Nil, Cons, append, count, depth, depth_all}
+use Rattle.smt_text.specs.Machine.{Levels, On, State, At, start, flush, act, settle, step_by, step, go_on, run, whole_of, IsStuck, Leaves, blame}
+use Rattle.smt_text.specs.Reading.{Begins, IsForest, GoodFront, AreWhole, HasFault, IsTold, Reads}
+use Rattle.smt_text.specs.Sexp.{Sexps, Nil, append, count}
 use Rattle.smt_text.specs.declared.fault.TextFault.{TextFault}
 use Rattle.smt_text.specs.declared.fault.TextFault.TheVariants.{Byte, Deep, End, Memory}
 use Rattle.smt_text.specs.declared.lexical.Class.{Class}
 use Rattle.smt_text.specs.declared.lexical.Class.TheVariants as class
 use Rattle.smt_text.specs.declared.lexical.Class.TheVariants.{White, Open, Close, Digit, Letter, Other}
-use Rattle.smt_text.specs.declared.lexical.Shape.{Shape}
-use Rattle.smt_text.specs.declared.lexical.Shape.TheVariants.{Nothing, Zero, Numeral, Symbol}
-use Rattle.smt_text.specs.declared.reserved.Word.{Word}
+use Rattle.smt_text.specs.declared.lexical.Shape.TheVariants.{Nothing}
 
 -- where lists may nest deeper, nothing that runs goes otherwise
 wide_act : (limit wide : ℕ) (t u : Bool) (lists : List Sexps) (top : Sexps) (next : State) → limit ≤ wide → ltb (length lists) limit ≡ t → ltb (length lists) wide ≡ u → settle (cond t (Some (On (Nil ∷ lists) top)) None) ≡ Some next → settle (cond u (Some (On (Nil ∷ lists) top)) None) ≡ Some next
@@ -87,7 +83,7 @@ opens_deeper limit s b (On lists top) k e = record {
   wider = omega arith;
   next = At Nothing [] (On (Nil ∷ lists) top);
   goes = step-at (limit + suc (length lists)) s b Open k ∙ ap (λ x. settle (act (limit + suc (length lists)) OpenParenthesis x)) e
-    ∙ ap (λ t. settle (cond t (Some (On (Nil ∷ lists) top)) None)) (lt-ltb (length lists) (limit + suc (length lists)) (omega arith));
+      ∙ ap (λ t. settle (cond t (Some (On (Nil ∷ lists) top)) None)) (lt-ltb (length lists) (limit + suc (length lists)) (omega arith));
 }
 
 -- only a list that nests too deep is told apart by the limit

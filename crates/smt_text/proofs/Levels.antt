@@ -1,14 +1,14 @@
 -- The trees that a builder holds.
-use Rattle.std.proofs.Common.{◌≡◌, ℕ, ◌+◌, ◌-◌, ◌<◌, ◌≤◌, List, [], ◌∷◌, ◌++◌, length, Bool, true, false, cond, Option, Some, None, Result, Ok, Err, MatchResult, get_or, set, take, refl, ap, sym, ◌∙◌, arith}
+use Rattle.std.proofs.Common.{◌≡◌, ℕ, ◌+◌, ◌-◌, ◌<◌, ◌≤◌, List, [], ◌∷◌, ◌++◌, length, true, false, cond, Option, Some, None, Result, Ok, Err, MatchResult, get_or, set, take, refl, ap, sym, ◌∙◌, arith}
 use Rattle.std.proofs.lemmas.Bool.{false≢true, lt-ltb, le-ltb}
 use Rattle.std.proofs.lemmas.List.{take_all, take_more, take_more_set, length-set}
 use Rattle.std.specs.declared.alloc.Global.{Global}
 use Rattle.std.specs.declared.vec.Vec.{Vec}
-use Rattle.smt_text.proofs.SexpLemmas.{sexps_of-append, append_assoc}
+use Rattle.smt_text.proofs.SexpLemmas.{sexps_of-append}
 use Rattle.smt_text.specs.Grammar.{OpenParenthesis, CloseParenthesis}
-use Rattle.smt_text.specs.Machine.{Levels, On, State, At, add, add_if, atom_of, flush, begun, ended, depth_of, depth_in, act, settle, grow, after, step_by, step}
+use Rattle.smt_text.specs.Machine.{Levels, On, State, At, add, add_if, atom_of, flush, begun, ended, depth_of, depth_in, act, settle}
 use Rattle.smt_text.specs.ReaderState.{lists_of}
-use Rattle.smt_text.specs.Sexp.{Sexp, Sexps, Items, Nil, Cons, append}
+use Rattle.smt_text.specs.Sexp.{Sexp, Sexps, Items}
 use Rattle.smt_text.specs.TreeView.{sexp_of, sexps_of}
 use Rattle.smt_text.specs.declared.lexical.Shape.TheVariants.{Nothing}
 use Rattle.smt_text.specs.declared.syntax.Tree.{Tree}
@@ -65,7 +65,7 @@ depth_of-add_if None levels = refl
 depth_of-add_if (Some x) (On [] top) = refl
 depth_of-add_if (Some x) (On (parts ∷ lists) top) = refl
 
-depth_of-flush : (s : State) → depth_of (flush s) ≡ depth_in s
+pub depth_of-flush : (s : State) → depth_of (flush s) ≡ depth_in s
 depth_of-flush (At shape bytes levels) = depth_of-add_if (atom_of shape bytes) levels
 
 open_none : (limit : ℕ) (levels : Levels) → limit ≤ depth_of levels → settle (act limit OpenParenthesis levels) ≡ None

@@ -6,3 +6,4 @@ pub mod Fronts
 pub mod Whole
 pub mod Faults
 pub mod Levels
+pub mod Histories

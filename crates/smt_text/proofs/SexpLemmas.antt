@@ -1,7 +1,7 @@
 -- Laws of S-expressions side by side.
 use Rattle.std.proofs.Common.{◌≡◌, ℕ, ◌+◌, ◌<◌, List, [], ◌∷◌, ◌++◌, length, take, get_or, refl, ap, sym, ◌∙◌, arith}
 use Rattle.std.proofs.lemmas.List.{take_more}
-use Rattle.smt_text.specs.Sexp.{Sexp, Sexps, Nil, Cons, append, count, weight, weight_all}
+use Rattle.smt_text.specs.Sexp.{Sexp, Sexps, Nil, Cons, append, count, weight_all}
 use Rattle.smt_text.specs.TreeView.{sexp_of, sexps_of}
 use Rattle.smt_text.specs.declared.syntax.Tree.{Tree}
 

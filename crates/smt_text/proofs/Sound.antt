@@ -1,14 +1,14 @@
 -- What a run has read is spelled by its trees.
-use Rattle.std.proofs.Common.{◌≡◌, ◌⊎◌, ◌<◌, ◌≤◌, ◌+◌, ◌==◌, ℕ, suc, zero, List, [], ◌∷◌, ◌++◌, length, Option, Some, None, Bool, true, false, ltb, cond, refl, sym, ap, ◌∙◌, inl, inr, arith, subst, max}
+use Rattle.std.proofs.Common.{◌≡◌, ◌≤◌, ◌+◌, ◌==◌, ℕ, suc, List, [], ◌∷◌, ◌++◌, length, Option, Some, None, Bool, true, false, ltb, cond, refl, sym, ap, ◌∙◌, inl, inr, arith, subst, max}
 use Rattle.std.proofs.lemmas.Bool.{ltb-true, eqb-true}
-use Rattle.std.proofs.lemmas.List.{append-nil, append_assoc}
+use Rattle.std.proofs.lemmas.List.{append_assoc}
 use Rattle.std.specs.List.{AllByRecursion}
 use Rattle.smt_text.proofs.Words.{find_word-some}
-use Rattle.smt_text.proofs.Spell.{step-at, run-cons, run-append, IsName, act_next, acts}
-use Rattle.smt_text.specs.Grammar.{Token, OpenParenthesis, CloseParenthesis, AtomToken, WordToken, IsWhite, IsDigit, IsSymbolByte, IsNumeral, IsSimpleSymbol, IsSpelling, EndsAtom, IsApart, IsText, tokens_of, tokens_of_all, Forest}
+use Rattle.smt_text.proofs.Spell.{IsName, act_next, acts}
+use Rattle.smt_text.specs.Grammar.{Token, OpenParenthesis, CloseParenthesis, AtomToken, WordToken, IsDigit, IsSymbolByte, IsNumeral, IsSimpleSymbol, IsSpelling, EndsAtom, IsApart, IsText, tokens_of, tokens_of_all, Forest}
 use Rattle.smt_text.specs.Lexical.{class_of, is_white, is_digit, is_letter}
-use Rattle.smt_text.specs.Machine.{Levels, On, State, At, start, add, find_word, word_named, name_or_word, atom_of, add_if, flush, after, act, settle, grow, step_by, step, go_on, run, depth_of}
-use Rattle.smt_text.specs.Reserved.{spelling_of, all_words}
+use Rattle.smt_text.specs.Machine.{Levels, On, State, At, start, add, word_named, name_or_word, flush, after, act, settle, grow, step_by, go_on, run}
+use Rattle.smt_text.specs.Reserved.{all_words}
 use Rattle.smt_text.specs.Sexp as sexp
 use Rattle.smt_text.specs.Sexp.{Sexp, Sexps, Atom, Reserved, Items, Nil, Cons, append, depth, depth_all}
 use Rattle.smt_text.specs.declared.lexical.Class.{Class}

@@ -1,20 +1,19 @@
 -- A text of tokens runs to their trees.
-use Rattle.std.proofs.Common.{◌≡◌, ◌⊎◌, ◌<◌, ◌≤◌, ◌+◌, ℕ, suc, zero, List, [], ◌∷◌, ◌++◌, length, Option, Some, None, Bool, true, false, ltb, refl, sym, ap, ◌∙◌, inl, inr, arith, subst, max}
+use Rattle.std.proofs.Common.{◌≡◌, ◌<◌, ◌≤◌, ◌+◌, ℕ, List, [], ◌∷◌, ◌++◌, length, Option, Some, None, refl, sym, ap, ◌∙◌, inl, inr, arith, subst}
 use Rattle.std.proofs.lemmas.Bool.{lt-ltb}
 use Rattle.std.proofs.lemmas.List.{append-nil, append_assoc}
 use Rattle.std.specs.List.{AllByRecursion}
 use Rattle.smt_text.proofs.SexpLemmas.{append_nil, append_assoc as sexps_assoc}
-use Rattle.smt_text.proofs.Words.{word_named-spelling, word_named-none, find_word-some}
+use Rattle.smt_text.proofs.Words.{word_named-spelling, find_word-some}
 use Rattle.smt_text.specs.Grammar.{Token, OpenParenthesis, CloseParenthesis, AtomToken, WordToken, IsWhite, IsDigit, IsSymbolByte, IsNumeral, IsSimpleSymbol, IsSpelling, EndsAtom, IsApart, IsText, tokens_of, tokens_of_all, Forest}
 use Rattle.smt_text.specs.Lexical.{class_of}
-use Rattle.smt_text.specs.Machine.{Levels, On, State, At, start, add, find_word, word_named, name_or_word, atom_of, add_if, flush, after, act, settle, grow, step_by, step, go_on, run, depth_of}
+use Rattle.smt_text.specs.Machine.{Levels, On, State, At, start, add, word_named, name_or_word, flush, act, settle, step_by, step, go_on, run, depth_of}
 use Rattle.smt_text.specs.Reserved.{spelling_of, all_words}
 use Rattle.smt_text.specs.Sexp as sexp
 use Rattle.smt_text.specs.Sexp.{Sexp, Sexps, Atom, Reserved, Items, Nil, Cons, append, depth, depth_all}
 use Rattle.smt_text.specs.declared.lexical.Class.{Class}
 use Rattle.smt_text.specs.declared.lexical.Class.TheVariants as class
 use Rattle.smt_text.specs.declared.lexical.Class.TheVariants.{White, Open, Close, Digit, Letter, Other}
-use Rattle.smt_text.specs.declared.lexical.Shape.{Shape}
 use Rattle.smt_text.specs.declared.lexical.Shape.TheVariants.{Nothing, Zero, Numeral, Symbol}
 use Rattle.smt_text.specs.declared.reserved.Word.{Word}
 use Rattle.smt_text.specs.declared.reserved.Word.TheVariants.{Bang, Underscore, As, Binary as BinaryWord, Decimal as DecimalWord, Exists, Hexadecimal as HexadecimalWord, Forall, Let, Match, Numeral as NumeralWord, Par, String as StringWord, Assert, CheckSat, CheckSatAssuming, DeclareConst, DeclareDatatype, DeclareDatatypes, DeclareFun, DeclareSort, DefineFun, DefineFunRec, DefineFunsRec, DefineSort, Echo, Exit, GetAssertions, GetAssignment, GetInfo, GetModel, GetOption, GetProof, GetUnsatAssumptions, GetUnsatCore, GetValue, Pop, Push, Reset, ResetAssertions, SetInfo, SetLogic, SetOption}
@@ -261,6 +260,10 @@ pub record Ends (limit : ℕ) (s : State) (text : List ℕ) (levels : Levels) : 
   pub runs : run limit s text ≡ Some next
   pub trees : flush next ≡ levels
 
+ends_after : (limit : ℕ) (s between next : State) (text spaced spelled rest : List ℕ) (levels : Levels) → text ≡ spaced → run limit s spaced ≡ run limit between spelled → run limit between spelled ≡ run limit next rest → Ends limit next rest levels → Ends limit s text levels
+ends_after limit s between next text spaced spelled rest levels is first second end =
+    record { next = end.next; runs = ap (run limit s) is ∙ first ∙ second ∙ end.runs; trees = end.trees }
+
 -- a text of tokens does what they do
 pub reads-tokens : (limit : ℕ) (tokens : List Token) (text : List ℕ) (s : State) (levels : Levels) → IsText tokens text → Rests s text → acts limit tokens (flush s) ≡ Some levels → Ends limit s text levels
 reads-tokens limit [] text s levels white r e =
@@ -277,7 +280,7 @@ reads-tokens limit (token ∷ tokens) text s levels h r e =
         let t = after-token limit g.next token h.1 h.2 nearer h.5 h.6 g.rests (ap (act limit token) g.trees ∙ a) in
         let rest_acts : acts limit tokens nearer ≡ Some levels = sym (ap (λ o. act_next o (λ next. acts limit tokens next)) a) ∙ e in
         let end = later h.2 t.next h.7 t.rests (ap (acts limit tokens) t.trees ∙ rest_acts) in
-        record { next = end.next; runs = ◌∙◌ {c = Some end.next} (ap (run limit s) h.3 ∙ g.runs) (t.runs ∙ end.runs); trees = end.trees }
+        ends_after limit s g.next t.next text (h.0 ++ (h.1 ++ h.2)) (h.1 ++ h.2) h.2 levels h.3 g.runs t.runs end
 
 -- trees side by side at the innermost place
 abbrev pub extend : Sexps → Levels → Levels

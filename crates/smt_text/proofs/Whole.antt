@@ -1,20 +1,14 @@
 -- The whole trees of a front, and what is read of a text.
-use Rattle.std.proofs.Common.{◌≡◌, ◌⊎◌, ◌<◌, ◌≤◌, ◌+◌, ℕ, suc, zero, List, [], ◌∷◌, ◌++◌, length, Option, Some, None, Bool, true, false, ltb, cond, refl, sym, ap, ◌∙◌, inl, inr, arith, subst, max}
-use Rattle.std.proofs.lemmas.Bool.{ltb-true, lt-ltb, cases_lt}
-use Rattle.std.proofs.lemmas.List.{append-nil, append_assoc, length-append}
-use Rattle.smt_text.proofs.SexpLemmas.{append_nil, append_assoc as sexps_assoc}
-use Rattle.smt_text.proofs.Fronts.{Runs, runs_if_begins, begins_if_runs, stuck_front, whole_front, Grows, grows_trans, grows_same, grows-run, settled-is, grown-is}
-use Rattle.smt_text.proofs.Sound.{forest-read, levels_of}
-use Rattle.smt_text.proofs.Spell.{step-at, run-cons, run-append, reads-forest, depth_of-add}
-use Rattle.smt_text.specs.Grammar.{Token, OpenParenthesis, CloseParenthesis, AtomToken, WordToken, Forest}
+use Rattle.std.proofs.Common.{◌≡◌, ◌⊎◌, ℕ, List, [], ◌∷◌, ◌++◌, length, Option, Some, None, Bool, true, false, ltb, cond, refl, sym, ap, ◌∙◌, inl, inr, subst}
+use Rattle.std.proofs.lemmas.List.{append-nil, append_assoc}
+use Rattle.smt_text.proofs.Fronts.{Grows, grows-run, settled-is, grown-is}
+use Rattle.smt_text.proofs.Sound.{forest-read}
+use Rattle.smt_text.proofs.Spell.{step-at, run-cons, run-append, reads-forest}
+use Rattle.smt_text.specs.Grammar.{OpenParenthesis, CloseParenthesis}
 use Rattle.smt_text.specs.Lexical.{class_of}
-use Rattle.smt_text.specs.Machine.{Levels, On, State, At, start, add, word_named, name_or_word, atom_of, add_if, flush, after, act, settle, grow, step_by, step, go_on, run, depth_of, top_of, whole_of, IsStuck, Leaves, blame}
-use Rattle.smt_text.specs.Reading.{Begins, IsForest, GoodFront, EndsWithList, IsFollowed, AreSettled, AreWhole, HasFault, IsTold, Reads}
-use Rattle.smt_text.specs.Reserved.{spelling_of, all_words}
-use Rattle.smt_text.specs.Sexp as sexp
-use Rattle.smt_text.specs.Sexp.{Sexp, Sexps, Atom, Reserved, Items, Nil, Cons, append, depth, depth_all}
-use Rattle.smt_text.specs.declared.fault.TextFault.{TextFault}
-use Rattle.smt_text.specs.declared.fault.TextFault.TheVariants.{Byte, Deep, End, Memory}
+use Rattle.smt_text.specs.Machine.{Levels, On, State, At, start, word_named, name_or_word, atom_of, add_if, flush, after, act, settle, step_by, step, go_on, run, top_of, whole_of}
+use Rattle.smt_text.specs.Reading.{EndsWithList, IsFollowed, AreSettled, AreWhole}
+use Rattle.smt_text.specs.Sexp.{Sexp, Sexps, Items, Nil, Cons, append}
 use Rattle.smt_text.specs.declared.lexical.Class.{Class}
 use Rattle.smt_text.specs.declared.lexical.Class.TheVariants as class
 use Rattle.smt_text.specs.declared.lexical.Class.TheVariants.{White, Open, Close, Digit, Letter, Other}

@@ -1,10 +1,10 @@
 -- The reserved words and their spellings.
-use Rattle.std.proofs.Common.{◌≡◌, ◌≢◌, ℕ, List, [], ◌∷◌, Option, Some, None, Bool, true, false, ◌+◌, ◌<◌, length, drop, get_or, refl, sym, ap, ◌∙◌}
+use Rattle.std.proofs.Common.{◌≡◌, ◌≢◌, ℕ, List, [], ◌∷◌, Some, None, Bool, true, false, ◌+◌, ◌<◌, length, drop, get_or, refl, sym, ap, ◌∙◌}
 use Rattle.std.proofs.lemmas.List.{drop_more}
 use Rattle.std.specs.Str.{bytes_eq}
 use Rattle.std.proofs.lemmas.Slice.Eq.{bytes_eq-Decides}
 use Rattle.smt_text.specs.Machine.{find_word, word_named}
-use Rattle.smt_text.specs.Reserved.{spelling_of, all_words}
+use Rattle.smt_text.specs.Reserved.{spelling_of}
 use Rattle.smt_text.specs.declared.reserved.Word.{Word}
 use Rattle.smt_text.specs.declared.reserved.Word.TheVariants.{Bang, Underscore, As, Binary, Decimal, Exists, Hexadecimal, Forall, Let, Match, Numeral, Par, String, Assert, CheckSat, CheckSatAssuming, DeclareConst, DeclareDatatype, DeclareDatatypes, DeclareFun, DeclareSort, DefineFun, DefineFunRec, DefineFunsRec, DefineSort, Echo, Exit, GetAssertions, GetAssignment, GetInfo, GetModel, GetOption, GetProof, GetUnsatAssumptions, GetUnsatCore, GetValue, Pop, Push, Reset, ResetAssertions, SetInfo, SetLogic, SetOption}
 

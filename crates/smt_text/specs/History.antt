@@ -3,7 +3,7 @@ use Rattle.std.specs.Prelude.{◌≡◌, ◌⊎◌, ℕ, List, ◌+◌, length, 
 use Rattle.smt_text.specs.Machine.{Leaves}
 use Rattle.smt_text.specs.Reading.{Reads}
 use Rattle.smt_text.specs.ReaderState.{state_of, after_taken}
-use Rattle.smt_text.specs.Sexp.{Sexp, Sexps, Nil, Cons, append}
+use Rattle.smt_text.specs.Sexp.{Sexps, Nil, Cons, append}
 use Rattle.smt_text.specs.TreeView.{sexp_of, sexps_of}
 use Rattle.smt_text.specs.declared.fault.TextFault.{TextFault}
 use Rattle.smt_text.specs.declared.fault.TextFault.TheVariants.{Byte, Deep, End as EndFault, Memory}

@@ -5,7 +5,7 @@ use Rattle.smt_text.specs.declared.fault.TextFault.TheVariants.{End, Memory}
 use Rattle.std.specs.declared.alloc.Global.{Global}
 use Rattle.std.specs.declared.vec.Vec.{Vec}
 use Rattle.smt_text.specs.Machine.{Levels, On, State, At, at_rest, depth_in}
-use Rattle.smt_text.specs.Sexp.{Sexps, Nil, append}
+use Rattle.smt_text.specs.Sexp.{Sexps, append}
 use Rattle.smt_text.specs.TreeView.{sexps_of}
 use Rattle.smt_text.specs.declared.building.Builder.{Builder}
 use Rattle.smt_text.specs.declared.reading.Reader.{Reader}

@@ -1,6 +1,6 @@
 //! Trees, built from tokens in order.
 
-ghost use Rattle.std.specs.Prelude.{◌≡◌, ◌<◌, [], ◌++◌, MatchResult, option_to_list};
+ghost use Rattle.std.specs.Prelude.{◌≡◌, ◌<◌, [], ◌∷◌, MatchOption, MatchResult};
 ghost use Rattle.smt_text.specs.Machine.{On, add, begun, ended, depth_of};
 ghost use Rattle.smt_text.specs.ReaderState.{levels_of};
 ghost use Rattle.smt_text.specs.Sexp.{Nil};
@@ -73,7 +73,7 @@ impl Builder {
     /// The first tree that was not handed out.
     pub(crate) fn hand_out(&mut self) -> Option<Tree>
         ensures lists { self.new.lists ≡ self.old.lists }
-        ensures first { self.old.ready.items ≡ option_to_list result ++ self.new.ready.items }
+        ensures first { MatchOption result ((self.old.ready.items ≡ []) × (self.new.ready.items ≡ [])) (λ tree. self.old.ready.items ≡ tree ∷ self.new.ready.items) }
     {
         self.ready.pop_front()
     }

@@ -1,6 +1,6 @@
 //! The reader: bytes in, S-expressions out.
 
-ghost use Rattle.std.specs.Prelude.{◌≡◌, ◌≢◌, ℕ, ◌+◌, ◌<◌, ◌^◌, List, [], ◌∷◌, ◌++◌, length, MatchBool, MatchResult};
+ghost use Rattle.std.specs.Prelude.{◌≡◌, ◌≢◌, ℕ, ◌+◌, ◌<◌, ◌^◌, List, [], ◌∷◌, ◌++◌, length, true, false, MatchBool, MatchResult};
 ghost use Rattle.smt_text.specs.Grammar.{OpenParenthesis, CloseParenthesis};
 ghost use Rattle.smt_text.specs.History.{is_finished, bytes_fed, fault_of, trees_waiting, StandsFor, Answers, FewerWait, IsFound, with_answer};
 ghost use Rattle.smt_text.specs.Lexical as lexical;

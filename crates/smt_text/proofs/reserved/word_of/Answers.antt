@@ -1,4 +1,4 @@
-use Rattle.std.proofs.Common.{◌∙◌, arith, sym}
+use Rattle.std.proofs.Common.{◌∙◌, sym}
 use Rattle.smt_text.specs.Reserved.{all_words}
 use Rattle.smt_text.proofs.Words.{find_word-more}
 use Rattle.smt_text.proofs.reserved.word_of.Goals as goal

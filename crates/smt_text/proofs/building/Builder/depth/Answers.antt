@@ -1,4 +1,4 @@
-use Rattle.std.proofs.Common.{◌≡◌, ◌+◌, ◌<◌, ◌∙◌, ◌++◌, ◌∷◌, [], ap, sym, length, refl, arith, rules}
+use Rattle.std.proofs.Common.{[], arith}
 use Rattle.smt_text.proofs.Levels.{length-lists_of}
 use Rattle.smt_text.proofs.building.Builder.depth.Goals as goal
 
