@@ -7,3 +7,4 @@ pub mod Whole
 pub mod Faults
 pub mod Levels
 pub mod Histories
+pub mod Nesting

@@ -89,7 +89,7 @@ impl Reader {
 
     /// Tells that the text has ended.
     pub fn finish(&mut self)
-        requires { is_finished self.old ≡ false }
+        requires unfinished { is_finished self.old ≡ false }
         ensures stands { (fed : List ℕ) (taken : Sexps) → StandsFor self.old fed taken → StandsFor self.new fed taken }
         ensures finished { is_finished self.new ≡ true }
         ensures counted { bytes_fed self.new ≡ bytes_fed self.old }
