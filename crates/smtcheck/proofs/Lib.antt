@@ -1,3 +1,4 @@
 pub mod NameLemmas
 pub mod LibraryLemmas
 pub mod CheckLemmas
+pub mod EvalLemmas
