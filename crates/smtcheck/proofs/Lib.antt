@@ -2,3 +2,4 @@ pub mod NameLemmas
 pub mod LibraryLemmas
 pub mod CheckLemmas
 pub mod EvalLemmas
+pub mod ModelLemmas

@@ -75,7 +75,8 @@ fn all_are(sorts: &[Sort], one: Sort) -> bool
     sorts.iter().all(|sort| is_same(*sort, one))
 }
 
-fn is_same(a: Sort, b: Sort) -> bool
+/// Whether two sorts are the same.
+pub fn is_same(a: Sort, b: Sort) -> bool
     ensures { result ≡ is_same_sort a b }
 {
     a == b
