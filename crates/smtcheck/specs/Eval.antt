@@ -2,3 +2,4 @@ pub mod Meaning
 pub mod Known
 pub mod Agreement
 pub mod Model
+pub mod ModelView

@@ -1,8 +1,22 @@
 //! Models, as solvers print them.
 
+ghost use Rattle.std.specs.Prelude.{◌≡◌, ◌⊎◌, ◌++◌, ◌∷◌, [], MatchResult, MatchOption, IfErr, OnOk, OnErr};
+ghost use Rattle.smt_text.specs.Sexp.{Nil, Cons, Items, Reserved};
+ghost use Rattle.smt_text.specs.TreeView.{sexp_of, sexps_of};
+ghost use Rattle.smt_text.specs.declared.reserved.Word.TheVariants.{DefineFun};
+ghost use Rattle.smtcheck.specs.Eval.Model as spec;
+ghost use Rattle.smtcheck.specs.Eval.Model.{model_in, items_of, item_in, name_fault, without_parameters, has_rank_of, defined_as, definition, command_of_source};
+ghost use Rattle.smtcheck.specs.Eval.ModelView.{form_of, fault_of_item};
+ghost use Rattle.smtcheck.specs.Terms.Signature as signature;
+ghost use Rattle.smtcheck.specs.Terms.Signature.{entry_named};
+ghost use Rattle.smtcheck.specs.Terms.Sorts.{sort_named};
+ghost use Rattle.smtcheck.specs.Terms.View.{entries_of, source_of};
+ghost use Rattle.smtcheck.specs.declared.model.ModelFault.TheVariants.{Memory as OutOfMemory};
+ghost use Rattle.smtcheck.specs.declared.terms.faults.TermFault.TheVariants.{Form, Memory};
+
 use crate::terms::faults::TermFault;
 use crate::terms::library::{Entry, Library, Origin};
-use crate::terms::operators::{is_named, op_of};
+use crate::terms::operators::{is_named, is_same, op_of};
 use crate::terms::sorts::{Sort, sort_of_tree};
 use smt_text::{Tree, Trees, Word, split};
 
@@ -26,16 +40,16 @@ pub struct Interpretation {
 impl Interpretation {
     /// Reads a model of the declared names (SMT-LIB 2.6, section 4.2.6). The first item with a fault is told before a declared
     /// name that is lacking.
-    pub fn read(declared: &Library, model: &Trees) -> Result<Interpretation, ModelFault> {
+    pub fn read(declared: &Library, model: &Trees) -> Result<Interpretation, ModelFault>
+        ensures { MatchResult result (λ i. model_in (entries_of declared.now) model.now ≡ Ok (entries_of i.definitions))
+            (λ fault. (fault ≡ OutOfMemory) ⊎ (model_in (entries_of declared.now) model.now ≡ Err fault)) }
+    {
         let mut definitions = Library::new(declared.alloc());
-        let mut number = 0u64;
-        let mut left = items(model.as_slice());
-        while let Some((item, rest)) = split(left) {
-            number += 1;
+        let trees = items(model.as_slice());
+        for (index, item) in trees.iter().enumerate() {
             if let Err(fault) = define_item(&mut definitions, declared, item) {
-                return Err(item_fault(number, fault));
+                return Err(item_fault(index as u64 + 1, fault));
             }
-            left = rest;
         }
         match first_lacking(declared, &definitions) {
             Some(command) => Err(ModelFault::Lacks { command }),
@@ -44,15 +58,20 @@ impl Interpretation {
     }
 }
 
-fn item_fault(number: u64, fault: TermFault) -> ModelFault {
-    match fault {
-        TermFault::Memory => ModelFault::Memory,
-        _ => ModelFault::Item { number, fault },
+fn item_fault(number: u64, fault: TermFault) -> ModelFault
+    ensures { result ≡ fault_of_item number fault }
+{
+    if fault == TermFault::Memory {
+        ModelFault::Memory
+    } else {
+        ModelFault::Item { number, fault }
     }
 }
 
 // The items of a model: a leading symbol `model` is none.
-fn items(trees: &[Tree]) -> &[Tree] {
+fn items(trees: &[Tree]) -> &[Tree]
+    ensures { sexps_of result.now ≡ items_of (sexps_of trees.now) }
+{
     match split(trees) {
         Some((Tree::Symbol(name), rest)) if is_named(name.as_slice(), b"model") => rest,
         _ => trees,
@@ -73,36 +92,80 @@ fn define_item(
     definitions: &mut Library,
     declared: &Library,
     item: &Tree,
-) -> Result<(), TermFault> {
+) -> Result<(), TermFault>
+    ensures defined { OnOk result ((e : signature.Entry) × (item_in (entries_of declared.now) (entries_of definitions.old) (sexp_of item.now) ≡ Ok e)
+        × (entries_of definitions.new ≡ entries_of definitions.old ++ e ∷ [])) }
+    ensures refused { IfErr result (λ fault. (fault ≡ Memory) ⊎ (item_in (entries_of declared.now) (entries_of definitions.old) (sexp_of item.now) ≡ Err fault)) }
+    ensures unchanged { OnErr result (entries_of definitions.new ≡ entries_of definitions.old) }
+{
     let form = item_form(item)?;
-    if definitions.find(form.name).is_some() {
-        return Err(TermFault::BoundTwice);
-    }
-    let declaration = declared.find(form.name);
-    if declaration.is_none() && op_of(form.name).is_some() {
-        return Err(TermFault::NotFresh);
-    }
-    if !form.parameters.is_empty() {
-        return Err(TermFault::Unsupported);
-    }
-    let sort = sort_of_tree(form.sort)?;
-    if declaration.is_some_and(|entry| entry.sort != sort) {
-        return Err(TermFault::Arguments);
-    }
-    if definitions.check(form.body)? != sort {
-        return Err(TermFault::Arguments);
-    }
+    check_name(definitions, declared, form.name)?;
+    let sort = sort_of_item(form)?;
+    check_definition(definitions, declared, form, sort)?;
     let body = form.body.copy(definitions.alloc())?;
-    definitions.add(
-        form.name,
-        Entry {
-            sort,
-            origin: Origin::Defined { body },
-        },
-    )
+    let origin = Origin::Defined { body };
+    definitions.add(form.name, Entry { sort, origin })
 }
 
-fn item_form(item: &Tree) -> Result<ItemForm<'_>, TermFault> {
+// Refuses a name that an earlier item has, and that of an operator that isn't declared.
+fn check_name(definitions: &Library, declared: &Library, name: &[u8]) -> Result<(), TermFault>
+    ensures { MatchResult result
+        (λ _. (name_fault (entries_of declared.now) (entries_of definitions.now) name.now ≡ None) × (entry_named (entries_of definitions.now) name.now ≡ None))
+        (λ fault. name_fault (entries_of declared.now) (entries_of definitions.now) name.now ≡ Some fault) }
+{
+    if definitions.find(name).is_some() {
+        return Err(TermFault::BoundTwice);
+    }
+    if declared.find(name).is_none() && op_of(name).is_some() {
+        return Err(TermFault::NotFresh);
+    }
+    Ok(())
+}
+
+// The sort that an item says. Items with parameters aren't supported.
+fn sort_of_item(form: ItemForm<'_>) -> Result<Sort, TermFault>
+    ensures { result ≡ without_parameters (sexps_of form.entry.parameters.now) (sort_named (sexp_of form.entry.sort.now)) }
+{
+    if split(form.parameters).is_some() {
+        return Err(TermFault::Unsupported);
+    }
+    sort_of_tree(form.sort)
+}
+
+// Checks that the item keeps the sort that its name was declared with, and that its body has it too.
+fn check_definition(
+    definitions: &Library,
+    declared: &Library,
+    form: ItemForm<'_>,
+    sort: Sort,
+) -> Result<(), TermFault>
+    ensures { MatchResult result
+        (λ _. defined_as (entries_of declared.now) (entries_of definitions.now) (form_of form.entry) sort ≡ Ok (definition form.entry.name.now sort (sexp_of form.entry.body.now)))
+        (λ fault. (fault ≡ Memory) ⊎ (defined_as (entries_of declared.now) (entries_of definitions.now) (form_of form.entry) sort ≡ Err fault)) }
+{
+    if !keeps_sort(declared, form.name, sort) {
+        return Err(TermFault::Arguments);
+    }
+    if is_same(definitions.check(form.body)?, sort) {
+        Ok(())
+    } else {
+        Err(TermFault::Arguments)
+    }
+}
+
+// Whether the name is declared with this sort, if it is declared.
+fn keeps_sort(declared: &Library, name: &[u8], sort: Sort) -> bool
+    ensures { result ≡ has_rank_of (entry_named (entries_of declared.now) name.now) [] sort }
+{
+    match declared.find(name) {
+        Some(entry) => is_same(entry.sort, sort),
+        None => true,
+    }
+}
+
+fn item_form(item: &Tree) -> Result<ItemForm<'_>, TermFault>
+    ensures { MatchResult result (λ form. spec.item_form (sexp_of item.now) ≡ Ok (form_of form)) (λ fault. spec.item_form (sexp_of item.now) ≡ Err fault) }
+{
     let Tree::List(parts) = item else {
         return Err(TermFault::Form);
     };
@@ -111,21 +174,31 @@ fn item_form(item: &Tree) -> Result<ItemForm<'_>, TermFault> {
     };
     match word {
         Word::DefineFunRec | Word::DefineFunsRec => Err(TermFault::Unsupported),
-        Word::DefineFun => definition_form(rest).ok_or(TermFault::Form),
+        Word::DefineFun => match definition_form(rest) {
+            Some(form) => Ok(form),
+            None => Err(TermFault::Form),
+        },
         _ => Err(TermFault::Form),
     }
 }
 
 // The parts of a definition, behind its first word.
-fn definition_form(parts: &[Tree]) -> Option<ItemForm<'_>> {
-    let (Tree::Symbol(name), rest) = split(parts)? else {
+fn definition_form(parts: &[Tree]) -> Option<ItemForm<'_>>
+    ensures { MatchOption result (spec.item_form (Items (Cons (Reserved DefineFun) (sexps_of parts.now))) ≡ Err Form)
+        (λ form. spec.item_form (Items (Cons (Reserved DefineFun) (sexps_of parts.now))) ≡ Ok (form_of form)) }
+{
+    let Some((Tree::Symbol(name), rest)) = split(parts) else {
         return None;
     };
-    let (Tree::List(parameters), rest) = split(rest)? else {
+    let Some((Tree::List(parameters), rest)) = split(rest) else {
         return None;
     };
-    let (sort, rest) = split(rest)?;
-    let (body, rest) = split(rest)?;
+    let Some((sort, rest)) = split(rest) else {
+        return None;
+    };
+    let Some((body, rest)) = split(rest) else {
+        return None;
+    };
     if split(rest).is_some() || !are_parameters(parameters.as_slice()) {
         return None;
     }
@@ -138,11 +211,22 @@ fn definition_form(parts: &[Tree]) -> Option<ItemForm<'_>> {
 }
 
 // Whether each is a symbol and a tree, in a list.
-fn are_parameters(trees: &[Tree]) -> bool {
-    trees.iter().all(is_parameter)
+fn are_parameters(trees: &[Tree]) -> bool
+    ensures { result ≡ spec.are_parameters (sexps_of trees.now) }
+{
+    let mut left = trees;
+    while let Some((tree, rest)) = split(left) {
+        if !is_parameter(tree) {
+            return false;
+        }
+        left = rest;
+    }
+    true
 }
 
-fn is_parameter(tree: &Tree) -> bool {
+fn is_parameter(tree: &Tree) -> bool
+    ensures { result ≡ spec.are_parameters (Cons (sexp_of tree.now) Nil) }
+{
     let Tree::List(parts) = tree else {
         return false;
     };
@@ -156,15 +240,24 @@ fn is_parameter(tree: &Tree) -> bool {
 }
 
 // The command of the first declared name that isn't defined.
-fn first_lacking(declared: &Library, definitions: &Library) -> Option<u64> {
+fn first_lacking(declared: &Library, definitions: &Library) -> Option<u64>
+    ensures { result ≡ spec.first_lacking (entries_of declared.now) (entries_of definitions.now) }
+{
     for place in 0..declared.len() {
         let (name, entry) = declared.at(place);
         if definitions.find(name).is_none() {
-            return match entry.origin {
-                Origin::Declared { command } => Some(command),
-                Origin::Defined { .. } => None,
-            };
+            return command_of(entry);
         }
     }
     None
+}
+
+// The command of a declaration.
+fn command_of(entry: &Entry) -> Option<u64>
+    ensures { result ≡ command_of_source (source_of entry.now.origin) }
+{
+    match entry.origin {
+        Origin::Declared { command } => Some(command),
+        Origin::Defined { .. } => None,
+    }
 }

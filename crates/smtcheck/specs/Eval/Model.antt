@@ -54,10 +54,24 @@ abbrev pub without_parameters : Sexps → Result Sort TermFault → Result Sort 
 without_parameters Nil sort = sort
 without_parameters (Cons x xs) sort = Err Unsupported
 
--- what an item defines, or its first fault: its name is new among the items, and is declared or else no operator
+-- what is wrong with the name of an item: it is new among the items, and is declared or else no operator
+abbrev pub name_fault : List Entry → List Entry → List ℕ → Option TermFault
+name_fault declared earlier x =
+    if is_some (entry_named earlier x) then Some BoundTwice else if not (is_some (entry_named declared x)) && is_some (op_named x) then Some NotFresh else None
+
+-- a fault, or what comes where there is none
+abbrev pub unless : {A : Type 0} → Option TermFault → Result A TermFault → Result A TermFault
+unless None next = next
+unless (Some fault) next = Err fault
+
+-- what an item of these parts defines, or its first fault
+abbrev pub form_in : List Entry → List Entry → ItemForm → Result Entry TermFault
+form_in declared earlier form =
+    unless (name_fault declared earlier form.name) (go_on (without_parameters form.parameters (sort_named form.sort)) (λ sort. defined_as declared earlier form sort))
+
+-- what an item defines, or its first fault
 abbrev pub item_in : List Entry → List Entry → Sexp → Result Entry TermFault
-item_in declared earlier tree =
-    go_on (item_form tree) (λ form. if is_some (entry_named earlier form.name) then Err BoundTwice else if not (is_some (entry_named declared form.name)) && is_some (op_named form.name) then Err NotFresh else go_on (without_parameters form.parameters (sort_named form.sort)) (λ sort. defined_as declared earlier form sort))
+item_in declared earlier tree = go_on (item_form tree) (λ form. form_in declared earlier form)
 
 -- what comes of an item, or its fault with its number
 abbrev pub or_item : {A : Type 0} → ℕ → Result Entry TermFault → (Entry → Result A ModelFault) → Result A ModelFault

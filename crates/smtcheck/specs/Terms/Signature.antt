@@ -1,5 +1,5 @@
 -- SMT-LIB 2.6, sections 4.2.3 and 5.1: names in force, with what they stand for, in the order in which they came.
-use Rattle.std.specs.Prelude.{ℕ, List, [], ◌∷◌, Bool, Option, Some, None, Result, Ok, Err, is_some, ◌||◌, if◌then◌else◌}
+use Rattle.std.specs.Prelude.{◌≡◌, ℕ, List, [], ◌∷◌, Bool, Option, Some, None, Result, Ok, Err, is_some, ◌||◌, if◌then◌else◌}
 use Rattle.smt_text.specs.Sexp.{Sexp}
 use Rattle.smtcheck.specs.Terms.Operators.{is_same_name, op_named}
 use Rattle.smtcheck.specs.Terms.Sorts.{sort_named}
@@ -28,6 +28,11 @@ look_up (pair ∷ pairs) x = if is_same_name x pair.0 then Some pair.1 else look
 abbrev pub entry_named : List Entry → List ℕ → Option Entry
 entry_named [] x = None
 entry_named (e ∷ es) x = if is_same_name x e.name then Some e else entry_named es x
+
+-- no name stands twice
+abbrev pub AreDistinct : List Entry → Type 0
+AreDistinct [] = Unit {0}
+AreDistinct (e ∷ es) = (entry_named es e.name ≡ None) × AreDistinct es
 
 -- whether a name may not be given to something new: it stands for something, or is an operator
 abbrev pub is_taken : List Entry → List ℕ → Bool

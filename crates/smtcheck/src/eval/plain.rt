@@ -15,6 +15,12 @@ pub struct Closed<'a> {
 }
 
 impl Checked for Closed<'_> {
+    ghost use Rattle.smt_text.specs.TreeView.{sexp_of};
+    ghost use Rattle.smtcheck.specs.Eval.Known.{known_over};
+    ghost use Rattle.smtcheck.specs.Terms.View.{entries_of};
+
+    ghost known_value = { λ closed. known_over (entries_of closed.definitions.now) (sexp_of closed.tree.now) };
+
     fn known(&self) -> Result<Option<Value>, Memory> {
         known(self.definitions, self.definitions.len(), self.tree)
     }

@@ -1,0 +1,5 @@
+pub mod NameLemmas
+pub mod LibraryLemmas
+pub mod CheckLemmas
+pub mod EvalLemmas
+pub mod ModelLemmas
