@@ -3,3 +3,7 @@ pub mod LibraryLemmas
 pub mod CheckLemmas
 pub mod EvalLemmas
 pub mod ModelLemmas
+pub mod CommandLemmas
+pub mod JudgingLemmas
+pub mod PairLemmas
+pub mod StateLemmas

@@ -5,3 +5,8 @@ pub mod Window
 pub mod Lines
 pub mod Ending
 pub mod Headline
+pub mod View
+pub mod Shapes
+pub mod State
+pub mod Stops
+pub mod Turns

@@ -1,5 +1,10 @@
 //! What is found of a model.
 
+ghost use Rattle.std.specs.Prelude.{◌≡◌, IfOk, Ok};
+ghost use Rattle.smtcheck.specs.Dialogue.View.{assertions_seen};
+ghost use Rattle.smtcheck.specs.Dialogue.Window.{judged, judged_over};
+ghost use Rattle.smtcheck.specs.Terms.View.{entries_of};
+
 use crate::allocation::Memory;
 use crate::eval::checked::Checked;
 use crate::eval::plain::Closed;
@@ -32,11 +37,9 @@ pub enum Judgement {
 }
 
 /// Judges a model under names and assertions in force.
-pub fn judge(
-    names: &Library,
-    assertions: &[Assertion],
-    model: &Trees,
-) -> Result<Judgement, Memory> {
+pub fn judge(names: &Library, assertions: &[Assertion], model: &Trees) -> Result<Judgement, Memory>
+    ensures { IfOk result (λ j. j ≡ judged (entries_of names.now) (assertions_seen assertions.now) model.now) }
+{
     match Interpretation::read(names, model) {
         Ok(interpretation) => weigh(&interpretation.definitions, assertions),
         Err(ModelFault::Item { number, fault }) => Ok(Judgement::ItemFault {
@@ -51,7 +54,9 @@ pub fn judge(
 }
 
 // The first assertion that is false over the definitions, else the first that is open.
-fn weigh(definitions: &Library, assertions: &[Assertion]) -> Result<Judgement, Memory> {
+fn weigh(definitions: &Library, assertions: &[Assertion]) -> Result<Judgement, Memory>
+    ensures { IfOk result (λ j. j ≡ judged_over (assertions_seen assertions.now) (Ok (entries_of definitions.now))) }
+{
     let mut first_open = None;
     for assertion in assertions {
         let tree = &assertion.term;

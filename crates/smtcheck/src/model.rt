@@ -88,11 +88,7 @@ struct ItemForm<'a> {
 }
 
 // Adds what an item defines. At a fault nothing changes.
-fn define_item(
-    definitions: &mut Library,
-    declared: &Library,
-    item: &Tree,
-) -> Result<(), TermFault>
+fn define_item(definitions: &mut Library, declared: &Library, item: &Tree) -> Result<(), TermFault>
     ensures defined { OnOk result ((e : signature.Entry) × (item_in (entries_of declared.now) (entries_of definitions.old) (sexp_of item.now) ≡ Ok e)
         × (entries_of definitions.new ≡ entries_of definitions.old ++ e ∷ [])) }
     ensures refused { IfErr result (λ fault. (fault ≡ Memory) ⊎ (item_in (entries_of declared.now) (entries_of definitions.old) (sexp_of item.now) ≡ Err fault)) }

@@ -1,5 +1,12 @@
 //! Commands, and the trees that are commands.
 
+ghost use Rattle.std.specs.Prelude.{◌≡◌, ◌<◌, ◌++◌, ◌∷◌, [], length, MatchResult};
+ghost use Rattle.smt_text.specs.Sexp.{Items};
+ghost use Rattle.smt_text.specs.TreeView.{sexp_of, sexps_of};
+ghost use Rattle.smtcheck.specs.Dialogue.Shapes.{HasShape, are_symbol_and_tree, is_one_tree};
+ghost use Rattle.smtcheck.specs.Dialogue.Command as spec;
+ghost use Rattle.smtcheck.specs.Dialogue.View.{command_seen};
+
 use crate::terms::faults::TermFault;
 use smt_text::{Bytes, Tree, Trees, Word, split};
 use std::fmt;
@@ -26,25 +33,71 @@ pub enum CommandFault {
 
 /// The command that a tree is. A tree that is none is refused: as unsupported where it is a list that begins with the name of
 /// another command, whatever follows, else for its form.
-pub fn read_command(tree: Tree) -> Result<Command, CommandFault> {
+pub fn read_command(tree: Tree) -> Result<Command, CommandFault>
+    ensures { MatchResult result (λ command. spec.command_of (sexp_of tree) ≡ Ok (command_seen command))
+        (λ fault. spec.command_of (sexp_of tree) ≡ Err fault) }
+{
     let Tree::List(parts) = tree else {
         return Err(CommandFault::Form);
     };
-    let (word, count) = match split(parts.as_slice()) {
-        Some((Tree::Reserved(word), _)) => (*word, parts.as_slice().len()),
-        _ => return Err(CommandFault::Form),
-    };
-    match word {
-        Word::DeclareConst if count == 3 => declaration(parts),
-        Word::Assert if count == 2 => assertion(parts),
-        Word::CheckSat if count == 1 => Ok(Command::CheckSat),
-        Word::GetModel if count == 1 => Ok(Command::GetModel),
-        _ => Err(refused_word(word)),
+    match shape_of(parts.as_slice())? {
+        Shape::Declaration => Ok(declaration(parts)),
+        Shape::Assertion => Ok(assertion(parts)),
+        Shape::Check => Ok(Command::CheckSat),
+        Shape::Model => Ok(Command::GetModel),
     }
 }
 
+// The kinds of commands.
+#[derive(Clone, Copy)]
+enum Shape {
+    Declaration,
+    Assertion,
+    Check,
+    Model,
+}
+
+// The kind of command that a list is, by its word and how many trees of which kind follow it.
+fn shape_of(parts: &[Tree]) -> Result<Shape, CommandFault>
+    ensures { MatchResult result (λ shape. HasShape shape (sexps_of parts.now))
+        (λ fault. spec.command_of (Items (sexps_of parts.now)) ≡ Err fault) }
+{
+    let Some((Tree::Reserved(word), rest)) = split(parts) else {
+        return Err(CommandFault::Form);
+    };
+    match word {
+        Word::DeclareConst if is_declared(rest) => Ok(Shape::Declaration),
+        Word::Assert if is_single(rest) => Ok(Shape::Assertion),
+        Word::CheckSat if split(rest).is_none() => Ok(Shape::Check),
+        Word::GetModel if split(rest).is_none() => Ok(Shape::Model),
+        _ => Err(refused_word(*word)),
+    }
+}
+
+// Whether these are a symbol and one more tree.
+fn is_declared(trees: &[Tree]) -> bool
+    ensures { result ≡ are_symbol_and_tree (sexps_of trees.now) }
+{
+    let Some((Tree::Symbol(_), rest)) = split(trees) else {
+        return false;
+    };
+    is_single(rest)
+}
+
+// Whether this is one tree.
+fn is_single(trees: &[Tree]) -> bool
+    ensures { result ≡ is_one_tree (sexps_of trees.now) }
+{
+    let Some((_, rest)) = split(trees) else {
+        return false;
+    };
+    split(rest).is_none()
+}
+
 // Why a list that begins with this word, and is no command in form, is refused.
-fn refused_word(word: Word) -> CommandFault {
+fn refused_word(word: Word) -> CommandFault
+    ensures { result ≡ spec.refused_word word }
+{
     match word {
         Word::Bang | Word::Underscore | Word::As | Word::Binary | Word::Decimal =>
             CommandFault::Form,
@@ -56,22 +109,35 @@ fn refused_word(word: Word) -> CommandFault {
     }
 }
 
-// The declaration that a list of three trees is, behind its word.
-fn declaration(parts: Trees) -> Result<Command, CommandFault> {
+// The declaration that a list is.
+fn declaration(parts: Trees) -> Command
+    requires { HasShape Shape.Declaration parts }
+    ensures { spec.command_of (Items parts) ≡ Ok (command_seen result) }
+{
     let mut items = parts.into_vec();
-    match (items.pop(), items.pop()) {
-        (Some(sort), Some(Tree::Symbol(name))) => Ok(Command::DeclareConst { name, sort }),
-        _ => Err(CommandFault::Form),
+    let sort = pop_tree(&mut items);
+    match pop_tree(&mut items) {
+        Tree::Symbol(name) => Command::DeclareConst { name, sort },
+        _ => unreachable!(),
     }
 }
 
-// The assertion that a list of two trees is, behind its word.
-fn assertion(parts: Trees) -> Result<Command, CommandFault> {
+// The assertion that a list is.
+fn assertion(parts: Trees) -> Command
+    requires { HasShape Shape.Assertion parts }
+    ensures { spec.command_of (Items parts) ≡ Ok (command_seen result) }
+{
     let mut items = parts.into_vec();
-    match items.pop() {
-        Some(term) => Ok(Command::Assert { term }),
-        None => Err(CommandFault::Form),
-    }
+    let term = pop_tree(&mut items);
+    Command::Assert { term }
+}
+
+// Takes the last tree.
+fn pop_tree(items: &mut Vec<Tree>) -> Tree
+    requires { 0 < length items.old.items }
+    ensures { items.old.items ≡ items.new.items ++ result ∷ [] }
+{
+    items.pop().unwrap()
 }
 
 impl fmt::Display for CommandFault {

@@ -4,6 +4,7 @@ use Rattle.smt_text.specs.Reading.{Reads}
 use Rattle.smt_text.specs.Sexp.{Sexp, Sexps, Nil, Cons}
 use Rattle.smt_text.specs.declared.fault.TextFault.{TextFault}
 use Rattle.smt_text.specs.declared.fault.TextFault.TheVariants as texts
+use Rattle.smt_text.specs.declared.reading.TheConstants.{MAX_DEPTH}
 use Rattle.smtcheck.specs.Dialogue.Command.{Command, command_of}
 use Rattle.smtcheck.specs.Dialogue.InForce.{AreFaultless, fault_of_pair}
 use Rattle.smtcheck.specs.Dialogue.Lines.{lines_in, with_verdict}
@@ -17,7 +18,7 @@ use Rattle.smtcheck.specs.declared.script.CommandFault.{CommandFault}
 
 -- how deep lists may nest
 abbrev pub limit : ℕ
-limit = 1000
+limit = MAX_DEPTH
 
 -- the line on the fault of a text. Want of memory is no fault of a text
 abbrev pub text_line : Side → TextFault → Line

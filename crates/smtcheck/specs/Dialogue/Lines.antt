@@ -124,3 +124,7 @@ verdict_of ls =
 -- the lines, and then that of the verdict
 abbrev pub with_verdict : List Line → List Line
 with_verdict ls = ls ++ lines.Verdict (verdict_of ls) (tally_of ls) ∷ []
+
+-- the last line is that of the verdict
+abbrev pub IsVerdictOf : Verdict → List Line → Type 0
+IsVerdictOf verdict ls = (front : List Line) × (tally : Tally) × (ls ≡ front ++ lines.Verdict verdict tally ∷ [])
