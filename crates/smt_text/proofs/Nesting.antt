@@ -1,13 +1,13 @@
 -- Open parentheses alone.
-use Rattle.std.proofs.Common.{◌≡◌, ◌<◌, ◌≤◌, ◌+◌, ℕ, suc, zero, List, [], ◌∷◌, ◌++◌, length, Option, Some, None, Bool, true, false, cond, ltb, replicate, refl, sym, ap, ◌∙◌, arith, subst}
+use Rattle.std.proofs.Common.{◌≡◌, ◌<◌, ◌≤◌, ◌+◌, ℕ, suc, zero, List, [], ◌∷◌, ◌++◌, length, Some, None, true, cond, replicate, refl, sym, ap, ◌∙◌, arith, subst}
 use Rattle.std.proofs.lemmas.Bool.{lt-ltb, le-ltb}
 use Rattle.std.proofs.lemmas.List.{append-nil, length-replicate, replicate-append-replicate}
 use Rattle.smt_text.proofs.Faults.{stuck_reads, ends_inside}
-use Rattle.smt_text.proofs.Spell.{run-cons, run-append}
-use Rattle.smt_text.specs.Machine.{Levels, On, State, At, start, settle, step, run, IsStuck}
+use Rattle.smt_text.proofs.Spell.{run-cons}
+use Rattle.smt_text.specs.Machine.{On, At, start, settle, step, run}
 use Rattle.smt_text.specs.Reading.{Reads}
-use Rattle.smt_text.specs.Sexp.{Sexps, Nil, Cons}
-use Rattle.smt_text.specs.declared.fault.TextFault.TheVariants.{Byte, Deep, End}
+use Rattle.smt_text.specs.Sexp.{Sexps, Nil}
+use Rattle.smt_text.specs.declared.fault.TextFault.TheVariants.{Deep, End}
 use Rattle.smt_text.specs.declared.lexical.Shape.TheVariants.{Nothing}
 
 one_more : (n : ℕ) (lists : List Sexps) → replicate n Nil ++ (Nil ∷ lists) ≡ Nil ∷ (replicate n Nil ++ lists)

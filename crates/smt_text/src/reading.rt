@@ -220,3 +220,6 @@ impl Reader {
         self.close_atom()
     }
 }
+
+#[cfg(test)]
+mod tests;

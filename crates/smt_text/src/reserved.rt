@@ -1,8 +1,9 @@
 //! The reserved words.
 
-ghost use Rattle.std.specs.Prelude.{◌≡◌};
+ghost use Rattle.std.specs.Prelude.{◌≡◌, ◌≢◌, MatchOption};
 ghost use Rattle.smt_text.specs.Machine.{word_named};
 ghost use Rattle.smt_text.specs.Reserved.{spelling_of};
+ghost use Rattle.smt_text.specs.declared.reserved.Word.{Word};
 
 /// A reserved word (SMT-LIB 2.6, section 3.1): no symbol has its spelling, unless it stands between bars.
 #[derive(Clone, Copy, Debug, PartialEq, Eq)]
@@ -195,7 +196,8 @@ pub fn spelling(word: Word) -> &'static [u8]
 
 /// The reserved word that is written so, if there is one.
 pub fn word_of(bytes: &[u8]) -> Option<Word>
-    ensures { result ≡ word_named bytes.now }
+    ensures named { result ≡ word_named bytes.now }
+    ensures written { MatchOption result ((word : Word) → bytes.now ≢ spelling_of word) (λ word. bytes.now ≡ spelling_of word) }
 {
     for word in WORDS {
         if spelling(word) == bytes {

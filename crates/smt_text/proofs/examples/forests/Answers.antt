@@ -1,4 +1,4 @@
-use Rattle.std.proofs.Common.{◌≡◌, [], codes, refl}
+use Rattle.std.proofs.Common.{[], codes, refl}
 use Rattle.smt_text.proofs.Faults.{one_forest}
 use Rattle.smt_text.proofs.Sound.{forest-read}
 use Rattle.smt_text.specs.Grammar.{Forest}
