@@ -3,3 +3,6 @@ pub mod LibraryLemmas
 pub mod CheckLemmas
 pub mod EvalLemmas
 pub mod ModelLemmas
+pub mod MeaningLemmas
+pub mod CompleteLemmas
+pub mod FaultLemmas

@@ -2,6 +2,7 @@
 
 pub mod checked;
 pub mod evaluator;
+pub mod laws;
 pub mod operations;
 pub mod plain;
 pub mod values;
