@@ -1,1 +1,10 @@
 pub mod SexpLemmas
+pub mod Words
+pub mod Spell
+pub mod Sound
+pub mod Fronts
+pub mod Whole
+pub mod Faults
+pub mod Levels
+pub mod Histories
+pub mod Nesting

@@ -1,7 +1,7 @@
 -- Laws of S-expressions side by side.
 use Rattle.std.proofs.Common.{◌≡◌, ℕ, ◌+◌, ◌<◌, List, [], ◌∷◌, ◌++◌, length, take, get_or, refl, ap, sym, ◌∙◌, arith}
 use Rattle.std.proofs.lemmas.List.{take_more}
-use Rattle.smt_text.specs.Sexp.{Sexp, Sexps, Nil, Cons, append, count, weight, weight_all}
+use Rattle.smt_text.specs.Sexp.{Sexp, Sexps, Nil, Cons, append, count, weight_all}
 use Rattle.smt_text.specs.TreeView.{sexp_of, sexps_of}
 use Rattle.smt_text.specs.declared.syntax.Tree.{Tree}
 
@@ -26,3 +26,11 @@ pub sexps_of-take_more : (built xs : List Tree) (i : ℕ) (x y : Tree) → sexps
 sexps_of-take_more built xs i x y so_far in_range is same =
     sexps_of-append built (y ∷ []) ∙ ap (λ (zs : Sexps). append zs (Cons (sexp_of y) Nil)) so_far ∙ ap (λ (z : Sexp). append (sexps_of (take i xs)) (Cons z Nil)) (same ∙ ap sexp_of is)
     ∙ sym (sexps_of-append (take i xs) (get_or xs i x ∷ [])) ∙ ap sexps_of (sym (take_more xs i x in_range))
+
+pub count-append : (xs ys : Sexps) → count (append xs ys) ≡ count xs + count ys
+count-append Nil ys = omega arith
+count-append (Cons x xs) ys = omega (arith, count-append xs ys)
+
+pub nil_if_none : (xs : Sexps) → count xs ≡ 0 → xs ≡ Nil
+nil_if_none Nil e = refl
+nil_if_none (Cons x xs) e = absurd (omega arith)

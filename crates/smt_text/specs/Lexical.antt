@@ -1,6 +1,6 @@
 -- SMT-LIB 2.6, section 3.1: bytes and their classes. That a symbol is a string of bytes, in whatever encoding, is this
 -- project's rule.
-use Rattle.std.specs.Prelude.{ℕ, List, Bool, true, false, ◌==◌, ◌||◌, ◌&&◌, nat_le, if◌then◌else◌, codes}
+use Rattle.std.specs.Prelude.{ℕ, Bool, ◌==◌, ◌||◌, ◌&&◌, nat_le, if◌then◌else◌, codes}
 use Rattle.std.specs.List.{list_any}
 use Rattle.smt_text.specs.declared.lexical.Class.{Class}
 use Rattle.smt_text.specs.declared.lexical.Class.TheVariants.{White, Open, Close, Zero, Digit, Letter, Other}

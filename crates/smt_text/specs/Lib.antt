@@ -6,3 +6,6 @@ pub mod TreeFalls
 pub mod Lexical
 pub mod Grammar
 pub mod Reading
+pub mod Machine
+pub mod ReaderState
+pub mod History

@@ -2,7 +2,7 @@
 use Rattle.std.specs.Prelude.{◌≡◌, ◌⊎◌, ◌≤◌, ℕ, List, [], ◌∷◌, ◌++◌, length, Bool, true, false, Option, Some, None}
 use Rattle.smt_text.specs.Grammar.{Forest}
 use Rattle.smt_text.specs.Lexical.{class_of}
-use Rattle.smt_text.specs.Sexp.{Sexp, Sexps, Items, Nil, Cons, append}
+use Rattle.smt_text.specs.Sexp.{Sexps, Items, Nil, Cons, append}
 use Rattle.smt_text.specs.declared.lexical.Class.TheVariants.{White, Open, Close}
 use Rattle.smt_text.specs.declared.fault.TextFault.{TextFault}
 use Rattle.smt_text.specs.declared.fault.TextFault.TheVariants.{Byte, Deep, End, Memory}

@@ -1,5 +1,5 @@
 -- SMT-LIB 2.6, section 3.1: the reserved words, those of the language and those that name commands.
-use Rattle.std.specs.Prelude.{ℕ, List, codes}
+use Rattle.std.specs.Prelude.{ℕ, List, [], ◌∷◌, codes}
 use Rattle.smt_text.specs.declared.reserved.Word.{Word}
 use Rattle.smt_text.specs.declared.reserved.Word.TheVariants.{Bang, Underscore, As, Binary, Decimal, Exists, Hexadecimal, Forall, Let, Match, Numeral, Par, String, Assert, CheckSat, CheckSatAssuming, DeclareConst, DeclareDatatype, DeclareDatatypes, DeclareFun, DeclareSort, DefineFun, DefineFunRec, DefineFunsRec, DefineSort, Echo, Exit, GetAssertions, GetAssignment, GetInfo, GetModel, GetOption, GetProof, GetUnsatAssumptions, GetUnsatCore, GetValue, Pop, Push, Reset, ResetAssertions, SetInfo, SetLogic, SetOption}
 
@@ -48,3 +48,8 @@ spelling_of ResetAssertions = codes "reset-assertions"
 spelling_of SetInfo = codes "set-info"
 spelling_of SetLogic = codes "set-logic"
 spelling_of SetOption = codes "set-option"
+
+-- all reserved words
+abbrev pub all_words : List Word
+all_words =
+    Bang ∷ Underscore ∷ As ∷ Binary ∷ Decimal ∷ Exists ∷ Hexadecimal ∷ Forall ∷ Let ∷ Match ∷ Numeral ∷ Par ∷ String ∷ Assert ∷ CheckSat ∷ CheckSatAssuming ∷ DeclareConst ∷ DeclareDatatype ∷ DeclareDatatypes ∷ DeclareFun ∷ DeclareSort ∷ DefineFun ∷ DefineFunRec ∷ DefineFunsRec ∷ DefineSort ∷ Echo ∷ Exit ∷ GetAssertions ∷ GetAssignment ∷ GetInfo ∷ GetModel ∷ GetOption ∷ GetProof ∷ GetUnsatAssumptions ∷ GetUnsatCore ∷ GetValue ∷ Pop ∷ Push ∷ Reset ∷ ResetAssertions ∷ SetInfo ∷ SetLogic ∷ SetOption ∷ []

@@ -1,5 +1,5 @@
 -- Trees inside a list weigh less than the list.
-use Rattle.std.specs.Prelude.{ℕ, ◌+◌, ◌≤◌, max, List, [], ◌∷◌}
+use Rattle.std.specs.Prelude.{◌≤◌, List, [], ◌∷◌}
 use Rattle.std.proofs.Common.{arith}
 use Rattle.smt_text.specs.Sexp.{weight, weight_all}
 use Rattle.smt_text.specs.TreeView.{sexp_of, sexps_of}

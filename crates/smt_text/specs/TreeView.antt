@@ -1,5 +1,5 @@
 -- What S-expression a value of the code is.
-use Rattle.std.specs.Prelude.{ℕ, List, [], ◌∷◌}
+use Rattle.std.specs.Prelude.{List, [], ◌∷◌}
 use Rattle.smt_text.specs.Sexp as sexp
 use Rattle.smt_text.specs.Sexp.{Sexp, Sexps, Atom, Items, Nil, Cons}
 use Rattle.smt_text.specs.declared.syntax.Tree.{Tree}

@@ -1,5 +1,12 @@
 //! Trees, built from tokens in order.
 
+ghost use Rattle.std.specs.Prelude.{◌≡◌, ◌<◌, [], ◌∷◌, MatchOption, MatchResult};
+ghost use Rattle.smt_text.specs.Machine.{On, add, begun, ended, depth_of};
+ghost use Rattle.smt_text.specs.ReaderState.{levels_of};
+ghost use Rattle.smt_text.specs.Sexp.{Nil};
+ghost use Rattle.smt_text.specs.declared.fault.TextFault.TheVariants.{Memory};
+ghost use Rattle.smt_text.specs.TreeView.{sexp_of};
+
 use crate::fault::TextFault;
 use crate::syntax::{Tree, Trees};
 use std::alloc::Global;
@@ -9,50 +16,65 @@ use std::collections::VecDeque;
 #[derive(Drop)]
 pub(crate) struct Builder {
     alloc: Global,
-    /// What each open list holds so far, the outermost list first.
-    open: Vec<Vec<Tree>>,
+    /// What each list that is not closed holds so far, the outermost list first.
+    lists: Vec<Vec<Tree>>,
     /// The trees at the top that were not handed out.
     ready: VecDeque<Tree>,
 }
 
 impl Builder {
-    pub(crate) fn new(alloc: Global) -> Self {
+    pub(crate) fn new(alloc: Global) -> Self
+        ensures { levels_of result ≡ On [] Nil }
+    {
         Builder {
             alloc,
-            open: Vec::new(alloc),
+            lists: Vec::new(alloc),
             ready: VecDeque::new(alloc),
         }
     }
 
-    /// How many lists are open.
-    pub(crate) fn depth(&self) -> usize {
-        self.open.len()
+    /// How many lists are not closed.
+    pub(crate) fn depth(&self) -> usize
+        ensures { result ≡ depth_of (levels_of self.now) }
+    {
+        self.lists.len()
     }
 
-    /// Adds a tree to the innermost open list, or at the top.
-    pub(crate) fn add(&mut self, tree: Tree) -> Result<(), TextFault> {
-        match self.open.last_mut() {
+    /// Adds a tree to the innermost list that is not closed, or at the top.
+    pub(crate) fn add(&mut self, tree: Tree) -> Result<(), TextFault>
+        ensures { MatchResult result (λ _. levels_of self.new ≡ add (sexp_of tree) (levels_of self.old)) (λ e. e ≡ Memory) }
+    {
+        match self.lists.last_mut() {
             Some(parts) => parts.push(tree)?,
             None => self.ready.push_back(tree)?,
         }
         Ok(())
     }
 
-    pub(crate) fn begin_list(&mut self) -> Result<(), TextFault> {
-        self.open.push(Vec::new(self.alloc))?;
+    /// Begins a list.
+    pub(crate) fn begin_list(&mut self) -> Result<(), TextFault>
+        ensures { MatchResult result (λ _. levels_of self.new ≡ begun (levels_of self.old)) (λ e. e ≡ Memory) }
+    {
+        self.lists.push(Vec::new(self.alloc))?;
         Ok(())
     }
 
-    /// Closes the innermost open list, if there is one.
-    pub(crate) fn end_list(&mut self) -> Result<(), TextFault> {
-        match self.open.pop() {
+    /// Closes the innermost list.
+    pub(crate) fn end_list(&mut self) -> Result<(), TextFault>
+        requires { 0 < depth_of (levels_of self.old) }
+        ensures { MatchResult result (λ _. ended (levels_of self.old) ≡ levels_of self.new) (λ e. e ≡ Memory) }
+    {
+        match self.lists.pop() {
             Some(parts) => self.add(Tree::List(Trees::new(parts))),
             None => Ok(()),
         }
     }
 
     /// The first tree that was not handed out.
-    pub(crate) fn hand_out(&mut self) -> Option<Tree> {
+    pub(crate) fn hand_out(&mut self) -> Option<Tree>
+        ensures lists { self.new.lists ≡ self.old.lists }
+        ensures first { MatchOption result ((self.old.ready.items ≡ []) × (self.new.ready.items ≡ [])) (λ tree. self.old.ready.items ≡ tree ∷ self.new.ready.items) }
+    {
         self.ready.pop_front()
     }
 }

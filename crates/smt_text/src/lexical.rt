@@ -1,5 +1,11 @@
 //! Classes of bytes, and the shapes of atoms.
 
+ghost use Rattle.std.specs.Prelude.{◌≡◌};
+ghost use Rattle.std.specs.Option.{option_map};
+ghost use Rattle.smt_text.specs.Lexical as lexical;
+ghost use Rattle.smt_text.specs.Machine as machine;
+ghost use Rattle.smt_text.specs.TreeView.{sexp_of};
+
 use crate::byte_string::Bytes;
 use crate::reserved::word_of;
 use crate::syntax::Tree;
@@ -24,7 +30,9 @@ pub enum Class {
 }
 
 /// The class of a byte.
-pub fn class_of(byte: u8) -> Class {
+pub fn class_of(byte: u8) -> Class
+    ensures { result ≡ lexical.class_of byte }
+{
     match byte {
         b'\t' | b'\n' | b'\r' | b' ' => Class::White,
         b'(' => Class::Open,
@@ -52,7 +60,9 @@ pub enum Shape {
 
 impl Shape {
     /// The shape after one more byte of this class, if an atom may go on with it.
-    pub fn after(self, class: Class) -> Option<Shape> {
+    pub fn after(self, class: Class) -> Option<Shape>
+        ensures { result ≡ machine.after self class }
+    {
         match (self, class) {
             (Shape::Nothing, Class::Zero) => Some(Shape::Zero),
             (Shape::Nothing, Class::Digit) => Some(Shape::Numeral),
@@ -64,13 +74,16 @@ impl Shape {
     }
 }
 
-/// The atom of a shape with these bytes.
-pub fn atom_of(shape: Shape, bytes: Vec<u8>) -> Tree {
+/// The atom of a shape with these bytes, if one has begun.
+pub fn atom_of(shape: Shape, bytes: Vec<u8>) -> Option<Tree>
+    ensures { option_map sexp_of result ≡ machine.atom_of shape bytes.items }
+{
     match shape {
-        Shape::Zero | Shape::Numeral => Tree::Numeral(Bytes::new(bytes)),
-        Shape::Nothing | Shape::Symbol => match word_of(bytes.as_slice()) {
+        Shape::Nothing => None,
+        Shape::Zero | Shape::Numeral => Some(Tree::Numeral(Bytes::new(bytes))),
+        Shape::Symbol => Some(match word_of(bytes.as_slice()) {
             Some(word) => Tree::Reserved(word),
             None => Tree::Symbol(Bytes::new(bytes)),
-        },
+        }),
     }
 }

@@ -3,7 +3,9 @@
 
 mod building;
 mod byte_string;
+pub mod examples;
 mod fault;
+pub mod laws;
 mod lexical;
 mod reading;
 mod reserved;

@@ -1,6 +1,7 @@
 //! The reserved words.
 
-ghost use Rattle.std.specs.Prelude.{◌≡◌, IfSome};
+ghost use Rattle.std.specs.Prelude.{◌≡◌};
+ghost use Rattle.smt_text.specs.Machine.{word_named};
 ghost use Rattle.smt_text.specs.Reserved.{spelling_of};
 
 /// A reserved word (SMT-LIB 2.6, section 3.1): no symbol has its spelling, unless it stands between bars.
@@ -194,7 +195,7 @@ pub fn spelling(word: Word) -> &'static [u8]
 
 /// The reserved word that is written so, if there is one.
 pub fn word_of(bytes: &[u8]) -> Option<Word>
-    ensures { IfSome result (λ word. bytes.now ≡ spelling_of word) }
+    ensures { result ≡ word_named bytes.now }
 {
     for word in WORDS {
         if spelling(word) == bytes {

@@ -74,6 +74,13 @@ impl Trees {
         self.items.as_slice()
     }
 
+    /// The vector of these trees, which takes no memory.
+    pub fn into_vec(self) -> Vec<Tree>
+        ensures { sexps_of result.items ≡ self }
+    {
+        self.items
+    }
+
     /// A copy of the trees, of its own memory.
     #[cycle(copy)]
     pub fn copy(&self, alloc: Global) -> Result<Trees, AllocError>

@@ -1,0 +1,173 @@
+-- Which fronts of texts run, and which trees of them are whole.
+use Rattle.std.proofs.Common.{◌≡◌, ◌⊎◌, ◌<◌, ◌≤◌, ℕ, suc, zero, List, [], ◌∷◌, ◌++◌, length, Option, Some, None, Bool, true, false, ltb, cond, refl, sym, ap, ◌∙◌, inl, inr, arith, subst}
+use Rattle.std.proofs.lemmas.Bool.{cases_lt}
+use Rattle.std.proofs.lemmas.List.{append-nil, length-append}
+use Rattle.smt_text.proofs.SexpLemmas.{append_nil, append_assoc as sexps_assoc}
+use Rattle.smt_text.proofs.Sound.{forest-read}
+use Rattle.smt_text.proofs.Spell.{run-cons, run-append, reads-forest, depth_of-add}
+use Rattle.smt_text.specs.Grammar.{OpenParenthesis, CloseParenthesis}
+use Rattle.smt_text.specs.Lexical.{class_of}
+use Rattle.smt_text.specs.Machine.{Levels, On, State, At, start, add, atom_of, add_if, flush, after, act, settle, grow, step_by, step, go_on, run, depth_of, top_of, whole_of}
+use Rattle.smt_text.specs.Reading.{Begins, GoodFront}
+use Rattle.smt_text.specs.Sexp.{Sexp, Sexps, Items, Nil, Cons, append}
+use Rattle.smt_text.specs.declared.lexical.Class.{Class}
+use Rattle.smt_text.specs.declared.lexical.Class.TheVariants as class
+use Rattle.smt_text.specs.declared.lexical.Class.TheVariants.{White, Open, Close, Digit, Letter, Other}
+use Rattle.smt_text.specs.declared.lexical.Shape.{Shape}
+use Rattle.smt_text.specs.declared.lexical.Shape.TheVariants.{Nothing}
+
+-- a run goes over the front of a text first
+pub record Splits (limit : ℕ) (s : State) (xs ys : List ℕ) (end : State) : Type 0 where
+  pub mid : State
+  pub first : run limit s xs ≡ Some mid
+  pub then : run limit mid ys ≡ Some end
+
+run-front : (limit : ℕ) (s : State) (xs ys : List ℕ) (end : State) → run limit s (xs ++ ys) ≡ Some end → Splits limit s xs ys end
+run-front limit s [] ys end e = record { mid = s; first = refl; then = e }
+run-front limit s (b ∷ bs) ys end e = by_step (step limit s b) refl e (λ next. run-front limit next bs ys end)
+  where
+    by_step : (o : Option State) → step limit s b ≡ o → go_on o (λ x. run limit x (bs ++ ys)) ≡ Some end → ((next : State) → run limit next (bs ++ ys) ≡ Some end → Splits limit next bs ys end) → Splits limit s (b ∷ bs) ys end
+    by_step None h k later = absurd (cc)
+    by_step (Some next) h k later =
+        let r = later next k in
+        record { mid = r.mid; first = run-cons limit s next b bs h ∙ r.first; then = r.then }
+
+-- the beginnings of texts of trees run
+pub record Runs (limit : ℕ) (text : List ℕ) : Type 0 where
+  pub end : State
+  pub runs : run limit start text ≡ Some end
+
+pub runs_if_begins : (limit : ℕ) (front : List ℕ) → Begins limit front → Runs limit front
+runs_if_begins limit front h =
+    let all = reads-forest limit (front ++ h.0) h.1 h.2 in
+    let r = run-front limit start front h.0 all.next all.runs in
+    record { end = r.mid; runs = r.first }
+
+-- the lists that are not closed can be
+pub record Closes (limit : ℕ) (s : State) : Type 0 where
+  pub more : List ℕ
+  pub end : State
+  pub trees : Sexps
+  pub runs : run limit s more ≡ Some end
+  pub closed : flush end ≡ On [] trees
+
+can_close : (n : ℕ) (limit : ℕ) (levels : Levels) (s : State) → depth_of levels ≡ n → flush s ≡ levels → Closes limit s
+can_close zero limit (On [] top) s d e = record { more = []; end = s; trees = top; runs = refl; closed = e }
+can_close zero limit (On (parts ∷ lists) top) s d e = absurd (omega arith)
+can_close (suc n) limit (On [] top) s d e = absurd (omega arith)
+can_close (suc n) limit (On (parts ∷ lists) top) s d e =
+    let levels = add (Items parts) (On lists top) in
+    let r = can_close n limit levels (At Nothing [] levels) (depth_of-add (Items parts) (On lists top) ∙ omega arith) refl in
+    record {
+      more = 41 ∷ r.more;
+      end = r.end;
+      trees = r.trees;
+      runs = run-cons limit s (At Nothing [] levels) 41 r.more (ap (λ x. settle (act limit CloseParenthesis x)) e) ∙ r.runs;
+      closed = r.closed;
+    }
+
+-- and what runs begins some text of trees
+pub begins_if_runs : (limit : ℕ) (front : List ℕ) (s : State) → run limit start front ≡ Some s → Begins limit front
+begins_if_runs limit front s e =
+    let r = can_close (depth_of (flush s)) limit (flush s) s refl refl in
+    (r.more, r.trees, forest-read limit (front ++ r.more) r.end r.trees (run-append limit start s front r.more e ∙ r.runs) r.closed)
+
+-- what goes on past a place begins with the byte there
+prefix_past : (front longer : List ℕ) (b : ℕ) (rest other : List ℕ) → front ++ b ∷ rest ≡ longer ++ other → length front < length longer → (x : List ℕ) × (longer ≡ front ++ b ∷ x)
+prefix_past [] [] b rest other e h = absurd (omega arith)
+prefix_past [] (c ∷ longer) b rest other e h = let same : c ≡ b = cc in (longer, ap (λ x. x ∷ longer) same)
+prefix_past (a ∷ front) [] b rest other e h = absurd (omega arith)
+prefix_past (a ∷ front) (c ∷ longer) b rest other e h =
+    let same : c ≡ a = cc in
+    let tails : front ++ b ∷ rest ≡ longer ++ other = cc in
+    let r = prefix_past front longer b rest other tails (omega arith) in
+    (r.0, ap (λ x. x ∷ longer) same ∙ ap (λ x. a ∷ x) r.1)
+
+pub stuck_front : (limit : ℕ) (front : List ℕ) (s : State) (b : ℕ) (rest : List ℕ) → run limit start front ≡ Some s → step limit s b ≡ None → GoodFront limit (front ++ b ∷ rest) front (b ∷ rest)
+stuck_front limit front s b rest e stops = record { parts = refl; begins = begins_if_runs limit front s e; longest = no_longer }
+  where
+    past : (longer x : List ℕ) → longer ≡ front ++ b ∷ x → Begins limit longer → length longer ≤ length front
+    past longer x is h =
+        let r = runs_if_begins limit longer h in
+        let none : run limit start (front ++ b ∷ x) ≡ None = run-append limit start s front (b ∷ x) e ∙ ap (λ o. go_on o (λ next. run limit next x)) stops in
+        let some : run limit start (front ++ b ∷ x) ≡ Some r.end = ap (run limit start) (sym is) ∙ r.runs in
+        absurd (cc)
+
+    by_length : (longer other : List ℕ) → front ++ b ∷ rest ≡ longer ++ other → Begins limit longer → (length front < length longer) ⊎ (length longer ≤ length front) → length longer ≤ length front
+    by_length longer other is h (inr le) = le
+    by_length longer other is h (inl lt) = let x = prefix_past front longer b rest other is lt in past longer x.0 x.1 h
+
+    no_longer : (longer other : List ℕ) → front ++ b ∷ rest ≡ longer ++ other → Begins limit longer → length longer ≤ length front
+    no_longer longer other is h = by_length longer other is h (cases_lt (length front) (length longer))
+
+pub whole_front : (limit : ℕ) (text : List ℕ) → Begins limit text → GoodFront limit text text []
+whole_front limit text h = record {
+  parts = sym (append-nil text);
+  begins = h;
+  longest = λ longer other e b. omega (arith, ap length e, length-append longer other);
+}
+
+-- trees at the top are only added to
+abbrev pub Grows : Sexps → Sexps → Type 0
+Grows xs ys = (later : Sexps) × (ys ≡ append xs later)
+
+pub grows_trans : (xs ys zs : Sexps) → Grows xs ys → Grows ys zs → Grows xs zs
+grows_trans xs ys zs a b = (append a.0 b.0, b.1 ∙ ap (λ x. append x b.0) a.1 ∙ sexps_assoc xs a.0 b.0)
+
+pub grows_same : (xs ys : Sexps) → xs ≡ ys → Grows xs ys
+grows_same xs ys e = (Nil, sym e ∙ sym (append_nil xs))
+
+grows-add : (x : Sexp) (levels : Levels) → Grows (top_of levels) (top_of (add x levels))
+grows-add x (On [] top) = (Cons x Nil, refl)
+grows-add x (On (parts ∷ lists) top) = grows_same top top refl
+
+grows-add_if : (o : Option Sexp) (levels : Levels) → Grows (top_of levels) (top_of (add_if o levels))
+grows-add_if None levels = grows_same (top_of levels) (top_of levels) refl
+grows-add_if (Some x) levels = grows-add x levels
+
+grows-is : (xs : Sexps) (levels next : Levels) → Some levels ≡ Some next → Grows xs (top_of levels) → Grows xs (top_of next)
+grows-is xs levels next e h = let same : levels ≡ next = cc in subst (λ x. Grows xs (top_of x)) same h
+
+grows-flush : (s : State) → Grows (whole_of s) (top_of (flush s))
+grows-flush (At shape bytes levels) = grows-add_if (atom_of shape bytes) levels
+
+grows-open : (t : Bool) (lists : List Sexps) (top : Sexps) (next : Levels) → cond t (Some (On (Nil ∷ lists) top)) None ≡ Some next → Grows top (top_of next)
+grows-open true lists top next e = grows-is top (On (Nil ∷ lists) top) next e (grows_same top top refl)
+grows-open false lists top next e = absurd (cc)
+
+grows-close : (limit : ℕ) (levels next : Levels) → act limit CloseParenthesis levels ≡ Some next → Grows (top_of levels) (top_of next)
+grows-close limit (On [] top) next e = absurd (cc)
+grows-close limit (On (parts ∷ lists) top) next e = grows-is top (add (Items parts) (On lists top)) next e (grows-add (Items parts) (On lists top))
+
+grows-opens : (limit : ℕ) (levels next : Levels) → act limit OpenParenthesis levels ≡ Some next → Grows (top_of levels) (top_of next)
+grows-opens limit (On lists top) next e = grows-open (ltb (length lists) limit) lists top next e
+
+-- what a settled state has at its top
+pub settled-is : (o : Option Levels) (next : State) → settle o ≡ Some next → (levels : Levels) × (o ≡ Some levels) × (next ≡ At Nothing [] levels)
+settled-is None next e = absurd (cc)
+settled-is (Some levels) next e = (levels, refl, let same : next ≡ At Nothing [] levels = cc in same)
+
+pub grown-is : (o : Option Shape) (bytes : List ℕ) (levels : Levels) (b : ℕ) (next : State) → grow o bytes levels b ≡ Some next → whole_of next ≡ top_of levels
+grown-is None bytes levels b next e = absurd (cc)
+grown-is (Some shape) bytes levels b next e = let same : next ≡ At shape (bytes ++ b ∷ []) levels = cc in ap whole_of same
+
+grows-step_by : (limit : ℕ) (s : State) (b : ℕ) (c : Class) (next : State) → step_by limit s b c ≡ Some next → Grows (whole_of s) (whole_of next)
+grows-step_by limit s b White next e = let same : At Nothing [] (flush s) ≡ next = cc in subst (λ x. Grows (whole_of s) (whole_of x)) same (grows-flush s)
+grows-step_by limit s b Open next e =
+    let o = settled-is (act limit OpenParenthesis (flush s)) next e in
+    subst (λ x. Grows (whole_of s) (whole_of x)) (sym o.2) (grows_trans (whole_of s) (top_of (flush s)) (top_of o.0) (grows-flush s) (grows-opens limit (flush s) o.0 o.1))
+grows-step_by limit s b Close next e =
+    let o = settled-is (act limit CloseParenthesis (flush s)) next e in
+    subst (λ x. Grows (whole_of s) (whole_of x)) (sym o.2) (grows_trans (whole_of s) (top_of (flush s)) (top_of o.0) (grows-flush s) (grows-close limit (flush s) o.0 o.1))
+grows-step_by limit (At shape bytes levels) b class.Zero next e = grows_same (top_of levels) (whole_of next) (sym (grown-is (after shape class.Zero) bytes levels b next e))
+grows-step_by limit (At shape bytes levels) b Digit next e = grows_same (top_of levels) (whole_of next) (sym (grown-is (after shape Digit) bytes levels b next e))
+grows-step_by limit (At shape bytes levels) b Letter next e = grows_same (top_of levels) (whole_of next) (sym (grown-is (after shape Letter) bytes levels b next e))
+grows-step_by limit (At shape bytes levels) b Other next e = absurd (cc)
+
+pub grows-run : (limit : ℕ) (s : State) (text : List ℕ) (end : State) → run limit s text ≡ Some end → Grows (whole_of s) (whole_of end)
+grows-run limit s [] end e = let same : s ≡ end = cc in grows_same (whole_of s) (whole_of end) (ap whole_of same)
+grows-run limit s (b ∷ text) end e = by_step (step limit s b) refl e (λ next. grows-run limit next text end)
+  where
+    by_step : (o : Option State) → step limit s b ≡ o → go_on o (λ x. run limit x text) ≡ Some end → ((next : State) → run limit next text ≡ Some end → Grows (whole_of next) (whole_of end)) → Grows (whole_of s) (whole_of end)
+    by_step None h k later = absurd (cc)
+    by_step (Some next) h k later = grows_trans (whole_of s) (whole_of next) (whole_of end) (grows-step_by limit s b (class_of b) next h) (later next k)

@@ -1,0 +1,11 @@
+use Rattle.smt_text.proofs.Nesting.{reads_at, reads_past}
+use Rattle.std.proofs.Common.{arith}
+use Rattle.smt_text.proofs.examples.nesting.Goals as goal
+
+pub returns : goal.returns
+returns c = record {
+  at_the_limit = reads_at 1000 (omega arith);
+  past_the_limit = reads_past 1000;
+  at_any_limit = reads_at;
+  past_any_limit = reads_past;
+}

@@ -1,0 +1,5 @@
+use Rattle.smt_text.proofs.Faults as faults
+use Rattle.smt_text.proofs.laws.one_forest.Goals as goal
+
+pub returns : goal.returns
+returns c = record { one = faults.one_forest }

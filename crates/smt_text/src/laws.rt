@@ -1,0 +1,27 @@
+//! Laws of the definitions of texts, trees and faults. Each is the contract of a function that does nothing.
+
+ghost use Rattle.std.specs.Prelude.{◌≡◌, ℕ, List, ◌++◌, Bool, Option};
+ghost use Rattle.smt_text.specs.Grammar.{Forest};
+ghost use Rattle.smt_text.specs.Reading.{Begins, AreWhole, Reads};
+ghost use Rattle.smt_text.specs.Sexp.{Sexps, append};
+ghost use Rattle.smt_text.specs.declared.fault.TextFault.{TextFault as Fault};
+
+/// A text has at most one forest, whatever the limits on the depth of lists.
+pub fn one_forest()
+    ensures one { (limit other : ℕ) (text : List ℕ) (xs ys : Sexps) → Forest limit text xs → Forest other text ys → xs ≡ ys }
+{}
+
+/// What is read of a text, its trees and its fault, is one answer.
+pub fn one_reading()
+    ensures one { (limit : ℕ) (ended : Bool) (text : List ℕ) (xs ys : Sexps) (f g : Option Fault) → Reads limit ended text xs f → Reads limit ended text ys g → (xs ≡ ys) × (f ≡ g) }
+{}
+
+/// Of every text something is read, whether more of it comes or not.
+pub fn every_text_reads()
+    ensures some { (limit : ℕ) (ended : Bool) (text : List ℕ) → (trees : Sexps) × (fault : Option Fault) × Reads limit ended text trees fault }
+{}
+
+/// The whole trees of the front of a text stay, in their order, whatever comes after it.
+pub fn whole_trees_stay()
+    ensures stay { (limit : ℕ) (front more : List ℕ) (xs ys : Sexps) → Begins limit (front ++ more) → AreWhole limit front xs → AreWhole limit (front ++ more) ys → (later : Sexps) × (ys ≡ append xs later) }
+{}
