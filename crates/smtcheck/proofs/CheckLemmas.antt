@@ -8,38 +8,9 @@ use Rattle.smtcheck.specs.declared.terms.faults.TermFault.{TermFault}
 use Rattle.smtcheck.specs.declared.terms.faults.TermFault.TheVariants.{Memory}
 use Rattle.smtcheck.specs.declared.terms.sorts.Sort.{Sort}
 
-pub weight-pos : (t : Sexp) → 1 ≤ weight t
-weight-pos (Atom kind bytes) = omega arith
-weight-pos (Reserved word) = omega arith
-weight-pos (Items parts) = omega arith
-
 -- the sorts of all are those that are done, and then those of the trees that are left
 abbrev pub sorts_behind : List Entry → List Sort → Sexps → Result (List Sort) TermFault
 sorts_behind names before left = go_on (sorts_in names [] left) (λ ss. Ok (before ++ ss))
-
-pub sorts_behind-start : (names : List Entry) (left : Sexps) → sorts_in names [] left ≡ sorts_behind names [] left
-sorts_behind-start names left = by (sorts_in names [] left)
-  where
-    by : (r : Result (List Sort) TermFault) → r ≡ go_on r (λ ss. Ok ([] ++ ss))
-    by (Ok ss) = refl
-    by (Err f) = refl
-
-pub sorts_behind-end : (names : List Entry) (before : List Sort) → sorts_behind names before Nil ≡ Ok before
-sorts_behind-end names before = ap (λ (ss : List Sort). Ok ss) (append-nil before)
-
-pub sorts_behind-step : (names : List Entry) (before : List Sort) (t : Sexp) (rest : Sexps) (s : Sort) → sort_in names [] t ≡ Ok s
-    → sorts_behind names before (Cons t rest) ≡ sorts_behind names (before ++ s ∷ []) rest
-sorts_behind-step names before t rest s h =
-    ap (λ r. go_on (go_on r (λ s. go_on (sorts_in names [] rest) (λ ss. Ok (s ∷ ss)))) (λ ss. Ok (before ++ ss))) h ∙ by (sorts_in names [] rest)
-  where
-    by : (r : Result (List Sort) TermFault) → go_on (go_on r (λ ss. Ok (s ∷ ss))) (λ ss. Ok (before ++ ss)) ≡ go_on r (λ ss. Ok ((before ++ s ∷ []) ++ ss))
-    by (Ok ss) = ap (λ (zs : List Sort). Ok zs) (sym (append_assoc before (s ∷ []) ss))
-    by (Err f) = refl
-
-pub sorts_behind-fault : (names : List Entry) (before : List Sort) (t : Sexp) (rest : Sexps) (f : TermFault) → sort_in names [] t ≡ Err f
-    → sorts_behind names before (Cons t rest) ≡ Err f
-sorts_behind-fault names before t rest f h =
-    ap (λ r. go_on (go_on r (λ s. go_on (sorts_in names [] rest) (λ ss. Ok (s ∷ ss)))) (λ ss. Ok (before ++ ss))) h
 
 -- a list that applies a symbol has the sort of the symbol applied
 pub applied : (names : List Entry) (x : List ℕ) (args : Sexps) → is_application (Atom Symbol x) args ≡ true

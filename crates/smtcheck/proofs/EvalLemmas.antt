@@ -46,8 +46,3 @@ bodies_at [] n p e at h = cc
 bodies_at (c ∷ es) zero p e at h = absurd (omega arith)
 bodies_at (c ∷ es) (suc n) zero e at h = let w : source_weight c.source ≡ source_weight e.source = cc in omega arith
 bodies_at (c ∷ es) (suc n) (suc p) e at h = omega (arith, bodies_at es n p e at (omega arith))
-
--- the values of all are those that are done, and then those of the trees that are left
-pub knowns_step : (m : KnownMeaning) (before : List (Option Value)) (t : Sexp) (rest : Sexps) (v : Option Value) → v ≡ known_of m [] t
-    → before ++ knowns_of m [] (Cons t rest) ≡ (before ++ v ∷ []) ++ knowns_of m [] rest
-knowns_step m before t rest v h = ap (λ w. before ++ w ∷ knowns_of m [] rest) (sym h) ∙ sym (append_assoc before (v ∷ []) (knowns_of m [] rest))

@@ -136,8 +136,8 @@ pub IsOther-item : (declared earlier : List Entry) (t : Sexp) → IsOther (item_
 IsOther-item declared earlier t =
     IsOther-go_on (item_form t) (λ form. form_in declared earlier form) (IsOther-form t)
     (λ form. IsOther-unless declared earlier form.name (go_on (without_parameters form.parameters (sort_named form.sort)) (λ sort. defined_as declared earlier form sort))
-     (IsOther-go_on (without_parameters form.parameters (sort_named form.sort)) (λ sort. defined_as declared earlier form sort) (IsOther-without form.parameters (sort_named form.sort) (IsOther-named form.sort))
-      (λ sort. defined form sort)))
+    (IsOther-go_on (without_parameters form.parameters (sort_named form.sort)) (λ sort. defined_as declared earlier form sort) (IsOther-without form.parameters (sort_named form.sort) (IsOther-named form.sort))
+    (λ sort. defined form sort)))
   where
     body : (form : ItemForm) (sort found : Sort) → IsOther (cond (is_same_sort found sort) (Ok (definition form.name sort form.body)) (Err Arguments))
     body form sort found = IsOther-test (is_same_sort found sort) (Ok (definition form.name sort form.body)) (Err Arguments) (λ e. cc) (λ e. cc)

@@ -24,25 +24,3 @@ lacking_step es items i e b at is =
 pub looked_up : {A B : Type 0} (f : A → B) (r : Option A) (o : Option B) (b : Bool) → option_map f r ≡ o → is_some r ≡ b → is_some o ≡ b
 looked_up f None o b h is = ap is_some (sym h) ∙ is
 looked_up f (Some a) o b h is = ap is_some (sym h) ∙ is
-
--- what comes of the next item
-pub items_step : (declared earlier : List Entry) (number : ℕ) (x : Sexp) (xs : Sexps) (e : Entry) → item_in declared earlier x ≡ Ok e
-    → items_from declared earlier number (Cons x xs) ≡ items_from declared (earlier ++ e ∷ []) (number + 1) xs
-items_step declared earlier number x xs e h = ap (λ r. or_item number r (λ e. items_from declared (earlier ++ e ∷ []) (number + 1) xs)) h
-
-pub items_fault : (declared earlier : List Entry) (number : ℕ) (x : Sexp) (xs : Sexps) (f : TermFault) → item_in declared earlier x ≡ Err f
-    → items_from declared earlier number (Cons x xs) ≡ Err (Item number f)
-items_fault declared earlier number x xs f h = ap (λ r. or_item number r (λ e. items_from declared (earlier ++ e ∷ []) (number + 1) xs)) h
-
--- a fault of an item, but for want of memory, is told
-pub fault_told : {A : Type 0} (number : ℕ) (f : TermFault) (r : Result A ModelFault) → (f ≡ Memory) ⊎ (r ≡ Err (Item number f)) → (fault_of_item number f ≡ OutOfMemory) ⊎ (r ≡ Err (fault_of_item number f))
-fault_told number f r (inl m) = inl (ap (fault_of_item number) m)
-fault_told number Form r (inr h) = inr h
-fault_told number Unsupported r (inr h) = inr h
-fault_told number Unknown r (inr h) = inr h
-fault_told number Arguments r (inr h) = inr h
-fault_told number Index r (inr h) = inr h
-fault_told number BoundTwice r (inr h) = inr h
-fault_told number NotFresh r (inr h) = inr h
-fault_told number Label r (inr h) = inr h
-fault_told number Memory r (inr h) = inl refl

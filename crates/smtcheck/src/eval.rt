@@ -5,4 +5,6 @@ pub mod evaluator;
 pub mod laws;
 pub mod operations;
 pub mod plain;
+#[cfg(test)]
+mod tests;
 pub mod values;

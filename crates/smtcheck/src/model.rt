@@ -14,6 +14,9 @@ ghost use Rattle.smtcheck.specs.Terms.View.{entries_of, source_of};
 ghost use Rattle.smtcheck.specs.declared.model.ModelFault.TheVariants.{Memory as OutOfMemory};
 ghost use Rattle.smtcheck.specs.declared.terms.faults.TermFault.TheVariants.{Form, Memory};
 
+#[cfg(test)]
+mod tests;
+
 use crate::terms::faults::TermFault;
 use crate::terms::library::{Entry, Library, Origin};
 use crate::terms::operators::{is_named, is_same, op_of};
@@ -88,11 +91,7 @@ struct ItemForm<'a> {
 }
 
 // Adds what an item defines. At a fault nothing changes.
-fn define_item(
-    definitions: &mut Library,
-    declared: &Library,
-    item: &Tree,
-) -> Result<(), TermFault>
+fn define_item(definitions: &mut Library, declared: &Library, item: &Tree) -> Result<(), TermFault>
     ensures defined { OnOk result ((e : signature.Entry) × (item_in (entries_of declared.now) (entries_of definitions.old) (sexp_of item.now) ≡ Ok e)
         × (entries_of definitions.new ≡ entries_of definitions.old ++ e ∷ [])) }
     ensures refused { IfErr result (λ fault. (fault ≡ Memory) ⊎ (item_in (entries_of declared.now) (entries_of definitions.old) (sexp_of item.now) ≡ Err fault)) }

@@ -20,8 +20,8 @@ known_applied-returns-in-Defined t c =
     let m = known_in (take c.in-Some.place es) in
     IfOk-weaker c.known.result _ (λ v. v ≡ known_in (take c.args.limit es) c.args.name.now c.args.args.now)
     (λ v h. h ∙ sym
-     (known_at known_operators es c.args.limit c.in-Some.place e c.args.args.now (distinct_entries c.args.definitions.now.names.entries c.args.definitions.now.distinct) c.in-Some.ensures.1 c.in-Some.ensures.0
-      ∙ ap (λ o. known_defined m (source_of o) c.args.args.now) c.in-Defined.is)) c.known.ensures
+    (known_at known_operators es c.args.limit c.in-Some.place e c.args.args.now (distinct_entries c.args.definitions.now.names.entries c.args.definitions.now.distinct) c.in-Some.ensures.1 c.in-Some.ensures.0
+    ∙ ap (λ o. known_defined m (source_of o) c.args.args.now) c.in-Defined.is)) c.known.ensures
 
 pub known_applied-returns-in-Declared : goal.known_applied-returns-in-Declared
 known_applied-returns-in-Declared t c =
@@ -30,7 +30,7 @@ known_applied-returns-in-Declared t c =
     let m = known_in (take c.in-Some.place es) in
     sym
     (known_at known_operators es c.args.limit c.in-Some.place e c.args.args.now (distinct_entries c.args.definitions.now.names.entries c.args.definitions.now.distinct) c.in-Some.ensures.1 c.in-Some.ensures.0
-     ∙ ap (λ o. known_defined m (source_of o) c.args.args.now) c.in-Declared.is)
+    ∙ ap (λ o. known_defined m (source_of o) c.args.args.now) c.in-Declared.is)
 
 pub known_applied-returns-in-None : goal.known_applied-returns-in-None
 known_applied-returns-in-None t c =
@@ -44,4 +44,4 @@ known_list-returns-in_ok-values-in-Some-Symbol-default t c =
     let parts = sym c.as_slice.ensures ∙ rw s.field-0-0-is at s.ensures in
     IfOk-weaker c.known_applied.result _ (λ v. v ≡ known_of m [] (Items c.args.parts.now))
     (λ v h. h ∙ ap (λ vs. m c.as_slice-in-Some-Symbol-default.result.now vs) (c.as_slice-in-Some-Symbol-default-2.ensures.value ∙ c.in_ok-values-in-Some-Symbol-default.ensures)
-     ∙ ap (λ x. m x (knowns_of m [] (sexps_of s.args.now))) c.as_slice-in-Some-Symbol-default.ensures ∙ ap (λ ps. known_of m [] (Items ps)) (sym parts)) c.known_applied.ensures
+    ∙ ap (λ x. m x (knowns_of m [] (sexps_of s.args.now))) c.as_slice-in-Some-Symbol-default.ensures ∙ ap (λ ps. known_of m [] (Items ps)) (sym parts)) c.known_applied.ensures

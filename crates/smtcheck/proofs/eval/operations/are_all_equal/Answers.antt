@@ -10,7 +10,7 @@ returns-then-not-are_same c =
     let i = c.loop-arg.arg-index in
     sym
     (c.loop-arg.invariant ∙ chain_step xs i c.loop-arg.last c.loop-arg-test.true
-     ∙ ap (λ b. b && are_chained is_same_known (get_or xs i None ∷ drop (i + 1) xs)) (sym c.if-not-are_same.ensures))
+    ∙ ap (λ b. b && are_chained is_same_known (get_or xs i None ∷ drop (i + 1) xs)) (sym c.if-not-are_same.ensures))
 
 pub loop-arg-preserved : goal.loop-arg-preserved
 loop-arg-preserved c =

@@ -15,12 +15,12 @@ check_list-returns-in_err-sorts t c =
     let p = err_from_is_err_and c.from_residual.result c.from_residual.ensures.1 in
     rw (p.1, p.2)
     (fault_of_list (entries_of c.args.self.now) (sexp_of c.in-Some.head.now) c.in-Some-applied_name.name.now (sexps_of c.in-Some.args.now) c.args.parts.now _
-     (sym c.as_slice.ensures ∙ c.in-Some.ensures) c.in-Some-applied_name.ensures.0 c.in-Some-applied_name.ensures.1 c.in_err-sorts.ensures)
+    (sym c.as_slice.ensures ∙ c.in-Some.ensures) c.in-Some-applied_name.ensures.0 c.in-Some-applied_name.ensures.1 c.in_err-sorts.ensures)
 
 pub check_list-returns : goal.check_list-returns
 check_list-returns t c =
     let names = entries_of c.args.self.now in
     told c.sort_applied.result (sort_in names [] (Items c.args.parts.now))
     (applied_ok names (sexp_of c.in-Some.head.now) c.in-Some-applied_name.name.now (sexps_of c.in-Some.args.now) c.args.parts.now c.in_ok-sorts.sorts.items
-     (sym c.as_slice.ensures ∙ c.in-Some.ensures) c.in-Some-applied_name.ensures.0 c.in-Some-applied_name.ensures.1 c.in_ok-sorts.ensures
-     ∙ ap (λ ss. sort_applied names c.in-Some-applied_name.name.now ss) (sym c.as_slice-2.ensures.value) ∙ sym c.sort_applied.ensures)
+    (sym c.as_slice.ensures ∙ c.in-Some.ensures) c.in-Some-applied_name.ensures.0 c.in-Some-applied_name.ensures.1 c.in_ok-sorts.ensures
+    ∙ ap (λ ss. sort_applied names c.in-Some-applied_name.name.now ss) (sym c.as_slice-2.ensures.value) ∙ sym c.sort_applied.ensures)
