@@ -46,6 +46,7 @@ pub applied_ok : (names : List Entry) (head : Sexp) (x : List ℕ) (args parts :
 applied_ok names head x args parts ss split is app done =
     ap (λ ps. sort_in names [] (Items ps)) (split ∙ ap (λ t. Cons t args) is) ∙ applied names x args (ap (λ t. is_application t args) (sym is) ∙ app) ∙ ap (λ r. go_on r (λ ss. sort_applied names x ss)) done
 
+-- and where the arguments have a fault, it is the list's
 pub applied_err : (names : List Entry) (head : Sexp) (x : List ℕ) (args parts : Sexps) (f : TermFault) → parts ≡ Cons head args → head ≡ Atom Symbol x → is_application head args ≡ true
     → sorts_in names [] args ≡ Err f → sort_in names [] (Items parts) ≡ Err f
 applied_err names head x args parts f split is app done =

@@ -15,9 +15,11 @@ use Rattle.smtcheck.specs.declared.terms.sorts.Sort.{Sort}
 use Rattle.smtcheck.specs.declared.terms.sorts.Sort.TheVariants.{Bool as BoolSort}
 use Rattle.smtcheck.proofs.NameLemmas.{same_name, same_self, same_flip, none_step, entry_named-skip, entry_named-hit}
 
+-- sorts that pass the test are the same
 same_sort : (a b : Sort) → is_same_sort a b ≡ true → a ≡ b
 same_sort BoolSort BoolSort h = refl
 
+-- and so are lists of sorts
 same_sorts : (as' bs : List Sort) → are_same_sorts as' bs ≡ true → as' ≡ bs
 same_sorts [] [] h = refl
 same_sorts [] (b ∷ bs) h = cc
@@ -34,6 +36,7 @@ pub record IsItem (declared earlier : List Entry) (e : Entry) : Type 0 where
   pub sorted : IsWellSorted earlier e
   pub ranked : has_rank_of (entry_named declared e.name) e.parameters e.sort ≡ true
 
+-- a name without a fault is new among the items
 no_fault : (declared earlier : List Entry) (x : List ℕ) → name_fault declared earlier x ≡ None → entry_named earlier x ≡ None
 no_fault declared earlier x h = by (entry_named earlier x) h
   where
@@ -41,6 +44,7 @@ no_fault declared earlier x h = by (entry_named earlier x) h
     by None h = refl
     by (Some e) h = cc
 
+-- what is defined as an item is one
 IsItem-definition : (declared earlier : List Entry) (form : ItemForm) (sort : Sort) (e : Entry) → entry_named earlier form.name ≡ None → defined_as declared earlier form sort ≡ Ok e → IsItem declared earlier e
 IsItem-definition declared earlier form sort e fresh h = by (has_rank_of (entry_named declared form.name) [] sort) refl (sort_in earlier [] form.body) refl h
   where
@@ -58,6 +62,7 @@ IsItem-definition declared earlier form sort e fresh h = by (has_rank_of (entry_
     by true ranked (Err f) sorted h = cc
     by true ranked (Ok found) sorted h = found_by found (is_same_sort found sort) refl ranked sorted h
 
+-- so is what parts of the right form define
 IsItem-form : (declared earlier : List Entry) (form : ItemForm) (e : Entry) → form_in declared earlier form ≡ Ok e → IsItem declared earlier e
 IsItem-form declared earlier form e h = by (name_fault declared earlier form.name) refl (without_parameters form.parameters (sort_named form.sort)) h
   where
@@ -66,6 +71,7 @@ IsItem-form declared earlier form e h = by (name_fault declared earlier form.nam
     by None none (Err f) h = cc
     by None none (Ok sort) h = IsItem-definition declared earlier form sort e (no_fault declared earlier form.name none) h
 
+-- so is what an item defines
 pub IsItem-taken : (declared earlier : List Entry) (tree : Sexp) (e : Entry) → item_in declared earlier tree ≡ Ok e → IsItem declared earlier e
 IsItem-taken declared earlier tree e h = by (item_form tree) h
   where
@@ -78,11 +84,13 @@ AreWellSorted-more : (before xs : List Entry) (e : Entry) → AreWellSorted befo
 AreWellSorted-more before [] e h i = (subst (λ es. IsWellSorted es e) (append-nil before) i, tt)
 AreWellSorted-more before (x ∷ xs) e h i = (h.0, AreWellSorted-more (before ++ x ∷ []) xs e h.1 (subst (λ es. IsWellSorted es e) (sym (append_assoc before (x ∷ []) xs)) i))
 
+-- another name at the end is not found
 entry_named-more : (es : List Entry) (e : Entry) (x : List ℕ) → entry_named es x ≡ None → is_same_name x e.name ≡ false → entry_named (es ++ e ∷ []) x ≡ None
 entry_named-more [] e x h n = entry_named-skip e [] x n
 entry_named-more (d ∷ es) e x h n =
     let p = none_step (is_same_name x d.name) d (entry_named es x) h in entry_named-skip d (es ++ e ∷ []) x p.0 ∙ entry_named-more es e x p.1 n
 
+-- a new name at the end keeps names distinct
 AreDistinct-more : (es : List Entry) (e : Entry) → AreDistinct es → entry_named es e.name ≡ None → AreDistinct (es ++ e ∷ [])
 AreDistinct-more [] e d h = (refl, tt)
 AreDistinct-more (c ∷ es) e d h =
@@ -94,15 +102,18 @@ abbrev pub AreRanked : List Entry → List Entry → Type 0
 AreRanked declared [] = Unit {0}
 AreRanked declared (e ∷ es) = (has_rank_of (entry_named declared e.name) e.parameters e.sort ≡ true) × AreRanked declared es
 
+-- one more at the end that keeps its rank
 AreRanked-more : (declared es : List Entry) (e : Entry) → AreRanked declared es → has_rank_of (entry_named declared e.name) e.parameters e.sort ≡ true → AreRanked declared (es ++ e ∷ [])
 AreRanked-more declared [] e h i = (i, tt)
 AreRanked-more declared (d ∷ es) e h i = (h.0, AreRanked-more declared es e h.1 i)
 
+-- what holds of the items that were read
 pub record AreItems (declared items : List Entry) : Type 0 where
   pub sorted : AreWellSorted [] items
   pub distinct : AreDistinct items
   pub ranked : AreRanked declared items
 
+-- it holds of the items after any more are read
 AreItems-from : (declared earlier : List Entry) (number : ℕ) (trees : Sexps) (items : List Entry) → AreItems declared earlier → items_from declared earlier number trees ≡ Ok items → AreItems declared items
 AreItems-from declared earlier number Nil items so_far h = let is : earlier ≡ items = cc in subst (AreItems declared) is so_far
 AreItems-from declared earlier number (Cons x xs) items so_far h = by (item_in declared earlier x) refl h (λ e more rest. AreItems-from declared (earlier ++ e ∷ []) (number + 1) xs items more rest)
@@ -141,6 +152,7 @@ KeepsRank-found declared (i ∷ is) x e ranked at some = by (is_same_name x i.na
         (sym (ap (λ o. has_rank_of o i.parameters i.sort) (ap (λ n. entry_named declared n) (sym (same_name x i.name same)) ∙ at)) ∙ ranked.0)
     by false same some next = next some
 
+-- so a model that is read is complete
 pub complete : (declared : List Entry) (trees : Sexps) (items : List Entry) → AreDeclared declared → model_in declared trees ≡ Ok items
     → AreWellSorted [] items × AreDistinct items × ((x : List ℕ) (e : Entry) → entry_named declared x ≡ Some e → KeepsRank e (entry_named items x))
 complete declared trees items are h = by (items_from declared [] 1 (items_of trees)) refl h

@@ -36,6 +36,7 @@ abbrev pub source_weight : Source → ℕ
 source_weight (Declared command) = 0
 source_weight (Defined parameters body) = weight body
 
+-- and all the bodies of definitions
 abbrev pub bodies : List Entry → ℕ
 bodies [] = 0
 bodies (e ∷ es) = source_weight e.source + bodies es

@@ -19,10 +19,12 @@ use Rattle.smtcheck.specs.declared.terms.sorts.Sort.{Sort}
 abbrev pub IsOther : {A : Type 0} → Result A TermFault → Type 0
 IsOther r = r ≡ Err Memory → ⊥
 
+-- one answer after another
 IsOther-go_on : {A B : Type 0} (r : Result A TermFault) (next : A → Result B TermFault) → IsOther r → ((x : A) → IsOther (next x)) → IsOther (go_on r next)
 IsOther-go_on (Ok x) next h i = i x
 IsOther-go_on (Err f) next h i = λ e. h (cc)
 
+-- the faults of heads
 head_other : (w : Word) → head_fault w ≡ Memory → ⊥
 head_other Let h = cc
 head_other Bang h = cc
@@ -33,6 +35,7 @@ head_other Match h = cc
 head_other As h = cc
 head_other _ h = cc
 
+-- the faults of heads that are lists
 nested_other : (w : Word) (args : Sexps) → nested_fault w args ≡ Memory → ⊥
 nested_other As args h = cc
 nested_other Let (Cons x xs) h = cc
@@ -40,6 +43,7 @@ nested_other Bang (Cons x xs) h = cc
 nested_other Underscore (Cons x xs) h = cc
 nested_other _ _ h = cc
 
+-- a name applied to arguments
 IsOther-applied : (names : List Entry) (f : List ℕ) (args : List Sort) → IsOther (sort_applied names f args)
 IsOther-applied names f args = by (entry_named names f)
   where
@@ -59,14 +63,17 @@ IsOther-applied names f args = by (entry_named names f)
     by None h = by_op (op_named f) h
     by (Some e) h = by_test (are_same_sorts e.parameters args) e.sort h
 
+-- a symbol alone
 IsOther-symbol : (names : List Entry) (x : List ℕ) (o : Option Sort) → IsOther (sort_of_symbol names x o)
 IsOther-symbol names x None h = IsOther-applied names x [] h
 IsOther-symbol names x (Some s) h = cc
 
+-- a symbol applied to arguments
 IsOther-call : (names : List Entry) (x : List ℕ) (o : Option Sort) (ss : List Sort) → IsOther (sort_of_call names x o ss)
 IsOther-call names x None ss h = IsOther-applied names x ss h
 IsOther-call names x (Some s) ss h = cc
 
+-- terms, and terms in order
 mutual
   pub IsOther-sort : (names : List Entry) (scope : List (List ℕ × Sort)) (t : Sexp) → IsOther (sort_in names scope t)
   IsOther-sort names scope (Atom Symbol x) h = IsOther-symbol names x (look_up scope x) h
@@ -100,19 +107,23 @@ mutual
       IsOther-go_on (sort_in names scope x) (λ s. go_on (sorts_in names scope xs) (λ ss. Ok (s ∷ ss))) (IsOther-sort names scope x)
       (λ s. IsOther-go_on (sorts_in names scope xs) (λ ss. Ok (s ∷ ss)) (IsOther-sorts names scope xs) (λ ss e. cc)) h
 
+-- one of two answers
 IsOther-test : {A : Type 0} (b : Bool) (x y : Result A TermFault) → IsOther x → IsOther y → IsOther (cond b x y)
 IsOther-test true x y h i = h
 IsOther-test false x y h i = i
 
+-- trees that name sorts
 pub IsOther-named : (t : Sexp) → IsOther (sort_named t)
 IsOther-named (Atom Symbol x) h = IsOther-test (is_same_name x _) _ _ (λ e. cc) (λ e. cc) h
 IsOther-named _ h = cc
 
+-- declarations
 pub IsOther-declared : (names : List Entry) (command : ℕ) (x : List ℕ) (t : Sexp) → IsOther (declared_constant names command x t)
 IsOther-declared names command x t =
     IsOther-test (is_taken names x) (Err NotFresh) (go_on (sort_named t) (λ sort. Ok (constant x sort command))) (λ e. cc)
     (IsOther-go_on (sort_named t) (λ sort. Ok (constant x sort command)) (IsOther-named t) (λ s e. cc))
 
+-- the form of an item
 IsOther-form : (t : Sexp) → IsOther (item_form t)
 IsOther-form (Items (Cons (Reserved DefineFunRec) rest)) h = cc
 IsOther-form (Items (Cons (Reserved DefineFunsRec) rest)) h = cc
@@ -120,10 +131,12 @@ IsOther-form (Items (Cons (Reserved DefineFun) (Cons (Atom Symbol x) (Cons (Item
     IsOther-test (are_parameters parameters) (Ok (record { name = x; parameters = parameters; sort = sort; body = body })) (Err Form) (λ e. cc) (λ e. cc) h
 IsOther-form _ h = cc
 
+-- parameters
 IsOther-without : (ps : Sexps) (r : Result Sort TermFault) → IsOther r → IsOther (without_parameters ps r)
 IsOther-without Nil r h = h
 IsOther-without (Cons x xs) r h = λ e. cc
 
+-- names of items
 IsOther-unless : {A : Type 0} (declared earlier : List Entry) (x : List ℕ) (r : Result A TermFault) → IsOther r → IsOther (unless (name_fault declared earlier x) r)
 IsOther-unless declared earlier x r h = by (is_some (entry_named earlier x)) (not (is_some (entry_named declared x)) && is_some (op_named x))
   where
@@ -132,6 +145,7 @@ IsOther-unless declared earlier x r h = by (is_some (entry_named earlier x)) (no
     by false true e = cc
     by false false e = h e
 
+-- items
 pub IsOther-item : (declared earlier : List Entry) (t : Sexp) → IsOther (item_in declared earlier t)
 IsOther-item declared earlier t =
     IsOther-go_on (item_form t) (λ form. form_in declared earlier form) (IsOther-form t)
@@ -152,6 +166,7 @@ IsOther-item declared earlier t =
 abbrev pub IsOtherModel : Result (List Entry) ModelFault → Type 0
 IsOtherModel r = (r ≡ Err OutOfMemory → ⊥) × ((number : ℕ) → r ≡ Err (Item number Memory) → ⊥)
 
+-- items in order
 IsOther-items : (declared earlier : List Entry) (number : ℕ) (trees : Sexps) → IsOtherModel (items_from declared earlier number trees)
 IsOther-items declared earlier number Nil = (λ e. cc, λ n e. cc)
 IsOther-items declared earlier number (Cons x xs) = by (item_in declared earlier x) (IsOther-item declared earlier x) (λ e. IsOther-items declared (earlier ++ e ∷ []) (number + 1) xs)
@@ -160,6 +175,7 @@ IsOther-items declared earlier number (Cons x xs) = by (item_in declared earlier
     by (Ok e) other next = next e
     by (Err f) other next = (λ e. cc, λ n e. other (cc))
 
+-- models
 pub IsOther-model : (declared : List Entry) (trees : Sexps) → IsOtherModel (model_in declared trees)
 IsOther-model declared trees = by (items_from declared [] 1 (items_of trees)) (IsOther-items declared [] 1 (items_of trees))
   where

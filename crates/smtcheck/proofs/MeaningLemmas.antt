@@ -20,14 +20,17 @@ AreTrueOf [] [] = Unit {0}
 AreTrueOf (k ∷ ks) (e ∷ es) = IsTrueOf k e × AreTrueOf ks es
 AreTrueOf _ _ = ⊥
 
+-- a conjunction with what is false
 and_false : (b : Bool) → (b && false) ≡ false
 and_false true = refl
 and_false false = refl
 
+-- a disjunction with what is true
 or_true : (b : Bool) → (b || true) ≡ true
 or_true true = refl
 or_true false = refl
 
+-- with an argument known to be false, the conjunction is false
 some_false : (ks : List (Option Value)) (es : List Element) → AreTrueOf ks es → list_any (is_known false) ks ≡ true → list_all truth_of es ≡ false
 some_false [] es h a = cc
 some_false (k ∷ ks) [] h a = absurd h
@@ -35,6 +38,7 @@ some_false (None ∷ ks) (e ∷ es) h a = ap (λ b. truth_of e && b) (some_false
 some_false (Some (Boolean true) ∷ ks) (e ∷ es) h a = ap (λ b. truth_of e && b) (some_false ks es h.1 a) ∙ and_false (truth_of e)
 some_false (Some (Boolean false) ∷ ks) (e ∷ es) h a = ap (λ z. truth_of z && list_all truth_of es) h.0
 
+-- with all arguments known, and none to be false, it is true
 all_true : (ks : List (Option Value)) (es : List Element) → AreTrueOf ks es → list_any (is_known false) ks ≡ false → list_all is_some ks ≡ true → list_all truth_of es ≡ true
 all_true [] [] h a s = refl
 all_true [] (e ∷ es) h a s = absurd h
@@ -43,6 +47,7 @@ all_true (None ∷ ks) (e ∷ es) h a s = cc
 all_true (Some (Boolean true) ∷ ks) (e ∷ es) h a s = ap (λ z. truth_of z && list_all truth_of es) h.0 ∙ all_true ks es h.1 a s
 all_true (Some (Boolean false) ∷ ks) (e ∷ es) h a s = cc
 
+-- with an argument known to be true, the disjunction is true
 some_true : (ks : List (Option Value)) (es : List Element) → AreTrueOf ks es → list_any (is_known true) ks ≡ true → list_any truth_of es ≡ true
 some_true [] es h a = cc
 some_true (k ∷ ks) [] h a = absurd h
@@ -50,6 +55,7 @@ some_true (None ∷ ks) (e ∷ es) h a = ap (λ b. truth_of e || b) (some_true k
 some_true (Some (Boolean false) ∷ ks) (e ∷ es) h a = ap (λ b. truth_of e || b) (some_true ks es h.1 a) ∙ or_true (truth_of e)
 some_true (Some (Boolean true) ∷ ks) (e ∷ es) h a = ap (λ z. truth_of z || list_any truth_of es) h.0
 
+-- with all arguments known, and none to be true, it is false
 all_false : (ks : List (Option Value)) (es : List Element) → AreTrueOf ks es → list_any (is_known true) ks ≡ false → list_all is_some ks ≡ true → list_any truth_of es ≡ false
 all_false [] [] h a s = refl
 all_false [] (e ∷ es) h a s = absurd h
@@ -68,9 +74,11 @@ decided_true d ks b one all = by (list_any (is_known d) ks) (list_all is_some ks
     by false true one all = ap Truth (all refl refl)
     by false false one all = tt
 
+-- whether two elements are the same truth value
 abbrev same_element : Element → Element → Bool
 same_element a b = is_same_truth (truth_of a) (truth_of b)
 
+-- of arguments that are all known, the chain is that of their values
 chained_true : (ks : List (Option Value)) (es : List Element) → AreTrueOf ks es → list_all is_some ks ≡ true → are_chained same_element es ≡ are_chained is_same_known ks
 chained_true [] [] h s = refl
 chained_true [] (e ∷ es) h s = absurd h
@@ -84,6 +92,7 @@ chained_true (Some (Boolean a) ∷ Some (Boolean b) ∷ ks) (e ∷ f ∷ es) h s
     ap (λ z. same_element z f && are_chained same_element (f ∷ es)) h.0 ∙ ap (λ z. same_element (Truth a) z && are_chained same_element (f ∷ es)) h.1.0
     ∙ ap (λ c. is_same_truth a b && c) (chained_true (Some (Boolean b) ∷ ks) (f ∷ es) h.1 s)
 
+-- a value that is known under a condition is true if it is so under the condition
 equal_true : (b c : Bool) (s : Bool) → (s ≡ true → c ≡ b) → IsTrueOf (cond s (Some (Boolean b)) None) (Truth c)
 equal_true b c true h = ap Truth (h refl)
 equal_true b c false h = tt
@@ -105,6 +114,7 @@ step_true Equal ks es h = equal_true (are_chained is_same_known ks) (are_chained
 abbrev pub Means : KnownMeaning → Meaning → Type 0
 Means k m = (f : List ℕ) (ks : List (Option Value)) (es : List Element) → AreTrueOf ks es → IsTrueOf (k f ks) (m f es)
 
+-- what operators are known to mean is true
 Means-operators : Means known_operators operators
 Means-operators f ks es h = by (op_named f)
   where
@@ -112,6 +122,7 @@ Means-operators f ks es h = by (op_named f)
     by None = tt
     by (Some op) = step_true op ks es h
 
+-- a variable, or else a name
 or_else_true : (a : Option (Option Value)) (b : Option Element) (k : Option Value) (e : Element) → IsTrueOfBoth a b → IsTrueOf k e → IsTrueOf (or_else a k) (or_else b e)
 or_else_true None None k e h i = i
 or_else_true None (Some f) k e h i = absurd h
@@ -157,6 +168,7 @@ AgreesWith-zip (p ∷ ps) (k ∷ ks) (e ∷ es) h x = by (is_same_name x p) (Agr
     by true rest = h.0
     by false rest = rest
 
+-- one more definition keeps that
 Means-with : (k : KnownMeaning) (m : Meaning) (e : Entry) → Means k m → Means (with_known k e) (with_definition m e)
 Means-with k m e means f ks es h = by (is_same_name f e.name) e.source
   where
@@ -165,10 +177,12 @@ Means-with k m e means f ks es h = by (is_same_name f e.name) e.source
     by true (Defined ps body) = term_true k m means (zip ps ks) (zip ps es) (AgreesWith-zip ps ks es h) body
     by false s = means f ks es h
 
+-- and so do any
 Means-after : (k : KnownMeaning) (m : Meaning) (ds : List Entry) → Means k m → Means (known_after k ds) (meaning_after m ds)
 Means-after k m [] means = means
 Means-after k m (d ∷ ds) means = Means-after (with_known k d) (with_definition m d) ds (Means-with k m d means)
 
+-- a known value is the value
 pub known_is_true : (definitions : List Entry) (known : List (List ℕ × Option Value)) (r : List (List ℕ × Element)) (term : Sexp) (v : Value) → AgreesWith known r
     → known_of (known_in definitions) known term ≡ Some v → value_of (meaning_in definitions) r term ≡ element_of v
 known_is_true definitions known r term v agrees h =

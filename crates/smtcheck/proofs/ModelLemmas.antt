@@ -9,6 +9,7 @@ use Rattle.smtcheck.specs.declared.model.ModelFault.TheVariants.{Item, Memory as
 use Rattle.smtcheck.specs.declared.terms.faults.TermFault.{TermFault}
 use Rattle.smtcheck.specs.declared.terms.faults.TermFault.TheVariants.{Form, Unsupported, Unknown, Arguments, Index, BoundTwice, NotFresh, Label, Memory}
 
+-- the element at a place comes first of those from there on
 pub drop_at : {A : Type 0} (xs : List A) (i : ℕ) (x : A) → slice_get xs i ≡ Some x → drop i xs ≡ x ∷ drop (suc i) xs
 drop_at [] i x at = cc
 drop_at (y ∷ ys) zero x at = let is : y ≡ x = cc in ap (λ z. z ∷ ys) is

@@ -99,6 +99,7 @@ abbrev pub first_lacking : List Entry → List Entry → Option ℕ
 first_lacking [] items = None
 first_lacking (e ∷ es) items = if is_some (entry_named items e.name) then first_lacking es items else command_of_source e.source
 
+-- the items, unless a name is lacking
 abbrev pub complete_or : Option ℕ → List Entry → Result (List Entry) ModelFault
 complete_or None items = Ok items
 complete_or (Some command) items = Err (Lacks command)

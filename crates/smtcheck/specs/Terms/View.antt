@@ -8,6 +8,7 @@ use Rattle.smtcheck.specs.declared.terms.library.Entry.{Entry}
 use Rattle.smtcheck.specs.declared.terms.library.Origin.{Origin}
 use Rattle.smtcheck.specs.declared.terms.library.Origin.TheVariants.{Declared, Defined}
 
+-- where a name comes from
 abbrev pub source_of : Origin → Source
 source_of (Declared command) = signature.Declared command
 source_of (Defined body) = signature.Defined [] (sexp_of body)

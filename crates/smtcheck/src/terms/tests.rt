@@ -16,7 +16,8 @@ pub fn trees_of(alloc: Global, text: &str) -> Result<Trees, Fail> {
     for _ in 0..100 {
         match reader.next() {
             Next::Tree(tree) => trees.push(tree)?,
-            _ => return Ok(Trees::new(trees)),
+            Next::End => return Ok(Trees::new(trees)),
+            Next::Wait | Next::Fault(_) => return Err("a text that can't be read")?,
         }
     }
     Err("too many trees")?
