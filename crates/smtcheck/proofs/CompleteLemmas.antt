@@ -1,5 +1,5 @@
 -- A model that is read is well sorted, and defines each declared name with its rank.
-use Rattle.std.proofs.Common.{◌≡◌, ◌≢◌, ℕ, ◌+◌, Bool, true, false, cond, not, ◌&&◌, List, [], ◌∷◌, ◌++◌, Option, Some, None, is_some, Result, Ok, Err, refl, ap, sym, ◌∙◌, subst, append_assoc, append-nil}
+use Rattle.std.proofs.Common.{◌≡◌, ℕ, ◌+◌, Bool, true, false, cond, not, ◌&&◌, List, [], ◌∷◌, ◌++◌, Option, Some, None, is_some, Result, Ok, Err, refl, ap, sym, ◌∙◌, subst, append_assoc, append-nil}
 use Rattle.smt_text.specs.Sexp.{Sexp, Sexps, Nil, Cons}
 use Rattle.smtcheck.specs.Eval.Agreement.{IsWellSorted, AreWellSorted}
 use Rattle.smtcheck.specs.Eval.Model.{ItemForm, item_form, has_rank_of, definition, defined_as, without_parameters, name_fault, unless, form_in, item_in, or_item, items_from, items_of, command_of_source, first_lacking, complete_or, model_in}
@@ -8,12 +8,11 @@ use Rattle.smtcheck.specs.Terms.Operators.{is_same_name, is_same_sort, op_named}
 use Rattle.smtcheck.specs.Terms.Signature.{Entry, Source, Declared, Defined, entry_named, AreDistinct, IsDeclared, AreDeclared, KeepsRank, go_on}
 use Rattle.smtcheck.specs.Terms.Sorts.{sort_named}
 use Rattle.smtcheck.specs.declared.model.ModelFault.{ModelFault}
-use Rattle.smtcheck.specs.declared.model.ModelFault.TheVariants.{Item, Lacks}
 use Rattle.smtcheck.specs.declared.terms.faults.TermFault.{TermFault}
 use Rattle.smtcheck.specs.declared.terms.faults.TermFault.TheVariants.{Arguments, BoundTwice, NotFresh}
 use Rattle.smtcheck.specs.declared.terms.sorts.Sort.{Sort}
 use Rattle.smtcheck.specs.declared.terms.sorts.Sort.TheVariants.{Bool as BoolSort}
-use Rattle.smtcheck.proofs.NameLemmas.{same_name, same_self, same_flip, none_step, entry_named-skip, entry_named-hit}
+use Rattle.smtcheck.proofs.NameLemmas.{same_name, same_flip, none_step, entry_named-skip}
 
 -- sorts that pass the test are the same
 same_sort : (a b : Sort) → is_same_sort a b ≡ true → a ≡ b

@@ -1,7 +1,7 @@
 -- Known values, one step at a time.
-use Rattle.std.proofs.Common.{◌≡◌, ℕ, zero, suc, ◌+◌, ◌*◌, ◌<◌, ◌≤◌, Bool, true, false, cond, ◌&&◌, List, [], ◌∷◌, ◌++◌, length, take, drop, get_or, slice_get, Option, Some, None, refl, ap, sym, ◌∙◌, arith, append_assoc, append-nil, drop-cons, add-one}
-use Rattle.smt_text.specs.Sexp.{Sexp, Sexps, Nil, Cons, weight}
-use Rattle.smtcheck.specs.Eval.Known.{KnownMeaning, known_of, knowns_of, known_after, with_known, known_defined, is_same_known}
+use Rattle.std.proofs.Common.{◌≡◌, ℕ, zero, suc, ◌+◌, ◌<◌, ◌≤◌, cond, ◌&&◌, List, [], ◌∷◌, length, take, drop, get_or, slice_get, Option, Some, None, refl, ap, sym, ◌∙◌, arith, drop-cons, add-one}
+use Rattle.smt_text.specs.Sexp.{weight}
+use Rattle.smtcheck.specs.Eval.Known.{KnownMeaning, known_after, with_known, known_defined, is_same_known}
 use Rattle.smtcheck.specs.Eval.Meaning.{are_chained}
 use Rattle.smtcheck.specs.Terms.Operators.{is_same_name}
 use Rattle.smtcheck.specs.Terms.Signature.{Entry, Source, Declared, Defined, entry_named, AreDistinct}

@@ -1,5 +1,5 @@
 -- Want of memory is no answer of a definition.
-use Rattle.std.proofs.Common.{◌≡◌, ℕ, ◌+◌, Bool, true, false, cond, not, ◌&&◌, ◌||◌, List, [], ◌∷◌, ◌++◌, Option, Some, None, is_some, Result, Ok, Err, refl, ap, sym, ◌∙◌}
+use Rattle.std.proofs.Common.{◌≡◌, ℕ, ◌+◌, Bool, true, false, cond, not, ◌&&◌, List, [], ◌∷◌, ◌++◌, Option, Some, None, is_some, Result, Ok, Err}
 use Rattle.smt_text.specs.Sexp.{Sexp, Sexps, Atom, Reserved, Items, Nil, Cons, Symbol, Numeral, Decimal, Hexadecimal, Binary, Text, Keyword}
 use Rattle.smt_text.specs.declared.reserved.Word.{Word}
 use Rattle.smt_text.specs.declared.reserved.Word.TheVariants.{Let, Bang, Underscore, Forall, Exists, Match, As, DefineFun, DefineFunRec, DefineFunsRec}
@@ -9,9 +9,9 @@ use Rattle.smtcheck.specs.Terms.Operators.{is_same_name, is_same_sort, op_named,
 use Rattle.smtcheck.specs.Terms.Signature.{Entry, entry_named, look_up, is_taken, go_on, constant, declared_constant}
 use Rattle.smtcheck.specs.Terms.Sorts.{sort_named}
 use Rattle.smtcheck.specs.declared.model.ModelFault.{ModelFault}
-use Rattle.smtcheck.specs.declared.model.ModelFault.TheVariants.{Item, Lacks, Memory as OutOfMemory}
+use Rattle.smtcheck.specs.declared.model.ModelFault.TheVariants.{Item, Memory as OutOfMemory}
 use Rattle.smtcheck.specs.declared.terms.faults.TermFault.{TermFault}
-use Rattle.smtcheck.specs.declared.terms.faults.TermFault.TheVariants.{Form, Unsupported, Unknown, Arguments, BoundTwice, NotFresh, Memory}
+use Rattle.smtcheck.specs.declared.terms.faults.TermFault.TheVariants.{Form, Arguments, BoundTwice, NotFresh, Memory}
 use Rattle.smtcheck.specs.declared.terms.operators.Op.{Op}
 use Rattle.smtcheck.specs.declared.terms.sorts.Sort.{Sort}
 

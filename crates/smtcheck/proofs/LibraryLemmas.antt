@@ -1,5 +1,5 @@
 -- The entries of a library, and what its map says of them.
-use Rattle.std.proofs.Common.{◌≡◌, ℕ, ◌≤◌, Bool, true, false, cond, List, [], ◌∷◌, ◌++◌, map, take, slice_get, Option, Some, None, option_map, option_copied, refl, ap, sym, ◌∙◌, Bor}
+use Rattle.std.proofs.Common.{◌≡◌, ℕ, Bool, true, false, cond, List, [], ◌∷◌, ◌++◌, map, slice_get, Option, Some, None, option_map, option_copied, refl, ap, sym, ◌∙◌, Bor}
 use Rattle.std.specs.Global.{Vec}
 use Rattle.std.proofs.lemmas.Option.{slice_get-map}
 use Rattle.std.proofs.lemmas.Map.Made.{lookup_key_passes}
@@ -9,10 +9,9 @@ use Rattle.indexmap.specs.IndexMap.{insert_entry}
 use Rattle.smtcheck.specs.Terms.Operators.{is_same_name}
 use Rattle.smtcheck.specs.Terms.Signature as signature
 use Rattle.smtcheck.specs.Terms.Signature.{entry_named, AreDistinct}
-use Rattle.smtcheck.specs.Terms.View.{entries_of, entry_of}
-use Rattle.smtcheck.specs.declared.terms.library.Library.{Library}
+use Rattle.smtcheck.specs.Terms.View.{entry_of}
 use Rattle.smtcheck.specs.declared.terms.library.Entry.{Entry}
-use Rattle.smtcheck.proofs.NameLemmas.{none_step, same_name, none_before}
+use Rattle.smtcheck.proofs.NameLemmas.{none_step, same_name}
 
 -- the entries of a map, each under its key
 abbrev pub Pairs : Type 0

@@ -1,5 +1,5 @@
 -- Known values are true, and well-sorted terms have values of their sorts.
-use Rattle.std.proofs.Common.{◌≡◌, ℕ, Bool, true, false, cond, not, ◌&&◌, ◌||◌, List, [], ◌∷◌, Option, Some, None, is_some, Ok, refl, ap, sym, ◌∙◌, subst}
+use Rattle.std.proofs.Common.{◌≡◌, ℕ, Bool, true, false, cond, not, ◌&&◌, ◌||◌, List, [], ◌∷◌, Option, Some, None, is_some, refl, ap, ◌∙◌, subst}
 use Rattle.std.specs.List.{list_all, list_any, zip}
 use Rattle.smt_text.specs.Sexp.{Sexp, Sexps, Atom, Reserved, Items, Nil, Cons, Symbol, Numeral, Decimal, Hexadecimal, Binary, Text, Keyword}
 use Rattle.smtcheck.specs.Eval.Meaning.{Element, Truth, truth_of, is_same_truth, are_chained, operate, Meaning, or_else, value_of, values_of, meaning_of_op, operators, defined_value, with_definition, meaning_after, meaning_in, IsOfSort}

@@ -1,13 +1,7 @@
 -- Models, one item at a time.
-use Rattle.std.proofs.Common.{◌≡◌, ◌⊎◌, ℕ, zero, suc, ◌+◌, ◌<◌, ◌≤◌, Bool, true, false, cond, not, ◌&&◌, List, [], ◌∷◌, ◌++◌, length, take, drop, get_or, slice_get, Option, Some, None, option_map, is_some, is_none, Result, Ok, Err, refl, ap, sym, ◌∙◌, inl, inr, arith, drop-cons, add-one}
-use Rattle.smt_text.specs.Sexp.{Sexp, Sexps, Nil, Cons}
-use Rattle.smtcheck.specs.Eval.Model.{item_in, items_from, or_item, first_lacking, command_of_source}
-use Rattle.smtcheck.specs.Eval.ModelView.{fault_of_item}
+use Rattle.std.proofs.Common.{◌≡◌, ℕ, zero, suc, ◌+◌, Bool, cond, List, [], ◌∷◌, drop, slice_get, Option, Some, None, option_map, is_some, ap, sym, ◌∙◌, add-one}
+use Rattle.smtcheck.specs.Eval.Model.{first_lacking, command_of_source}
 use Rattle.smtcheck.specs.Terms.Signature.{Entry, entry_named}
-use Rattle.smtcheck.specs.declared.model.ModelFault.{ModelFault}
-use Rattle.smtcheck.specs.declared.model.ModelFault.TheVariants.{Item, Memory as OutOfMemory}
-use Rattle.smtcheck.specs.declared.terms.faults.TermFault.{TermFault}
-use Rattle.smtcheck.specs.declared.terms.faults.TermFault.TheVariants.{Form, Unsupported, Unknown, Arguments, Index, BoundTwice, NotFresh, Label, Memory}
 
 -- the element at a place comes first of those from there on
 pub drop_at : {A : Type 0} (xs : List A) (i : ℕ) (x : A) → slice_get xs i ≡ Some x → drop i xs ≡ x ∷ drop (suc i) xs

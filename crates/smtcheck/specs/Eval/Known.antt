@@ -1,6 +1,6 @@
 -- The known value of a term: a value, or open. Which terms are open is this project's rule; where a value is known, it is the
 -- standard's.
-use Rattle.std.specs.Prelude.{◌≡◌, ℕ, List, [], ◌∷◌, Bool, true, false, not, ◌&&◌, Option, Some, None, is_some, if◌then◌else◌}
+use Rattle.std.specs.Prelude.{ℕ, List, [], ◌∷◌, Bool, true, false, not, Option, Some, None, is_some, if◌then◌else◌}
 use Rattle.std.specs.List.{list_all, list_any, zip}
 use Rattle.smt_text.specs.Sexp.{Sexp, Sexps, Atom, Items, Nil, Cons, Symbol}
 use Rattle.smtcheck.specs.Eval.Meaning.{are_chained, is_same_truth, or_else}

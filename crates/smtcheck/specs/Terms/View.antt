@@ -1,5 +1,5 @@
 -- What a contract sees of a library: its names in order, each with what it stands for.
-use Rattle.std.specs.Prelude.{ℕ, List, [], ◌∷◌, map}
+use Rattle.std.specs.Prelude.{ℕ, List, [], map}
 use Rattle.smt_text.specs.TreeView.{sexp_of}
 use Rattle.smtcheck.specs.Terms.Signature as signature
 use Rattle.smtcheck.specs.Terms.Signature.{Source}
