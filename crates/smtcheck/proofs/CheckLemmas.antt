@@ -1,6 +1,6 @@
 -- Sorts of lists, one step at a time.
-use Rattle.std.proofs.Common.{◌≡◌, ◌⊎◌, ℕ, ◌+◌, ◌*◌, ◌<◌, ◌≤◌, Bool, true, false, List, [], ◌∷◌, ◌++◌, Option, Some, None, Result, Ok, Err, refl, ap, sym, ◌∙◌, inl, inr, arith, append_assoc, append-nil, MatchResult}
-use Rattle.smt_text.specs.Sexp.{Sexp, Sexps, Atom, Reserved, Items, Nil, Cons, Symbol, Numeral, Decimal, Hexadecimal, Binary, Text, Keyword, weight, weight_all}
+use Rattle.std.proofs.Common.{◌≡◌, ◌⊎◌, ℕ, true, false, List, [], ◌∷◌, ◌++◌, Result, Ok, Err, refl, ap, sym, ◌∙◌, inl, inr, MatchResult}
+use Rattle.smt_text.specs.Sexp.{Sexp, Sexps, Atom, Reserved, Items, Nil, Cons, Symbol, Numeral, Decimal, Hexadecimal, Binary, Text, Keyword}
 use Rattle.smtcheck.specs.Terms.Checking.{sort_in, sorts_in, sort_applied}
 use Rattle.smtcheck.specs.Terms.Signature.{Entry, go_on}
 use Rattle.smtcheck.specs.Terms.Forms.{is_application, list_fault}
@@ -8,38 +8,9 @@ use Rattle.smtcheck.specs.declared.terms.faults.TermFault.{TermFault}
 use Rattle.smtcheck.specs.declared.terms.faults.TermFault.TheVariants.{Memory}
 use Rattle.smtcheck.specs.declared.terms.sorts.Sort.{Sort}
 
-pub weight-pos : (t : Sexp) → 1 ≤ weight t
-weight-pos (Atom kind bytes) = omega arith
-weight-pos (Reserved word) = omega arith
-weight-pos (Items parts) = omega arith
-
 -- the sorts of all are those that are done, and then those of the trees that are left
 abbrev pub sorts_behind : List Entry → List Sort → Sexps → Result (List Sort) TermFault
 sorts_behind names before left = go_on (sorts_in names [] left) (λ ss. Ok (before ++ ss))
-
-pub sorts_behind-start : (names : List Entry) (left : Sexps) → sorts_in names [] left ≡ sorts_behind names [] left
-sorts_behind-start names left = by (sorts_in names [] left)
-  where
-    by : (r : Result (List Sort) TermFault) → r ≡ go_on r (λ ss. Ok ([] ++ ss))
-    by (Ok ss) = refl
-    by (Err f) = refl
-
-pub sorts_behind-end : (names : List Entry) (before : List Sort) → sorts_behind names before Nil ≡ Ok before
-sorts_behind-end names before = ap (λ (ss : List Sort). Ok ss) (append-nil before)
-
-pub sorts_behind-step : (names : List Entry) (before : List Sort) (t : Sexp) (rest : Sexps) (s : Sort) → sort_in names [] t ≡ Ok s
-    → sorts_behind names before (Cons t rest) ≡ sorts_behind names (before ++ s ∷ []) rest
-sorts_behind-step names before t rest s h =
-    ap (λ r. go_on (go_on r (λ s. go_on (sorts_in names [] rest) (λ ss. Ok (s ∷ ss)))) (λ ss. Ok (before ++ ss))) h ∙ by (sorts_in names [] rest)
-  where
-    by : (r : Result (List Sort) TermFault) → go_on (go_on r (λ ss. Ok (s ∷ ss))) (λ ss. Ok (before ++ ss)) ≡ go_on r (λ ss. Ok ((before ++ s ∷ []) ++ ss))
-    by (Ok ss) = ap (λ (zs : List Sort). Ok zs) (sym (append_assoc before (s ∷ []) ss))
-    by (Err f) = refl
-
-pub sorts_behind-fault : (names : List Entry) (before : List Sort) (t : Sexp) (rest : Sexps) (f : TermFault) → sort_in names [] t ≡ Err f
-    → sorts_behind names before (Cons t rest) ≡ Err f
-sorts_behind-fault names before t rest f h =
-    ap (λ r. go_on (go_on r (λ s. go_on (sorts_in names [] rest) (λ ss. Ok (s ∷ ss)))) (λ ss. Ok (before ++ ss))) h
 
 -- a list that applies a symbol has the sort of the symbol applied
 pub applied : (names : List Entry) (x : List ℕ) (args : Sexps) → is_application (Atom Symbol x) args ≡ true
@@ -75,6 +46,7 @@ pub applied_ok : (names : List Entry) (head : Sexp) (x : List ℕ) (args parts :
 applied_ok names head x args parts ss split is app done =
     ap (λ ps. sort_in names [] (Items ps)) (split ∙ ap (λ t. Cons t args) is) ∙ applied names x args (ap (λ t. is_application t args) (sym is) ∙ app) ∙ ap (λ r. go_on r (λ ss. sort_applied names x ss)) done
 
+-- and where the arguments have a fault, it is the list's
 pub applied_err : (names : List Entry) (head : Sexp) (x : List ℕ) (args parts : Sexps) (f : TermFault) → parts ≡ Cons head args → head ≡ Atom Symbol x → is_application head args ≡ true
     → sorts_in names [] args ≡ Err f → sort_in names [] (Items parts) ≡ Err f
 applied_err names head x args parts f split is app done =

@@ -1,7 +1,7 @@
 -- Known values, one step at a time.
-use Rattle.std.proofs.Common.{◌≡◌, ℕ, zero, suc, ◌+◌, ◌*◌, ◌<◌, ◌≤◌, Bool, true, false, cond, ◌&&◌, List, [], ◌∷◌, ◌++◌, length, take, drop, get_or, slice_get, Option, Some, None, refl, ap, sym, ◌∙◌, arith, append_assoc, append-nil, drop-cons, add-one}
-use Rattle.smt_text.specs.Sexp.{Sexp, Sexps, Nil, Cons, weight}
-use Rattle.smtcheck.specs.Eval.Known.{KnownMeaning, known_of, knowns_of, known_after, with_known, known_defined, is_same_known}
+use Rattle.std.proofs.Common.{◌≡◌, ℕ, zero, suc, ◌+◌, ◌<◌, ◌≤◌, cond, ◌&&◌, List, [], ◌∷◌, length, take, drop, get_or, slice_get, Option, Some, None, refl, ap, sym, ◌∙◌, arith, drop-cons, add-one}
+use Rattle.smt_text.specs.Sexp.{weight}
+use Rattle.smtcheck.specs.Eval.Known.{KnownMeaning, known_after, with_known, known_defined, is_same_known}
 use Rattle.smtcheck.specs.Eval.Meaning.{are_chained}
 use Rattle.smtcheck.specs.Terms.Operators.{is_same_name}
 use Rattle.smtcheck.specs.Terms.Signature.{Entry, Source, Declared, Defined, entry_named, AreDistinct}
@@ -36,6 +36,7 @@ abbrev pub source_weight : Source → ℕ
 source_weight (Declared command) = 0
 source_weight (Defined parameters body) = weight body
 
+-- and all the bodies of definitions
 abbrev pub bodies : List Entry → ℕ
 bodies [] = 0
 bodies (e ∷ es) = source_weight e.source + bodies es
@@ -46,8 +47,3 @@ bodies_at [] n p e at h = cc
 bodies_at (c ∷ es) zero p e at h = absurd (omega arith)
 bodies_at (c ∷ es) (suc n) zero e at h = let w : source_weight c.source ≡ source_weight e.source = cc in omega arith
 bodies_at (c ∷ es) (suc n) (suc p) e at h = omega (arith, bodies_at es n p e at (omega arith))
-
--- the values of all are those that are done, and then those of the trees that are left
-pub knowns_step : (m : KnownMeaning) (before : List (Option Value)) (t : Sexp) (rest : Sexps) (v : Option Value) → v ≡ known_of m [] t
-    → before ++ knowns_of m [] (Cons t rest) ≡ (before ++ v ∷ []) ++ knowns_of m [] rest
-knowns_step m before t rest v h = ap (λ w. before ++ w ∷ knowns_of m [] rest) (sym h) ∙ sym (append_assoc before (v ∷ []) (knowns_of m [] rest))

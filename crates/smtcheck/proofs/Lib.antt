@@ -7,3 +7,6 @@ pub mod CommandLemmas
 pub mod JudgingLemmas
 pub mod PairLemmas
 pub mod StateLemmas
+pub mod MeaningLemmas
+pub mod CompleteLemmas
+pub mod FaultLemmas

@@ -1,5 +1,5 @@
 -- The entries of a library, and what its map says of them.
-use Rattle.std.proofs.Common.{◌≡◌, ℕ, ◌≤◌, Bool, true, false, cond, List, [], ◌∷◌, ◌++◌, map, take, slice_get, Option, Some, None, option_map, option_copied, refl, ap, sym, ◌∙◌, Bor}
+use Rattle.std.proofs.Common.{◌≡◌, ℕ, Bool, true, false, cond, List, [], ◌∷◌, ◌++◌, map, slice_get, Option, Some, None, option_map, option_copied, refl, ap, sym, ◌∙◌, Bor}
 use Rattle.std.specs.Global.{Vec}
 use Rattle.std.proofs.lemmas.Option.{slice_get-map}
 use Rattle.std.proofs.lemmas.Map.Made.{lookup_key_passes}
@@ -9,20 +9,23 @@ use Rattle.indexmap.specs.IndexMap.{insert_entry}
 use Rattle.smtcheck.specs.Terms.Operators.{is_same_name}
 use Rattle.smtcheck.specs.Terms.Signature as signature
 use Rattle.smtcheck.specs.Terms.Signature.{entry_named, AreDistinct}
-use Rattle.smtcheck.specs.Terms.View.{entries_of, entry_of}
-use Rattle.smtcheck.specs.declared.terms.library.Library.{Library}
+use Rattle.smtcheck.specs.Terms.View.{entry_of}
 use Rattle.smtcheck.specs.declared.terms.library.Entry.{Entry}
-use Rattle.smtcheck.proofs.NameLemmas.{none_step, same_name, none_before}
+use Rattle.smtcheck.proofs.NameLemmas.{none_step, same_name}
 
+-- the entries of a map, each under its key
 abbrev pub Pairs : Type 0
 Pairs = List (Vec ℕ × Entry)
 
+-- what a contract sees of them
 abbrev pub viewed : Pairs → List signature.Entry
 viewed es = map (λ p. entry_of p.0.items p.1) es
 
+-- whether two keys are the same name
 abbrev pub same_key : Vec ℕ → Vec ℕ → Bool
 same_key a b = is_same_name a.items b.items
 
+-- whether a key is this name
 abbrev pub test_of : List ℕ → Vec ℕ → Bool
 test_of x k = is_same_name x k.items
 
@@ -36,21 +39,26 @@ found (p ∷ es) x = by (is_same_name x p.0.items) refl (found es x)
     by true e rest = ap (λ n. Some (entry_of n p.1)) (same_name x p.0.items e)
     by false e rest = rest
 
+-- the same, of the reference that the map gives
 pub found_by : (es : Pairs) (x : List ℕ) (r : Option (Bor Entry)) → option_copied r ≡ lookup (test_of x) es → option_map (λ e. entry_of x e.now) r ≡ entry_named (viewed es) x
 found_by es x None h = ap (option_map (λ e. entry_of x e)) h ∙ found es x
 found_by es x (Some b) h = ap (option_map (λ e. entry_of x e)) h ∙ found es x
 
+-- a name that the map does not find has no entry
 pub absent : (es : Pairs) (x : List ℕ) → lookup (test_of x) es ≡ None → entry_named (viewed es) x ≡ None
 absent es x h = sym (found es x) ∙ ap (option_map (λ e. entry_of x e)) h
 
+-- what the map finds at a place is the entry there
 pub placed : (es : Pairs) (x : List ℕ) (i : ℕ) (k : Vec ℕ) (e : Entry) → lookup_key (test_of x) es ≡ Some k → slice_get es i ≡ Some (k, e) → slice_get (viewed es) i ≡ Some (entry_of x e)
 placed es x i k e is_key at =
     slice_get-map (λ p. entry_of p.0.items p.1) es i ∙ ap (option_map (λ p. entry_of p.0.items p.1)) at ∙ ap (λ n. Some (entry_of n e)) (sym (same_name x k.items (lookup_key_passes (test_of x) es k is_key)))
 
+-- a key that differs from all has no entry
 none_of : (es : Pairs) (k : Vec ℕ) → AllByRecursion (λ y. same_key k y ≡ false) (keys_of es) → entry_named (viewed es) k.items ≡ None
 none_of [] k h = refl
 none_of (p ∷ es) k h = ap (λ b. cond b (Some (entry_of p.0.items p.1)) (entry_named (viewed es) k.items)) h.0 ∙ none_of es k h.1
 
+-- keys that differ make names that do
 pub distinct_entries : (es : Pairs) → IsDistinct same_key (keys_of es) → AreDistinct (viewed es)
 unfolding IsDistinct
 distinct_entries [] h = tt

@@ -1,14 +1,9 @@
 -- Models, one item at a time.
-use Rattle.std.proofs.Common.{◌≡◌, ◌⊎◌, ℕ, zero, suc, ◌+◌, ◌<◌, ◌≤◌, Bool, true, false, cond, not, ◌&&◌, List, [], ◌∷◌, ◌++◌, length, take, drop, get_or, slice_get, Option, Some, None, option_map, is_some, is_none, Result, Ok, Err, refl, ap, sym, ◌∙◌, inl, inr, arith, drop-cons, add-one}
-use Rattle.smt_text.specs.Sexp.{Sexp, Sexps, Nil, Cons}
-use Rattle.smtcheck.specs.Eval.Model.{item_in, items_from, or_item, first_lacking, command_of_source}
-use Rattle.smtcheck.specs.Eval.ModelView.{fault_of_item}
+use Rattle.std.proofs.Common.{◌≡◌, ℕ, zero, suc, ◌+◌, Bool, cond, List, [], ◌∷◌, drop, slice_get, Option, Some, None, option_map, is_some, ap, sym, ◌∙◌, add-one}
+use Rattle.smtcheck.specs.Eval.Model.{first_lacking, command_of_source}
 use Rattle.smtcheck.specs.Terms.Signature.{Entry, entry_named}
-use Rattle.smtcheck.specs.declared.model.ModelFault.{ModelFault}
-use Rattle.smtcheck.specs.declared.model.ModelFault.TheVariants.{Item, Memory as OutOfMemory}
-use Rattle.smtcheck.specs.declared.terms.faults.TermFault.{TermFault}
-use Rattle.smtcheck.specs.declared.terms.faults.TermFault.TheVariants.{Form, Unsupported, Unknown, Arguments, Index, BoundTwice, NotFresh, Label, Memory}
 
+-- the element at a place comes first of those from there on
 pub drop_at : {A : Type 0} (xs : List A) (i : ℕ) (x : A) → slice_get xs i ≡ Some x → drop i xs ≡ x ∷ drop (suc i) xs
 drop_at [] i x at = cc
 drop_at (y ∷ ys) zero x at = let is : y ≡ x = cc in ap (λ z. z ∷ ys) is
@@ -24,25 +19,3 @@ lacking_step es items i e b at is =
 pub looked_up : {A B : Type 0} (f : A → B) (r : Option A) (o : Option B) (b : Bool) → option_map f r ≡ o → is_some r ≡ b → is_some o ≡ b
 looked_up f None o b h is = ap is_some (sym h) ∙ is
 looked_up f (Some a) o b h is = ap is_some (sym h) ∙ is
-
--- what comes of the next item
-pub items_step : (declared earlier : List Entry) (number : ℕ) (x : Sexp) (xs : Sexps) (e : Entry) → item_in declared earlier x ≡ Ok e
-    → items_from declared earlier number (Cons x xs) ≡ items_from declared (earlier ++ e ∷ []) (number + 1) xs
-items_step declared earlier number x xs e h = ap (λ r. or_item number r (λ e. items_from declared (earlier ++ e ∷ []) (number + 1) xs)) h
-
-pub items_fault : (declared earlier : List Entry) (number : ℕ) (x : Sexp) (xs : Sexps) (f : TermFault) → item_in declared earlier x ≡ Err f
-    → items_from declared earlier number (Cons x xs) ≡ Err (Item number f)
-items_fault declared earlier number x xs f h = ap (λ r. or_item number r (λ e. items_from declared (earlier ++ e ∷ []) (number + 1) xs)) h
-
--- a fault of an item, but for want of memory, is told
-pub fault_told : {A : Type 0} (number : ℕ) (f : TermFault) (r : Result A ModelFault) → (f ≡ Memory) ⊎ (r ≡ Err (Item number f)) → (fault_of_item number f ≡ OutOfMemory) ⊎ (r ≡ Err (fault_of_item number f))
-fault_told number f r (inl m) = inl (ap (fault_of_item number) m)
-fault_told number Form r (inr h) = inr h
-fault_told number Unsupported r (inr h) = inr h
-fault_told number Unknown r (inr h) = inr h
-fault_told number Arguments r (inr h) = inr h
-fault_told number Index r (inr h) = inr h
-fault_told number BoundTwice r (inr h) = inr h
-fault_told number NotFresh r (inr h) = inr h
-fault_told number Label r (inr h) = inr h
-fault_told number Memory r (inr h) = inl refl

@@ -1,16 +1,19 @@
 -- Names, and entries by name and by place.
-use Rattle.std.proofs.Common.{◌≡◌, ℕ, zero, suc, ◌+◌, ◌<◌, ◌≤◌, Bool, true, false, cond, List, [], ◌∷◌, ◌++◌, length, take, slice_get, Option, Some, None, nat_eq, refl, ap, sym, ◌∙◌, arith, is_some}
+use Rattle.std.proofs.Common.{◌≡◌, ℕ, zero, suc, ◌≤◌, Bool, true, false, cond, List, [], ◌∷◌, take, slice_get, Option, Some, None, refl, ap, sym, ◌∙◌, arith}
 use Rattle.std.specs.Cmp.Lexicographic.{same_text}
 use Rattle.std.proofs.lemmas.Cmp.{nat_list_eq_equiv}
 use Rattle.smtcheck.specs.Terms.Operators.{is_same_name}
 use Rattle.smtcheck.specs.Terms.Signature.{Entry, entry_named, AreDistinct}
 
+-- names that pass the test are the same
 pub same_name : (x y : List ℕ) → is_same_name x y ≡ true → x ≡ y
 same_name x y h = same_text x y (sym h)
 
+-- and a name passes it with itself
 pub same_self : (x : List ℕ) → is_same_name x x ≡ true
 same_self x = nat_list_eq_equiv.refl x
 
+-- names that differ do so either way round
 pub same_flip : (x y : List ℕ) → is_same_name x y ≡ false → is_same_name y x ≡ false
 same_flip x y h = by (is_same_name y x) refl
   where
@@ -23,9 +26,11 @@ pub none_step : {A : Type 0} (b : Bool) (a : A) (r : Option A) → cond b (Some 
 none_step true a r h = cc
 none_step false a r h = (refl, h)
 
+-- an entry of another name is passed over
 pub entry_named-skip : (e : Entry) (es : List Entry) (x : List ℕ) → is_same_name x e.name ≡ false → entry_named (e ∷ es) x ≡ entry_named es x
 entry_named-skip e es x h = ap (λ b. cond b (Some e) (entry_named es x)) h
 
+-- and one of the name is found
 pub entry_named-hit : (e : Entry) (es : List Entry) (x : List ℕ) → is_same_name x e.name ≡ true → entry_named (e ∷ es) x ≡ Some e
 entry_named-hit e es x h = ap (λ b. cond b (Some e) (entry_named es x)) h
 

@@ -2,6 +2,9 @@
 
 pub mod checked;
 pub mod evaluator;
+pub mod laws;
 pub mod operations;
 pub mod plain;
+#[cfg(test)]
+mod tests;
 pub mod values;

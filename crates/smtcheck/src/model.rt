@@ -14,6 +14,9 @@ ghost use Rattle.smtcheck.specs.Terms.View.{entries_of, source_of};
 ghost use Rattle.smtcheck.specs.declared.model.ModelFault.TheVariants.{Memory as OutOfMemory};
 ghost use Rattle.smtcheck.specs.declared.terms.faults.TermFault.TheVariants.{Form, Memory};
 
+#[cfg(test)]
+mod tests;
+
 use crate::terms::faults::TermFault;
 use crate::terms::library::{Entry, Library, Origin};
 use crate::terms::operators::{is_named, is_same, op_of};

@@ -5,3 +5,5 @@ pub mod faults;
 pub mod library;
 pub mod operators;
 pub mod sorts;
+#[cfg(test)]
+pub mod tests;

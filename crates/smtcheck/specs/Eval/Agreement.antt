@@ -1,7 +1,6 @@
 -- When known values and values agree, and when definitions are well sorted: the premises of the laws.
 use Rattle.std.specs.Prelude.{◌≡◌, ℕ, List, [], ◌∷◌, ◌++◌, Option, Some, None, Ok}
 use Rattle.std.specs.List.{zip}
-use Rattle.smt_text.specs.Sexp.{Sexp}
 use Rattle.smtcheck.specs.Eval.Meaning.{Element, Truth, IsOfSort}
 use Rattle.smtcheck.specs.Terms.Checking.{sort_in}
 use Rattle.smtcheck.specs.Terms.Signature.{Entry, Source, Declared, Defined, look_up}

@@ -1,6 +1,6 @@
 -- The known value of a term: a value, or open. Which terms are open is this project's rule; where a value is known, it is the
 -- standard's.
-use Rattle.std.specs.Prelude.{◌≡◌, ℕ, List, [], ◌∷◌, Bool, true, false, not, ◌&&◌, Option, Some, None, is_some, if◌then◌else◌}
+use Rattle.std.specs.Prelude.{ℕ, List, [], ◌∷◌, Bool, true, false, not, Option, Some, None, is_some, if◌then◌else◌}
 use Rattle.std.specs.List.{list_all, list_any, zip}
 use Rattle.smt_text.specs.Sexp.{Sexp, Sexps, Atom, Items, Nil, Cons, Symbol}
 use Rattle.smtcheck.specs.Eval.Meaning.{are_chained, is_same_truth, or_else}
@@ -16,6 +16,7 @@ abbrev pub is_known : Bool → Option Value → Bool
 is_known b None = false
 is_known b (Some (Boolean c)) = is_same_truth c b
 
+-- whether two known values are the same
 abbrev pub is_same_known : Option Value → Option Value → Bool
 is_same_known None None = true
 is_same_known (Some (Boolean a)) (Some (Boolean b)) = is_same_truth a b
@@ -36,6 +37,7 @@ known_step And args = decided false args
 known_step Or args = decided true args
 known_step Equal args = if list_all is_some args then Some (Boolean (are_chained is_same_known args)) else None
 
+-- what names are known to mean: for each, what is known of the element that it gives for arguments
 abbrev pub KnownMeaning : Type 0
 KnownMeaning = List ℕ → List (Option Value) → Option Value
 

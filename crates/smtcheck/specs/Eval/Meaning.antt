@@ -1,5 +1,5 @@
 -- SMT-LIB 2.6, section 5.3, and theory Core: the value of a well-sorted term in a structure, which is given by definitions.
-use Rattle.std.specs.Prelude.{◌≡◌, ℕ, List, [], ◌∷◌, Bool, true, false, not, ◌&&◌, Option, Some, None, if◌then◌else◌}
+use Rattle.std.specs.Prelude.{ℕ, List, [], ◌∷◌, Bool, true, false, not, ◌&&◌, Option, Some, None, if◌then◌else◌}
 use Rattle.std.specs.List.{list_all, list_any, zip}
 use Rattle.smt_text.specs.Sexp.{Sexp, Sexps, Atom, Items, Nil, Cons, Symbol}
 use Rattle.smtcheck.specs.Terms.Operators.{is_same_name, op_named}

@@ -1,6 +1,6 @@
 -- SMT-LIB 2.6, section 4.2.6: the model that an answer to `get-model` prints. The order of the faults, and that a model may begin
 -- with the symbol `model`, are this project's rules.
-use Rattle.std.specs.Prelude.{◌≡◌, ℕ, ◌+◌, List, [], ◌∷◌, ◌++◌, Bool, true, false, not, ◌&&◌, Option, Some, None, is_some, Result, Ok, Err, codes, if◌then◌else◌}
+use Rattle.std.specs.Prelude.{ℕ, ◌+◌, List, [], ◌∷◌, ◌++◌, Bool, true, false, not, ◌&&◌, Option, Some, None, is_some, Result, Ok, Err, codes, if◌then◌else◌}
 use Rattle.smt_text.specs.Sexp.{Sexp, Sexps, Atom, Reserved, Items, Nil, Cons, Symbol}
 use Rattle.smt_text.specs.declared.reserved.Word.TheVariants.{DefineFun, DefineFunRec, DefineFunsRec}
 use Rattle.smtcheck.specs.Terms.Checking.{sort_in, are_same_sorts}
@@ -99,6 +99,7 @@ abbrev pub first_lacking : List Entry → List Entry → Option ℕ
 first_lacking [] items = None
 first_lacking (e ∷ es) items = if is_some (entry_named items e.name) then first_lacking es items else command_of_source e.source
 
+-- the items, unless a name is lacking
 abbrev pub complete_or : Option ℕ → List Entry → Result (List Entry) ModelFault
 complete_or None items = Ok items
 complete_or (Some command) items = Err (Lacks command)

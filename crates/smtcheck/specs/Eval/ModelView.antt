@@ -8,6 +8,7 @@ use Rattle.smtcheck.specs.declared.model.ModelFault.TheVariants.{Item, Memory as
 use Rattle.smtcheck.specs.declared.terms.faults.TermFault.{TermFault}
 use Rattle.smtcheck.specs.declared.terms.faults.TermFault.TheVariants.{Memory}
 
+-- the parts of an item
 abbrev pub form_of : ItemForm → model.ItemForm
 form_of form = record { name = form.name.now; parameters = sexps_of form.parameters.now; sort = sexp_of form.sort.now; body = sexp_of form.body.now }
 

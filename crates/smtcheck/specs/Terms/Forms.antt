@@ -1,6 +1,6 @@
 -- Terms that are lists, by their heads and what follows them.
 use Rattle.std.specs.Prelude.{Bool, true, false}
-use Rattle.smt_text.specs.Sexp.{Sexp, Sexps, Atom, Reserved, Items, Nil, Cons, Symbol}
+use Rattle.smt_text.specs.Sexp.{Sexp, Sexps, Atom, Reserved, Items, Cons, Symbol}
 use Rattle.smtcheck.specs.Terms.Checking.{head_fault, nested_fault}
 use Rattle.smtcheck.specs.declared.terms.faults.TermFault.{TermFault}
 use Rattle.smtcheck.specs.declared.terms.faults.TermFault.TheVariants.{Form}

@@ -1,5 +1,5 @@
 -- SMT-LIB 2.6, theory Core: the operators that are taken, by name, and their ranks.
-use Rattle.std.specs.Prelude.{ℕ, List, [], ◌∷◌, Bool, true, false, ◌&&◌, Option, Some, None, nat_eq, nat_le, length, codes, if◌then◌else◌}
+use Rattle.std.specs.Prelude.{ℕ, List, [], ◌∷◌, Bool, true, ◌&&◌, Option, Some, None, nat_eq, nat_le, length, codes, if◌then◌else◌}
 use Rattle.std.specs.List.{list_all}
 use lib.Pointwise.{pointwise}
 use Rattle.smtcheck.specs.declared.terms.operators.Op.{Op}

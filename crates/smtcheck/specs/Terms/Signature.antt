@@ -34,6 +34,20 @@ abbrev pub AreDistinct : List Entry → Type 0
 AreDistinct [] = Unit {0}
 AreDistinct (e ∷ es) = (entry_named es e.name ≡ None) × AreDistinct es
 
+-- a declaration, and declarations alone
+abbrev pub IsDeclared : Source → Type 0
+IsDeclared (Declared command) = Unit {0}
+IsDeclared (Defined parameters body) = ⊥
+
+abbrev pub AreDeclared : List Entry → Type 0
+AreDeclared [] = Unit {0}
+AreDeclared (e ∷ es) = IsDeclared e.source × AreDeclared es
+
+-- there is an entry, and it has the rank of this one
+abbrev pub KeepsRank : Entry → Option Entry → Type 0
+KeepsRank e None = ⊥
+KeepsRank e (Some d) = (d.parameters ≡ e.parameters) × (d.sort ≡ e.sort)
+
 -- whether a name may not be given to something new: it stands for something, or is an operator
 abbrev pub is_taken : List Entry → List ℕ → Bool
 is_taken names x = is_some (entry_named names x) || is_some (op_named x)

@@ -1,5 +1,5 @@
 -- What a contract sees of a library: its names in order, each with what it stands for.
-use Rattle.std.specs.Prelude.{ℕ, List, [], ◌∷◌, map}
+use Rattle.std.specs.Prelude.{ℕ, List, [], map}
 use Rattle.smt_text.specs.TreeView.{sexp_of}
 use Rattle.smtcheck.specs.Terms.Signature as signature
 use Rattle.smtcheck.specs.Terms.Signature.{Source}
@@ -8,6 +8,7 @@ use Rattle.smtcheck.specs.declared.terms.library.Entry.{Entry}
 use Rattle.smtcheck.specs.declared.terms.library.Origin.{Origin}
 use Rattle.smtcheck.specs.declared.terms.library.Origin.TheVariants.{Declared, Defined}
 
+-- where a name comes from
 abbrev pub source_of : Origin → Source
 source_of (Declared command) = signature.Declared command
 source_of (Defined body) = signature.Defined [] (sexp_of body)

@@ -1,4 +1,4 @@
-use Rattle.std.proofs.Common.{true, false, ap, sym, ◌∙◌}
+use Rattle.std.proofs.Common.{true, false, sym, ◌∙◌}
 use Rattle.smtcheck.specs.Terms.Signature.{entry_named}
 use Rattle.smtcheck.specs.Terms.View.{entries_of, entry_of}
 use Rattle.smtcheck.proofs.ModelLemmas.{lacking_step, looked_up}

@@ -1,4 +1,3 @@
-use Rattle.smtcheck.proofs.StateLemmas.{declaration_stands}
 use Rattle.smtcheck.proofs.CommandLemmas.{assertion_read}
 use Rattle.smtcheck.proofs.script.assertion.Goals as goal
 

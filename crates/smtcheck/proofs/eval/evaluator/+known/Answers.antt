@@ -1,7 +1,7 @@
 use Rattle.std.proofs.Common.{◌≡◌, [], take, ap, sym, ◌∙◌, arith}
 use Rattle.std.proofs.lemmas.Result.{IfOk-weaker}
 use Rattle.smt_text.specs.Sexp.{Items}
-use Rattle.smt_text.specs.TreeView.{sexp_of, sexps_of}
+use Rattle.smt_text.specs.TreeView.{sexps_of}
 use Rattle.smtcheck.specs.Eval.Known.{known_in, known_of, knowns_of, known_operators, known_defined}
 use Rattle.smtcheck.specs.Terms.View.{entries_of, entry_of, source_of}
 use Rattle.smtcheck.proofs.EvalLemmas.{known_at, known_absent, bodies_at, source_weight}

@@ -1,6 +1,6 @@
 use Rattle.std.proofs.Common.{◌≡◌, ◌+◌, [], drop}
 use Rattle.smt_text.specs.TreeView.{sexps_of}
-use Rattle.smtcheck.specs.Eval.Model.{items_from, items_of}
+use Rattle.smtcheck.specs.Eval.Model.{items_from}
 use Rattle.smtcheck.specs.Terms.View.{entries_of}
 use Rattle.smtcheck.proofs.model.Interpretation.read.Given as goal
 

@@ -1,4 +1,4 @@
-use Rattle.std.proofs.Common.{◌≡◌, ℕ, ◌+◌, ◌*◌, ◌≤◌, []}
+use Rattle.std.proofs.Common.{◌≡◌, ◌+◌, ◌*◌, ◌≤◌, []}
 use Rattle.smt_text.specs.Sexp.{weight, weight_all}
 use Rattle.smt_text.specs.TreeView.{sexp_of, sexps_of}
 use Rattle.smtcheck.specs.Terms.Checking.{sorts_in}

@@ -1,6 +1,6 @@
-use Rattle.std.proofs.Common.{◌≡◌, ◌++◌, ◌∷◌, [], ap, sym, ◌∙◌}
+use Rattle.std.proofs.Common.{◌≡◌, ◌++◌, ◌∷◌, [], ap, ◌∙◌}
 use Rattle.smtcheck.specs.Terms.Signature.{entry_named}
-use Rattle.smtcheck.specs.Terms.View.{entries_of, entry_of}
+use Rattle.smtcheck.specs.Terms.View.{entry_of}
 use Rattle.smtcheck.proofs.LibraryLemmas.{viewed, inserted}
 use Rattle.smtcheck.proofs.terms.library.Library.add.Goals as goal
 

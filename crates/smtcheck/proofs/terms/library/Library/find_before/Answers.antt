@@ -1,4 +1,4 @@
-use Rattle.std.proofs.Common.{◌≡◌, Some, slice_get, option_map, ap, sym, ◌∙◌}
+use Rattle.std.proofs.Common.{sym}
 use Rattle.smtcheck.specs.Terms.View.{entry_of}
 use Rattle.smtcheck.proofs.LibraryLemmas.{viewed, absent, placed, distinct_entries}
 use Rattle.smtcheck.proofs.NameLemmas.{none_before, entry_named-take}
