@@ -10,3 +10,4 @@ pub mod StateLemmas
 pub mod MeaningLemmas
 pub mod CompleteLemmas
 pub mod FaultLemmas
+pub mod TurnLemmas
