@@ -25,8 +25,9 @@ pub fn judge_all(
     ensures { IfOk result (λ r. IsJudged (sexps_of script.trees.items) (sexps_of answers.trees.items) script.fault answers.fault r.lines.items r.verdict) }
 {
     while let Some(tree) = script.trees.pop_front() {
-        if let Some(fault) = take_turn(&mut dialogue, tree, &mut answers)? {
-            return dialogue.finish(Some(fault));
+        match take_turn(&mut dialogue, tree, &mut answers)? {
+            Some(fault) => return dialogue.finish(Some(fault)),
+            None => {}
         }
     }
     let fault = match script.fault {
