@@ -29,7 +29,7 @@ pub loop-tree-preserved : goal.loop-tree-preserved
 loop-tree-preserved c =
     let so_far = subst (λ (trees : Sexps). SoFar (state_of c.loop-tree.dialogue) (sexps_of c.args.script.trees.items) trees (sexps_of c.args.answers.trees.items) (sexps_of c.loop-tree.answers.trees.items)) (ap sexps_of c.in-Some.ensures.items) c.loop-tree.invariant.so_far in
     let turned : TakesUp so_far.pairs (sexp_of c.in-Some.tree) (sexps_of c.loop-tree.answers.trees.items) (sexps_of c.take_turn.new.answers.trees.items) (state_of c.take_turn.new.dialogue) =
-        subst (λ (r : Option Line). Turned r so_far.pairs (sexp_of c.in-Some.tree) (sexps_of c.loop-tree.answers.trees.items) c.loop-tree.answers.fault (sexps_of c.take_turn.new.answers.trees.items) (state_of c.take_turn.new.dialogue)) c.in-None.is (c.in_ok-fault.ensures.turned so_far.pairs so_far.stands) in
+    subst (λ (r : Option Line). Turned r so_far.pairs (sexp_of c.in-Some.tree) (sexps_of c.loop-tree.answers.trees.items) c.loop-tree.answers.fault (sexps_of c.take_turn.new.answers.trees.items) (state_of c.take_turn.new.dialogue)) c.in-None.is (c.in_ok-fault.ensures.turned so_far.pairs so_far.stands) in
     let popped = ap length c.in-Some.ensures.items in
     let commands = commands-push (state_of c.loop-tree.dialogue) (state_of c.take_turn.new.dialogue) so_far.pairs _ so_far.stands turned.stands in
     record {
