@@ -11,3 +11,6 @@ pub mod MeaningLemmas
 pub mod CompleteLemmas
 pub mod FaultLemmas
 pub mod TurnLemmas
+pub mod EndLemmas
+pub mod HeadlineLemmas
+pub mod VerdictLemmas

@@ -9,10 +9,11 @@ use Rattle.smtcheck.specs.Dialogue.InForce.{names_after}
 use Rattle.smtcheck.specs.Dialogue.Lines.{checks_in}
 use Rattle.smtcheck.specs.Dialogue.Pairing.{IsPairing, Pair, is_effective, is_symbol}
 use Rattle.smtcheck.specs.Dialogue.Window.{Printed, models_from, window}
+use Rattle.smtcheck.specs.Eval.Agreement.{AreWellSorted}
 use Rattle.smtcheck.specs.Eval.Meaning.{Truth, meaning_in, value_of}
 use Rattle.smtcheck.specs.Eval.Model.{model_in}
 use Rattle.smtcheck.specs.Terms.Checking.{sort_in}
-use Rattle.smtcheck.specs.Terms.Signature.{Entry}
+use Rattle.smtcheck.specs.Terms.Signature.{Entry, KeepsRank, entry_named}
 use Rattle.smtcheck.specs.declared.report.Line.{Line}
 use Rattle.smtcheck.specs.declared.report.Line.TheVariants.{Refuted}
 use Rattle.smtcheck.specs.declared.terms.sorts.Sort.TheVariants.{Bool as Boolean}
@@ -32,11 +33,13 @@ pub record IsAsserted (before : List Pair) (earlier : List Pair) (term : Sexp) :
   pub place : before ≡ earlier ++ record { command = Assert term; answer = answer } ∷ between
   pub effective : is_effective (record { command = Assert term; answer = answer }) ≡ true
 
--- the model is a complete, well-sorted one of the names in force, and every assertion in force is well sorted under the names in
--- force before its command, and true
+-- the model is one of the names in force: its definitions are well sorted, and each name in force has one, of its rank. And every
+-- assertion in force is well sorted under the names in force before its command, and true
 pub record IsTrueModel (before : List Pair) (parts : Sexps) : Type 0 where
   pub definitions : List Entry
   pub complete : model_in (names_after before) parts ≡ Ok definitions
+  pub well_sorted : AreWellSorted [] definitions
+  pub ranks : (x : List ℕ) (e : Entry) → entry_named (names_after before) x ≡ Some e → KeepsRank e (entry_named definitions x)
   pub sorted : (earlier : List Pair) (term : Sexp) → IsAsserted before earlier term → sort_in (names_after earlier) [] term ≡ Ok Boolean
   pub true_in : (earlier : List Pair) (term : Sexp) → IsAsserted before earlier term → value_of (meaning_in definitions) [] term ≡ Truth true
 
