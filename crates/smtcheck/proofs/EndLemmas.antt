@@ -109,14 +109,14 @@ ends_clean pairs Nil None Nil None fault e h = record { trees = refl; script = r
 
 -- ## One pairing
 
-pair_same : (x y : Pair) → x.command ≡ y.command → x.answer ≡ y.answer → x ≡ y
+pub pair_same : (x y : Pair) → x.command ≡ y.command → x.answer ≡ y.answer → x ≡ y
 pair_same x y e f =
     let through : Pair = record { command = y.command; answer = x.answer } in
     let first : x ≡ through = ap (λ (c : Command). record { command = c; answer = x.answer }) e in
     let second : through ≡ y = ap (λ (a : Option Sexp). record { command = y.command; answer = a }) f in
     first ∙ second
 
-some_answer : (c : Command) (o : Option Sexp) → fits c o ≡ true → (a : Sexp) × (o ≡ Some a)
+pub some_answer : (c : Command) (o : Option Sexp) → fits c o ≡ true → (a : Sexp) × (o ≡ Some a)
 some_answer c None h = absurd (cc)
 some_answer c (Some a) h = (a, refl)
 

@@ -147,15 +147,15 @@ true_model pairs before after p parts place faultless h =
       well_sorted = whole.0;
       ranks = whole.2;
       sorted = λ earlier term asserted.
-        let q : Pair = record { command = Assert term; answer = asserted.answer } in
-        let far : pairs ≡ earlier ++ q ∷ (asserted.between ++ p ∷ after) = place ∙ ap (λ (b : List Pair). b ++ p ∷ after) asserted.place ∙ append_assoc earlier (q ∷ asserted.between) (p ∷ after) in
-        asserted_formula earlier q term refl asserted.effective (faultless_at [] earlier q (asserted.between ++ p ∷ after) (subst (AreFaultless []) far faultless));
+          let q : Pair = record { command = Assert term; answer = asserted.answer } in
+          let far : pairs ≡ earlier ++ q ∷ (asserted.between ++ p ∷ after) = place ∙ ap (λ (b : List Pair). b ++ p ∷ after) asserted.place ∙ append_assoc earlier (q ∷ asserted.between) (p ∷ after) in
+          asserted_formula earlier q term refl asserted.effective (faultless_at [] earlier q (asserted.between ++ p ∷ after) (subst (AreFaultless []) far faultless));
       true_in = λ earlier term asserted.
-        let q : Pair = record { command = Assert term; answer = asserted.answer } in
-        let among : assertions_after before ≡ assertions_after earlier ++ record { command = length earlier + 1; term = term } ∷ assertions_from ((1 + length earlier) + 1) asserted.between = ap assertions_after asserted.place ∙ asserted_at earlier asserted.between q term refl asserted.effective in
-        let not_false = first_none (is_false_over confirmed.0) (assertions_after earlier) (record { command = length earlier + 1; term = term }) (assertions_from ((1 + length earlier) + 1) asserted.between) (ap (first_assertion (is_false_over confirmed.0)) (sym among) ∙ confirmed.2) in
-        let not_open = first_none (is_open_over confirmed.0) (assertions_after earlier) (record { command = length earlier + 1; term = term }) (assertions_from ((1 + length earlier) + 1) asserted.between) (ap (first_assertion (is_open_over confirmed.0)) (sym among) ∙ confirmed.3) in
-        closed_value confirmed.0 term (Boolean true) (is_true_value (known_over confirmed.0 term) not_false not_open);
+          let q : Pair = record { command = Assert term; answer = asserted.answer } in
+          let among : assertions_after before ≡ assertions_after earlier ++ record { command = length earlier + 1; term = term } ∷ assertions_from ((1 + length earlier) + 1) asserted.between = ap assertions_after asserted.place ∙ asserted_at earlier asserted.between q term refl asserted.effective in
+          let not_false = first_none (is_false_over confirmed.0) (assertions_after earlier) (record { command = length earlier + 1; term = term }) (assertions_from ((1 + length earlier) + 1) asserted.between) (ap (first_assertion (is_false_over confirmed.0)) (sym among) ∙ confirmed.2) in
+          let not_open = first_none (is_open_over confirmed.0) (assertions_after earlier) (record { command = length earlier + 1; term = term }) (assertions_from ((1 + length earlier) + 1) asserted.between) (ap (first_assertion (is_open_over confirmed.0)) (sym among) ∙ confirmed.3) in
+          closed_value confirmed.0 term (Boolean true) (is_true_value (known_over confirmed.0 term) not_false not_open);
     }
 
 -- ## The line of a check
@@ -225,7 +225,7 @@ confirmed_at pairs before after a place faultless refuted undecided sat =
     let ms = models_from (n + 1) (window after) in
     let parts : lines_in true [] pairs [] ≡ lines_in true [] before ((p ∷ after) ++ []) ++ (lines_of_pair true before p after ++ lines_in true (before ++ p ∷ []) after []) = ap (λ (ps : List Pair). lines_in true [] ps []) place ∙ lines_at before p after in
     let here : (test : Line → Bool) → list_any test (lines_in true [] pairs []) ≡ false → list_any test (lines_of_sat true k n names assertions (n + 1) after) ≡ false =
-        λ test h. ap (list_any test) (sym (lines_of_sat_at before after a sat)) ∙ (none_of test (lines_of_pair true before p after) (lines_in true (before ++ p ∷ []) after []) (none_of test (lines_in true [] before ((p ∷ after) ++ [])) (lines_of_pair true before p after ++ lines_in true (before ++ p ∷ []) after []) (ap (list_any test) (sym parts) ∙ h)).1).0 in
+    λ test h. ap (list_any test) (sym (lines_of_sat_at before after a sat)) ∙ (none_of test (lines_of_pair true before p after) (lines_in true (before ++ p ∷ []) after []) (none_of test (lines_in true [] before ((p ∷ after) ++ [])) (lines_of_pair true before p after ++ lines_in true (before ++ p ∷ []) after []) (ap (list_any test) (sym parts) ∙ h)).1).0 in
     let found = sat_confirmed k n names assertions ms (unconfirmed_line k n names assertions ms) refl (here is_refuted_line refuted) (here is_undecided_line undecided) in
     let all : AllByRecursion (λ (m : Printed). judged names assertions m.parts ≡ judgements.Confirmed) (found.0 ∷ found.1) = subst (AllByRecursion (λ (m : Printed). judged names assertions m.parts ≡ judgements.Confirmed)) found.2 (all_confirmed k n names assertions ms found.3) in
     record {

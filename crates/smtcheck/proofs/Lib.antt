@@ -14,3 +14,4 @@ pub mod TurnLemmas
 pub mod EndLemmas
 pub mod HeadlineLemmas
 pub mod VerdictLemmas
+pub mod LawLemmas

@@ -39,14 +39,16 @@ use Rattle.smtcheck.specs.declared.report.Verdict.TheVariants.{Valid, Invalid}
 pub paired_whole : (script answers : List ℕ) (st at' : Sexps) (sf af : Option TextFault) (ls : List Line) (v : Verdict) → Reads limit true script st sf → Reads limit true answers at' af → (j : IsJudged st at' sf af ls v) → list_any is_fault_line (lines_in true [] j.pairs [] ++ lines_of_end j.fault) ≡ false → IsPairedWhole script answers j.pairs × (j.fault ≡ None)
 paired_whole script answers st at' sf af ls v rs ra j h =
     let clean = ends_clean j.pairs j.later sf j.rest af j.fault j.ends (none_of is_fault_line (lines_in true [] j.pairs []) (lines_of_end j.fault) h).1 in
-    let one : IsPairing j.pairs st Nil at' j.rest = subst (λ (t : Sexps). IsPairing j.pairs st t at' j.rest) clean.trees j.pairing in
-    (record {
-      script_trees = st;
-      script_forest = subst (λ (f : Option TextFault). Reads limit true script st f) clean.script rs;
-      answer_trees = at';
-      answers_forest = subst (λ (f : Option TextFault). Reads limit true answers at' f) clean.answers ra;
-      pairing = subst (λ (t : Sexps). IsPairing j.pairs st Nil at' t) clean.left one;
-    }, clean.none)
+    let one : IsPairing j.pairs st Nil at' j.rest = subst (λ (t : Sexps). IsPairing j.pairs st t at' j.rest) clean.trees j.pairing in (
+      record {
+        script_trees = st;
+        script_forest = subst (λ (f : Option TextFault). Reads limit true script st f) clean.script rs;
+        answer_trees = at';
+        answers_forest = subst (λ (f : Option TextFault). Reads limit true answers at' f) clean.answers ra;
+        pairing = subst (λ (t : Sexps). IsPairing j.pairs st Nil at' t) clean.left one;
+      },
+      clean.none,
+    )
 
 -- there is one such pairing
 pub one_whole : (script answers : List ℕ) (xs ys : List Pair) → IsPairedWhole script answers xs → IsPairedWhole script answers ys → xs ≡ ys
@@ -346,8 +348,8 @@ invalid_means script answers st at' sf af ls v rs ra j h =
       lines_before = l1;
       lines_after = l2 ++ end;
       line = j.lines_are
-        ∙ ap (λ (x : List Line). x ++ end) (no_fault ∙ ap (λ (ps : List Pair). lines_in true [] ps []) place ∙ lines_at before p at_pair.last ∙ ap (λ (x : List Line). l1 ++ (x ++ l2)) here)
-        ∙ line_place l1 l2 end line;
+          ∙ ap (λ (x : List Line). x ++ end) (no_fault ∙ ap (λ (ps : List Pair). lines_in true [] ps []) place ∙ lines_at before p at_pair.last ∙ ap (λ (x : List Line). l1 ++ (x ++ l2)) here)
+          ∙ line_place l1 l2 end line;
     }
 
 -- ## What a call answered

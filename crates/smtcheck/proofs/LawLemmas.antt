@@ -1,0 +1,76 @@
+-- A dialogue has one report.
+use Rattle.std.proofs.Common.{◌≡◌, ◌+◌, ℕ, suc, Bool, true, false, List, [], ◌∷◌, ◌++◌, length, Option, Some, None, Result, Ok, Err, cond, refl, ap, sym, ◌∙◌, subst, arith, append_assoc}
+use Rattle.std.proofs.lemmas.List.{append-nil}
+use Rattle.smt_text.proofs.Faults as text
+use Rattle.smt_text.specs.Sexp.{Sexp, Sexps, Nil, Cons}
+use Rattle.smt_text.specs.declared.fault.TextFault.{TextFault}
+use Rattle.smtcheck.proofs.EndLemmas.{pair_same, some_answer}
+use Rattle.smtcheck.specs.Dialogue.Command.{Command, command_of}
+use Rattle.smtcheck.specs.Dialogue.Ending.{Ends, GoesOn, IsReport, Turn, limit, lines_of_end, turn_after, turn_of_fault, turn_of_tree}
+use Rattle.smtcheck.specs.Dialogue.InForce.{AreFaultless, fault_of_pair}
+use Rattle.smtcheck.specs.Dialogue.Lines.{lines_in, with_verdict}
+use Rattle.smtcheck.specs.Dialogue.Pairing.{AllFit, AreCommands, Pair, answers_taken, answers_then, fits, takes, with_answer}
+use Rattle.smtcheck.specs.declared.report.Line.{Line}
+use Rattle.smtcheck.specs.declared.report.Line.TheVariants as lines
+use Rattle.smtcheck.specs.declared.script.CommandFault.{CommandFault}
+
+ends_same : {f g : Option Line} → Ends f ≡ Ends g → f ≡ g
+ends_same h = cc
+
+-- where a command is taken up without a fault, the dialogue goes on
+goes_on_at : (before : List Pair) (t : Sexp) (c : Command) (a : Sexp) (more : Sexps) (af : Option TextFault) → command_of t ≡ Ok c → takes c a ≡ true → fault_of_pair before (record { command = c; answer = Some a }) ≡ None → turn_of_tree before (command_of t) (Cons a more) af ≡ GoesOn
+goes_on_at before t c a more af read taken fault = rw (read, taken, fault) refl
+
+-- so it does not end there
+no_end : {P : Type 0} (before : List Pair) (y : Pair) (ys : List Pair) (trees later later' answers rest rest' : Sexps) (sf af : Option TextFault) (f : Option Line) → trees ≡ later → AreCommands (y ∷ ys) trees later' → answers ≡ rest → answers ≡ answers_then (y ∷ ys) rest' → AllFit (y ∷ ys) → AreFaultless before (y ∷ ys) → turn_after before later sf rest af ≡ Ends f → P
+no_end before y ys Nil later later' answers rest rest' sf af f c d a b g n e = absurd d
+no_end before y ys (Cons t ts) later later' answers rest rest' sf af f c d a b g n e =
+    let q = some_answer y.command y.answer g.0 in
+    let next : rest ≡ Cons q.0 (answers_then ys rest') = sym a ∙ b ∙ ap (λ (o : Option Sexp). with_answer o (answers_then ys rest')) q.1 in
+    let taken : takes y.command q.0 ≡ true = ap (λ (o : Option Sexp). fits y.command o) (sym q.1) ∙ g.0 in
+    let none : fault_of_pair before (record { command = y.command; answer = Some q.0 }) ≡ None = ap (λ (o : Option Sexp). fault_of_pair before (record { command = y.command; answer = o })) (sym q.1) ∙ n.0 in
+    let goes : turn_after before later sf rest af ≡ GoesOn = ap (λ (l : Sexps). turn_after before l sf rest af) (sym c) ∙ ap (λ (r : Sexps). turn_after before (Cons t ts) sf r af) next ∙ goes_on_at before t y.command q.0 (answers_then ys rest') af d.0 taken none in
+    let bad : GoesOn ≡ Ends f = sym goes ∙ e in
+    absurd (cc)
+
+-- two ways through the same texts are one
+pub one_way : (before xs ys : List Pair) (trees later later' answers rest rest' : Sexps) (sf af : Option TextFault) (f g : Option Line) → AreCommands xs trees later → AreCommands ys trees later' → answers ≡ answers_then xs rest → answers ≡ answers_then ys rest' → AllFit xs → AllFit ys → AreFaultless before xs → AreFaultless before ys → turn_after (before ++ xs) later sf rest af ≡ Ends f → turn_after (before ++ ys) later' sf rest' af ≡ Ends g → (xs ≡ ys) × (f ≡ g)
+one_way before [] [] trees later later' answers rest rest' sf af f g c d a b m n p q e h =
+    let same_trees : later' ≡ later = sym d ∙ c in
+    let same_rest : rest' ≡ rest = sym b ∙ a in
+    (refl, ends_same (sym e ∙ sym (ap (λ (l : Sexps). turn_after (before ++ []) l sf rest' af) same_trees ∙ ap (λ (r : Sexps). turn_after (before ++ []) later sf r af) same_rest) ∙ h))
+one_way before [] (y ∷ ys) trees later later' answers rest rest' sf af f g c d a b m n p q e h =
+    no_end before y ys trees later later' answers rest rest' sf af f c d a b n q (ap (λ (bs : List Pair). turn_after bs later sf rest af) (sym (append-nil before)) ∙ e)
+one_way before (x ∷ xs) [] trees later later' answers rest rest' sf af f g c d a b m n p q e h =
+    no_end before x xs trees later' later answers rest' rest sf af g d c b a m p (ap (λ (bs : List Pair). turn_after bs later' sf rest' af) (sym (append-nil before)) ∙ h)
+one_way before (x ∷ xs) (y ∷ ys) Nil later later' answers rest rest' sf af f g c d a b m n p q e h = absurd c
+one_way before (x ∷ xs) (y ∷ ys) (Cons t ts) later later' answers rest rest' sf af f g c d a b m n p q e h =
+    let u = some_answer x.command x.answer m.0 in
+    let v = some_answer y.command y.answer n.0 in
+    let e1 : answers ≡ Cons u.0 (answers_then xs rest) = a ∙ ap (λ (o : Option Sexp). with_answer o (answers_then xs rest)) u.1 in
+    let e2 : answers ≡ Cons v.0 (answers_then ys rest') = b ∙ ap (λ (o : Option Sexp). with_answer o (answers_then ys rest')) v.1 in
+    let both : Cons u.0 (answers_then xs rest) ≡ Cons v.0 (answers_then ys rest') = sym e1 ∙ e2 in
+    let same_answer : u.0 ≡ v.0 = cc in
+    let same_rest : answers_then xs rest ≡ answers_then ys rest' = cc in
+    let read : ◌≡◌ {A = Result Command CommandFault} (Ok x.command) (Ok y.command) = sym c.0 ∙ d.0 in
+    let same_command : x.command ≡ y.command = cc in
+    let head : x ≡ y = pair_same x y same_command (u.1 ∙ ap (λ (s : Sexp). Some s) same_answer ∙ sym v.1) in
+    let faultless : AreFaultless (before ++ x ∷ []) ys = subst (λ (z : Pair). AreFaultless (before ++ z ∷ []) ys) (sym head) q.1 in
+    let first : turn_after ((before ++ x ∷ []) ++ xs) later sf rest af ≡ Ends f = ap (λ (bs : List Pair). turn_after bs later sf rest af) (append_assoc before (x ∷ []) xs) ∙ e in
+    let second : turn_after ((before ++ x ∷ []) ++ ys) later' sf rest' af ≡ Ends g = ap (λ (bs : List Pair). turn_after bs later' sf rest' af) (append_assoc before (x ∷ []) ys ∙ ap (λ (z : Pair). before ++ z ∷ ys) head) ∙ h in
+    let tail = one_way (before ++ x ∷ []) xs ys ts later later' (answers_then xs rest) rest rest' sf af f g c.1 d.1 refl same_rest m.1 n.1 p.1 faultless first second in
+    (ap (λ (z : Pair). z ∷ xs) head ∙ ap (λ (zs : List Pair). y ∷ zs) tail.0, tail.1)
+
+-- a dialogue has at most one report
+pub one_report : (script answers : List ℕ) (ls ms : List Line) → IsReport script answers ls → IsReport script answers ms → ls ≡ ms
+one_report script answers ls ms x y =
+    let scripts = text.one_reading limit true script y.script_trees x.script_trees y.script_fault x.script_fault y.script_read x.script_read in
+    let both = text.one_reading limit true answers y.answer_trees x.answer_trees y.answers_fault x.answers_fault y.answers_read x.answers_read in
+    let commands : AreCommands y.pairs x.script_trees y.later = subst (λ (t : Sexps). AreCommands y.pairs t y.later) scripts.0 y.pairing.commands in
+    let answered : x.answer_trees ≡ answers_then y.pairs y.rest = sym both.0 ∙ y.pairing.answered in
+    let ends : turn_after y.pairs y.later x.script_fault y.rest x.answers_fault ≡ Ends y.fault = ap (λ (f : Option TextFault). turn_after y.pairs y.later f y.rest x.answers_fault) (sym scripts.1) ∙ ap (λ (f : Option TextFault). turn_after y.pairs y.later y.script_fault y.rest f) (sym both.1) ∙ y.ends in
+    let way = one_way [] x.pairs y.pairs x.script_trees x.later y.later x.answer_trees x.rest y.rest x.script_fault x.answers_fault x.fault y.fault x.pairing.commands commands x.pairing.answered answered x.pairing.fit y.pairing.fit x.faultless y.faultless x.ends ends in
+    x.lines_are
+    ∙ ap (λ (ps : List Pair). with_verdict (lines_in true [] ps [] ++ lines_of_end x.fault)) way.0
+    ∙ ap (λ (f : Option Line). with_verdict (lines_in true [] y.pairs [] ++ lines_of_end f)) way.1
+    ∙ sym y.lines_are
