@@ -1,5 +1,8 @@
 //! The program: from the words of the command line to the exit status.
 
+#[cfg(test)]
+mod tests;
+
 use crate::command_line::LineFault;
 use crate::files::{RunFault, run};
 use crate::settings;
@@ -7,23 +10,43 @@ use std::alloc::{AllocError, Global};
 use std::env;
 use std::rt::{Env, Files};
 
+/// The status of a run that gives no report.
+const NO_REPORT: u8 = 4;
+
 /// The status of a command line that was refused, or asked for help.
 const REFUSED: u8 = 5;
 
-/// Runs the program, and answers its status.
-pub fn start<R: Files + Env + AllocGlobal + Print + Eprint>(rt: &R) -> Result<u8, RunFault> {
-    let words = words(rt).ok_or(RunFault::Memory)?;
-    let Ok(words) = texts(rt.alloc(), words.as_slice()) else {
-        return Err(RunFault::Memory);
+/// Runs the program, and answers its exit status: 0 to 3 by the verdict, 4 where there is no report, and 5 where the command line was
+/// refused or asked for help.
+pub fn start<R: Files + Env + AllocGlobal + Print + Eprint>(rt: &R) -> u8 {
+    let Some(words) = words(rt) else {
+        return no_report(rt, RunFault::Memory);
     };
-    match settings::settings(rt.alloc(), words.as_slice()) {
-        Ok(settings) => run(rt, settings),
-        Err(LineFault::Memory) => Err(RunFault::Memory),
+    match texts(rt.alloc(), words.as_slice()) {
+        Ok(words) => status(rt, words.as_slice()),
+        Err(_) => no_report(rt, RunFault::Memory),
+    }
+}
+
+/// The same for these words, the program's name first.
+pub fn status<R: Files + AllocGlobal + Print + Eprint>(rt: &R, words: &[&str]) -> u8 {
+    match settings::settings(rt.alloc(), words) {
+        Ok(settings) => match run(rt, settings) {
+            Ok(status) => status,
+            Err(fault) => no_report(rt, fault),
+        },
+        Err(LineFault::Memory) => no_report(rt, RunFault::Memory),
         Err(LineFault::Refused(error)) => {
             let _ = error.print(rt);
-            Ok(REFUSED)
+            REFUSED
         }
     }
+}
+
+// Tells why there is no report.
+fn no_report<R: Eprint>(rt: &R, fault: RunFault) -> u8 {
+    let _ = eprintln!(rt; "{fault}");
+    NO_REPORT
 }
 
 // The words of the command line, the program's name first.
