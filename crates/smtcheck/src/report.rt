@@ -1,5 +1,8 @@
 //! The report on a dialogue: its lines, its verdict and the program's status.
 
+ghost use Rattle.std.specs.Prelude.{◌≡◌};
+ghost use Rattle.smtcheck.specs.Report.Text.{status_number};
+
 use crate::script::CommandFault;
 use crate::terms::faults::TermFault;
 use std::fmt;
@@ -138,7 +141,9 @@ pub struct Report {
 }
 
 /// The status with which the program ends: 0 for valid, 1 for invalid, 2 for not decided, 3 for refused.
-pub fn status_of(verdict: Verdict) -> u8 {
+pub fn status_of(verdict: Verdict) -> u8
+    ensures { result ≡ status_number verdict }
+{
     match verdict {
         Verdict::Valid => 0,
         Verdict::Invalid => 1,

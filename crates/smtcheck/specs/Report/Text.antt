@@ -86,3 +86,10 @@ text_of (NoAnswer command) = codes "fault P1 at command " ++ decimal command
 text_of (Misfit command answer) = codes "fault P2 at command " ++ decimal command ++ codes ", answer " ++ decimal answer
 text_of (LeftOver answer) = codes "fault P3 at answer " ++ decimal answer
 text_of (VerdictLine verdict tally) = codes "verdict: " ++ text_of_verdict verdict ++ codes ", " ++ text_of_tally tally
+
+-- the exit status of a verdict
+abbrev pub status_number : Verdict → ℕ
+status_number verdicts.Valid = 0
+status_number verdicts.Invalid = 1
+status_number verdicts.NotDecided = 2
+status_number verdicts.Refused = 3
