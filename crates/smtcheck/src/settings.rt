@@ -1,11 +1,20 @@
 //! Reading the command line.
 
+ghost use Rattle.std.specs.Prelude.{◌≡◌, IfErr, IfOk, List, [], map, true};
+ghost use Rattle.clap.specs.Words.{fault_of, takes};
+ghost use Rattle.smtcheck.specs.Settings.{AreSettings, IsFaultOf, smtcheck_app};
+
 use crate::command_line::{LineFault, Settings, smtcheck_command};
 use clap::error::ErrorKind;
 use std::alloc::Global;
 
 /// Reads the words of a command line, the program's name first.
-pub fn settings<'a>(alloc: Global, words: &'a [&'a str]) -> Result<Settings<'a>, LineFault> {
+pub fn settings<'a>(alloc: Global, words: &'a [&'a str]) -> Result<Settings<'a>, LineFault>
+    ensures ok { IfOk result (AreSettings (map (λ w. w.now) words.entry.now)) }
+    ensures taken { IfOk result (λ _. fault_of smtcheck_app (map (λ w. w.now) words.entry.now) ≡ []) }
+    ensures refused { IfErr result (IsFaultOf (map (λ w. w.now) words.entry.now)) }
+    ensures memory { IfErr result (λ f. takes smtcheck_app (map (λ w. w.now) words.entry.now) ≡ true → f ≡ LineFault.Memory) }
+{
     let Ok(command) = smtcheck_command(alloc) else {
         return Err(LineFault::Memory);
     };
