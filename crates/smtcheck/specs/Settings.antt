@@ -1,7 +1,9 @@
 -- The command line of the program, in the words in which clap says what a parse gives.
-use Rattle.std.specs.Prelude.{◌≡◌, true, Some, ⊤, codes, List}
-use Rattle.clap.specs.Words.{App, IsAmong, Rule, Text, fault_of, first_of, kind_of, matches_of}
-use Rattle.clap.specs.Words.{new_app, new_rule, with_rule}
+use Rattle.std.specs.Prelude.{◌≡◌, true, Some, ⊤, codes, is_some, List}
+use Rattle.clap.specs.Words.{App, IsAmong, IsParsedFrom, Rule, Text, fault_of, first_of, first_value}
+use Rattle.clap.specs.Words.{found_of, kind_of, matches_of, new_app, new_rule, with_rule}
+use Rattle.clap.specs.declared.builder.Command.{Command}
+use Rattle.clap.specs.declared.parser.ArgMatches.{ArgMatches}
 use Rattle.clap.specs.declared.builder.ArgAction.TheVariants.{Set}
 use Rattle.smtcheck.specs.declared.command_line.LineFault.{LineFault}
 use Rattle.smtcheck.specs.declared.command_line.LineFault.TheVariants as line
@@ -14,6 +16,14 @@ file_rule id = record (new_rule id) { action = Some Set; required = true }
 -- `smtcheck SCRIPT ANSWERS`
 unfoldable pub smtcheck_app : App
 smtcheck_app = with_rule (with_rule (new_app (codes "smtcheck")) (file_rule (codes "SCRIPT"))) (file_rule (codes "ANSWERS"))
+
+-- the matches have a value for the argument
+abbrev pub HasValue : ArgMatches → Text → Type 0
+HasValue m id = is_some (first_value (found_of m) id) ≡ true
+
+-- a parse of the command that succeeds has both files
+abbrev pub NeedsFiles : Command → Type 0
+NeedsFiles c = (m : ArgMatches) → IsParsedFrom c m → HasValue m (codes "SCRIPT") × HasValue m (codes "ANSWERS")
 
 -- the settings are the matches that the command has on these words
 pub record AreSettings (words : List Text) (s : Settings) : Type 0 where

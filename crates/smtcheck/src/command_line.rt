@@ -1,8 +1,8 @@
 //! The command line: what it may say, and what the program says of it.
 
-ghost use Rattle.std.specs.Prelude.{◌≡◌, IfOk, false};
-ghost use Rattle.clap.specs.Words.{app_of, rule_of};
-ghost use Rattle.smtcheck.specs.Settings.{file_rule, smtcheck_app};
+ghost use Rattle.std.specs.Prelude.{◌≡◌, IfOk, None, false};
+ghost use Rattle.clap.specs.Words.{IsPlainArg, app_of, rule_of};
+ghost use Rattle.smtcheck.specs.Settings.{NeedsFiles, file_rule, smtcheck_app};
 
 use clap::{Arg, ArgAction, Command, Error};
 use std::alloc::{AllocError, Global};
@@ -43,7 +43,8 @@ const VERDICTS: &str =
 
 /// The command line of the program.
 pub fn smtcheck_command<'a>(alloc: Global) -> Result<Command<'a>, AllocError>
-    ensures { IfOk result (λ c. app_of c ≡ smtcheck_app) }
+    ensures app { IfOk result (λ c. app_of c ≡ smtcheck_app) }
+    ensures needs { IfOk result NeedsFiles }
 {
     let script = file(alloc, "SCRIPT", "the script that the solver read");
     let answers = file(alloc, "ANSWERS", "what the solver printed");
@@ -58,7 +59,9 @@ pub fn smtcheck_command<'a>(alloc: Global) -> Result<Command<'a>, AllocError>
 // The argument that names a file.
 fn file<'a>(alloc: Global, id: &'a str, help: &'a str) -> Arg<'a>
     ensures rule { rule_of result ≡ file_rule id.entry.now }
+    ensures plain { IsPlainArg result }
     ensures local { result.global ≡ false }
+    ensures undivided { result.val_delim ≡ None }
 {
     Arg::new(alloc, id)
         .required(true)

@@ -23,12 +23,9 @@ pub fn settings<'a>(alloc: Global, words: &'a [&'a str]) -> Result<Settings<'a>,
         Err(error) if error.kind() == ErrorKind::OutOfMemory => return Err(LineFault::Memory),
         Err(error) => return Err(LineFault::Refused(error)),
     };
-    match (matches.get_str("SCRIPT"), matches.get_str("ANSWERS")) {
-        (Some(script), Some(answers)) => Ok(Settings {
-            script,
-            answers,
-            start: true,
-        }),
-        _ => Err(LineFault::Memory),
-    }
+    Ok(Settings {
+        script: matches.get_str("SCRIPT").unwrap(),
+        answers: matches.get_str("ANSWERS").unwrap(),
+        start: true,
+    })
 }
