@@ -11,3 +11,4 @@ pub mod MeaningLemmas
 pub mod CompleteLemmas
 pub mod FaultLemmas
 pub mod TurnLemmas
+pub mod SettingsLemmas

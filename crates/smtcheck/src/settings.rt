@@ -11,7 +11,7 @@ use std::alloc::Global;
 /// Reads the words of a command line, the program's name first.
 pub fn settings<'a>(alloc: Global, words: &'a [&'a str]) -> Result<Settings<'a>, LineFault>
     ensures ok { IfOk result (AreSettings (map (λ w. w.now) words.entry.now)) }
-    ensures taken { IfOk result (λ _. fault_of smtcheck_app (map (λ w. w.now) words.entry.now) ≡ []) }
+    ensures taken { IfOk result (λ _. takes smtcheck_app (map (λ w. w.now) words.entry.now) ≡ true) }
     ensures refused { IfErr result (IsFaultOf (map (λ w. w.now) words.entry.now)) }
     ensures memory { IfErr result (λ f. takes smtcheck_app (map (λ w. w.now) words.entry.now) ≡ true → f ≡ LineFault.Memory) }
 {

@@ -1,10 +1,12 @@
-use Rattle.std.proofs.Common.{◌≡◌, ◌∙◌, ap, sym, true, inl, inr, refl, map, option_map, codes, List, Option, Some, rules}
+use Rattle.std.proofs.Common.{◌≡◌, ◌∙◌, ap, subst, sym, false, true, inl, inr, refl, map, option_map, codes, List, [], Option, Some, rules}
 use Rattle.std.specs.Borrow.{Bor}
-use Rattle.clap.specs.Words.{App, HasMatchesOf, Text, fault_of, first_of, first_value, found_of, is_simple, is_simple_and_free, matches_of}
+use Rattle.clap.specs.Words.{App, HasMatchesOf, IsAmong, Text, takes, kind_of, fault_of, first_of, first_value, found_of, is_simple, is_simple_and_free, matches_of}
 use Rattle.clap.specs.declared.parser.ArgMatches.{ArgMatches}
+use Rattle.clap.specs.declared.error.kind.ErrorKind.TheVariants.{OutOfMemory}
 use Rattle.clap.proofs.CallerLemmas.{some_of_text}
 use Rattle.clap.proofs.OnLiterals.{clap_on_literals}
 use Rattle.clap.proofs.WalkLemmas.{first_value-rows}
+use Rattle.smtcheck.proofs.SettingsLemmas.{takes-without_fault}
 use Rattle.smtcheck.specs.Settings.{smtcheck_app}
 use Rattle.smtcheck.proofs.settings.settings.Goals as goal
 
@@ -25,5 +27,35 @@ read a words m id o s is matches got some =
     let first = sym (ap (first_of id) (rows ∙ ap (λ x. matches_of x words) is)) ∙ sym (first_value-rows (found_of m) id) in
     first ∙ sym got ∙ ap (option_map (λ t. t.now)) some
 
+-- where the command has no fault it takes the words
+taken : (words : List Text) → fault_of smtcheck_app words ≡ [] → takes smtcheck_app words ≡ true
+unfolding clap_on_literals smtcheck_app
+taken words e = takes-without_fault smtcheck_app words simple refl refl refl e
+
+pub returns-clause-ok : goal.returns-clause-ok
+returns-clause-ok c =
+    let app = c.in-Ok.ensures.app in
+    let matches = c.in-Ok-try_get_matches_from.ensures.matches in
+    record {
+      script = read _ _ _ _ _ _ app matches c.get_str.ensures c.unwrap.ensures;
+      answers = read _ _ _ _ _ _ app matches c.get_str-2.ensures c.unwrap-2.ensures;
+      start = refl;
+    }
+
 pub returns-clause-taken : goal.returns-clause-taken
-returns-clause-taken c = ?
+returns-clause-taken c =
+    let app = c.in-Ok.ensures.app in
+    taken _ (sym (ap (λ a. fault_of a _) app) ∙ c.in-Ok-try_get_matches_from.ensures.kinds (ap is_simple_and_free app ∙ free))
+
+pub returns-in-Err-2-clause-refused : goal.returns-in-Err-2-clause-refused
+returns-in-Err-2-clause-refused c =
+    let app = c.in-Ok.ensures.app in
+    let kinds = c.in-Err.ensures.kinds (ap is_simple_and_free app ∙ free) in
+    elim kinds [
+      | inl memory ↦
+          let same : c.kind.result ≡ OutOfMemory = c.kind.ensures ∙ memory in
+          let hit : c.eq.result ≡ true = rw same at c.eq.ensures in
+          let bad : false ≡ true = rw c.if-eq.false at hit in
+          cc
+      | inr among ↦ subst (λ a. IsAmong (kind_of c.in-Err.error) (fault_of a (map (λ w. w.now) c.args.words.now))) app among
+    ]
