@@ -1,7 +1,8 @@
 //! Reading the command line.
 
-ghost use Rattle.std.specs.Prelude.{◌≡◌, IfErr, IfOk, List, [], map, true};
-ghost use Rattle.clap.specs.Words.{fault_of, takes};
+ghost use Rattle.std.specs.Prelude.{◌≡◌, IfErr, IfOk, true};
+ghost use Rattle.clap.specs.Walk.{texts};
+ghost use Rattle.clap.specs.Words.{takes};
 ghost use Rattle.smtcheck.specs.Settings.{AreSettings, IsFaultOf, smtcheck_app};
 
 use crate::command_line::{LineFault, Settings, smtcheck_command};
@@ -10,10 +11,10 @@ use std::alloc::Global;
 
 /// Reads the words of a command line, the program's name first.
 pub fn settings<'a>(alloc: Global, words: &'a [&'a str]) -> Result<Settings<'a>, LineFault>
-    ensures ok { IfOk result (AreSettings (map (λ w. w.now) words.entry.now)) }
-    ensures taken { IfOk result (λ _. takes smtcheck_app (map (λ w. w.now) words.entry.now) ≡ true) }
-    ensures refused { IfErr result (IsFaultOf (map (λ w. w.now) words.entry.now)) }
-    ensures memory { IfErr result (λ f. takes smtcheck_app (map (λ w. w.now) words.entry.now) ≡ true → f ≡ LineFault.Memory) }
+    ensures ok { IfOk result (AreSettings (texts words.entry.now)) }
+    ensures taken { IfOk result (λ _. takes smtcheck_app (texts words.entry.now) ≡ true) }
+    ensures refused { IfErr result (IsFaultOf (texts words.entry.now)) }
+    ensures memory { IfErr result (λ f. takes smtcheck_app (texts words.entry.now) ≡ true → f ≡ LineFault.Memory) }
 {
     let Ok(command) = smtcheck_command(alloc) else {
         return Err(LineFault::Memory);
@@ -29,3 +30,6 @@ pub fn settings<'a>(alloc: Global, words: &'a [&'a str]) -> Result<Settings<'a>,
         start: true,
     })
 }
+
+#[cfg(test)]
+mod tests;

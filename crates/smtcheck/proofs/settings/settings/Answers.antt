@@ -27,10 +27,12 @@ read a words m id o s is matches got some =
     let first = sym (ap (first_of id) (rows ∙ ap (λ x. matches_of x words) is)) ∙ sym (first_value-rows (found_of m) id) in
     first ∙ sym got ∙ ap (option_map (λ t. t.now)) some
 
--- where the command has no fault it takes the words
-taken : (words : List Text) → fault_of smtcheck_app words ≡ [] → takes smtcheck_app words ≡ true
+-- a command without a fault takes the words
+taken : (a : App) (words : List Text) → a ≡ smtcheck_app → (is_simple_and_free a ≡ true → fault_of a words ≡ []) → takes smtcheck_app words ≡ true
 unfolding clap_on_literals smtcheck_app
-taken words e = takes-without_fault smtcheck_app words simple refl refl refl e
+taken a words is faultless =
+    let none : fault_of smtcheck_app words ≡ [] = sym (ap (λ x. fault_of x words) is) ∙ faultless (ap is_simple_and_free is ∙ free) in
+    takes-without_fault smtcheck_app words simple refl refl refl none
 
 pub returns-clause-ok : goal.returns-clause-ok
 returns-clause-ok c =
@@ -43,9 +45,7 @@ returns-clause-ok c =
     }
 
 pub returns-clause-taken : goal.returns-clause-taken
-returns-clause-taken c =
-    let app = c.in-Ok.ensures.app in
-    taken _ (sym (ap (λ a. fault_of a _) app) ∙ c.in-Ok-try_get_matches_from.ensures.kinds (ap is_simple_and_free app ∙ free))
+returns-clause-taken c = taken _ _ c.in-Ok.ensures.app c.in-Ok-try_get_matches_from.ensures.kinds
 
 pub returns-in-Err-2-clause-refused : goal.returns-in-Err-2-clause-refused
 returns-in-Err-2-clause-refused c =
