@@ -1,5 +1,5 @@
 -- Where clap's definition gives a simple command no fault on some words, the command takes them.
-use Rattle.std.proofs.Common.{◌≡◌, ◌∙◌, ◌&&◌, ◌||◌, ◌==◌, ◌+◌, min, ℕ, Bool, true, false, not, nat_lt, nat_le, zero, suc, List, [], ◌∷◌, Option, Some, None, refl, sym, arith, if◌then◌else◌, length, drop, map, is_some}
+use Rattle.std.proofs.Common.{◌≡◌, ◌∙◌, ◌&&◌, ◌||◌, ◌==◌, ◌+◌, min, ℕ, Bool, true, false, not, nat_lt, nat_le, zero, suc, List, [], ◌∷◌, Option, Some, None, refl, sym, arith, if◌then◌else◌, length, drop, is_some}
 use Rattle.std.specs.Prelude.{codes, encode_utf8, slice_get}
 use Rattle.std.specs.List.{list_all, list_any}
 use Rattle.std.specs.Option.{option_map_or}
@@ -9,12 +9,12 @@ use Rattle.clap.specs.Lexer.{long_of, short_of}
 use Rattle.clap.specs.Kinds.{Kinds, check_kinds, or_else, range_kinds, value_kinds, values_kinds}
 use Rattle.clap.specs.Values.{refused_kind}
 use Rattle.clap.specs.ValueTests.{accepts}
-use Rattle.clap.specs.Walk.{action_of, is_pending, most_values, takes_several, values_or_missing, Held, Names, Row, Rule, Step, Text, Waiting, Walk, arg_by_id, arg_by_index, arg_by_long, arg_by_short, attached_value, count_of, finished, has_row, next, nothing_held, settled, subcommand, subcommand_met, takes_values, trailing, value, walk, walk_from, walked, word_met}
+use Rattle.clap.specs.Walk.{action_of, is_pending, most_values, takes_several, values_or_missing, Held, Names, Row, Rule, Step, Text, Walk, arg_by_id, arg_by_index, arg_by_long, arg_by_short, attached_value, count_of, finished, has_row, next, nothing_held, settled, subcommand, subcommand_met, takes_values, trailing, value, walk, walk_from, walked, word_met}
 use Rattle.clap.specs.Facts.{explicit_source, parser_of_value, unwrap_or_range}
 use Rattle.clap.specs.Matches.{count_text}
 use Rattle.clap.specs.Simple.{App, Shape, argument_words, built, is_simple}
-use Rattle.clap.specs.Faults.{action_fault, bundle_step_fault, count_fault, check_fault, fault_of, flag_word_fault, flags_fault, level_fault, long_fault, option_fault, other_fault, positional_fault, react_fault, settle_fault, short_fault, step_fault, stray_fault, turn_fault, use_fault, walk_fault, word_fault}
-use Rattle.clap.specs.Takes.{action_passes, bundle_step_passes, count_passes, default_passes, flag_word_passes, flags_pass, is_given, is_valid, level_passes, long_passes, option_passes, other_passes, positional_passes, react_passes, settle_passes, short_passes, step_passes, takes, turn_passes, use_passes, walk_passes, word_passes}
+use Rattle.clap.specs.Faults.{action_fault, bundle_step_fault, count_fault, check_fault, fault_of, flag_word_fault, flags_fault, level_fault, long_fault, option_fault, other_fault, positional_fault, react_fault, settle_fault, short_fault, step_fault, stray_fault, turn_fault, use_fault, walk_fault}
+use Rattle.clap.specs.Takes.{action_passes, bundle_step_passes, count_passes, default_passes, flag_word_passes, flags_pass, is_given, is_valid, level_passes, long_passes, option_passes, other_passes, positional_passes, react_passes, settle_passes, short_passes, step_passes, takes, turn_passes, use_passes, walk_passes}
 use Rattle.clap.specs.declared.builder.ArgAction.{ArgAction}
 use Rattle.clap.specs.declared.builder.ArgAction.TheVariants.{Set, Append, SetTrue, SetFalse, Count, Help, HelpShort, HelpLong, Version}
 use Rattle.clap.specs.declared.builder.ValueParser.{ValueParser}

@@ -2,13 +2,12 @@ use Rattle.std.proofs.Common.{◌≡◌, ◌<◌, ◌∙◌, ℕ, List, [], ◌�
 use Rattle.std.specs.List.{All}
 use Rattle.std.proofs.lemmas.Result.{IfOk-weaker}
 use Rattle.clap.specs.Words.{AddsInTurn, AddsArg, IsPlainArg, app_of, args_of, groups_of, new_app, rule_of, with_rule}
-use Rattle.clap.specs.Built.{FitsChain, HasDistinctIds, IsAuto, TakesValue}
-use Rattle.clap.specs.Facts.{least_values}
+use Rattle.clap.specs.Built.{FitsChain, HasDistinctIds, TakesValue}
 use Rattle.clap.specs.Simple.{app_of_fields}
 use Rattle.clap.specs.declared.builder.Arg.{Arg}
 use Rattle.clap.specs.declared.builder.command.Command.TheViews.{out-Command}
 use Rattle.clap.proofs.CallerLemmas.{required_in_chain}
-use Rattle.smtcheck.specs.Settings.{HasValue, NeedsFiles, file_rule, smtcheck_app}
+use Rattle.smtcheck.specs.Settings.{file_rule, smtcheck_app}
 use Rattle.smtcheck.proofs.command_line.smtcheck_command.Goals as goal
 
 two_pass : (P : Arg → Type 0) (a b : Arg) → P a → P b → All P (a ∷ b ∷ [])

@@ -1,9 +1,8 @@
-use Rattle.std.proofs.Common.{◌≡◌, ◌∙◌, ap, subst, sym, false, true, inl, inr, refl, map, option_map, codes, List, [], Option, Some, rules}
+use Rattle.std.proofs.Common.{◌≡◌, ◌∙◌, ap, subst, sym, false, true, inl, inr, refl, map, option_map, List, [], Option, Some}
 use Rattle.std.specs.Borrow.{Bor}
 use Rattle.clap.specs.Words.{App, HasMatchesOf, IsAmong, Text, takes, kind_of, fault_of, first_of, first_value, found_of, is_simple, is_simple_and_free, matches_of}
 use Rattle.clap.specs.declared.parser.ArgMatches.{ArgMatches}
 use Rattle.clap.specs.declared.error.kind.ErrorKind.TheVariants.{OutOfMemory}
-use Rattle.clap.proofs.CallerLemmas.{some_of_text}
 use Rattle.clap.proofs.OnLiterals.{clap_on_literals}
 use Rattle.clap.proofs.WalkLemmas.{first_value-rows}
 use Rattle.smtcheck.proofs.SettingsLemmas.{takes-without_fault}
