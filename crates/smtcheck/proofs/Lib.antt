@@ -15,3 +15,4 @@ pub mod EndLemmas
 pub mod HeadlineLemmas
 pub mod VerdictLemmas
 pub mod LawLemmas
+pub mod SettingsLemmas

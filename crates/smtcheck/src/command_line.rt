@@ -1,5 +1,9 @@
 //! The command line: what it may say, and what the program says of it.
 
+ghost use Rattle.std.specs.Prelude.{◌≡◌, IfOk, None, false};
+ghost use Rattle.clap.specs.Words.{IsPlainArg, app_of, rule_of};
+ghost use Rattle.smtcheck.specs.Settings.{NeedsFiles, file_rule, smtcheck_app};
+
 use clap::{Arg, ArgAction, Command, Error};
 use std::alloc::{AllocError, Global};
 
@@ -38,19 +42,29 @@ const VERDICTS: &str =
   5  the command line was refused, or help was asked for";
 
 /// The command line of the program.
-pub fn smtcheck_command<'a>(alloc: Global) -> Result<Command<'a>, AllocError> {
-    let script = Arg::new(alloc, "SCRIPT")
-        .required(true)
-        .action(ArgAction::Set)
-        .help("the script that the solver read");
-    let answers = Arg::new(alloc, "ANSWERS")
-        .required(true)
-        .action(ArgAction::Set)
-        .help("what the solver printed");
+pub fn smtcheck_command<'a>(alloc: Global) -> Result<Command<'a>, AllocError>
+    ensures app { IfOk result (λ c. app_of c ≡ smtcheck_app) }
+    ensures needs { IfOk result NeedsFiles }
+{
+    let script = file(alloc, "SCRIPT", "the script that the solver read");
+    let answers = file(alloc, "ANSWERS", "what the solver printed");
     Command::new(alloc, "smtcheck")
         .about(ABOUT)
         .bin_name("smtcheck")?
         .after_help(VERDICTS)
         .arg(script)?
         .arg(answers)
+}
+
+// The argument that names a file.
+fn file<'a>(alloc: Global, id: &'a str, help: &'a str) -> Arg<'a>
+    ensures rule { rule_of result ≡ file_rule id.entry.now }
+    ensures plain { IsPlainArg result }
+    ensures local { result.global ≡ false }
+    ensures undivided { result.val_delim ≡ None }
+{
+    Arg::new(alloc, id)
+        .required(true)
+        .action(ArgAction::Set)
+        .help(help)
 }
