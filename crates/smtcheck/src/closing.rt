@@ -1,4 +1,4 @@
-//! The line of the check whose window is open.
+//! The line of the check whose window is pending.
 
 ghost use Rattle.std.specs.Prelude.{◌≡◌};
 ghost use Rattle.smtcheck.specs.Dialogue.Lines as spec;
@@ -8,24 +8,24 @@ use crate::judging::Judgement;
 use crate::report::Line;
 
 /// The line of a check whose models are all confirmed.
-pub fn confirmed_line(open: OpenCheck) -> Line
-    ensures { result ≡ spec.confirmed_line open.check open.command open.some_model }
+pub fn confirmed_line(pending: OpenCheck) -> Line
+    ensures { result ≡ spec.confirmed_line pending.check pending.command pending.some_model }
 {
-    let check = open.check;
-    let command = open.command;
-    if open.some_model {
+    let check = pending.check;
+    let command = pending.command;
+    if pending.some_model {
         Line::Confirmed { check, command }
     } else {
         Line::NoModel { check, command }
     }
 }
 
-//// The line of a check at a model, printed for command `model`, that isn't confirmed.
-pub fn line_of_judgement(open: OpenCheck, model: u64, judgement: Judgement) -> Option<Line>
-    ensures { result ≡ spec.line_of_judgement open.check open.command model judgement }
+/// The line of a check at a model, printed for command `model`, that isn't confirmed.
+pub fn line_of_judgement(pending: OpenCheck, model: u64, judgement: Judgement) -> Option<Line>
+    ensures { result ≡ spec.line_of_judgement pending.check pending.command model judgement }
 {
-    let check = open.check;
-    let command = open.command;
+    let check = pending.check;
+    let command = pending.command;
     match judgement {
         Judgement::ItemFault { item, fault } => Some(Line::ItemFault {
             check,

@@ -13,14 +13,14 @@ fn read(rt: &impl Abort, alloc: Global, first: &[u8], second: &[u8]) -> (u32, Op
     reader.feed(first);
     reader.feed(second);
     reader.finish();
-    for count in 0..1_000_000 {
+    for count in 0..10_000_000 {
         match reader.next() {
             Next::Tree(_) => {}
             Next::Fault(fault) => return (count, Some(fault)),
             Next::Wait | Next::End => return (count, None),
         }
     }
-    (1_000_000, None)
+    (10_000_000, None)
 }
 
 #[test]
@@ -102,9 +102,9 @@ fn trees_in_order(rt: HostRuntime) -> Result<(), Fail> {
 fn long_text(rt: HostRuntime) -> Result<(), Fail> {
     let alloc = rt.alloc();
     let mut text = Vec::new(alloc);
-    for _ in 0..125_000 {
+    for _ in 0..1_250_000 {
         text.extend_from_slice(b"(f 1 x)\n")?;
     }
-    assert_eq!(rt; read(&rt, alloc, text.as_slice(), b"z"), (125_001, None));
+    assert_eq!(rt; read(&rt, alloc, text.as_slice(), b"z"), (1_250_001, None));
     Ok(())
 }
