@@ -12,3 +12,4 @@ pub mod CompleteLemmas
 pub mod FaultLemmas
 pub mod TurnLemmas
 pub mod SettingsLemmas
+pub mod SettingsFacts
