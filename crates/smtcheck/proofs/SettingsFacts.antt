@@ -1,11 +1,11 @@
 -- What clap's definition says of the program's command on two words that begin with no hyphen.
-use Rattle.std.proofs.Common.{◌≡◌, ◌∙◌, ◌==◌, ◌&&◌, ◌||◌, ℕ, Bool, List, [], ◌∷◌, ap, true, false, not, Option, Some, None, codes, refl, sym, if◌then◌else◌}
+use Rattle.std.proofs.Common.{◌≡◌, ◌∙◌, ◌==◌, ◌&&◌, ◌||◌, ℕ, Bool, List, [], ◌∷◌, ap, true, false, not, Some, None, codes, refl, if◌then◌else◌}
 use Rattle.std.specs.List.{list_all}
 use Rattle.std.specs.Option.{option_map_or}
 use Rattle.std.specs.Str.{bytes_eq}
 use Rattle.clap.specs.Lexer.{long_of, short_of}
 use Rattle.clap.specs.Words.{Rule, Text, first_of, matches_of, takes}
-use Rattle.clap.specs.Walk.{Held, Step, Walk, after_step, arg_by_index, finished, idle, long_or_other, nothing_held, short_or_plain, to_positional, trailing, value, walk_from, walked, word_met}
+use Rattle.clap.specs.Walk.{Held, Walk, after_step, arg_by_index, finished, idle, long_or_other, nothing_held, short_or_plain, to_positional, trailing, value, walk_from, walked, word_met}
 use Rattle.clap.specs.Simple.{Shape, argument_words, built}
 use Rattle.clap.specs.Takes.{bundle_passes, default_passes, flag_word_passes, is_valid, level_passes, settle_passes, step_passes, turn_passes, walk_passes, word_passes}
 use Rattle.clap.proofs.TakesLemmas.{leaf_takes}

@@ -1,4 +1,4 @@
-use Rattle.std.proofs.Common.{◌≡◌, ◌∙◌, ap, subst, sym, false, true, inl, inr, refl, map, option_map, List, [], ◌∷◌, Option, Some}
+use Rattle.std.proofs.Common.{◌≡◌, ◌∙◌, ap, subst, sym, false, true, inl, inr, refl, map, option_map, List, [], Option, Some}
 use Rattle.std.specs.Prelude.{unwrap_or}
 use Rattle.std.specs.Borrow.{Bor}
 use Rattle.clap.specs.Words.{App, app_of, HasMatchesOf, IsAmong, Text, takes, kind_of, fault_of, first_of, first_value, found_of, is_simple, is_simple_and_free, matches_of}
