@@ -16,3 +16,4 @@ pub mod HeadlineLemmas
 pub mod VerdictLemmas
 pub mod LawLemmas
 pub mod SettingsLemmas
+pub mod SettingsFacts

@@ -1,5 +1,6 @@
 -- The command line of the program, in the words in which clap says what a parse gives.
-use Rattle.std.specs.Prelude.{◌≡◌, true, Some, ⊤, codes, is_some, List}
+use Rattle.std.specs.Prelude.{◌≡◌, ◌==◌, Bool, true, false, not, Some, ⊤, codes, is_some, List, [], ◌∷◌}
+use Rattle.std.specs.Prelude.{MatchResult, Result}
 use Rattle.clap.specs.Words.{App, IsAmong, IsParsedFrom, Rule, Text, fault_of, first_of, first_value}
 use Rattle.clap.specs.Words.{found_of, kind_of, matches_of, new_app, new_rule, with_rule}
 use Rattle.clap.specs.declared.builder.Command.{Command}
@@ -35,3 +36,14 @@ pub record AreSettings (words : List Text) (s : Settings) : Type 0 where
 abbrev pub IsFaultOf : List Text → LineFault → Type 0
 IsFaultOf words line.Memory = ⊤
 IsFaultOf words (line.Refused e) = IsAmong (kind_of e) (fault_of smtcheck_app words)
+
+-- the word is not empty and begins with no hyphen
+abbrev pub is_plain : Text → Bool
+is_plain [] = false
+is_plain (x ∷ xs) = not (x == 45)
+
+-- after the program's name, two plain words name the two files: only memory may be missing
+abbrev pub TakesTwo : List Text → Result Settings LineFault → Type 0
+TakesTwo words r = (name script answers : Text) → words ≡ name ∷ script ∷ answers ∷ []
+    → is_plain script ≡ true → is_plain answers ≡ true
+    → MatchResult r (λ s. (s.script.now ≡ script) × (s.answers.now ≡ answers)) (λ f. f ≡ line.Memory)

@@ -1,10 +1,13 @@
 use Rattle.std.proofs.Common.{◌≡◌, ◌∙◌, ap, subst, sym, false, true, inl, inr, refl, map, option_map, List, [], Option, Some}
+use Rattle.std.specs.Prelude.{unwrap_or}
 use Rattle.std.specs.Borrow.{Bor}
-use Rattle.clap.specs.Words.{App, HasMatchesOf, IsAmong, Text, takes, kind_of, fault_of, first_of, first_value, found_of, is_simple, is_simple_and_free, matches_of}
+use Rattle.clap.specs.Words.{App, app_of, HasMatchesOf, IsAmong, Text, takes, kind_of, fault_of, first_of, first_value, found_of, is_simple, is_simple_and_free, matches_of}
 use Rattle.clap.specs.declared.parser.ArgMatches.{ArgMatches}
 use Rattle.clap.specs.declared.error.kind.ErrorKind.TheVariants.{OutOfMemory}
 use Rattle.clap.proofs.OnLiterals.{clap_on_literals}
 use Rattle.clap.proofs.WalkLemmas.{first_value-rows}
+use Rattle.clap.specs.Walk.{texts}
+use Rattle.smtcheck.proofs.SettingsFacts.{two_words-answers, two_words-script, two_words-taken}
 use Rattle.smtcheck.proofs.SettingsLemmas.{takes-without_fault}
 use Rattle.smtcheck.specs.Settings.{smtcheck_app}
 use Rattle.smtcheck.proofs.settings.settings.Goals as goal
@@ -33,6 +36,11 @@ taken a words is faultless =
     let none : fault_of smtcheck_app words ≡ [] = sym (ap (λ x. fault_of x words) is) ∙ faultless (ap is_simple_and_free is ∙ free) in
     takes-without_fault smtcheck_app words simple refl refl refl none
 
+same_file : (words others : List Text) (id t u : Text) → first_of id (matches_of smtcheck_app words) ≡ Some t → words ≡ others
+    → first_of id (matches_of smtcheck_app others) ≡ Some u → t ≡ u
+same_file words others id t u is same other =
+    ap (λ o. unwrap_or o t) (sym is ∙ ap (λ ws. first_of id (matches_of smtcheck_app ws)) same ∙ other)
+
 pub returns-clause-ok : goal.returns-clause-ok
 returns-clause-ok c =
     let app = c.in-Ok.ensures.app in
@@ -42,6 +50,19 @@ returns-clause-ok c =
       answers = read _ _ _ _ _ _ app matches c.get_str-2.ensures c.unwrap-2.ensures;
       start = refl;
     }
+
+pub returns-clause-two_words : goal.returns-clause-two_words
+returns-clause-two_words c = λ name script answers words p q.
+    let ok = returns-clause-ok c in
+    (same_file _ _ _ _ _ ok.script words (two_words-script name script answers p q), same_file _ _ _ _ _ ok.answers words (two_words-answers name script answers p q))
+
+pub returns-in-Err-2-clause-two_words : goal.returns-in-Err-2-clause-two_words
+returns-in-Err-2-clause-two_words c = λ name script answers words p q.
+    let passed : takes (app_of c.in-Ok.command) (texts c.args.words.now) ≡ true = ap (λ a. takes a (texts c.args.words.now)) c.in-Ok.ensures.app ∙ ap (takes smtcheck_app) words ∙ two_words-taken name script answers p q in
+    let same : c.kind.result ≡ OutOfMemory = c.kind.ensures ∙ c.in-Err.ensures.passes passed in
+    let hit : c.eq.result ≡ true = rw same at c.eq.ensures in
+    let bad : false ≡ true = rw c.if-eq.false at hit in
+    cc
 
 pub returns-clause-taken : goal.returns-clause-taken
 returns-clause-taken c = taken _ _ c.in-Ok.ensures.app c.in-Ok-try_get_matches_from.ensures.kinds
