@@ -486,3 +486,28 @@ fn depth(rt: HostRuntime) -> Result<(), Fail> {
     assert_eq!(rt; of_open(&rt, 1000)?.as_str(), ended.as_str());
     Ok(())
 }
+
+// 300 checks, each behind one more assertion.
+#[test]
+fn many_checks(rt: HostRuntime) -> Result<(), Fail> {
+    let alloc = rt.alloc();
+    let mut script = String::from_str(alloc, "(declare-const p Bool)")?;
+    let mut answers = String::from_str(alloc, "success")?;
+    let mut formula = String::from_str(alloc, "p")?;
+    let mut expected = String::new(alloc);
+    for check in 1..=300u64 {
+        let longer = format!(in alloc; "(and {formula} p)")?;
+        formula = longer;
+        let asked = format!(in alloc; "(assert {formula})(check-sat)(get-model)")?;
+        script.push_str(asked.as_str())?;
+        answers.push_str(" success sat ((define-fun p () Bool true))")?;
+        let command = check * 3;
+        let line = format!(in alloc; "check {check} at command {command}: sat, confirmed\n")?;
+        expected.push_str(line.as_str())?;
+    }
+    expected.push_str("verdict: valid, confirmed 300, refuted 0, undecided 0, unchecked 0\n")?;
+    let report = validate(alloc, script.as_bytes(), answers.as_bytes(), true)?;
+    let text = text_of(alloc, &report)?;
+    assert_eq!(rt; text.as_str(), expected.as_str());
+    Ok(())
+}
