@@ -85,7 +85,7 @@ const DIALOGUES: [Row; 10] = [
     },
 ];
 
-const FAULTS: [Row; 49] = [
+const COMMANDS_AND_EFFECTS: [Row; 10] = [
     Row {
         what: "a word of another logic command is C2 whatever follows",
         script: "(set-logic QF_UF)",
@@ -156,6 +156,9 @@ const FAULTS: [Row; 49] = [
         report: "check 1 at command 3: sat, confirmed\nfault C1 at command 5\nverdict: refused, confirmed 1, refuted 0, undecided 0, unchecked 0\n",
         status: 3,
     },
+];
+
+const EFFECTS_AND_ANSWERS: [Row; 10] = [
     Row {
         what: "C2 inside a window without a model",
         script: "(declare-const p Bool)(check-sat)(push 1)",
@@ -226,6 +229,9 @@ const FAULTS: [Row; 49] = [
         report: "fault P2 at command 2, answer 2\nverdict: refused, confirmed 0, refuted 0, undecided 0, unchecked 0\n",
         status: 3,
     },
+];
+
+const ANSWERS_AND_TEXTS: [Row; 10] = [
     Row {
         what: "P3 behind an open window",
         script: "(declare-const p Bool)(assert p)(check-sat)(get-model)",
@@ -296,6 +302,9 @@ const FAULTS: [Row; 49] = [
         report: "check 1 at command 1: unsat\nfault X1 in the script at byte 11\nverdict: refused, confirmed 0, refuted 0, undecided 0, unchecked 1\n",
         status: 3,
     },
+];
+
+const WINDOWS_AND_MODELS: [Row; 10] = [
     Row {
         what: "the script ends inside a command",
         script: "(declare-const p Bool)(check-sat)(get",
@@ -366,6 +375,9 @@ const FAULTS: [Row; 49] = [
         report: "check 1 at command 5: sat, model of command 6: refuted by the assertion of command 2\nverdict: invalid, confirmed 0, refuted 1, undecided 0, unchecked 0\n",
         status: 1,
     },
+];
+
+const MODELS_AND_NAMES: [Row; 9] = [
     Row {
         what: "a lacking model, and then a false one",
         script: "(declare-const p Bool)(assert p)(check-sat)(get-model)(get-model)",
@@ -463,8 +475,40 @@ fn dialogues(rt: HostRuntime) -> Result<(), Fail> {
 }
 
 #[test]
-fn faults_in_each_position(rt: HostRuntime) -> Result<(), Fail> {
-    for row in &FAULTS {
+fn commands_and_effects(rt: HostRuntime) -> Result<(), Fail> {
+    for row in &COMMANDS_AND_EFFECTS {
+        check(&rt, row)?;
+    }
+    Ok(())
+}
+
+#[test]
+fn effects_and_answers(rt: HostRuntime) -> Result<(), Fail> {
+    for row in &EFFECTS_AND_ANSWERS {
+        check(&rt, row)?;
+    }
+    Ok(())
+}
+
+#[test]
+fn answers_and_texts(rt: HostRuntime) -> Result<(), Fail> {
+    for row in &ANSWERS_AND_TEXTS {
+        check(&rt, row)?;
+    }
+    Ok(())
+}
+
+#[test]
+fn windows_and_models(rt: HostRuntime) -> Result<(), Fail> {
+    for row in &WINDOWS_AND_MODELS {
+        check(&rt, row)?;
+    }
+    Ok(())
+}
+
+#[test]
+fn models_and_names(rt: HostRuntime) -> Result<(), Fail> {
+    for row in &MODELS_AND_NAMES {
         check(&rt, row)?;
     }
     Ok(())
