@@ -11,7 +11,7 @@ use crate::terms::library::Library;
 use crate::terms::sorts::Sort;
 use crate::verdicts::report_of;
 use smt_text::{Bytes, Tree, Trees};
-use std::alloc::{AllocError, AllocFailed, Global};
+use std::alloc::{AllocFailed, Global};
 
 /// Why a pair of a command and its answer was not taken up.
 pub enum Stop {
@@ -234,17 +234,6 @@ impl From<Memory> for Stop {
     ghost from_gives = { λ _ stop. stop ≡ OutOfMemory };
 
     fn from(_error: Memory) -> Stop {
-        Stop::Memory
-    }
-}
-
-impl From<AllocError> for Stop {
-    ghost use Rattle.std.specs.Prelude.{◌≡◌};
-    ghost use Rattle.smtcheck.specs.declared.dialogue.Stop.TheVariants.{Memory as OutOfMemory};
-
-    ghost from_gives = { λ _ stop. stop ≡ OutOfMemory };
-
-    fn from(_error: AllocError) -> Stop {
         Stop::Memory
     }
 }

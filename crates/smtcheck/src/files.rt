@@ -1,5 +1,7 @@
 //! The program's work on files.
 
+ghost use Rattle.std.specs.Prelude.{◌≡◌, true};
+
 use crate::command_line::Settings;
 use crate::report::{Report, status_of};
 use crate::validation::validate;
@@ -27,7 +29,9 @@ pub enum RunFault {
 }
 
 /// Checks the dialogue in two files, and prints the report. Answers the status.
-pub fn run<R: Files + AllocGlobal + Print>(rt: &R, settings: Settings) -> Result<u8, RunFault> {
+pub fn run<R: Files + AllocGlobal + Print>(rt: &R, settings: Settings) -> Result<u8, RunFault>
+    requires { settings.start ≡ true }
+{
     let Ok(mut script) = fs::open(rt, settings.script) else {
         return Err(RunFault::Script);
     };
@@ -36,7 +40,7 @@ pub fn run<R: Files + AllocGlobal + Print>(rt: &R, settings: Settings) -> Result
     };
     let script = read_whole(rt.alloc(), &mut script).ok_or(RunFault::Script)?;
     let answers = read_whole(rt.alloc(), &mut answers).ok_or(RunFault::Answers)?;
-    let Ok(report) = validate(rt.alloc(), script.as_slice(), answers.as_slice(), true) else {
+    let Ok(report) = validate(rt.alloc(), script.as_slice(), answers.as_slice(), settings.start) else {
         return Err(RunFault::Memory);
     };
     match print(rt, &report) {
