@@ -1,19 +1,18 @@
 -- What the end of a dialogue without a fault says, and that there is one pairing.
-use Rattle.std.proofs.Common.{◌≡◌, ◌+◌, ℕ, suc, Bool, true, false, not, ◌||◌, List, [], ◌∷◌, ◌++◌, length, Option, Some, None, Result, Ok, Err, cond, refl, ap, sym, ◌∙◌, arith}
+use Rattle.std.proofs.Common.{◌≡◌, ◌+◌, ℕ, suc, Bool, true, false, ◌||◌, List, [], ◌∷◌, ◌++◌, length, Option, Some, None, Result, Ok, Err, cond, refl, ap, sym, ◌∙◌, arith}
 use Rattle.std.specs.List.{list_any}
 use Rattle.smt_text.specs.Sexp.{Sexp, Sexps, Nil, Cons, count}
 use Rattle.smt_text.specs.declared.fault.TextFault.{TextFault}
 use Rattle.smt_text.specs.declared.fault.TextFault.TheVariants as texts
 use Rattle.smtcheck.specs.Dialogue.Command.{Command, command_of}
-use Rattle.smtcheck.specs.Dialogue.Ending.{Ends, GoesOn, Turn, end_without_fault, lines_of_end, text_line, turn_after, turn_of_command, turn_of_fault, turn_of_tree}
+use Rattle.smtcheck.specs.Dialogue.Ending.{Ends, lines_of_end, text_line, turn_after, turn_of_fault, turn_of_tree}
 use Rattle.smtcheck.specs.Dialogue.InForce.{fault_of_pair}
 use Rattle.smtcheck.specs.Dialogue.Lines.{is_fault_line, is_refuted_line, is_undecided_line, verdict_of}
-use Rattle.smtcheck.specs.Dialogue.Pairing.{AllFit, AreCommands, IsPairing, Pair, answers_taken, answers_then, fits, takes, with_answer}
+use Rattle.smtcheck.specs.Dialogue.Pairing.{AllFit, AreCommands, Pair, answers_taken, answers_then, fits, takes, with_answer}
 use Rattle.smtcheck.specs.declared.report.Line.{Line}
 use Rattle.smtcheck.specs.declared.report.Line.TheVariants as lines
 use Rattle.smtcheck.specs.declared.report.Side.{Side}
 use Rattle.smtcheck.specs.declared.report.Side.TheVariants.{Script, Answers}
-use Rattle.smtcheck.specs.declared.report.Verdict.{Verdict}
 use Rattle.smtcheck.specs.declared.report.Verdict.TheVariants as verdicts
 use Rattle.smtcheck.specs.declared.script.CommandFault.{CommandFault}
 

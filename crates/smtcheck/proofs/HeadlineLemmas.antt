@@ -1,22 +1,22 @@
 -- What the lines of a report say of each check: the bridge from known values to the standard's.
-use Rattle.std.proofs.Common.{◌≡◌, ◌+◌, ℕ, suc, Bool, true, false, not, ◌||◌, List, [], ◌∷◌, ◌++◌, length, Option, Some, None, Result, Ok, Err, cond, codes, is_some, refl, ap, sym, ◌∙◌, subst, arith, append_assoc}
+use Rattle.std.proofs.Common.{◌≡◌, ◌+◌, ℕ, Bool, true, false, not, ◌||◌, List, [], ◌∷◌, ◌++◌, length, Option, Some, None, Result, Ok, Err, cond, codes, is_some, refl, ap, sym, ◌∙◌, subst, arith, append_assoc}
 use Rattle.std.proofs.lemmas.List.{append-nil}
 use Rattle.std.specs.List.{AllByRecursion, list_any}
 use Rattle.smt_text.specs.Sexp as sexp
 use Rattle.smt_text.specs.Sexp.{Sexp, Sexps, Atom}
 use Rattle.smtcheck.proofs.CompleteLemmas.{complete}
-use Rattle.smtcheck.proofs.EndLemmas.{none_left, none_of, none_right}
+use Rattle.smtcheck.proofs.EndLemmas.{none_of}
 use Rattle.smtcheck.proofs.MeaningLemmas.{known_is_true}
 use Rattle.smtcheck.proofs.PairLemmas.{assertions_from-append, is_word, lines_in-append}
 use Rattle.smtcheck.specs.Dialogue.Command.{Command, DeclareConst, Assert, CheckSat, GetModel}
-use Rattle.smtcheck.specs.Dialogue.Headline.{IsAsserted, IsConfirmed, IsTrueModel}
+use Rattle.smtcheck.specs.Dialogue.Headline.{IsConfirmed, IsTrueModel}
 use Rattle.smtcheck.specs.Dialogue.InForce.{AreFaultless, Assertion, assertions_after, assertions_by, assertions_from, constant_or_none, fault_of_formula, fault_of_pair, names_after, names_by, names_from}
-use Rattle.smtcheck.specs.Dialogue.Lines.{checks_in, confirmed_line, is_empty, is_refuted_line, is_undecided_line, line_of_judgement, lines_in, lines_of_answer, lines_of_pair, lines_of_sat, or_line, sat_lines, unconfirmed_line}
+use Rattle.smtcheck.specs.Dialogue.Lines.{checks_in, is_empty, is_refuted_line, is_undecided_line, line_of_judgement, lines_in, lines_of_pair, lines_of_sat, or_line, sat_lines, unconfirmed_line}
 use Rattle.smtcheck.specs.Dialogue.Pairing.{Pair, is_effective, is_symbol}
-use Rattle.smtcheck.specs.Dialogue.Window.{Printed, first_assertion, is_false_over, is_open_over, judged, judged_over, models_from, open_or_confirmed, refuted_or, window}
-use Rattle.smtcheck.specs.Eval.Agreement.{AgreesWith, AreWellSorted, element_of}
+use Rattle.smtcheck.specs.Dialogue.Window.{Printed, first_assertion, is_false_over, is_open_over, judged, judged_over, models_from, refuted_or, window}
+use Rattle.smtcheck.specs.Eval.Agreement.{element_of}
 use Rattle.smtcheck.specs.Eval.Known.{is_known, known_over}
-use Rattle.smtcheck.specs.Eval.Meaning.{Element, Truth, meaning_in, value_of}
+use Rattle.smtcheck.specs.Eval.Meaning.{meaning_in, value_of}
 use Rattle.smtcheck.specs.Eval.Model.{model_in}
 use Rattle.smtcheck.specs.Terms.Checking.{sort_in}
 use Rattle.smtcheck.specs.Terms.Signature.{AreDeclared, Entry}
@@ -28,7 +28,6 @@ use Rattle.smtcheck.specs.declared.judging.Judgement.TheVariants as judgements
 use Rattle.smtcheck.specs.declared.model.ModelFault.{ModelFault}
 use Rattle.smtcheck.specs.declared.model.ModelFault.TheVariants as faults
 use Rattle.smtcheck.specs.declared.report.Line.{Line}
-use Rattle.smtcheck.specs.declared.script.CommandFault.{CommandFault}
 use Rattle.smtcheck.specs.declared.terms.faults.TermFault.{TermFault}
 use Rattle.smtcheck.specs.declared.terms.sorts.Sort.{Sort}
 use Rattle.smtcheck.specs.declared.terms.sorts.Sort.TheVariants.{Bool as BooleanSort}

@@ -1,9 +1,9 @@
 -- Judging a model assertion by assertion.
-use Rattle.std.proofs.Common.{◌≡◌, ◌<◌, ◌+◌, ℕ, Bool, true, false, not, List, [], ◌∷◌, length, drop, get_or, map, suc, Option, Some, None, Ok, is_some, refl, ap, sym, ◌∙◌, add-one}
+use Rattle.std.proofs.Common.{◌≡◌, ◌<◌, ◌+◌, ℕ, true, false, not, List, ◌∷◌, length, drop, get_or, suc, Option, Some, None, is_some, refl, ap, sym, ◌∙◌, add-one}
 use Rattle.std.proofs.Math.Seq.{drop-cons}
 use Rattle.smtcheck.specs.Dialogue.InForce.{Assertion}
 use Rattle.smtcheck.specs.Dialogue.View.{assertion_seen, assertions_seen}
-use Rattle.smtcheck.specs.Dialogue.Window.{first_assertion, is_false_over, is_open_over, judged_over, refuted_or}
+use Rattle.smtcheck.specs.Dialogue.Window.{first_assertion, is_false_over, is_open_over, refuted_or}
 use Rattle.smtcheck.specs.Eval.Known.{is_known, known_over}
 use Rattle.smtcheck.specs.Terms.Signature.{Entry}
 use Rattle.smtcheck.specs.declared.eval.values.Value.{Value}

@@ -1,17 +1,16 @@
 -- A dialogue has one report.
-use Rattle.std.proofs.Common.{◌≡◌, ◌+◌, ℕ, suc, Bool, true, false, List, [], ◌∷◌, ◌++◌, length, Option, Some, None, Result, Ok, Err, cond, refl, ap, sym, ◌∙◌, subst, arith, append_assoc}
+use Rattle.std.proofs.Common.{◌≡◌, ℕ, true, List, [], ◌∷◌, ◌++◌, Option, Some, None, Result, Ok, refl, ap, sym, ◌∙◌, subst, append_assoc}
 use Rattle.std.proofs.lemmas.List.{append-nil}
 use Rattle.smt_text.proofs.Faults as text
 use Rattle.smt_text.specs.Sexp.{Sexp, Sexps, Nil, Cons}
 use Rattle.smt_text.specs.declared.fault.TextFault.{TextFault}
 use Rattle.smtcheck.proofs.EndLemmas.{pair_same, some_answer}
 use Rattle.smtcheck.specs.Dialogue.Command.{Command, command_of}
-use Rattle.smtcheck.specs.Dialogue.Ending.{Ends, GoesOn, IsReport, Turn, limit, lines_of_end, turn_after, turn_of_fault, turn_of_tree}
+use Rattle.smtcheck.specs.Dialogue.Ending.{Ends, GoesOn, IsReport, limit, lines_of_end, turn_after, turn_of_tree}
 use Rattle.smtcheck.specs.Dialogue.InForce.{AreFaultless, fault_of_pair}
 use Rattle.smtcheck.specs.Dialogue.Lines.{lines_in, with_verdict}
-use Rattle.smtcheck.specs.Dialogue.Pairing.{AllFit, AreCommands, Pair, answers_taken, answers_then, fits, takes, with_answer}
+use Rattle.smtcheck.specs.Dialogue.Pairing.{AllFit, AreCommands, Pair, answers_then, fits, takes, with_answer}
 use Rattle.smtcheck.specs.declared.report.Line.{Line}
-use Rattle.smtcheck.specs.declared.report.Line.TheVariants as lines
 use Rattle.smtcheck.specs.declared.script.CommandFault.{CommandFault}
 
 ends_same : {f g : Option Line} → Ends f ≡ Ends g → f ≡ g

@@ -1,5 +1,5 @@
 -- Laws of pairs side by side: what they bring, take and print.
-use Rattle.std.proofs.Common.{◌≡◌, ◌≤◌, ◌+◌, ℕ, suc, Bool, true, false, not, ◌||◌, List, [], ◌∷◌, ◌++◌, length, Option, Some, None, cond, codes, refl, ap, sym, ◌∙◌, arith, append_assoc, length-append}
+use Rattle.std.proofs.Common.{◌≡◌, ◌≤◌, ◌+◌, ℕ, suc, Bool, true, false, not, ◌||◌, List, [], ◌∷◌, ◌++◌, length, Option, Some, None, cond, codes, refl, ap, sym, ◌∙◌, arith, append_assoc}
 use Rattle.std.proofs.lemmas.List.{append-nil}
 use Rattle.smt_text.specs.Sexp.{Sexp, Sexps, AtomKind, Atom, Reserved, Items, Nil, Cons}
 use Rattle.smt_text.specs.Sexp as sexp
@@ -7,7 +7,7 @@ use Rattle.smtcheck.proofs.NameLemmas.{same_name}
 use Rattle.smtcheck.specs.Dialogue.Command.{Command, DeclareConst, Assert, CheckSat, GetModel}
 use Rattle.smtcheck.specs.Dialogue.InForce.{Assertion, AreFaultless, assertions_by, assertions_from, fault_of_pair, names_by, names_from}
 use Rattle.smtcheck.specs.Dialogue.Lines.{checks_in, is_check, lines_in, lines_of_pair}
-use Rattle.smtcheck.specs.Dialogue.Pairing.{AllFit, AreCommands, Pair, answer_count, answers_taken, answers_then, fits, is_effective, is_effective_with, is_error, is_model, is_refusal, is_symbol, takes, with_answer}
+use Rattle.smtcheck.specs.Dialogue.Pairing.{AllFit, Pair, answer_count, answers_taken, answers_then, fits, is_effective, is_effective_with, is_model, is_refusal, is_symbol, takes, with_answer}
 use Rattle.smtcheck.specs.Terms.Signature.{Entry}
 use Rattle.smtcheck.specs.declared.report.Line.{Line}
 

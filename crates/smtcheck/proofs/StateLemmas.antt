@@ -1,5 +1,5 @@
 -- How the state of a dialogue goes on with one more pair.
-use Rattle.std.proofs.Common.{◌≡◌, ◌≤◌, ◌+◌, ℕ, suc, Bool, true, false, not, ◌||◌, List, [], ◌∷◌, ◌++◌, length, Option, Some, None, Result, Ok, Err, cond, codes, refl, ap, sym, ◌∙◌, arith, append_assoc, length-append}
+use Rattle.std.proofs.Common.{◌≡◌, ◌+◌, ℕ, Bool, true, false, ◌||◌, List, [], ◌∷◌, ◌++◌, length, Option, Some, None, Result, Ok, Err, cond, codes, refl, ap, sym, ◌∙◌, arith, append_assoc, length-append}
 use Rattle.std.proofs.lemmas.List.{append-nil}
 use Rattle.std.specs.List.{list_any}
 use Rattle.std.specs.Result.{IfErr, OnOk}
@@ -7,12 +7,12 @@ use Rattle.smt_text.specs.Sexp.{Sexp, Sexps, Atom, Reserved, Items}
 use Rattle.smtcheck.proofs.PairLemmas.{answers_taken-append, assertions_from-append, checks_in-append, lines_in-append, names_from-append, taken_is_effective}
 use Rattle.smtcheck.specs.Dialogue.Command.{Command, DeclareConst, Assert, CheckSat, GetModel}
 use Rattle.smtcheck.specs.Dialogue.InForce.{Assertion, assertions_after, assertions_by, constant_or_none, fault_of_declaration, fault_of_effect, fault_of_pair, names_after, names_by}
-use Rattle.smtcheck.specs.Dialogue.Lines.{checks_in, confirmed_line, is_empty, line_of_judgement, lines_in, lines_of_answer, lines_of_pair, lines_of_sat, or_line, sat_lines, unconfirmed_line}
-use Rattle.smtcheck.specs.Dialogue.Pairing.{Pair, answers_taken, is_effective, is_model, is_symbol, takes}
+use Rattle.smtcheck.specs.Dialogue.Lines.{checks_in, confirmed_line, line_of_judgement, lines_in, lines_of_pair, lines_of_sat, or_line, sat_lines, unconfirmed_line}
+use Rattle.smtcheck.specs.Dialogue.Pairing.{Pair, is_effective, is_model, is_symbol, takes}
 use Rattle.smtcheck.specs.Dialogue.State.{State, StandsFor, closed, closing_lines, counted, pending_lines, with_assertion, with_check, with_line, with_model, with_name}
 use Rattle.smtcheck.specs.Dialogue.Stops.{IsStopOf}
 use Rattle.smtcheck.specs.declared.dialogue.Stop.{Stop}
-use Rattle.smtcheck.specs.Dialogue.Window.{Printed, closes, judged, models_from, window}
+use Rattle.smtcheck.specs.Dialogue.Window.{closes, judged, models_from, window}
 use Rattle.smtcheck.specs.Terms.Signature.{Entry, constant, declared_constant, go_on, is_taken}
 use Rattle.smtcheck.specs.Terms.Sorts.{sort_named}
 use Rattle.smtcheck.specs.declared.dialogue.OpenCheck.{OpenCheck}

@@ -1,20 +1,18 @@
 -- How the turns of a dialogue go on, and what they come to.
-use Rattle.std.proofs.Common.{◌≡◌, ◌≤◌, ◌<◌, ◌+◌, ℕ, Bool, true, false, List, [], ◌∷◌, ◌++◌, length, Option, Some, None, Ok, refl, ap, sym, ◌∙◌, arith, length-append}
+use Rattle.std.proofs.Common.{◌≡◌, ◌≤◌, ◌<◌, ◌+◌, ℕ, true, List, [], ◌∷◌, ◌++◌, length, Option, Some, Ok, refl, ap, sym, ◌∙◌, arith, length-append}
 use Rattle.smt_text.specs.Sexp.{Sexp, Sexps, Nil, Cons}
 use Rattle.smt_text.specs.TreeView.{sexps_of}
 use Rattle.smt_text.specs.declared.syntax.Tree.{Tree}
 use Rattle.smtcheck.specs.declared.report.Line.TheVariants.{LeftOver}
 use Rattle.smt_text.specs.declared.fault.TextFault.{TextFault}
 use Rattle.smtcheck.proofs.PairLemmas.{AllFit-append, AreFaultless-append, answers_taken-le, answers_then-append, checks_in-le}
-use Rattle.smtcheck.specs.Dialogue.Command.{Command, command_of}
-use Rattle.smtcheck.specs.Dialogue.Ending.{Ends, end_without_fault, lines_of_end, text_line, turn_after}
-use Rattle.smtcheck.specs.Dialogue.InForce.{fault_of_pair}
+use Rattle.smtcheck.specs.Dialogue.Command.{command_of}
+use Rattle.smtcheck.specs.Dialogue.Ending.{Ends, end_without_fault, lines_of_end, turn_after}
 use Rattle.smtcheck.specs.Dialogue.Lines.{lines_in, verdict_of, with_verdict}
-use Rattle.smtcheck.specs.Dialogue.Pairing.{AreCommands, IsPairing, Pair, answers_taken, answers_then}
+use Rattle.smtcheck.specs.Dialogue.Pairing.{AreCommands, Pair, answers_taken, answers_then}
 use Rattle.smtcheck.specs.Dialogue.State.{State, StandsFor}
 use Rattle.smtcheck.specs.Dialogue.Turns.{EndsAt, IsJudged, SoFar, TakesUp}
 use Rattle.smtcheck.specs.declared.report.Line.{Line}
-use Rattle.smtcheck.specs.declared.report.Side.TheVariants.{Script}
 use Rattle.smtcheck.specs.declared.report.Verdict.{Verdict}
 
 -- before the first turn

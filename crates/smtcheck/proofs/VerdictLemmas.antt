@@ -1,20 +1,19 @@
 -- What the verdicts mean.
-use Rattle.std.proofs.Common.{◌≡◌, ◌+◌, ℕ, suc, Bool, true, false, not, ◌||◌, List, [], ◌∷◌, ◌++◌, length, Option, Some, None, Result, Ok, Err, cond, codes, refl, ap, sym, ◌∙◌, subst, arith, append_assoc}
+use Rattle.std.proofs.Common.{◌≡◌, ◌+◌, ℕ, Bool, true, false, not, ◌||◌, List, [], ◌∷◌, ◌++◌, length, Option, Some, None, Result, Ok, Err, cond, codes, refl, ap, sym, ◌∙◌, subst, arith, append_assoc}
 use Rattle.std.proofs.lemmas.List.{append-nil}
 use Rattle.std.specs.List.{list_any}
 use Rattle.std.specs.Result.{IfOk}
 use Rattle.smt_text.proofs.Faults as text
-use Rattle.smt_text.specs.Grammar.{Forest}
 use Rattle.smt_text.specs.Reading.{Reads}
-use Rattle.smt_text.specs.Sexp.{Sexp, Sexps, Nil, Cons, count}
+use Rattle.smt_text.specs.Sexp.{Sexp, Sexps, Nil}
 use Rattle.smt_text.specs.declared.fault.TextFault.{TextFault}
 use Rattle.smtcheck.proofs.EndLemmas.{all_commands, any-append, ends_clean, invalid_lines, none_of, one_pairing, valid_lines}
 use Rattle.smtcheck.proofs.HeadlineLemmas.{closed_value, confirmed_at, is_false_value, lines_at, lines_of_sat_at}
 use Rattle.smtcheck.specs.Dialogue.Command.{Command, DeclareConst, Assert, CheckSat, GetModel}
 use Rattle.smtcheck.specs.Dialogue.Ending.{limit, lines_of_end}
-use Rattle.smtcheck.specs.Dialogue.Headline.{IsAsserted, IsInvalid, IsPairedWhole, IsValid}
+use Rattle.smtcheck.specs.Dialogue.Headline.{IsInvalid, IsPairedWhole, IsValid}
 use Rattle.smtcheck.specs.Dialogue.InForce.{Assertion, assertions_after, assertions_by, assertions_from, names_after}
-use Rattle.smtcheck.specs.Dialogue.Lines.{checks_in, is_check, is_empty, is_fault_line, is_refuted_line, is_undecided_line, line_of_judgement, lines_in, lines_of_answer, lines_of_pair, lines_of_sat, or_line, sat_lines, tally_of, unconfirmed_line, verdict_of, with_verdict}
+use Rattle.smtcheck.specs.Dialogue.Lines.{checks_in, is_empty, is_fault_line, is_refuted_line, is_undecided_line, line_of_judgement, lines_in, lines_of_pair, lines_of_sat, or_line, sat_lines, tally_of, unconfirmed_line, verdict_of}
 use Rattle.smtcheck.specs.Dialogue.Pairing.{IsPairing, Pair, is_effective, is_symbol}
 use Rattle.smtcheck.specs.Dialogue.Turns.{IsJudged}
 use Rattle.smtcheck.specs.Dialogue.Window.{Printed, first_assertion, is_false_over, is_open_over, judged, judged_over, models_from, open_or_confirmed, refuted_or, window}

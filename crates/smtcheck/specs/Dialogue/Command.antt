@@ -1,6 +1,6 @@
 -- SMT-LIB 2.6, section 4.2: the trees that are commands. Which commands are supported is this project's choice.
 use Rattle.std.specs.Prelude.{ℕ, List, Result, Ok, Err}
-use Rattle.smt_text.specs.Sexp.{Sexp, Sexps, Atom, Reserved, Items, Nil, Cons, Symbol}
+use Rattle.smt_text.specs.Sexp.{Sexp, Atom, Reserved, Items, Nil, Cons, Symbol}
 use Rattle.smt_text.specs.declared.reserved.Word.{Word}
 use Rattle.smt_text.specs.declared.reserved.Word.TheVariants as words
 use Rattle.smtcheck.specs.declared.script.CommandFault.{CommandFault}

@@ -1,9 +1,9 @@
 -- What a valid and an invalid verdict mean, in the words of the standard and beside the report.
-use Rattle.std.specs.Prelude.{◌≡◌, ℕ, ◌+◌, List, [], ◌∷◌, ◌++◌, length, Bool, true, false, Option, Some, None, Result, Ok, codes}
+use Rattle.std.specs.Prelude.{◌≡◌, ℕ, ◌+◌, List, [], ◌∷◌, ◌++◌, length, true, false, Option, Some, Ok, codes}
 use Rattle.std.specs.List.{AllByRecursion}
 use Rattle.smt_text.specs.Grammar.{Forest}
-use Rattle.smt_text.specs.Sexp.{Sexp, Sexps, Nil, Cons}
-use Rattle.smtcheck.specs.Dialogue.Command.{Command, Assert, CheckSat}
+use Rattle.smt_text.specs.Sexp.{Sexp, Sexps, Nil}
+use Rattle.smtcheck.specs.Dialogue.Command.{Assert, CheckSat}
 use Rattle.smtcheck.specs.Dialogue.Ending.{limit}
 use Rattle.smtcheck.specs.Dialogue.InForce.{names_after}
 use Rattle.smtcheck.specs.Dialogue.Lines.{checks_in}

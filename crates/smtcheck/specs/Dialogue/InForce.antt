@@ -1,5 +1,5 @@
 -- SMT-LIB 2.6, sections 4.1 and 4.2: what is in force after commands, and the fault of a command's effect. Commands count from 1.
-use Rattle.std.specs.Prelude.{◌≡◌, ℕ, ◌+◌, List, [], ◌∷◌, ◌++◌, length, Bool, true, false, Option, Some, None, Result, Ok, Err, if◌then◌else◌}
+use Rattle.std.specs.Prelude.{◌≡◌, ℕ, ◌+◌, List, [], ◌∷◌, ◌++◌, length, Option, Some, None, Result, Ok, Err, if◌then◌else◌}
 use Rattle.smt_text.specs.Sexp.{Sexp}
 use Rattle.smtcheck.specs.Dialogue.Command.{Command, DeclareConst, Assert, CheckSat, GetModel}
 use Rattle.smtcheck.specs.Dialogue.Pairing.{Pair, is_effective}

@@ -1,7 +1,7 @@
 -- The lines of a report on pairs of commands and answers. These are this project's rules.
-use Rattle.std.specs.Prelude.{◌≡◌, ℕ, ◌+◌, ◌<◌, List, [], ◌∷◌, ◌++◌, length, Bool, true, false, not, ◌||◌, Option, Some, None, codes, count_by, nat_lt, if◌then◌else◌}
+use Rattle.std.specs.Prelude.{◌≡◌, ℕ, ◌+◌, List, [], ◌∷◌, ◌++◌, length, Bool, true, false, not, ◌||◌, Option, Some, None, codes, count_by, if◌then◌else◌}
 use Rattle.std.specs.List.{list_any}
-use Rattle.smt_text.specs.Sexp.{Sexp, Sexps}
+use Rattle.smt_text.specs.Sexp.{Sexp}
 use Rattle.smtcheck.specs.Dialogue.Command.{Command, DeclareConst, Assert, CheckSat, GetModel}
 use Rattle.smtcheck.specs.Dialogue.InForce.{Assertion, names_after, assertions_after}
 use Rattle.smtcheck.specs.Dialogue.Pairing.{Pair, is_symbol}

@@ -1,7 +1,7 @@
 -- SMT-LIB 2.6, section 4.1: which answers a command takes, and the pairs of commands with their answers. That each answer is taken
 -- once and in order is this project's rule.
-use Rattle.std.specs.Prelude.{◌≡◌, ℕ, List, [], ◌∷◌, Bool, true, false, not, ◌||◌, ◌+◌, Option, Some, None, Ok, codes, length}
-use Rattle.smt_text.specs.Sexp.{Sexp, Sexps, Atom, Reserved, Items, Nil, Cons, Symbol, Text}
+use Rattle.std.specs.Prelude.{◌≡◌, ℕ, List, [], ◌∷◌, Bool, true, false, not, ◌||◌, ◌+◌, Option, Some, None, Ok, codes}
+use Rattle.smt_text.specs.Sexp.{Sexp, Sexps, Atom, Items, Nil, Cons, Symbol, Text}
 use Rattle.smtcheck.specs.Dialogue.Command.{Command, DeclareConst, Assert, CheckSat, GetModel, command_of}
 use Rattle.smtcheck.specs.Terms.Operators.{is_same_name}
 

@@ -1,6 +1,6 @@
 -- The kinds of commands, by what stands in the list.
 use Rattle.std.specs.Prelude.{◌≡◌, ℕ, List, Bool, true, false}
-use Rattle.smt_text.specs.Sexp.{Sexp, Sexps, Atom, Reserved, Items, Nil, Cons, Symbol}
+use Rattle.smt_text.specs.Sexp.{Sexp, Sexps, Atom, Reserved, Nil, Cons, Symbol}
 use Rattle.smt_text.specs.declared.reserved.Word.TheVariants.{DeclareConst, Assert, CheckSat, GetModel}
 use Rattle.smtcheck.specs.declared.script.Shape.{Shape}
 use Rattle.smtcheck.specs.declared.script.Shape.TheVariants.{Declaration, Assertion, Check, Model}

@@ -1,7 +1,7 @@
 -- What the dialogue so far keeps, and what it stands for: which pairs of commands and answers were taken up.
 use Rattle.std.specs.Prelude.{◌≡◌, ℕ, ◌+◌, List, [], ◌∷◌, ◌++◌, length, Bool, true, false, not, ◌||◌, Option, Some, None, codes, if◌then◌else◌}
 use Rattle.std.specs.List.{list_any}
-use Rattle.smt_text.specs.Sexp.{Sexp, Sexps, Atom, Reserved, Items}
+use Rattle.smt_text.specs.Sexp.{Sexp, Atom, Reserved, Items}
 use Rattle.smtcheck.specs.Dialogue.InForce.{Assertion, names_after, assertions_after}
 use Rattle.smtcheck.specs.Dialogue.Lines.{checks_in, confirmed_line, is_empty, line_of_judgement, lines_in, sat_lines, unconfirmed_line}
 use Rattle.smtcheck.specs.Dialogue.Pairing.{Pair, answers_taken, is_symbol}

@@ -1,5 +1,5 @@
 -- What stops a pair of a command and its answer from being taken up.
-use Rattle.std.specs.Prelude.{◌≡◌, ◌⊎◌, Option, Some, None}
+use Rattle.std.specs.Prelude.{◌≡◌, Option, Some}
 use Rattle.smtcheck.specs.declared.dialogue.Stop.{Stop}
 use Rattle.smtcheck.specs.declared.dialogue.Stop.TheVariants as stops
 use Rattle.smtcheck.specs.declared.script.CommandFault.{CommandFault}

@@ -1,6 +1,6 @@
 -- What one turn, and all turns, of a dialogue come to: the words of the code between the texts and the report.
-use Rattle.std.specs.Prelude.{◌≡◌, ◌≤◌, ◌<◌, ◌+◌, ◌^◌, ℕ, List, [], ◌∷◌, ◌++◌, length, Bool, true, Option, Some, None, Ok}
-use Rattle.smt_text.specs.Sexp.{Sexp, Sexps, Nil, Cons}
+use Rattle.std.specs.Prelude.{◌≡◌, List, [], ◌∷◌, ◌++◌, true, Option, Some, None, Ok}
+use Rattle.smt_text.specs.Sexp.{Sexp, Sexps, Cons}
 use Rattle.smt_text.specs.declared.fault.TextFault.{TextFault}
 use Rattle.smtcheck.specs.Dialogue.Command.{Command, command_of}
 use Rattle.smtcheck.specs.Dialogue.Ending.{Ends, lines_of_end, turn_after, turn_of_tree}

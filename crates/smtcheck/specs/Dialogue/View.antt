@@ -1,5 +1,5 @@
 -- What a contract sees of commands and assertions.
-use Rattle.std.specs.Prelude.{ℕ, List, map}
+use Rattle.std.specs.Prelude.{List, map}
 use Rattle.smt_text.specs.TreeView.{sexp_of}
 use Rattle.smtcheck.specs.Dialogue.Command as spec
 use Rattle.smtcheck.specs.Dialogue.InForce as in_force

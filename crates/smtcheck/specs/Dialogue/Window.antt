@@ -1,7 +1,6 @@
 -- The window of a check, the models printed in it, and what is found of them. These are this project's rules.
-use Rattle.std.specs.Prelude.{◌≡◌, ℕ, ◌+◌, List, [], ◌∷◌, ◌++◌, Bool, true, false, not, ◌||◌, Option, Some, None, is_some, Result, Ok, Err, if◌then◌else◌}
-use Rattle.std.specs.List.{list_any}
-use Rattle.smt_text.specs.Sexp.{Sexp, Sexps, Atom, Reserved, Items}
+use Rattle.std.specs.Prelude.{ℕ, ◌+◌, List, [], ◌∷◌, ◌++◌, Bool, true, false, not, Option, Some, None, is_some, Result, Ok, Err, if◌then◌else◌}
+use Rattle.smt_text.specs.Sexp.{Sexp, Sexps, Items}
 use Rattle.smtcheck.specs.Dialogue.Command.{Command, DeclareConst, Assert, CheckSat, GetModel}
 use Rattle.smtcheck.specs.Dialogue.InForce.{Assertion}
 use Rattle.smtcheck.specs.Dialogue.Pairing.{Pair, is_effective}

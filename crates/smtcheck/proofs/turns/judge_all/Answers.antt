@@ -1,5 +1,5 @@
 -- No count passes the number of the script's trees, and each turn takes the dialogue on by one pair.
-use Rattle.std.proofs.Common.{◌≡◌, ◌+◌, length, Option, Some, None, ap, sym, ◌∙◌, subst, arith}
+use Rattle.std.proofs.Common.{length, Option, ap, ◌∙◌, subst, arith}
 use Rattle.smt_text.specs.Sexp.{Sexps}
 use Rattle.smt_text.specs.TreeView.{sexp_of, sexps_of}
 use Rattle.smtcheck.proofs.TurnLemmas.{answers-le, checks-le, commands-push, so_far-push}

@@ -3,7 +3,6 @@ use Rattle.std.proofs.Common.{◌≡◌, ◌≤◌, ◌+◌, length}
 use Rattle.smt_text.specs.TreeView.{sexps_of}
 use Rattle.smtcheck.specs.Dialogue.State.{state_of}
 use Rattle.smtcheck.specs.Dialogue.Turns.{SoFar}
-use Rattle.smtcheck.proofs.TurnLemmas.{so_far-push}
 use Rattle.smtcheck.proofs.turns.judge_all.Given as goal
 
 abbrev pub invariant-loop-tree : goal.invariant-loop-tree
