@@ -40,7 +40,12 @@ pub fn run<R: Files + AllocGlobal + Print>(rt: &R, settings: Settings) -> Result
     };
     let script = read_whole(rt.alloc(), &mut script).ok_or(RunFault::Script)?;
     let answers = read_whole(rt.alloc(), &mut answers).ok_or(RunFault::Answers)?;
-    let Ok(report) = validate(rt.alloc(), script.as_slice(), answers.as_slice(), settings.start) else {
+    let Ok(report) = validate(
+        rt.alloc(),
+        script.as_slice(),
+        answers.as_slice(),
+        settings.start,
+    ) else {
         return Err(RunFault::Memory);
     };
     match print(rt, &report) {

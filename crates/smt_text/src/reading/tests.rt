@@ -1,6 +1,7 @@
 //! Readers on texts whose trees and faults are known.
 
 use super::*;
+use crate::byte_string::Bytes;
 use crate::reserved::Word;
 use crate::syntax::split;
 use std::process::Abort;
@@ -107,4 +108,52 @@ fn long_text(rt: HostRuntime) -> Result<(), Fail> {
     }
     assert_eq!(rt; read(&rt, alloc, text.as_slice(), b"z"), (1_250_001, None));
     Ok(())
+}
+
+// Whether this is the tree at a place of the text `(a (b 1) check-sat) c 0`.
+fn is_right(place: u32, tree: &Tree) -> bool {
+    match (place, tree) {
+        (0, Tree::List(parts)) => match parts.as_slice() {
+            [
+                Tree::Symbol(name),
+                Tree::List(inner),
+                Tree::Reserved(Word::CheckSat),
+            ] => { says(name, b"a") && is_b_and_one(inner.as_slice()) }
+            _ => false,
+        },
+        (1, Tree::Symbol(name)) => says(name, b"c"),
+        (2, Tree::Numeral(digits)) => says(digits, b"0"),
+        _ => false,
+    }
+}
+
+fn says(bytes: &Bytes, text: &[u8]) -> bool {
+    bytes.as_slice() == text
+}
+
+fn is_b_and_one(trees: &[Tree]) -> bool {
+    match trees {
+        [Tree::Symbol(name), Tree::Numeral(digits)] => says(name, b"b") && says(digits, b"1"),
+        _ => false,
+    }
+}
+
+// `tests/refused_memory.sh` runs this with each of its requests for memory refused in turn.
+#[test]
+fn right_or_out_of_memory(rt: HostRuntime) {
+    let mut reader = Reader::new(rt.alloc());
+    reader.feed(b"(a (b 1) check-");
+    reader.feed(b"sat) c 0");
+    reader.finish();
+    for place in 0..3 {
+        match reader.next() {
+            Next::Tree(tree) => assert!(rt; is_right(place, &tree)),
+            Next::Fault(TextFault::Memory) => {
+                assert!(rt; matches!(reader.next(), Next::Fault(TextFault::Memory)));
+                return;
+            }
+            _ => assert!(rt; false, "a tree is missing"),
+        }
+    }
+    assert!(rt; matches!(reader.next(), Next::End));
 }

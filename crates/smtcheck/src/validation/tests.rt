@@ -1,5 +1,7 @@
 use super::*;
-use crate::report::status_of;
+use crate::report::{CheckAnswer, Line, Tally, status_of};
+use crate::script::CommandFault;
+use crate::terms::faults::TermFault;
 use std::process::Abort;
 use std::test::Fail;
 
@@ -553,5 +555,67 @@ fn many_checks(rt: HostRuntime) -> Result<(), Fail> {
     let report = validate(alloc, script.as_bytes(), answers.as_bytes(), true)?;
     let text = text_of(alloc, &report)?;
     assert_eq!(rt; text.as_str(), expected.as_str());
+    Ok(())
+}
+
+// A dialogue with a model that is true, one that is not, one that lacks a name, a check without a model, and a fault.
+const SCRIPT: &str =
+    "(declare-const p Bool)(declare-const q Bool)(assert (or p (not q)))(check-sat)(get-model)(get-model)\
+    (check-sat)(get-model)(check-sat)(check-sat)(get-model)(check-sat)(assert r)";
+
+const ANSWERS: &str =
+    "success success success sat ((define-fun p () Bool true)(define-fun q () Bool (and p p)))\
+    ((define-fun h () Bool (= true false))(define-fun p () Bool false)(define-fun q () Bool h)) sat ((define-fun p () Bool true))\
+    unsat sat ((define-fun p () Bool false)(define-fun q () Bool true)) sat success";
+
+// `tests/refused_memory.sh` runs this with each of its requests for memory refused in turn.
+#[test]
+fn right_or_out_of_memory(rt: HostRuntime) -> Result<(), Fail> {
+    let lines = [
+        Line::Confirmed {
+            check: 1,
+            command: 4,
+        },
+        Line::Lacks {
+            check: 2,
+            command: 7,
+            model: 8,
+            declaration: 2,
+        },
+        Line::Answered {
+            check: 3,
+            command: 9,
+            answer: CheckAnswer::Unsat,
+        },
+        Line::Refuted {
+            check: 4,
+            command: 10,
+            model: 11,
+            assertion: 3,
+        },
+        Line::NoModel {
+            check: 5,
+            command: 12,
+        },
+        Line::CommandFault {
+            command: 13,
+            fault: CommandFault::Term {
+                fault: TermFault::Unknown,
+            },
+        },
+        Line::Verdict {
+            verdict: Verdict::Refused,
+            tally: Tally {
+                confirmed: 1,
+                refuted: 1,
+                undecided: 2,
+                unchecked: 1,
+            },
+        },
+    ];
+    if let Ok(report) = validate(rt.alloc(), SCRIPT.as_bytes(), ANSWERS.as_bytes(), true) {
+        assert_eq!(rt; report.lines.as_slice(), lines.as_slice());
+        assert_eq!(rt; report.verdict, Verdict::Refused);
+    }
     Ok(())
 }

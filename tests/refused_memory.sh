@@ -1,0 +1,69 @@
+#!/bin/sh
+# Runs the reader, the validation and the program with each of their requests for memory refused in turn, until a run meets none. Each
+# run has to give the right answer, or to say that memory was refused. Needs what `rt ci` has built, and a C compiler. Says nothing
+# where all is well.
+set -e
+cd "$(dirname "$0")/.."
+top=$PWD
+work=$(mktemp -d)
+trap 'rm -rf "$work"' EXIT
+"${CC:-cc}" -shared -fPIC -O1 -o "$work/refuse.so" tests/refuse_memory.c
+
+fail() {
+    echo "refused memory: $1, request $number: $2"
+    exit 1
+}
+
+# Runs the words behind the first, which says what they are, until no request is left to be refused; `judge` looks at each run.
+each_request() {
+    what=$1
+    shift
+    number=0
+    met=yes
+    while [ "$met" = yes ]; do
+        number=$((number + 1))
+        status=0
+        REFUSE=$number REFUSED=$work/met LD_PRELOAD=$work/refuse.so "$@" >"$work/output" 2>"$work/errors" || status=$?
+        if [ -e "$work/met" ]; then rm "$work/met"; else met=no; fi
+        judge
+    done
+    [ "$number" -gt 10 ] || fail "$what" "only so many were met"
+}
+
+# A test says by its status whether its answer was right or want of memory.
+judge() {
+    [ "$status" = 0 ] || fail "$what" "status $status"
+}
+
+each_request 'the reader' "$top/crates/smt_text/out/smt_text_tests" reading::tests::right_or_out_of_memory
+each_request 'validation' "$top/crates/smtcheck/out/smtcheck_tests" validation::tests::right_or_out_of_memory
+
+# The program has status 4, no report and a line that says why, or the status and the report that it has without a refusal.
+judge() {
+    if [ "$status" = "$right" ]; then
+        cmp -s "$work/output" "$work/right" || fail "$what" 'another report'
+    elif [ "$status" = 4 ] && [ "$met" = yes ]; then
+        [ ! -s "$work/output" ] || fail "$what" 'a report, with status 4'
+        case $(cat "$work/errors") in
+        'smtcheck: memory' | 'smtcheck: script' | 'smtcheck: answers' | 'smtcheck: output') ;;
+        *) fail "$what" "$(cat "$work/errors")" ;;
+        esac
+    else
+        fail "$what" "status $status"
+    fi
+}
+
+program() {
+    what=$1
+    shift
+    right=0
+    "$top/crates/smtcheck/out/smtcheck" "$@" >"$work/right" 2>"$work/errors" || right=$?
+    each_request "$what" "$top/crates/smtcheck/out/smtcheck" "$@"
+}
+
+data=$top/crates/smtcheck/data
+program 'a valid dialogue' "$data/script.smt2" "$data/answers.txt"
+program 'the texts swapped' "$data/answers.txt" "$data/script.smt2"
+program 'a missing file' "$data/script.smt2" "$work/none"
+program 'a word too many' "$data/script.smt2" "$data/answers.txt" "$data/script.smt2"
+program 'help' --help
