@@ -1,10 +1,10 @@
 -- The reserved words and their spellings.
-use Rattle.std.proofs.Common.{◌≡◌, ◌≢◌, ℕ, List, [], ◌∷◌, Some, None, Bool, true, false, ◌+◌, ◌<◌, length, drop, get_or, refl, sym, ap, ◌∙◌}
+use Rattle.std.proofs.Common.{◌≡◌, ◌≢◌, ℕ, List, [], ◌∷◌, Option, Some, None, Bool, true, false, ◌+◌, ◌<◌, length, drop, get_or, refl, sym, ap, ◌∙◌}
 use Rattle.std.proofs.lemmas.List.{drop_more}
 use Rattle.std.specs.Str.{bytes_eq}
 use Rattle.std.proofs.lemmas.Slice.Eq.{bytes_eq-Decides}
-use Rattle.smt_text.specs.Machine.{find_word, word_named}
-use Rattle.smt_text.specs.Reserved.{spelling_of}
+use Rattle.smt_text.specs.Machine.{find_word, word_named, words_of_length}
+use Rattle.smt_text.specs.Reserved.{all_words, spelling_of}
 use Rattle.smt_text.specs.declared.reserved.Word.{Word}
 use Rattle.smt_text.specs.declared.reserved.Word.TheVariants.{Bang, Underscore, As, Binary, Decimal, Exists, Hexadecimal, Forall, Let, Match, Numeral, Par, String, Assert, CheckSat, CheckSatAssuming, DeclareConst, DeclareDatatype, DeclareDatatypes, DeclareFun, DeclareSort, DefineFun, DefineFunRec, DefineFunsRec, DefineSort, Echo, Exit, GetAssertions, GetAssignment, GetInfo, GetModel, GetOption, GetProof, GetUnsatAssumptions, GetUnsatCore, GetValue, Pop, Push, Reset, ResetAssertions, SetInfo, SetLogic, SetOption}
 
@@ -82,3 +82,57 @@ find_word-more bytes words i d written within is h =
     let other : bytes_eq (spelling_of w) bytes ≡ false = ap (λ x. bytes_eq x bytes) (sym is) ∙ h in
     let next : find_word bytes (w ∷ drop (i + 1) words) ≡ find_word bytes (drop (i + 1) words) = rw other refl in
     sym next ∙ ap (find_word bytes) (sym (drop_more words i d within))
+
+-- each reserved word is among those of its length
+found_by_length : (word : Word) → find_word (spelling_of word) (words_of_length (length (spelling_of word))) ≡ Some word
+found_by_length Bang = refl
+found_by_length Underscore = refl
+found_by_length As = refl
+found_by_length Binary = refl
+found_by_length Decimal = refl
+found_by_length Exists = refl
+found_by_length Hexadecimal = refl
+found_by_length Forall = refl
+found_by_length Let = refl
+found_by_length Match = refl
+found_by_length Numeral = refl
+found_by_length Par = refl
+found_by_length String = refl
+found_by_length Assert = refl
+found_by_length CheckSat = refl
+found_by_length CheckSatAssuming = refl
+found_by_length DeclareConst = refl
+found_by_length DeclareDatatype = refl
+found_by_length DeclareDatatypes = refl
+found_by_length DeclareFun = refl
+found_by_length DeclareSort = refl
+found_by_length DefineFun = refl
+found_by_length DefineFunRec = refl
+found_by_length DefineFunsRec = refl
+found_by_length DefineSort = refl
+found_by_length Echo = refl
+found_by_length Exit = refl
+found_by_length GetAssertions = refl
+found_by_length GetAssignment = refl
+found_by_length GetInfo = refl
+found_by_length GetModel = refl
+found_by_length GetOption = refl
+found_by_length GetProof = refl
+found_by_length GetUnsatAssumptions = refl
+found_by_length GetUnsatCore = refl
+found_by_length GetValue = refl
+found_by_length Pop = refl
+found_by_length Push = refl
+found_by_length Reset = refl
+found_by_length ResetAssertions = refl
+found_by_length SetInfo = refl
+found_by_length SetLogic = refl
+found_by_length SetOption = refl
+
+-- a word is found among those of its length as it is among all
+pub find_word-length : (bytes : List ℕ) → find_word bytes (words_of_length (length bytes)) ≡ word_named bytes
+find_word-length bytes = by (word_named bytes) refl (find_word bytes (words_of_length (length bytes))) refl where
+  by : (all : Option Word) → word_named bytes ≡ all → (some : Option Word) → find_word bytes (words_of_length (length bytes)) ≡ some → find_word bytes (words_of_length (length bytes)) ≡ word_named bytes
+  by (Some word) e some h = ap (λ b. find_word b (words_of_length (length b))) (find_word-some bytes all_words word e) ∙ found_by_length word ∙ sym e
+  by None e None h = h ∙ sym e
+  by None e (Some word) h = absurd (word_named-none bytes e word (find_word-some bytes (words_of_length (length bytes)) word h))

@@ -1,5 +1,5 @@
 -- How a reader goes over a text, byte by byte. Proofs and private contracts name this; what a text means is in Grammar and Reading.
-use Rattle.std.specs.Prelude.{◌≡◌, ℕ, List, [], ◌∷◌, ◌++◌, length, Option, Some, None, nat_lt, if◌then◌else◌}
+use Rattle.std.specs.Prelude.{◌≡◌, ◌==◌, ℕ, List, [], ◌∷◌, ◌++◌, length, Option, Some, None, nat_lt, if◌then◌else◌}
 use Rattle.std.specs.Str.{bytes_eq}
 use Rattle.smt_text.specs.Grammar.{Token, OpenParenthesis, CloseParenthesis, AtomToken, WordToken}
 use Rattle.smt_text.specs.Lexical.{class_of}
@@ -12,6 +12,7 @@ use Rattle.smt_text.specs.declared.lexical.Class.TheVariants.{White, Open, Close
 use Rattle.smt_text.specs.declared.lexical.Shape.{Shape}
 use Rattle.smt_text.specs.declared.lexical.Shape.TheVariants.{Nothing, Zero, Numeral, Symbol}
 use Rattle.smt_text.specs.declared.reserved.Word.{Word}
+use Rattle.smt_text.specs.declared.reserved.Word.TheVariants as words
 use Rattle.smt_text.specs.declared.fault.TextFault.{TextFault}
 use Rattle.smt_text.specs.declared.fault.TextFault.TheVariants.{Byte, Deep}
 
@@ -40,6 +41,30 @@ find_word bytes (word ∷ words) = if bytes_eq (spelling_of word) bytes then Som
 -- the reserved word that is written so
 abbrev pub word_named : List ℕ → Option Word
 word_named bytes = find_word bytes all_words
+
+-- the reserved words that are written with so many bytes
+abbrev pub words_of_length : ℕ → List Word
+words_of_length n =
+    if n == 1 then words.Bang ∷ words.Underscore ∷ []
+    else if n == 2 then words.As ∷ []
+    else if n == 3 then words.Let ∷ words.Par ∷ words.Pop ∷ []
+    else if n == 4 then words.Echo ∷ words.Exit ∷ words.Push ∷ []
+    else if n == 5 then words.Match ∷ words.Reset ∷ []
+    else if n == 6 then words.Binary ∷ words.Exists ∷ words.Forall ∷ words.String ∷ words.Assert ∷ []
+    else if n == 7 then words.Decimal ∷ words.Numeral ∷ []
+    else if n == 8 then words.GetInfo ∷ words.SetInfo ∷ []
+    else if n == 9 then words.CheckSat ∷ words.GetModel ∷ words.GetProof ∷ words.GetValue ∷ words.SetLogic ∷ []
+    else if n == 10 then words.DefineFun ∷ words.GetOption ∷ words.SetOption ∷ []
+    else if n == 11 then words.Hexadecimal ∷ words.DeclareFun ∷ words.DefineSort ∷ []
+    else if n == 12 then words.DeclareSort ∷ []
+    else if n == 13 then words.DeclareConst ∷ []
+    else if n == 14 then words.DefineFunRec ∷ words.GetAssertions ∷ words.GetAssignment ∷ words.GetUnsatCore ∷ []
+    else if n == 15 then words.DefineFunsRec ∷ []
+    else if n == 16 then words.DeclareDatatype ∷ words.ResetAssertions ∷ []
+    else if n == 17 then words.DeclareDatatypes ∷ []
+    else if n == 18 then words.CheckSatAssuming ∷ []
+    else if n == 21 then words.GetUnsatAssumptions ∷ []
+    else []
 
 abbrev pub name_or_word : Option Word → List ℕ → Sexp
 name_or_word None bytes = Atom sexp.Symbol bytes

@@ -1,6 +1,7 @@
 //! The reserved words.
 
 ghost use Rattle.std.specs.Prelude.{◌≡◌, ◌≢◌, MatchOption};
+ghost use Rattle.smt_text.specs.Machine as machine;
 ghost use Rattle.smt_text.specs.Machine.{word_named};
 ghost use Rattle.smt_text.specs.Reserved.{spelling_of};
 ghost use Rattle.smt_text.specs.declared.reserved.Word.{Word};
@@ -96,53 +97,6 @@ pub enum Word {
     SetOption,
 }
 
-/// All reserved words.
-const WORDS: [Word; 43] = [
-    Word::Bang,
-    Word::Underscore,
-    Word::As,
-    Word::Binary,
-    Word::Decimal,
-    Word::Exists,
-    Word::Hexadecimal,
-    Word::Forall,
-    Word::Let,
-    Word::Match,
-    Word::Numeral,
-    Word::Par,
-    Word::String,
-    Word::Assert,
-    Word::CheckSat,
-    Word::CheckSatAssuming,
-    Word::DeclareConst,
-    Word::DeclareDatatype,
-    Word::DeclareDatatypes,
-    Word::DeclareFun,
-    Word::DeclareSort,
-    Word::DefineFun,
-    Word::DefineFunRec,
-    Word::DefineFunsRec,
-    Word::DefineSort,
-    Word::Echo,
-    Word::Exit,
-    Word::GetAssertions,
-    Word::GetAssignment,
-    Word::GetInfo,
-    Word::GetModel,
-    Word::GetOption,
-    Word::GetProof,
-    Word::GetUnsatAssumptions,
-    Word::GetUnsatCore,
-    Word::GetValue,
-    Word::Pop,
-    Word::Push,
-    Word::Reset,
-    Word::ResetAssertions,
-    Word::SetInfo,
-    Word::SetLogic,
-    Word::SetOption,
-];
-
 /// How the word is written.
 pub fn spelling(word: Word) -> &'static [u8]
     ensures { result.now ≡ spelling_of word }
@@ -194,14 +148,59 @@ pub fn spelling(word: Word) -> &'static [u8]
     }
 }
 
+// The reserved words that are written with so many bytes.
+fn words_of_length(length: usize) -> &'static [Word]
+    ensures { result.now ≡ machine.words_of_length length }
+{
+    match length {
+        1 => &[Word::Bang, Word::Underscore],
+        2 => &[Word::As],
+        3 => &[Word::Let, Word::Par, Word::Pop],
+        4 => &[Word::Echo, Word::Exit, Word::Push],
+        5 => &[Word::Match, Word::Reset],
+        6 => &[
+            Word::Binary,
+            Word::Exists,
+            Word::Forall,
+            Word::String,
+            Word::Assert,
+        ],
+        7 => &[Word::Decimal, Word::Numeral],
+        8 => &[Word::GetInfo, Word::SetInfo],
+        9 => &[
+            Word::CheckSat,
+            Word::GetModel,
+            Word::GetProof,
+            Word::GetValue,
+            Word::SetLogic,
+        ],
+        10 => &[Word::DefineFun, Word::GetOption, Word::SetOption],
+        11 => &[Word::Hexadecimal, Word::DeclareFun, Word::DefineSort],
+        12 => &[Word::DeclareSort],
+        13 => &[Word::DeclareConst],
+        14 => &[
+            Word::DefineFunRec,
+            Word::GetAssertions,
+            Word::GetAssignment,
+            Word::GetUnsatCore,
+        ],
+        15 => &[Word::DefineFunsRec],
+        16 => &[Word::DeclareDatatype, Word::ResetAssertions],
+        17 => &[Word::DeclareDatatypes],
+        18 => &[Word::CheckSatAssuming],
+        21 => &[Word::GetUnsatAssumptions],
+        _ => &[],
+    }
+}
+
 /// The reserved word that is written so, if there is one.
 pub fn word_of(bytes: &[u8]) -> Option<Word>
     ensures named { result ≡ word_named bytes.now }
     ensures written { MatchOption result ((word : Word) → bytes.now ≢ spelling_of word) (λ word. bytes.now ≡ spelling_of word) }
 {
-    for word in WORDS {
-        if spelling(word) == bytes {
-            return Some(word);
+    for word in words_of_length(bytes.len()) {
+        if spelling(*word) == bytes {
+            return Some(*word);
         }
     }
     None
