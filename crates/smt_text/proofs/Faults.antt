@@ -3,14 +3,14 @@ use Rattle.std.proofs.Common.{◌≡◌, ◌⊎◌, ◌≤◌, ◌+◌, ℕ, suc
 use Rattle.std.proofs.lemmas.Bool.{ltb-true, lt-ltb}
 use Rattle.std.proofs.lemmas.List.{append-nil, append_assoc, length-append}
 use Rattle.smt_text.proofs.SexpLemmas.{append_nil, count-append, nil_if_none}
-use Rattle.smt_text.proofs.Fronts.{runs_if_begins, begins_if_runs, stuck_front, whole_front}
+use Rattle.smt_text.proofs.Prefixes.{runs_if_begins, begins_if_runs, stuck_prefix, complete_prefix}
 use Rattle.smt_text.proofs.Sound.{forest-read}
-use Rattle.smt_text.proofs.Whole.{whole_run, settled_more}
+use Rattle.smt_text.proofs.Complete.{complete_run, settled_more}
 use Rattle.smt_text.proofs.Spell.{step-at, run-cons, run-append, reads-forest}
 use Rattle.smt_text.specs.Grammar.{OpenParenthesis, CloseParenthesis, Forest}
 use Rattle.smt_text.specs.Lexical.{class_of}
-use Rattle.smt_text.specs.Machine.{Levels, On, State, At, start, flush, act, settle, step_by, step, go_on, run, whole_of, IsStuck, Leaves, blame}
-use Rattle.smt_text.specs.Reading.{Begins, IsForest, GoodFront, AreWhole, HasFault, IsTold, Reads}
+use Rattle.smt_text.specs.Machine.{Levels, On, State, At, start, flush, act, settle, step_by, step, go_on, run, complete_of, IsStuck, Leaves, blame}
+use Rattle.smt_text.specs.Reading.{Begins, IsForest, LongestPrefix, AreComplete, HasFault, IsTold, Reads}
 use Rattle.smt_text.specs.Sexp.{Sexps, Nil, append, count}
 use Rattle.smt_text.specs.declared.fault.TextFault.{TextFault}
 use Rattle.smt_text.specs.declared.fault.TextFault.TheVariants.{Byte, Deep, End, Memory}
@@ -87,46 +87,46 @@ opens_deeper limit s b (On lists top) k e = record {
 }
 
 -- only a list that nests too deep is told apart by the limit
-deeper_begins : (limit : ℕ) (front : List ℕ) (s : State) (b : ℕ) → run limit start front ≡ Some s → class_of b ≡ Open → (depth : ℕ) × Begins depth (front ++ b ∷ [])
-deeper_begins limit front s b e k =
+deeper_begins : (limit : ℕ) (prefix : List ℕ) (s : State) (b : ℕ) → run limit start prefix ≡ Some s → class_of b ≡ Open → (depth : ℕ) × Begins depth (prefix ++ b ∷ [])
+deeper_begins limit prefix s b e k =
     let o = opens_deeper limit s b (flush s) k refl in
-    (o.wide, begins_if_runs o.wide (front ++ b ∷ []) o.next (run-append o.wide start s front (b ∷ []) (wide_run limit o.wide start front s o.wider e) ∙ run-cons o.wide s o.next b [] o.goes))
+    (o.wide, begins_if_runs o.wide (prefix ++ b ∷ []) o.next (run-append o.wide start s prefix (b ∷ []) (wide_run limit o.wide start prefix s o.wider e) ∙ run-cons o.wide s o.next b [] o.goes))
 
-never_begins : (limit : ℕ) (front : List ℕ) (s : State) (b : ℕ) → run limit start front ≡ Some s → step limit s b ≡ None → (class_of b ≡ Open → ⊥) → ((depth : ℕ) × Begins depth (front ++ b ∷ [])) → ⊥
-never_begins limit front s b e stops other h =
+never_begins : (limit : ℕ) (prefix : List ℕ) (s : State) (b : ℕ) → run limit start prefix ≡ Some s → step limit s b ≡ None → (class_of b ≡ Open → ⊥) → ((depth : ℕ) × Begins depth (prefix ++ b ∷ [])) → ⊥
+never_begins limit prefix s b e stops other h =
     let wide = limit + h.0 in
-    let r = runs_if_begins h.0 (front ++ b ∷ []) h.1 in
-    let some : run wide start (front ++ b ∷ []) ≡ Some r.end = wide_run h.0 wide start (front ++ b ∷ []) r.end (omega arith) r.runs in
-    let to_b : run wide start front ≡ Some s = wide_run limit wide start front s (omega arith) e in
+    let r = runs_if_begins h.0 (prefix ++ b ∷ []) h.1 in
+    let some : run wide start (prefix ++ b ∷ []) ≡ Some r.end = wide_run h.0 wide start (prefix ++ b ∷ []) r.end (omega arith) r.runs in
+    let to_b : run wide start prefix ≡ Some s = wide_run limit wide start prefix s (omega arith) e in
     let stuck : step wide s b ≡ None = sym (same_step limit wide s b (class_of b) other) ∙ stops in
-    let none : run wide start (front ++ b ∷ []) ≡ None = run-append wide start s front (b ∷ []) to_b ∙ ap (λ o. go_on o (λ x. run wide x [])) stuck in
+    let none : run wide start (prefix ++ b ∷ []) ≡ None = run-append wide start s prefix (b ∷ []) to_b ∙ ap (λ o. go_on o (λ x. run wide x [])) stuck in
     cc
 
 -- the fault of a byte that no text goes on with
-pub stuck_reads : (limit : ℕ) (ended : Bool) (text : List ℕ) (s : State) (fault : TextFault) → IsStuck limit text s fault → Reads limit ended text (whole_of s) (Some fault)
-stuck_reads limit ended text s fault h = subst (λ f. Reads limit ended text (whole_of s) (Some f)) (sym h.is) (by_class (class_of h.byte) refl)
+pub stuck_reads : (limit : ℕ) (ended : Bool) (text : List ℕ) (s : State) (fault : TextFault) → IsStuck limit text s fault → Reads limit ended text (complete_of s) (Some fault)
+stuck_reads limit ended text s fault h = subst (λ f. Reads limit ended text (complete_of s) (Some f)) (sym h.is) (by_class (class_of h.byte) refl)
   where
-    good : GoodFront limit text h.front (h.byte ∷ h.rest)
-    good = subst (λ t. GoodFront limit t h.front (h.byte ∷ h.rest)) (sym h.parts) (stuck_front limit h.front s h.byte h.rest h.runs h.stops)
+    good : LongestPrefix limit text h.prefix (h.byte ∷ h.rest)
+    good = subst (λ t. LongestPrefix limit t h.prefix (h.byte ∷ h.rest)) (sym h.parts) (stuck_prefix limit h.prefix s h.byte h.rest h.runs h.stops)
 
-    front_and_trees : (front rest : List ℕ) × GoodFront limit text front rest × AreWhole limit front (whole_of s)
-    front_and_trees = (h.front, h.byte ∷ h.rest, good, whole_run limit h.front s h.runs)
+    prefix_and_trees : (prefix rest : List ℕ) × LongestPrefix limit text prefix rest × AreComplete limit prefix (complete_of s)
+    prefix_and_trees = (h.prefix, h.byte ∷ h.rest, good, complete_run limit h.prefix s h.runs)
 
-    byte : (class_of h.byte ≡ Open → ⊥) → HasFault limit text (Byte (length h.front))
-    byte other = (h.front, h.byte, h.rest, refl, good, never_begins limit h.front s h.byte h.runs h.stops other)
+    byte : (class_of h.byte ≡ Open → ⊥) → HasFault limit text (Byte (length h.prefix))
+    byte other = (h.prefix, h.byte, h.rest, refl, good, never_begins limit h.prefix s h.byte h.runs h.stops other)
 
-    by_class : (c : Class) → class_of h.byte ≡ c → Reads limit ended text (whole_of s) (Some (blame (length h.front) c))
-    by_class Open e = ((h.front, h.byte, h.rest, refl, good, deeper_begins limit h.front s h.byte h.runs e), tt, front_and_trees)
-    by_class White e = (byte (λ f. absurd (cc)), tt, front_and_trees)
-    by_class Close e = (byte (λ f. absurd (cc)), tt, front_and_trees)
-    by_class class.Zero e = (byte (λ f. absurd (cc)), tt, front_and_trees)
-    by_class Digit e = (byte (λ f. absurd (cc)), tt, front_and_trees)
-    by_class Letter e = (byte (λ f. absurd (cc)), tt, front_and_trees)
-    by_class Other e = (byte (λ f. absurd (cc)), tt, front_and_trees)
+    by_class : (c : Class) → class_of h.byte ≡ c → Reads limit ended text (complete_of s) (Some (blame (length h.prefix) c))
+    by_class Open e = ((h.prefix, h.byte, h.rest, refl, good, deeper_begins limit h.prefix s h.byte h.runs e), tt, prefix_and_trees)
+    by_class White e = (byte (λ f. absurd (cc)), tt, prefix_and_trees)
+    by_class Close e = (byte (λ f. absurd (cc)), tt, prefix_and_trees)
+    by_class class.Zero e = (byte (λ f. absurd (cc)), tt, prefix_and_trees)
+    by_class Digit e = (byte (λ f. absurd (cc)), tt, prefix_and_trees)
+    by_class Letter e = (byte (λ f. absurd (cc)), tt, prefix_and_trees)
+    by_class Other e = (byte (λ f. absurd (cc)), tt, prefix_and_trees)
 
 -- what is read while more may come
-pub leaves_reads : (limit : ℕ) (text : List ℕ) (s : State) (fault : Option TextFault) → Leaves limit text s fault → Reads limit false text (whole_of s) fault
-leaves_reads limit text s None h = (begins_if_runs limit text s h, whole_run limit text s h)
+pub leaves_reads : (limit : ℕ) (text : List ℕ) (s : State) (fault : Option TextFault) → Leaves limit text s fault → Reads limit false text (complete_of s) fault
+leaves_reads limit text s None h = (begins_if_runs limit text s h, complete_run limit text s h)
 leaves_reads limit text s (Some fault) h = stuck_reads limit false text s fault h
 
 -- what is read of a text that has ended outside lists
@@ -134,10 +134,10 @@ pub ends_outside : (limit : ℕ) (text : List ℕ) (s : State) (trees : Sexps) �
 ends_outside limit text s trees e f = forest-read limit text s trees e f
 
 -- and inside
-pub ends_inside : (limit : ℕ) (text : List ℕ) (s : State) (parts : Sexps) (lists : List Sexps) (top : Sexps) → run limit start text ≡ Some s → flush s ≡ On (parts ∷ lists) top → Reads limit true text (whole_of s) (Some (End (length text)))
+pub ends_inside : (limit : ℕ) (text : List ℕ) (s : State) (parts : Sexps) (lists : List Sexps) (top : Sexps) → run limit start text ≡ Some s → flush s ≡ On (parts ∷ lists) top → Reads limit true text (complete_of s) (Some (End (length text)))
 ends_inside limit text s parts lists top e f =
     let b = begins_if_runs limit text s e in
-    ((refl, b, no_forest), refl, (text, [], whole_front limit text b, whole_run limit text s e))
+    ((refl, b, no_forest), refl, (text, [], complete_prefix limit text b, complete_run limit text s e))
   where
     no_forest : IsForest limit text → ⊥
     no_forest h =
@@ -153,17 +153,17 @@ pub record Left (limit : ℕ) (text : List ℕ) : Type 0 where
   pub fault : Option TextFault
   pub leaves : Leaves limit text end fault
 
-pub leaves_on : (limit : ℕ) (front text : List ℕ) (s : State) → run limit start front ≡ Some s → Left limit (front ++ text)
-leaves_on limit front [] s e = record { end = s; fault = None; leaves = ap (run limit start) (append-nil front) ∙ e }
-leaves_on limit front (b ∷ text) s e = by_step (step limit s b) refl (λ next. leaves_on limit (front ++ b ∷ []) text next)
+pub leaves_on : (limit : ℕ) (prefix text : List ℕ) (s : State) → run limit start prefix ≡ Some s → Left limit (prefix ++ text)
+leaves_on limit prefix [] s e = record { end = s; fault = None; leaves = ap (run limit start) (append-nil prefix) ∙ e }
+leaves_on limit prefix (b ∷ text) s e = by_step (step limit s b) refl (λ next. leaves_on limit (prefix ++ b ∷ []) text next)
   where
-    by_step : (o : Option State) → step limit s b ≡ o → ((next : State) → run limit start (front ++ b ∷ []) ≡ Some next → Left limit ((front ++ b ∷ []) ++ text)) → Left limit (front ++ b ∷ text)
+    by_step : (o : Option State) → step limit s b ≡ o → ((next : State) → run limit start (prefix ++ b ∷ []) ≡ Some next → Left limit ((prefix ++ b ∷ []) ++ text)) → Left limit (prefix ++ b ∷ text)
     by_step None h later = record {
       end = s;
-      fault = Some (blame (length front) (class_of b));
-      leaves = record { front = front; byte = b; rest = text; parts = refl; runs = e; stops = h; is = refl };
+      fault = Some (blame (length prefix) (class_of b));
+      leaves = record { prefix = prefix; byte = b; rest = text; parts = refl; runs = e; stops = h; is = refl };
     }
-    by_step (Some next) h later = subst (Left limit) (append_assoc front (b ∷ []) text) (later next (run-append limit start s front (b ∷ []) e ∙ run-cons limit s next b [] h))
+    by_step (Some next) h later = subst (Left limit) (append_assoc prefix (b ∷ []) text) (later next (run-append limit start s prefix (b ∷ []) e ∙ run-cons limit s next b [] h))
 
 -- there are always trees and perhaps a fault
 pub record IsRead (limit : ℕ) (ended : Bool) (text : List ℕ) : Type 0 where
@@ -173,12 +173,12 @@ pub record IsRead (limit : ℕ) (ended : Bool) (text : List ℕ) : Type 0 where
 
 read_ended : (limit : ℕ) (text : List ℕ) (s : State) (levels : Levels) → run limit start text ≡ Some s → flush s ≡ levels → IsRead limit true text
 read_ended limit text s (On [] top) e f = record { trees = top; fault = None; reads = ends_outside limit text s top e f }
-read_ended limit text s (On (parts ∷ lists) top) e f = record { trees = whole_of s; fault = Some (End (length text)); reads = ends_inside limit text s parts lists top e f }
+read_ended limit text s (On (parts ∷ lists) top) e f = record { trees = complete_of s; fault = Some (End (length text)); reads = ends_inside limit text s parts lists top e f }
 
 is_read : (limit : ℕ) (ended : Bool) (text : List ℕ) (s : State) (fault : Option TextFault) → Leaves limit text s fault → IsRead limit ended text
 is_read limit true text s None h = read_ended limit text s (flush s) h refl
-is_read limit false text s fault h = record { trees = whole_of s; fault = fault; reads = leaves_reads limit text s fault h }
-is_read limit true text s (Some fault) h = record { trees = whole_of s; fault = Some fault; reads = stuck_reads limit true text s fault h }
+is_read limit false text s fault h = record { trees = complete_of s; fault = fault; reads = leaves_reads limit text s fault h }
+is_read limit true text s (Some fault) h = record { trees = complete_of s; fault = Some fault; reads = stuck_reads limit true text s fault h }
 
 pub every_text : (limit : ℕ) (ended : Bool) (text : List ℕ) → IsRead limit ended text
 every_text limit ended text = let l = leaves_on limit [] text start refl in is_read limit ended text l.end l.fault l.leaves
@@ -195,46 +195,46 @@ one_forest limit other text xs ys a b =
     let levels : On [] xs ≡ On [] ys = sym r.trees ∙ ap flush same ∙ q.trees in
     cc
 
--- fronts of one text that are as long are the same
-same_front : (front longer rest other : List ℕ) → front ++ rest ≡ longer ++ other → length front ≡ length longer → (front ≡ longer) × (rest ≡ other)
-same_front [] [] rest other e h = (refl, e)
-same_front [] (c ∷ longer) rest other e h = absurd (omega arith)
-same_front (a ∷ front) [] rest other e h = absurd (omega arith)
-same_front (a ∷ front) (c ∷ longer) rest other e h =
+-- prefixes of one text that are as long are the same
+same_prefix : (prefix longer rest other : List ℕ) → prefix ++ rest ≡ longer ++ other → length prefix ≡ length longer → (prefix ≡ longer) × (rest ≡ other)
+same_prefix [] [] rest other e h = (refl, e)
+same_prefix [] (c ∷ longer) rest other e h = absurd (omega arith)
+same_prefix (a ∷ prefix) [] rest other e h = absurd (omega arith)
+same_prefix (a ∷ prefix) (c ∷ longer) rest other e h =
     let heads : a ≡ c = cc in
-    let tails : front ++ rest ≡ longer ++ other = cc in
-    let r = same_front front longer rest other tails (omega arith) in
+    let tails : prefix ++ rest ≡ longer ++ other = cc in
+    let r = same_prefix prefix longer rest other tails (omega arith) in
     (ap (λ x. a ∷ x) r.0 ∙ ap (λ x. x ∷ longer) heads, r.1)
 
-one_front : (limit : ℕ) (text front rest longer other : List ℕ) → GoodFront limit text front rest → GoodFront limit text longer other → (front ≡ longer) × (rest ≡ other)
-one_front limit text front rest longer other a b =
-    let le = b.longest front rest a.parts a.begins in
+one_prefix : (limit : ℕ) (text prefix rest longer other : List ℕ) → LongestPrefix limit text prefix rest → LongestPrefix limit text longer other → (prefix ≡ longer) × (rest ≡ other)
+one_prefix limit text prefix rest longer other a b =
+    let le = b.longest prefix rest a.parts a.begins in
     let ge = a.longest longer other b.parts b.begins in
-    same_front front longer rest other (sym a.parts ∙ b.parts) (omega arith)
+    same_prefix prefix longer rest other (sym a.parts ∙ b.parts) (omega arith)
 
--- what begins a text has no longer front than itself
-no_stop : (limit : ℕ) (text front : List ℕ) (b : ℕ) (rest : List ℕ) → Begins limit text → GoodFront limit text front (b ∷ rest) → ⊥
-no_stop limit text front b rest h g =
+-- what begins a text has no longer prefix than itself
+no_stop : (limit : ℕ) (text prefix : List ℕ) (b : ℕ) (rest : List ℕ) → Begins limit text → LongestPrefix limit text prefix (b ∷ rest) → ⊥
+no_stop limit text prefix b rest h g =
     let le = g.longest text [] (sym (append-nil text)) h in
-    omega (arith, ap length g.parts, length-append front (b ∷ rest))
+    omega (arith, ap length g.parts, length-append prefix (b ∷ rest))
 
 both_most : (xs ys : Sexps) (a b : Sexps) → ys ≡ append xs a → xs ≡ append ys b → xs ≡ ys
 both_most xs ys a b e f =
     let none : a ≡ Nil = nil_if_none a (omega (arith, ap count e, ap count f, count-append xs a, count-append ys b)) in
     sym (e ∙ ap (append xs) none ∙ append_nil xs)
 
-one_whole : (limit : ℕ) (front : List ℕ) (xs ys : Sexps) → AreWhole limit front xs → AreWhole limit front ys → xs ≡ ys
-one_whole limit front xs ys a b =
+one_complete : (limit : ℕ) (prefix : List ℕ) (xs ys : Sexps) → AreComplete limit prefix xs → AreComplete limit prefix ys → xs ≡ ys
+one_complete limit prefix xs ys a b =
     let f = a.most ys b.settled in
     let g = b.most xs a.settled in
     both_most xs ys g.0 f.0 g.1 f.1
 
-not_both : (limit : ℕ) (text front : List ℕ) (b : ℕ) (rest longer : List ℕ) (c : ℕ) (other : List ℕ) → GoodFront limit text front (b ∷ rest) → GoodFront limit text longer (c ∷ other) → (((depth : ℕ) × Begins depth (front ++ b ∷ [])) → ⊥) → ((depth : ℕ) × Begins depth (longer ++ c ∷ [])) → ⊥
-not_both limit text front b rest longer c other g h never deeper =
-    let same = one_front limit text front (b ∷ rest) longer (c ∷ other) g h in
+not_both : (limit : ℕ) (text prefix : List ℕ) (b : ℕ) (rest longer : List ℕ) (c : ℕ) (other : List ℕ) → LongestPrefix limit text prefix (b ∷ rest) → LongestPrefix limit text longer (c ∷ other) → (((depth : ℕ) × Begins depth (prefix ++ b ∷ [])) → ⊥) → ((depth : ℕ) × Begins depth (longer ++ c ∷ [])) → ⊥
+not_both limit text prefix b rest longer c other g h never deeper =
+    let same = one_prefix limit text prefix (b ∷ rest) longer (c ∷ other) g h in
     let tails = same.1 in
     let bytes : c ≡ b = cc in
-    let texts : longer ++ c ∷ [] ≡ front ++ b ∷ [] = ap (λ x. x ++ c ∷ []) (sym same.0) ∙ ap (λ x. front ++ x ∷ []) bytes in
+    let texts : longer ++ c ∷ [] ≡ prefix ++ b ∷ [] = ap (λ x. x ++ c ∷ []) (sym same.0) ∙ ap (λ x. prefix ++ x ∷ []) bytes in
     never (deeper.0, subst (Begins deeper.0) texts deeper.1)
 
 -- a text has one fault
@@ -245,10 +245,10 @@ same_fault limit text (End m) (Deep n) a b = absurd (no_stop limit text b.0 b.1 
 same_fault limit text (Byte m) (End n) a b = absurd (no_stop limit text a.0 a.1 a.2 b.1 a.4)
 same_fault limit text (Deep m) (End n) a b = absurd (no_stop limit text a.0 a.1 a.2 b.1 a.4)
 same_fault limit text (Byte m) (Byte n) a b =
-    let same = one_front limit text a.0 (a.1 ∷ a.2) b.0 (b.1 ∷ b.2) a.4 b.4 in
+    let same = one_prefix limit text a.0 (a.1 ∷ a.2) b.0 (b.1 ∷ b.2) a.4 b.4 in
     ap Byte (a.3 ∙ ap length same.0 ∙ sym b.3)
 same_fault limit text (Deep m) (Deep n) a b =
-    let same = one_front limit text a.0 (a.1 ∷ a.2) b.0 (b.1 ∷ b.2) a.4 b.4 in
+    let same = one_prefix limit text a.0 (a.1 ∷ a.2) b.0 (b.1 ∷ b.2) a.4 b.4 in
     ap Deep (a.3 ∙ ap length same.0 ∙ sym b.3)
 same_fault limit text (Byte m) (Deep n) a b = absurd (not_both limit text a.0 a.1 a.2 b.0 b.1 b.2 a.4 b.4 a.5 b.5)
 same_fault limit text (Deep m) (Byte n) a b = absurd (not_both limit text b.0 b.1 b.2 a.0 a.1 a.2 b.4 a.4 b.5 a.5)
@@ -275,13 +275,13 @@ none_some limit false text xs ys f a b = no_fault_begun limit text f a.0 (inr b.
 -- what is read of a text is one answer
 pub one_reading : (limit : ℕ) (ended : Bool) (text : List ℕ) (xs ys : Sexps) (f g : Option TextFault) → Reads limit ended text xs f → Reads limit ended text ys g → (xs ≡ ys) × (f ≡ g)
 one_reading limit true text xs ys None None a b = (one_forest limit limit text xs ys a b, refl)
-one_reading limit false text xs ys None None a b = (one_whole limit text xs ys a.1 b.1, refl)
+one_reading limit false text xs ys None None a b = (one_complete limit text xs ys a.1 b.1, refl)
 one_reading limit ended text xs ys None (Some g) a b = absurd (none_some limit ended text xs ys g a b)
 one_reading limit ended text xs ys (Some f) None a b = absurd (none_some limit ended text ys xs f b a)
 one_reading limit ended text xs ys (Some f) (Some g) a b =
-    let same = one_front limit text a.2.0 a.2.1 b.2.0 b.2.1 a.2.2 b.2.2 in
-    (one_whole limit b.2.0 xs ys (subst (λ t. AreWhole limit t xs) same.0 a.2.3) b.2.3, ap Some (same_fault limit text f g a.0 b.0))
+    let same = one_prefix limit text a.2.0 a.2.1 b.2.0 b.2.1 a.2.2 b.2.2 in
+    (one_complete limit b.2.0 xs ys (subst (λ t. AreComplete limit t xs) same.0 a.2.3) b.2.3, ap Some (same_fault limit text f g a.0 b.0))
 
--- whole trees stay, whatever comes
-pub whole_trees_stay : (limit : ℕ) (front more : List ℕ) (xs ys : Sexps) → AreWhole limit front xs → AreWhole limit (front ++ more) ys → (later : Sexps) × (ys ≡ append xs later)
-whole_trees_stay limit front more xs ys a b = b.most xs (settled_more limit front more xs a.settled)
+-- complete trees stay, whatever comes
+pub complete_trees_stay : (limit : ℕ) (prefix more : List ℕ) (xs ys : Sexps) → AreComplete limit prefix xs → AreComplete limit (prefix ++ more) ys → (later : Sexps) × (ys ≡ append xs later)
+complete_trees_stay limit prefix more xs ys a b = b.most xs (settled_more limit prefix more xs a.settled)

@@ -9,7 +9,7 @@ use Rattle.smt_text.proofs.Spell.{run-cons, run-append}
 use Rattle.smt_text.specs.Grammar.{OpenParenthesis, CloseParenthesis}
 use Rattle.smt_text.specs.History.{is_finished, bytes_fed, fault_of, trees_ready, Keeps, StandsFor, Answers}
 use Rattle.smt_text.specs.Lexical.{class_of}
-use Rattle.smt_text.specs.Machine.{Levels, On, State, At, start, add, atom_of, add_if, flush, after, act, settle, grow, step_by, step, run, depth_of, top_of, whole_of, IsStuck, Leaves, blame}
+use Rattle.smt_text.specs.Machine.{Levels, On, State, At, start, add, atom_of, add_if, flush, after, act, settle, grow, step_by, step, run, depth_of, top_of, complete_of, IsStuck, Leaves, blame}
 use Rattle.smt_text.specs.Reading.{Reads}
 use Rattle.smt_text.specs.ReaderState.{lists_of, state_of, under, after_taken, Goes, Ends}
 use Rattle.smt_text.specs.Sexp.{Sexp, Sexps, Items, Nil, Cons, append}
@@ -110,17 +110,17 @@ stands_step old new byte (Err fault) fed taken e e' n count f (inl m) h =
 stands_step old new byte (Err fault) fed taken e e' n count f (inr stuck) h =
     let before = runs_on old fed taken h e n in
     let stops : step MAX_DEPTH (after_taken taken (state_of old)) byte ≡ None = step_after MAX_DEPTH taken (state_of old) byte (class_of byte) ∙ ap (after_if taken) stuck.0 in
-    let is_stuck : IsStuck MAX_DEPTH (fed ++ byte ∷ []) (after_taken taken (state_of old)) fault = record { front = fed; byte = byte; rest = []; parts = refl; runs = before; stops = stops; is = stuck.1 ∙ ap (λ p. blame p (class_of byte)) h.0 } in
+    let is_stuck : IsStuck MAX_DEPTH (fed ++ byte ∷ []) (after_taken taken (state_of old)) fault = record { prefix = fed; byte = byte; rest = []; parts = refl; runs = before; stops = stops; is = stuck.1 ∙ ap (λ p. blame p (class_of byte)) h.0 } in
     stands_if new (fed ++ byte ∷ []) taken (Some fault) (omega (arith, h.0, length-append fed (byte ∷ []))) e' f
     (subst (λ s. IsStuck MAX_DEPTH (fed ++ byte ∷ []) (after_taken taken s) fault) (sym stuck.2) is_stuck)
 
 -- one more byte after a fault
 stuck_more : (limit : ℕ) (text more : List ℕ) (s : State) (fault : TextFault) → IsStuck limit text s fault → IsStuck limit (text ++ more) s fault
 stuck_more limit text more s fault h = record {
-  front = h.front;
+  prefix = h.prefix;
   byte = h.byte;
   rest = h.rest ++ more;
-  parts = ap (λ x. x ++ more) h.parts ∙ append_assoc h.front (h.byte ∷ h.rest) more;
+  parts = ap (λ x. x ++ more) h.parts ∙ append_assoc h.prefix (h.byte ∷ h.rest) more;
   runs = h.runs;
   stops = h.stops;
   is = h.is;
@@ -161,7 +161,7 @@ stands_finish old new (Ok done) fed taken e e' n count f ends h =
     let before = runs_on old fed taken h e n in
     let flat = at_top (flush (state_of old)) (depth_of-flush (state_of old) ∙ ends.0) in
     let closed : flush (after_taken taken (state_of old)) ≡ On [] (append taken (top_of (flush (state_of old)))) = flush_after taken (state_of old) ∙ ap (under taken) flat in
-    let ready : top_of (flush (state_of old)) ≡ trees_ready new = ap whole_of ends.1 in
+    let ready : top_of (flush (state_of old)) ≡ trees_ready new = ap complete_of ends.1 in
     stands_ended new fed taken None (count ∙ h.0) e' f (ends_outside MAX_DEPTH fed (after_taken taken (state_of old)) (append taken (trees_ready new)) before (closed ∙ ap (λ x. On [] (append taken x)) ready))
 stands_finish old new (Err fault) fed taken e e' n count f (inl m) h = (count ∙ h.0, inl (f ∙ ap Some m))
 stands_finish old new (Err fault) fed taken e e' n count f (inr stuck) h =
@@ -169,7 +169,7 @@ stands_finish old new (Err fault) fed taken e e' n count f (inr stuck) h =
     let i = inside (flush (state_of old)) (omega (arith, stuck.0, depth_of-flush (state_of old))) in
     let open_list : flush (after_taken taken (state_of old)) ≡ On (i.parts ∷ i.lists) (append taken i.top) = flush_after taken (state_of old) ∙ ap (under taken) i.is in
     let read = ends_inside MAX_DEPTH fed (after_taken taken (state_of old)) i.parts i.lists (append taken i.top) before open_list in
-    let ready : trees_ready old ≡ trees_ready new = ap whole_of (sym stuck.2) in
+    let ready : trees_ready old ≡ trees_ready new = ap complete_of (sym stuck.2) in
     stands_ended new fed taken (Some (End (length fed))) (count ∙ h.0) e' (f ∙ ap Some (stuck.1 ∙ ap End h.0))
     (subst (λ x. Reads MAX_DEPTH true fed (append taken x) (Some (End (length fed)))) ready read)
 
@@ -179,7 +179,7 @@ stopped old new fed taken (Some fault) some is e count f same (inl m) = (count, 
 stopped old new fed taken (Some fault) some is e count f same (inr k) =
     let stuck : IsStuck MAX_DEPTH fed (after_taken taken (state_of old)) fault = subst (λ x. Leaves MAX_DEPTH fed (after_taken taken (state_of old)) x) is k in
     let read = stuck_reads MAX_DEPTH true fed (after_taken taken (state_of old)) fault stuck in
-    let ready : trees_ready old ≡ trees_ready new = ap whole_of (sym same) in
+    let ready : trees_ready old ≡ trees_ready new = ap complete_of (sym same) in
     stands_ended new fed taken (Some fault) count e (f ∙ is) (subst (λ x. Reads MAX_DEPTH true fed (append taken x) (Some fault)) ready read)
 
 pub stands_stop : (old new : Reader) (fed : List ℕ) (taken : Sexps) → is_finished old ≡ false → is_finished new ≡ true → is_some (fault_of old) ≡ true → bytes_fed new ≡ bytes_fed old → fault_of new ≡ fault_of old → state_of new ≡ state_of old → StandsFor old fed taken → StandsFor new fed taken

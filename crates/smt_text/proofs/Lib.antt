@@ -2,8 +2,8 @@ pub mod SexpLemmas
 pub mod Words
 pub mod Spell
 pub mod Sound
-pub mod Fronts
-pub mod Whole
+pub mod Prefixes
+pub mod Complete
 pub mod Faults
 pub mod Levels
 pub mod Histories

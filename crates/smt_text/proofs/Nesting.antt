@@ -37,7 +37,7 @@ reads_at (suc n) h =
 
 pub reads_past : (limit : ℕ) → Reads limit true (replicate (limit + 1) 40) Nil (Some (Deep limit))
 reads_past limit = stuck_reads limit true (replicate (limit + 1) 40) (At Nothing [] (On (replicate limit Nil) Nil)) (Deep limit) record {
-  front = replicate limit 40;
+  prefix = replicate limit 40;
   byte = 40;
   rest = [];
   parts = sym (replicate-append-replicate limit 1 40);

@@ -23,7 +23,7 @@ bytes_fed reader = reader.fed
 abbrev pub fault_of : Reader → Option TextFault
 fault_of reader = reader.fault
 
--- the trees that are whole and were not handed out
+-- the trees that are complete and were not handed out
 abbrev pub trees_ready : Reader → Sexps
 trees_ready reader = sexps_of reader.builder.ready.items
 

@@ -153,13 +153,13 @@ blame place _ = Byte place
 
 -- the text, in which no text goes on with one byte, up to that byte
 pub record IsStuck (limit : ℕ) (text : List ℕ) (s : State) (fault : TextFault) : Type 0 where
-  pub front : List ℕ
+  pub prefix : List ℕ
   pub byte : ℕ
   pub rest : List ℕ
-  pub parts : text ≡ front ++ byte ∷ rest
-  pub runs : run limit start front ≡ Some s
+  pub parts : text ≡ prefix ++ byte ∷ rest
+  pub runs : run limit start prefix ≡ Some s
   pub stops : step limit s byte ≡ None
-  pub is : fault ≡ blame (length front) (class_of byte)
+  pub is : fault ≡ blame (length prefix) (class_of byte)
 
 -- the state and the fault that a text leaves, while more of it may come
 abbrev pub Leaves : ℕ → List ℕ → State → Option TextFault → Type 0
@@ -176,9 +176,9 @@ depth_of (On lists top) = length lists
 abbrev pub depth_in : State → ℕ
 depth_in (At shape bytes levels) = depth_of levels
 
--- the trees that are whole
-abbrev pub whole_of : State → Sexps
-whole_of (At shape bytes levels) = top_of levels
+-- the trees that are complete
+abbrev pub complete_of : State → Sexps
+complete_of (At shape bytes levels) = top_of levels
 
 -- the atom that has begun ends here
 abbrev pub at_rest : State → State

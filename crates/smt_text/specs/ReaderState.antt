@@ -11,7 +11,7 @@ use Rattle.smt_text.specs.declared.building.Builder.{Builder}
 use Rattle.smt_text.specs.declared.reading.Reader.{Reader}
 use Rattle.smt_text.specs.declared.syntax.Tree.{Tree}
 
--- the trees of lists that are not closed, the outermost list first, in front of those of lists around them
+-- the trees of lists that are not closed, the outermost list first, in prefix of those of lists around them
 abbrev pub lists_of : List (Vec Tree Global) → List Sexps → List Sexps
 lists_of [] around = around
 lists_of (parts ∷ inner) around = lists_of inner (sexps_of parts.items ∷ around)

@@ -9,40 +9,40 @@ use Rattle.smt_text.specs.declared.fault.TextFault.TheVariants.{Byte, Deep, End,
 
 -- some text of trees begins so
 abbrev pub Begins : ℕ → List ℕ → Type 0
-Begins limit front = (more : List ℕ) × (trees : Sexps) × Forest limit (front ++ more) trees
+Begins limit prefix = (more : List ℕ) × (trees : Sexps) × Forest limit (prefix ++ more) trees
 
 -- the text has trees
 abbrev pub IsForest : ℕ → List ℕ → Type 0
 IsForest limit text = (trees : Sexps) × Forest limit text trees
 
--- the longest front of the text that begins some text of trees, and what follows it
-pub record GoodFront (limit : ℕ) (text front rest : List ℕ) : Type 0 where
-  pub parts : text ≡ front ++ rest
-  pub begins : Begins limit front
-  pub longest : (longer other : List ℕ) → text ≡ longer ++ other → Begins limit longer → length longer ≤ length front
+-- the longest prefix of the text that begins some text of trees, and what follows it
+pub record LongestPrefix (limit : ℕ) (text prefix rest : List ℕ) : Type 0 where
+  pub parts : text ≡ prefix ++ rest
+  pub begins : Begins limit prefix
+  pub longest : (longer other : List ℕ) → text ≡ longer ++ other → Begins limit longer → length longer ≤ length prefix
 
 -- the last tree is a list
 abbrev pub EndsWithList : Sexps → Type 0
-EndsWithList trees = (front : Sexps) × (parts : Sexps) × (trees ≡ append front (Cons (Items parts) Nil))
+EndsWithList trees = (prefix : Sexps) × (parts : Sexps) × (trees ≡ append prefix (Cons (Items parts) Nil))
 
 -- white space or a parenthesis follows
 abbrev pub IsFollowed : List ℕ → Type 0
 IsFollowed rest =
     (b : ℕ) × (bs : List ℕ) × (rest ≡ b ∷ bs) × ((class_of b ≡ White) ⊎ ((class_of b ≡ Open) ⊎ (class_of b ≡ Close)))
 
--- these are the trees of a beginning of the front that is empty, ends with a list, or is followed by white space or a parenthesis:
--- so the last of them is whole, whatever comes
-pub record AreSettled (limit : ℕ) (front : List ℕ) (trees : Sexps) : Type 0 where
+-- these are the trees of a beginning of the prefix that is empty, ends with a list, or is followed by white space or a parenthesis:
+-- so the last of them is complete, whatever comes
+pub record AreSettled (limit : ℕ) (prefix : List ℕ) (trees : Sexps) : Type 0 where
   pub beginning : List ℕ
   pub rest : List ℕ
-  pub parts : front ≡ beginning ++ rest
+  pub parts : prefix ≡ beginning ++ rest
   pub forest : Forest limit beginning trees
   pub settled : (beginning ≡ []) ⊎ (EndsWithList trees ⊎ IsFollowed rest)
 
--- the whole trees of a front: those of its longest such beginning
-pub record AreWhole (limit : ℕ) (front : List ℕ) (trees : Sexps) : Type 0 where
-  pub settled : AreSettled limit front trees
-  pub most : (others : Sexps) → AreSettled limit front others → (later : Sexps) × (trees ≡ append others later)
+-- the complete trees of a prefix: those of its longest such beginning
+pub record AreComplete (limit : ℕ) (prefix : List ℕ) (trees : Sexps) : Type 0 where
+  pub settled : AreSettled limit prefix trees
+  pub most : (others : Sexps) → AreSettled limit prefix others → (later : Sexps) × (trees ≡ append others later)
 
 -- which fault a text has that is none of trees
 --     End      it might have gone on, and ends inside a list
@@ -51,9 +51,9 @@ pub record AreWhole (limit : ℕ) (front : List ℕ) (trees : Sexps) : Type 0 wh
 abbrev pub HasFault : ℕ → List ℕ → TextFault → Type 0
 HasFault limit text (End place) = (place ≡ length text) × Begins limit text × (IsForest limit text → ⊥)
 HasFault limit text (Deep place) =
-    (front : List ℕ) × (b : ℕ) × (rest : List ℕ) × (place ≡ length front) × GoodFront limit text front (b ∷ rest) × ((depth : ℕ) × Begins depth (front ++ b ∷ []))
+    (prefix : List ℕ) × (b : ℕ) × (rest : List ℕ) × (place ≡ length prefix) × LongestPrefix limit text prefix (b ∷ rest) × ((depth : ℕ) × Begins depth (prefix ++ b ∷ []))
 HasFault limit text (Byte place) =
-    (front : List ℕ) × (b : ℕ) × (rest : List ℕ) × (place ≡ length front) × GoodFront limit text front (b ∷ rest) × (((depth : ℕ) × Begins depth (front ++ b ∷ [])) → ⊥)
+    (prefix : List ℕ) × (b : ℕ) × (rest : List ℕ) × (place ≡ length prefix) × LongestPrefix limit text prefix (b ∷ rest) × (((depth : ℕ) × Begins depth (prefix ++ b ∷ [])) → ⊥)
 HasFault limit text Memory = ⊥
 
 -- a text that ends inside a list has this fault only once its end was told
@@ -66,6 +66,6 @@ IsTold ended Memory = Unit {0}
 -- what is read of the text: the trees, and the fault after them, if there is one. `ended` says that no more of the text comes
 abbrev pub Reads : ℕ → Bool → List ℕ → Sexps → Option TextFault → Type 0
 Reads limit true text trees None = Forest limit text trees
-Reads limit false text trees None = Begins limit text × AreWhole limit text trees
+Reads limit false text trees None = Begins limit text × AreComplete limit text trees
 Reads limit ended text trees (Some fault) =
-    HasFault limit text fault × IsTold ended fault × ((front rest : List ℕ) × GoodFront limit text front rest × AreWhole limit front trees)
+    HasFault limit text fault × IsTold ended fault × ((prefix rest : List ℕ) × LongestPrefix limit text prefix rest × AreComplete limit prefix trees)

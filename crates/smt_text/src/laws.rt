@@ -2,7 +2,7 @@
 
 ghost use Rattle.std.specs.Prelude.{◌≡◌, ℕ, List, ◌++◌, Bool, Option};
 ghost use Rattle.smt_text.specs.Grammar.{Forest};
-ghost use Rattle.smt_text.specs.Reading.{Begins, AreWhole, Reads};
+ghost use Rattle.smt_text.specs.Reading.{Begins, AreComplete, Reads};
 ghost use Rattle.smt_text.specs.Sexp.{Sexps, append};
 ghost use Rattle.smt_text.specs.declared.fault.TextFault.{TextFault as Fault};
 
@@ -21,7 +21,7 @@ pub fn every_text_reads()
     ensures some { (limit : ℕ) (ended : Bool) (text : List ℕ) → (trees : Sexps) × (fault : Option Fault) × Reads limit ended text trees fault }
 {}
 
-/// The whole trees of the front of a text stay, in their order, whatever comes after it.
-pub fn whole_trees_stay()
-    ensures stay { (limit : ℕ) (front more : List ℕ) (xs ys : Sexps) → Begins limit (front ++ more) → AreWhole limit front xs → AreWhole limit (front ++ more) ys → (later : Sexps) × (ys ≡ append xs later) }
+/// The complete trees of a prefix of a text stay, in their order, whatever comes after it.
+pub fn complete_trees_stay()
+    ensures stay { (limit : ℕ) (prefix more : List ℕ) (xs ys : Sexps) → Begins limit (prefix ++ more) → AreComplete limit prefix xs → AreComplete limit (prefix ++ more) ys → (later : Sexps) × (ys ≡ append xs later) }
 {}

@@ -25,7 +25,7 @@ pub const MAX_DEPTH: usize = 1000;
 pub enum Next {
     /// The next tree, in the order of the text.
     Tree(Tree),
-    /// No whole tree is left, and more bytes may come.
+    /// No complete tree is left, and more bytes may come.
     Wait,
     /// The text has ended, without a fault, and no tree is left.
     End,

@@ -11,7 +11,7 @@ use Rattle.smtcheck.proofs.EndLemmas.{all_commands, any-append, ends_clean, inva
 use Rattle.smtcheck.proofs.HeadlineLemmas.{closed_value, confirmed_at, is_false_value, lines_at, lines_of_sat_at}
 use Rattle.smtcheck.specs.Dialogue.Command.{Command, DeclareConst, Assert, CheckSat, GetModel}
 use Rattle.smtcheck.specs.Dialogue.Ending.{limit, lines_of_end}
-use Rattle.smtcheck.specs.Dialogue.Headline.{IsInvalid, IsPairedWhole, IsValid}
+use Rattle.smtcheck.specs.Dialogue.Headline.{IsInvalid, IsFullyPaired, IsValid}
 use Rattle.smtcheck.specs.Dialogue.InForce.{Assertion, assertions_after, assertions_by, assertions_from, names_after}
 use Rattle.smtcheck.specs.Dialogue.Lines.{checks_in, is_empty, is_fault_line, is_refuted_line, is_undecided_line, line_of_judgement, lines_in, lines_of_pair, lines_of_sat, or_line, sat_lines, tally_of, unconfirmed_line, verdict_of}
 use Rattle.smtcheck.specs.Dialogue.Pairing.{IsPairing, Pair, is_effective, is_symbol}
@@ -35,8 +35,8 @@ use Rattle.smtcheck.specs.declared.report.Verdict.TheVariants.{Valid, Invalid}
 
 -- ## A dialogue without the line of a fault is paired whole
 
-pub paired_whole : (script answers : List ℕ) (st at' : Sexps) (sf af : Option TextFault) (ls : List Line) (v : Verdict) → Reads limit true script st sf → Reads limit true answers at' af → (j : IsJudged st at' sf af ls v) → list_any is_fault_line (lines_in true [] j.pairs [] ++ lines_of_end j.fault) ≡ false → IsPairedWhole script answers j.pairs × (j.fault ≡ None)
-paired_whole script answers st at' sf af ls v rs ra j h =
+pub fully_paired : (script answers : List ℕ) (st at' : Sexps) (sf af : Option TextFault) (ls : List Line) (v : Verdict) → Reads limit true script st sf → Reads limit true answers at' af → (j : IsJudged st at' sf af ls v) → list_any is_fault_line (lines_in true [] j.pairs [] ++ lines_of_end j.fault) ≡ false → IsFullyPaired script answers j.pairs × (j.fault ≡ None)
+fully_paired script answers st at' sf af ls v rs ra j h =
     let clean = ends_clean j.pairs j.later sf j.rest af j.fault j.ends (none_of is_fault_line (lines_in true [] j.pairs []) (lines_of_end j.fault) h).1 in
     let one : IsPairing j.pairs st Nil at' j.rest = subst (λ (t : Sexps). IsPairing j.pairs st t at' j.rest) clean.trees j.pairing in (
       record {
@@ -50,8 +50,8 @@ paired_whole script answers st at' sf af ls v rs ra j h =
     )
 
 -- there is one such pairing
-pub one_whole : (script answers : List ℕ) (xs ys : List Pair) → IsPairedWhole script answers xs → IsPairedWhole script answers ys → xs ≡ ys
-one_whole script answers xs ys a b =
+pub one_complete : (script answers : List ℕ) (xs ys : List Pair) → IsFullyPaired script answers xs → IsFullyPaired script answers ys → xs ≡ ys
+one_complete script answers xs ys a b =
     let same_script : b.script_trees ≡ a.script_trees = text.one_forest limit limit script b.script_trees a.script_trees b.script_forest a.script_forest in
     let same_answers : b.answer_trees ≡ a.answer_trees = text.one_forest limit limit answers b.answer_trees a.answer_trees b.answers_forest a.answers_forest in
     let once : IsPairing ys a.script_trees Nil b.answer_trees Nil = subst (λ (t : Sexps). IsPairing ys t Nil b.answer_trees Nil) same_script b.pairing in
@@ -64,11 +64,11 @@ pub valid_means : (script answers : List ℕ) (st at' : Sexps) (sf af : Option T
 valid_means script answers st at' sf af ls v rs ra j h =
     let mine = lines_in true [] j.pairs [] in
     let tests = valid_lines (mine ++ lines_of_end j.fault) (sym j.verdict_is ∙ h) in
-    let whole = (paired_whole script answers st at' sf af ls v rs ra j tests.0).0 in
+    let whole = (fully_paired script answers st at' sf af ls v rs ra j tests.0).0 in
     record {
       pairs = j.pairs;
       paired = whole;
-      only = λ others other. one_whole script answers others j.pairs other whole;
+      only = λ others other. one_complete script answers others j.pairs other whole;
       confirmed = λ before after a place sat. confirmed_at j.pairs before after a place j.faultless (none_of is_refuted_line mine (lines_of_end j.fault) tests.1).0 (none_of is_undecided_line mine (lines_of_end j.fault) tests.2).0 sat;
     }
 
@@ -297,7 +297,7 @@ pub invalid_means : (script answers : List ℕ) (st at' : Sexps) (sf af : Option
 invalid_means script answers st at' sf af ls v rs ra j h =
     let mine = lines_in true [] j.pairs [] in
     let tests = invalid_lines (mine ++ lines_of_end j.fault) (sym j.verdict_is ∙ h) in
-    let whole = paired_whole script answers st at' sf af ls v rs ra j tests.0 in
+    let whole = fully_paired script answers st at' sf af ls v rs ra j tests.0 in
     let no_fault : mine ++ lines_of_end j.fault ≡ mine = ap (λ (f : Option Line). mine ++ lines_of_end f) whole.1 ∙ append-nil mine in
     let at_pair = some_line is_refuted_line [] j.pairs (ap (list_any is_refuted_line) (sym no_fault) ∙ tests.1) in
     let before = at_pair.first in

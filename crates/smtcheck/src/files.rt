@@ -38,8 +38,8 @@ pub fn run<R: Files + AllocGlobal + Print>(rt: &R, settings: Settings) -> Result
     let Ok(mut answers) = fs::open(rt, settings.answers) else {
         return Err(RunFault::Answers);
     };
-    let script = read_whole(rt.alloc(), &mut script).ok_or(RunFault::Script)?;
-    let answers = read_whole(rt.alloc(), &mut answers).ok_or(RunFault::Answers)?;
+    let script = contents_of(rt.alloc(), &mut script).ok_or(RunFault::Script)?;
+    let answers = contents_of(rt.alloc(), &mut answers).ok_or(RunFault::Answers)?;
     let Ok(report) = validate(
         rt.alloc(),
         script.as_slice(),
@@ -55,7 +55,7 @@ pub fn run<R: Files + AllocGlobal + Print>(rt: &R, settings: Settings) -> Result
 }
 
 // The bytes of a file, to its end.
-fn read_whole<F: Read>(alloc: Global, file: &mut F) -> Option<Vec<u8>> {
+fn contents_of<F: Read>(alloc: Global, file: &mut F) -> Option<Vec<u8>> {
     let mut bytes = Vec::new(alloc);
     file.read_to_end(&mut bytes).ok()?;
     Some(bytes)

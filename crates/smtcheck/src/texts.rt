@@ -1,4 +1,4 @@
-//! Whole texts.
+//! Complete texts.
 
 ghost use Rattle.std.specs.Prelude.{◌≡◌, ◌≢◌, true, Some, None, IfOk, MatchOption};
 ghost use Rattle.smt_text.specs.Reading.{Reads};

@@ -19,7 +19,7 @@ use Rattle.smtcheck.specs.declared.report.Line.TheVariants.{Refuted}
 use Rattle.smtcheck.specs.declared.terms.sorts.Sort.TheVariants.{Bool as Boolean}
 
 -- both texts are of trees, and the pairs pair every command with every answer
-pub record IsPairedWhole (script answers : List ℕ) (pairs : List Pair) : Type 0 where
+pub record IsFullyPaired (script answers : List ℕ) (pairs : List Pair) : Type 0 where
   pub script_trees : Sexps
   pub script_forest : Forest limit script script_trees
   pub answer_trees : Sexps
@@ -53,15 +53,15 @@ pub record IsConfirmed (before after : List Pair) : Type 0 where
 -- what a valid verdict means
 pub record IsValid (script answers : List ℕ) : Type 0 where
   pub pairs : List Pair
-  pub paired : IsPairedWhole script answers pairs
-  pub only : (others : List Pair) → IsPairedWhole script answers others → others ≡ pairs
+  pub paired : IsFullyPaired script answers pairs
+  pub only : (others : List Pair) → IsFullyPaired script answers others → others ≡ pairs
   pub confirmed : (before after : List Pair) (answer : Sexp) → pairs ≡ before ++ record { command = CheckSat; answer = Some answer } ∷ after → is_symbol (codes "sat") answer ≡ true → IsConfirmed before after
 
 -- what an invalid verdict means: in the window of a check that was answered `sat` stands a complete, well-sorted model that makes an
 -- assertion in force false, and the report has the line that says so
 pub record IsInvalid (script answers : List ℕ) (ls : List Line) : Type 0 where
   pub pairs : List Pair
-  pub paired : IsPairedWhole script answers pairs
+  pub paired : IsFullyPaired script answers pairs
   pub before : List Pair
   pub answer : Sexp
   pub after : List Pair

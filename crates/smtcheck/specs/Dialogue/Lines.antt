@@ -127,4 +127,4 @@ with_verdict ls = ls ++ lines.Verdict (verdict_of ls) (tally_of ls) ∷ []
 
 -- the last line is that of the verdict
 abbrev pub IsVerdictOf : Verdict → List Line → Type 0
-IsVerdictOf verdict ls = (front : List Line) × (tally : Tally) × (ls ≡ front ++ lines.Verdict verdict tally ∷ [])
+IsVerdictOf verdict ls = (prefix : List Line) × (tally : Tally) × (ls ≡ prefix ++ lines.Verdict verdict tally ∷ [])

@@ -8,19 +8,19 @@ use Rattle.smt_text.specs.declared.reading.TheConstants.{MAX_DEPTH}
 use Rattle.smt_text.proofs.examples.faults.Goals as goal
 
 stuck_closed : IsStuck MAX_DEPTH (codes "sat)") (At shape.Symbol (codes "sat") (On [] Nil)) (Byte 3)
-stuck_closed = record { front = codes "sat"; byte = 41; rest = []; parts = refl; runs = refl; stops = refl; is = refl }
+stuck_closed = record { prefix = codes "sat"; byte = 41; rest = []; parts = refl; runs = refl; stops = refl; is = refl }
 
 stuck_numeral : IsStuck MAX_DEPTH (codes "1a") (At shape.Numeral (codes "1") (On [] Nil)) (Byte 1)
-stuck_numeral = record { front = codes "1"; byte = 97; rest = []; parts = refl; runs = refl; stops = refl; is = refl }
+stuck_numeral = record { prefix = codes "1"; byte = 97; rest = []; parts = refl; runs = refl; stops = refl; is = refl }
 
 stuck_zero : IsStuck MAX_DEPTH (codes "01") (At shape.Zero (codes "0") (On [] Nil)) (Byte 1)
-stuck_zero = record { front = codes "0"; byte = 49; rest = []; parts = refl; runs = refl; stops = refl; is = refl }
+stuck_zero = record { prefix = codes "0"; byte = 49; rest = []; parts = refl; runs = refl; stops = refl; is = refl }
 
 stuck_after_a_tree : IsStuck MAX_DEPTH (codes "(a) 01") (At shape.Zero (codes "0") (On [] (Cons (Items (Cons (Atom Symbol (codes "a")) Nil)) Nil))) (Byte 5)
-stuck_after_a_tree = record { front = codes "(a) 0"; byte = 49; rest = []; parts = refl; runs = refl; stops = refl; is = refl }
+stuck_after_a_tree = record { prefix = codes "(a) 0"; byte = 49; rest = []; parts = refl; runs = refl; stops = refl; is = refl }
 
 stuck_quoted : IsStuck MAX_DEPTH (codes "|a|") (start) (Byte 0)
-stuck_quoted = record { front = []; byte = 124; rest = codes "a|"; parts = refl; runs = refl; stops = refl; is = refl }
+stuck_quoted = record { prefix = []; byte = 124; rest = codes "a|"; parts = refl; runs = refl; stops = refl; is = refl }
 
 pub returns : goal.returns
 returns c = record {

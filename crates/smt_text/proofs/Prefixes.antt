@@ -1,4 +1,4 @@
--- Which fronts of texts run, and which trees of them are whole.
+-- Which prefixes of texts run, and which trees of them are complete.
 use Rattle.std.proofs.Common.{◌≡◌, ◌⊎◌, ◌<◌, ◌≤◌, ℕ, suc, zero, List, [], ◌∷◌, ◌++◌, length, Option, Some, None, Bool, true, false, ltb, cond, refl, sym, ap, ◌∙◌, inl, inr, arith, subst}
 use Rattle.std.proofs.lemmas.Bool.{cases_lt}
 use Rattle.std.proofs.lemmas.List.{append-nil, length-append}
@@ -7,8 +7,8 @@ use Rattle.smt_text.proofs.Sound.{forest-read}
 use Rattle.smt_text.proofs.Spell.{run-cons, run-append, reads-forest, depth_of-add}
 use Rattle.smt_text.specs.Grammar.{OpenParenthesis, CloseParenthesis}
 use Rattle.smt_text.specs.Lexical.{class_of}
-use Rattle.smt_text.specs.Machine.{Levels, On, State, At, start, add, atom_of, add_if, flush, after, act, settle, grow, step_by, step, go_on, run, depth_of, top_of, whole_of}
-use Rattle.smt_text.specs.Reading.{Begins, GoodFront}
+use Rattle.smt_text.specs.Machine.{Levels, On, State, At, start, add, atom_of, add_if, flush, after, act, settle, grow, step_by, step, go_on, run, depth_of, top_of, complete_of}
+use Rattle.smt_text.specs.Reading.{Begins, LongestPrefix}
 use Rattle.smt_text.specs.Sexp.{Sexp, Sexps, Items, Nil, Cons, append}
 use Rattle.smt_text.specs.declared.lexical.Class.{Class}
 use Rattle.smt_text.specs.declared.lexical.Class.TheVariants as class
@@ -16,15 +16,15 @@ use Rattle.smt_text.specs.declared.lexical.Class.TheVariants.{White, Open, Close
 use Rattle.smt_text.specs.declared.lexical.Shape.{Shape}
 use Rattle.smt_text.specs.declared.lexical.Shape.TheVariants.{Nothing}
 
--- a run goes over the front of a text first
+-- a run goes over the prefix of a text first
 pub record Splits (limit : ℕ) (s : State) (xs ys : List ℕ) (end : State) : Type 0 where
   pub mid : State
   pub first : run limit s xs ≡ Some mid
   pub then : run limit mid ys ≡ Some end
 
-run-front : (limit : ℕ) (s : State) (xs ys : List ℕ) (end : State) → run limit s (xs ++ ys) ≡ Some end → Splits limit s xs ys end
-run-front limit s [] ys end e = record { mid = s; first = refl; then = e }
-run-front limit s (b ∷ bs) ys end e = by_step (step limit s b) refl e (λ next. run-front limit next bs ys end)
+run-prefix : (limit : ℕ) (s : State) (xs ys : List ℕ) (end : State) → run limit s (xs ++ ys) ≡ Some end → Splits limit s xs ys end
+run-prefix limit s [] ys end e = record { mid = s; first = refl; then = e }
+run-prefix limit s (b ∷ bs) ys end e = by_step (step limit s b) refl e (λ next. run-prefix limit next bs ys end)
   where
     by_step : (o : Option State) → step limit s b ≡ o → go_on o (λ x. run limit x (bs ++ ys)) ≡ Some end → ((next : State) → run limit next (bs ++ ys) ≡ Some end → Splits limit next bs ys end) → Splits limit s (b ∷ bs) ys end
     by_step None h k later = absurd (cc)
@@ -37,10 +37,10 @@ pub record Runs (limit : ℕ) (text : List ℕ) : Type 0 where
   pub end : State
   pub runs : run limit start text ≡ Some end
 
-pub runs_if_begins : (limit : ℕ) (front : List ℕ) → Begins limit front → Runs limit front
-runs_if_begins limit front h =
-    let all = reads-forest limit (front ++ h.0) h.1 h.2 in
-    let r = run-front limit start front h.0 all.next all.runs in
+pub runs_if_begins : (limit : ℕ) (prefix : List ℕ) → Begins limit prefix → Runs limit prefix
+runs_if_begins limit prefix h =
+    let all = reads-forest limit (prefix ++ h.0) h.1 h.2 in
+    let r = run-prefix limit start prefix h.0 all.next all.runs in
     record { end = r.mid; runs = r.first }
 
 -- the lists that are not closed can be
@@ -67,41 +67,41 @@ can_close (suc n) limit (On (parts ∷ lists) top) s d e =
     }
 
 -- and what runs begins some text of trees
-pub begins_if_runs : (limit : ℕ) (front : List ℕ) (s : State) → run limit start front ≡ Some s → Begins limit front
-begins_if_runs limit front s e =
+pub begins_if_runs : (limit : ℕ) (prefix : List ℕ) (s : State) → run limit start prefix ≡ Some s → Begins limit prefix
+begins_if_runs limit prefix s e =
     let r = can_close (depth_of (flush s)) limit (flush s) s refl refl in
-    (r.more, r.trees, forest-read limit (front ++ r.more) r.end r.trees (run-append limit start s front r.more e ∙ r.runs) r.closed)
+    (r.more, r.trees, forest-read limit (prefix ++ r.more) r.end r.trees (run-append limit start s prefix r.more e ∙ r.runs) r.closed)
 
 -- what goes on past a place begins with the byte there
-prefix_past : (front longer : List ℕ) (b : ℕ) (rest other : List ℕ) → front ++ b ∷ rest ≡ longer ++ other → length front < length longer → (x : List ℕ) × (longer ≡ front ++ b ∷ x)
+prefix_past : (prefix longer : List ℕ) (b : ℕ) (rest other : List ℕ) → prefix ++ b ∷ rest ≡ longer ++ other → length prefix < length longer → (x : List ℕ) × (longer ≡ prefix ++ b ∷ x)
 prefix_past [] [] b rest other e h = absurd (omega arith)
 prefix_past [] (c ∷ longer) b rest other e h = let same : c ≡ b = cc in (longer, ap (λ x. x ∷ longer) same)
-prefix_past (a ∷ front) [] b rest other e h = absurd (omega arith)
-prefix_past (a ∷ front) (c ∷ longer) b rest other e h =
+prefix_past (a ∷ prefix) [] b rest other e h = absurd (omega arith)
+prefix_past (a ∷ prefix) (c ∷ longer) b rest other e h =
     let same : c ≡ a = cc in
-    let tails : front ++ b ∷ rest ≡ longer ++ other = cc in
-    let r = prefix_past front longer b rest other tails (omega arith) in
+    let tails : prefix ++ b ∷ rest ≡ longer ++ other = cc in
+    let r = prefix_past prefix longer b rest other tails (omega arith) in
     (r.0, ap (λ x. x ∷ longer) same ∙ ap (λ x. a ∷ x) r.1)
 
-pub stuck_front : (limit : ℕ) (front : List ℕ) (s : State) (b : ℕ) (rest : List ℕ) → run limit start front ≡ Some s → step limit s b ≡ None → GoodFront limit (front ++ b ∷ rest) front (b ∷ rest)
-stuck_front limit front s b rest e stops = record { parts = refl; begins = begins_if_runs limit front s e; longest = no_longer }
+pub stuck_prefix : (limit : ℕ) (prefix : List ℕ) (s : State) (b : ℕ) (rest : List ℕ) → run limit start prefix ≡ Some s → step limit s b ≡ None → LongestPrefix limit (prefix ++ b ∷ rest) prefix (b ∷ rest)
+stuck_prefix limit prefix s b rest e stops = record { parts = refl; begins = begins_if_runs limit prefix s e; longest = no_longer }
   where
-    past : (longer x : List ℕ) → longer ≡ front ++ b ∷ x → Begins limit longer → length longer ≤ length front
+    past : (longer x : List ℕ) → longer ≡ prefix ++ b ∷ x → Begins limit longer → length longer ≤ length prefix
     past longer x is h =
         let r = runs_if_begins limit longer h in
-        let none : run limit start (front ++ b ∷ x) ≡ None = run-append limit start s front (b ∷ x) e ∙ ap (λ o. go_on o (λ next. run limit next x)) stops in
-        let some : run limit start (front ++ b ∷ x) ≡ Some r.end = ap (run limit start) (sym is) ∙ r.runs in
+        let none : run limit start (prefix ++ b ∷ x) ≡ None = run-append limit start s prefix (b ∷ x) e ∙ ap (λ o. go_on o (λ next. run limit next x)) stops in
+        let some : run limit start (prefix ++ b ∷ x) ≡ Some r.end = ap (run limit start) (sym is) ∙ r.runs in
         absurd (cc)
 
-    by_length : (longer other : List ℕ) → front ++ b ∷ rest ≡ longer ++ other → Begins limit longer → (length front < length longer) ⊎ (length longer ≤ length front) → length longer ≤ length front
+    by_length : (longer other : List ℕ) → prefix ++ b ∷ rest ≡ longer ++ other → Begins limit longer → (length prefix < length longer) ⊎ (length longer ≤ length prefix) → length longer ≤ length prefix
     by_length longer other is h (inr le) = le
-    by_length longer other is h (inl lt) = let x = prefix_past front longer b rest other is lt in past longer x.0 x.1 h
+    by_length longer other is h (inl lt) = let x = prefix_past prefix longer b rest other is lt in past longer x.0 x.1 h
 
-    no_longer : (longer other : List ℕ) → front ++ b ∷ rest ≡ longer ++ other → Begins limit longer → length longer ≤ length front
-    no_longer longer other is h = by_length longer other is h (cases_lt (length front) (length longer))
+    no_longer : (longer other : List ℕ) → prefix ++ b ∷ rest ≡ longer ++ other → Begins limit longer → length longer ≤ length prefix
+    no_longer longer other is h = by_length longer other is h (cases_lt (length prefix) (length longer))
 
-pub whole_front : (limit : ℕ) (text : List ℕ) → Begins limit text → GoodFront limit text text []
-whole_front limit text h = record {
+pub complete_prefix : (limit : ℕ) (text : List ℕ) → Begins limit text → LongestPrefix limit text text []
+complete_prefix limit text h = record {
   parts = sym (append-nil text);
   begins = h;
   longest = λ longer other e b. omega (arith, ap length e, length-append longer other);
@@ -128,7 +128,7 @@ grows-add_if (Some x) levels = grows-add x levels
 grows-is : (xs : Sexps) (levels next : Levels) → Some levels ≡ Some next → Grows xs (top_of levels) → Grows xs (top_of next)
 grows-is xs levels next e h = let same : levels ≡ next = cc in subst (λ x. Grows xs (top_of x)) same h
 
-grows-flush : (s : State) → Grows (whole_of s) (top_of (flush s))
+grows-flush : (s : State) → Grows (complete_of s) (top_of (flush s))
 grows-flush (At shape bytes levels) = grows-add_if (atom_of shape bytes) levels
 
 grows-open : (t : Bool) (lists : List Sexps) (top : Sexps) (next : Levels) → cond t (Some (On (Nil ∷ lists) top)) None ≡ Some next → Grows top (top_of next)
@@ -147,27 +147,27 @@ pub settled-is : (o : Option Levels) (next : State) → settle o ≡ Some next �
 settled-is None next e = absurd (cc)
 settled-is (Some levels) next e = (levels, refl, let same : next ≡ At Nothing [] levels = cc in same)
 
-pub grown-is : (o : Option Shape) (bytes : List ℕ) (levels : Levels) (b : ℕ) (next : State) → grow o bytes levels b ≡ Some next → whole_of next ≡ top_of levels
+pub grown-is : (o : Option Shape) (bytes : List ℕ) (levels : Levels) (b : ℕ) (next : State) → grow o bytes levels b ≡ Some next → complete_of next ≡ top_of levels
 grown-is None bytes levels b next e = absurd (cc)
-grown-is (Some shape) bytes levels b next e = let same : next ≡ At shape (bytes ++ b ∷ []) levels = cc in ap whole_of same
+grown-is (Some shape) bytes levels b next e = let same : next ≡ At shape (bytes ++ b ∷ []) levels = cc in ap complete_of same
 
-grows-step_by : (limit : ℕ) (s : State) (b : ℕ) (c : Class) (next : State) → step_by limit s b c ≡ Some next → Grows (whole_of s) (whole_of next)
-grows-step_by limit s b White next e = let same : At Nothing [] (flush s) ≡ next = cc in subst (λ x. Grows (whole_of s) (whole_of x)) same (grows-flush s)
+grows-step_by : (limit : ℕ) (s : State) (b : ℕ) (c : Class) (next : State) → step_by limit s b c ≡ Some next → Grows (complete_of s) (complete_of next)
+grows-step_by limit s b White next e = let same : At Nothing [] (flush s) ≡ next = cc in subst (λ x. Grows (complete_of s) (complete_of x)) same (grows-flush s)
 grows-step_by limit s b Open next e =
     let o = settled-is (act limit OpenParenthesis (flush s)) next e in
-    subst (λ x. Grows (whole_of s) (whole_of x)) (sym o.2) (grows_trans (whole_of s) (top_of (flush s)) (top_of o.0) (grows-flush s) (grows-opens limit (flush s) o.0 o.1))
+    subst (λ x. Grows (complete_of s) (complete_of x)) (sym o.2) (grows_trans (complete_of s) (top_of (flush s)) (top_of o.0) (grows-flush s) (grows-opens limit (flush s) o.0 o.1))
 grows-step_by limit s b Close next e =
     let o = settled-is (act limit CloseParenthesis (flush s)) next e in
-    subst (λ x. Grows (whole_of s) (whole_of x)) (sym o.2) (grows_trans (whole_of s) (top_of (flush s)) (top_of o.0) (grows-flush s) (grows-close limit (flush s) o.0 o.1))
-grows-step_by limit (At shape bytes levels) b class.Zero next e = grows_same (top_of levels) (whole_of next) (sym (grown-is (after shape class.Zero) bytes levels b next e))
-grows-step_by limit (At shape bytes levels) b Digit next e = grows_same (top_of levels) (whole_of next) (sym (grown-is (after shape Digit) bytes levels b next e))
-grows-step_by limit (At shape bytes levels) b Letter next e = grows_same (top_of levels) (whole_of next) (sym (grown-is (after shape Letter) bytes levels b next e))
+    subst (λ x. Grows (complete_of s) (complete_of x)) (sym o.2) (grows_trans (complete_of s) (top_of (flush s)) (top_of o.0) (grows-flush s) (grows-close limit (flush s) o.0 o.1))
+grows-step_by limit (At shape bytes levels) b class.Zero next e = grows_same (top_of levels) (complete_of next) (sym (grown-is (after shape class.Zero) bytes levels b next e))
+grows-step_by limit (At shape bytes levels) b Digit next e = grows_same (top_of levels) (complete_of next) (sym (grown-is (after shape Digit) bytes levels b next e))
+grows-step_by limit (At shape bytes levels) b Letter next e = grows_same (top_of levels) (complete_of next) (sym (grown-is (after shape Letter) bytes levels b next e))
 grows-step_by limit (At shape bytes levels) b Other next e = absurd (cc)
 
-pub grows-run : (limit : ℕ) (s : State) (text : List ℕ) (end : State) → run limit s text ≡ Some end → Grows (whole_of s) (whole_of end)
-grows-run limit s [] end e = let same : s ≡ end = cc in grows_same (whole_of s) (whole_of end) (ap whole_of same)
+pub grows-run : (limit : ℕ) (s : State) (text : List ℕ) (end : State) → run limit s text ≡ Some end → Grows (complete_of s) (complete_of end)
+grows-run limit s [] end e = let same : s ≡ end = cc in grows_same (complete_of s) (complete_of end) (ap complete_of same)
 grows-run limit s (b ∷ text) end e = by_step (step limit s b) refl e (λ next. grows-run limit next text end)
   where
-    by_step : (o : Option State) → step limit s b ≡ o → go_on o (λ x. run limit x text) ≡ Some end → ((next : State) → run limit next text ≡ Some end → Grows (whole_of next) (whole_of end)) → Grows (whole_of s) (whole_of end)
+    by_step : (o : Option State) → step limit s b ≡ o → go_on o (λ x. run limit x text) ≡ Some end → ((next : State) → run limit next text ≡ Some end → Grows (complete_of next) (complete_of end)) → Grows (complete_of s) (complete_of end)
     by_step None h k later = absurd (cc)
-    by_step (Some next) h k later = grows_trans (whole_of s) (whole_of next) (whole_of end) (grows-step_by limit s b (class_of b) next h) (later next k)
+    by_step (Some next) h k later = grows_trans (complete_of s) (complete_of next) (complete_of end) (grows-step_by limit s b (class_of b) next h) (later next k)

@@ -1,0 +1,5 @@
+use Rattle.smt_text.proofs.Faults as faults
+use Rattle.smt_text.proofs.laws.complete_trees_stay.Goals as goal
+
+pub returns : goal.returns
+returns c = record { stay = λ limit prefix more xs ys _ a b. faults.complete_trees_stay limit prefix more xs ys a b }
