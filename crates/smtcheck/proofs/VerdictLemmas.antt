@@ -7,12 +7,13 @@ use Rattle.smt_text.proofs.Faults as text
 use Rattle.smt_text.specs.Reading.{Reads}
 use Rattle.smt_text.specs.Sexp.{Sexp, Sexps, Nil}
 use Rattle.smt_text.specs.declared.fault.TextFault.{TextFault}
+use Rattle.smtcheck.proofs.CompleteLemmas.{complete}
 use Rattle.smtcheck.proofs.EndLemmas.{all_commands, any-append, ends_clean, invalid_lines, none_of, one_pairing, valid_lines}
-use Rattle.smtcheck.proofs.HeadlineLemmas.{closed_value, confirmed_at, is_false_value, lines_at, lines_of_sat_at}
+use Rattle.smtcheck.proofs.HeadlineLemmas.{asserted_formula, closed_value, confirmed_at, faultless_at, is_false_value, lines_at, lines_of_sat_at, names_from_declared}
 use Rattle.smtcheck.specs.Dialogue.Command.{Command, DeclareConst, Assert, CheckSat, GetModel}
 use Rattle.smtcheck.specs.Dialogue.Ending.{limit, lines_of_end}
 use Rattle.smtcheck.specs.Dialogue.Headline.{IsInvalid, IsFullyPaired, IsValid}
-use Rattle.smtcheck.specs.Dialogue.InForce.{Assertion, assertions_after, assertions_by, assertions_from, names_after}
+use Rattle.smtcheck.specs.Dialogue.InForce.{AreFaultless, Assertion, assertions_after, assertions_by, assertions_from, names_after}
 use Rattle.smtcheck.specs.Dialogue.Lines.{checks_in, is_empty, is_fault_line, is_refuted_line, is_undecided_line, line_of_judgement, lines_in, lines_of_pair, lines_of_sat, or_line, sat_lines, tally_of, unconfirmed_line, verdict_of}
 use Rattle.smtcheck.specs.Dialogue.Pairing.{IsPairing, Pair, is_effective, is_symbol}
 use Rattle.smtcheck.specs.Dialogue.Turns.{IsJudged}
@@ -319,6 +320,10 @@ invalid_means script answers st at' sf af ls v rs ra j h =
     let l2 = lines_in true (before ++ p ∷ []) at_pair.last [] in
     let line = lines.Refuted k n found.model.model.command (length source.earlier + 1) in
     let number : found.model.refuted.assertion ≡ length source.earlier + 1 = sym over.2.command ∙ source.number ∙ omega arith in
+    let models = complete names found.model.model.parts over.0 (names_from_declared 1 before) over.1 in
+    let asserted_place : before ≡ source.earlier ++ asserted ∷ source.between = source.place ∙ ap (λ (q : Pair). source.earlier ++ q ∷ source.between) same_asserted in
+    let effective : is_effective asserted ≡ true = ap is_effective (sym same_asserted) ∙ source.effective in
+    let far : j.pairs ≡ source.earlier ++ asserted ∷ (source.between ++ p ∷ at_pair.last) = place ∙ ap (λ (b : List Pair). b ++ p ∷ at_pair.last) asserted_place ∙ append_assoc source.earlier (asserted ∷ source.between) (p ∷ at_pair.last) in
     let here : lines_of_pair true before p at_pair.last ≡ line ∷ [] = lines_of_sat_at before at_pair.last check.answer check.sat ∙ found.lines_are ∙ ap (λ (l : Line). l ∷ []) found.model.refuted.line_is ∙ ap (λ (i : ℕ). lines.Refuted k n found.model.model.command i ∷ []) number in
     let end : List Line = lines.Verdict (verdict_of (mine ++ lines_of_end j.fault)) (tally_of (mine ++ lines_of_end j.fault)) ∷ [] in
     record {
@@ -335,14 +340,17 @@ invalid_means script answers st at' sf af ls v rs ra j h =
       models = ap (λ (i : ℕ). models_from i (window at_pair.last)) (omega arith) ∙ found.model.place;
       definitions = over.0;
       complete = over.1;
+      well_sorted = models.0;
+      ranks = models.2;
       earlier = source.earlier;
       term = over.2.assertion.term;
       asserted = record {
         answer = source.pair.answer;
         between = source.between;
-        place = source.place ∙ ap (λ (q : Pair). source.earlier ++ q ∷ source.between) same_asserted;
-        effective = ap is_effective (sym same_asserted) ∙ source.effective;
+        place = asserted_place;
+        effective = effective;
       };
+      sorted = asserted_formula source.earlier asserted over.2.assertion.term refl effective (faultless_at [] source.earlier asserted (source.between ++ p ∷ at_pair.last) (subst (AreFaultless []) far j.faultless));
       false_in = closed_value over.0 over.2.assertion.term (Boolean false) (is_false_value (known_over over.0 over.2.assertion.term) over.2.passes);
       lines_before = l1;
       lines_after = l2 ++ end;

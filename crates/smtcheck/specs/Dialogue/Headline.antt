@@ -57,8 +57,8 @@ pub record IsValid (script answers : List ℕ) : Type 0 where
   pub only : (others : List Pair) → IsFullyPaired script answers others → others ≡ pairs
   pub confirmed : (before after : List Pair) (answer : Sexp) → pairs ≡ before ++ record { command = CheckSat; answer = Some answer } ∷ after → is_symbol (codes "sat") answer ≡ true → IsConfirmed before after
 
--- what an invalid verdict means: in the window of a check that was answered `sat` stands a complete, well-sorted model that makes an
--- assertion in force false, and the report has the line that says so
+-- what an invalid verdict means: in the window of a check that was answered `sat` stands a complete, well-sorted model that makes a
+-- well-sorted assertion in force false, and the report has the line that says so
 pub record IsInvalid (script answers : List ℕ) (ls : List Line) : Type 0 where
   pub pairs : List Pair
   pub paired : IsFullyPaired script answers pairs
@@ -73,9 +73,12 @@ pub record IsInvalid (script answers : List ℕ) (ls : List Line) : Type 0 where
   pub models : models_from (length before + 2) (window after) ≡ models_before ++ model ∷ models_after
   pub definitions : List Entry
   pub complete : model_in (names_after before) model.parts ≡ Ok definitions
+  pub well_sorted : AreWellSorted [] definitions
+  pub ranks : (x : List ℕ) (e : Entry) → entry_named (names_after before) x ≡ Some e → KeepsRank e (entry_named definitions x)
   pub earlier : List Pair
   pub term : Sexp
   pub asserted : IsAsserted before earlier term
+  pub sorted : sort_in (names_after earlier) [] term ≡ Ok Boolean
   pub false_in : value_of (meaning_in definitions) [] term ≡ Truth false
   pub lines_before : List Line
   pub lines_after : List Line
