@@ -4,7 +4,7 @@ use Rattle.std.proofs.lemmas.Bool.{false≢true, lt-ltb, le-ltb}
 use Rattle.std.proofs.lemmas.List.{take_all, take_more, take_more_set, length-set}
 use Rattle.std.specs.declared.alloc.Global.{Global}
 use Rattle.std.specs.declared.vec.Vec.{Vec}
-use Rattle.smt_text.proofs.SexpLemmas.{sexps_of-append}
+use Rattle.smt_text.specs.TreeJoins.{sexps_of-append}
 use Rattle.smt_text.specs.Grammar.{OpenParenthesis, CloseParenthesis}
 use Rattle.smt_text.specs.Machine.{Levels, On, State, At, add, add_if, atom_of, flush, begun, ended, depth_of, depth_in, act, settle}
 use Rattle.smt_text.specs.ReaderState.{lists_of}

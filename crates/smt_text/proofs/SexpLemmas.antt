@@ -2,6 +2,7 @@
 use Rattle.std.proofs.Common.{◌≡◌, ℕ, ◌+◌, ◌<◌, List, [], ◌∷◌, ◌++◌, length, take, get_or, refl, ap, sym, ◌∙◌, arith}
 use Rattle.std.proofs.lemmas.List.{take_more}
 use Rattle.smt_text.specs.Sexp.{Sexp, Sexps, Nil, Cons, append, count, weight_all}
+use Rattle.smt_text.specs.TreeJoins.{sexps_of-append}
 use Rattle.smt_text.specs.TreeView.{sexp_of, sexps_of}
 use Rattle.smt_text.specs.declared.syntax.Tree.{Tree}
 
@@ -12,10 +13,6 @@ append_nil (Cons x xs) = ap (Cons x) (append_nil xs)
 pub append_assoc : (xs ys zs : Sexps) → append (append xs ys) zs ≡ append xs (append ys zs)
 append_assoc Nil ys zs = refl
 append_assoc (Cons x xs) ys zs = ap (Cons x) (append_assoc xs ys zs)
-
-pub sexps_of-append : (xs ys : List Tree) → sexps_of (xs ++ ys) ≡ append (sexps_of xs) (sexps_of ys)
-sexps_of-append [] ys = refl
-sexps_of-append (x ∷ xs) ys = ap (Cons (sexp_of x)) (sexps_of-append xs ys)
 
 pub weight_all-append : (xs ys : Sexps) → weight_all (append xs ys) ≡ weight_all xs + weight_all ys
 weight_all-append Nil ys = omega arith

@@ -3,6 +3,7 @@ pub mod Sexp
 pub mod SexpCode
 pub mod TreeView
 pub mod TreeFalls
+pub mod TreeJoins
 pub mod Lexical
 pub mod Grammar
 pub mod Reading

@@ -1,6 +1,6 @@
 -- The last trees of a list that is a command.
 use Rattle.std.proofs.Common.{◌≡◌, ◌<◌, ℕ, List, [], ◌∷◌, ◌++◌, length, Ok, refl, ap, sym, ◌∙◌, arith}
-use Rattle.smt_text.proofs.SexpLemmas.{sexps_of-append}
+use Rattle.smt_text.specs.TreeJoins.{sexps_of-append}
 use Rattle.smt_text.specs.Sexp.{Sexp, Sexps, Atom, Items, Reserved, Nil, Cons, append}
 use Rattle.smt_text.specs.Sexp as sexp
 use Rattle.smtcheck.specs.Dialogue.Command.{Assert, DeclareConst, command_of}

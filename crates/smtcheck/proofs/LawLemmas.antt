@@ -1,7 +1,7 @@
 -- A dialogue has one report.
-use Rattle.std.proofs.Common.{◌≡◌, ℕ, true, List, [], ◌∷◌, ◌++◌, Option, Some, None, Result, Ok, refl, ap, sym, ◌∙◌, subst, append_assoc}
+use Rattle.std.proofs.Common.{◌≡◌, ℕ, Bool, true, List, [], ◌∷◌, ◌++◌, Option, Some, None, Result, Ok, refl, ap, sym, ◌∙◌, subst, append_assoc}
 use Rattle.std.proofs.lemmas.List.{append-nil}
-use Rattle.smt_text.proofs.Faults as text
+use Rattle.smt_text.specs.Reading.{Reads}
 use Rattle.smt_text.specs.Sexp.{Sexp, Sexps, Nil, Cons}
 use Rattle.smt_text.specs.declared.fault.TextFault.{TextFault}
 use Rattle.smtcheck.proofs.EndLemmas.{pair_same, some_answer}
@@ -60,11 +60,15 @@ one_way before (x ∷ xs) (y ∷ ys) (Cons t ts) later later' answers rest rest'
     let tail = one_way (before ++ x ∷ []) xs ys ts later later' (answers_then xs rest) rest rest' sf af f g c.1 d.1 refl same_rest m.1 n.1 p.1 faultless first second in
     (ap (λ (z : Pair). z ∷ xs) head ∙ ap (λ (zs : List Pair). y ∷ zs) tail.0, tail.1)
 
+-- what is read of a text is one answer: a law of the reader's crate
+abbrev pub OneReading : Type 0
+OneReading = (bound : ℕ) (ended : Bool) (text : List ℕ) (xs ys : Sexps) (f g : Option TextFault) → Reads bound ended text xs f → Reads bound ended text ys g → (xs ≡ ys) × (f ≡ g)
+
 -- a dialogue has at most one report
-pub one_report : (script answers : List ℕ) (ls ms : List Line) → IsReport script answers ls → IsReport script answers ms → ls ≡ ms
-one_report script answers ls ms x y =
-    let scripts = text.one_reading limit true script y.script_trees x.script_trees y.script_fault x.script_fault y.script_read x.script_read in
-    let both = text.one_reading limit true answers y.answer_trees x.answer_trees y.answers_fault x.answers_fault y.answers_read x.answers_read in
+pub one_report : OneReading → (script answers : List ℕ) (ls ms : List Line) → IsReport script answers ls → IsReport script answers ms → ls ≡ ms
+one_report one script answers ls ms x y =
+    let scripts = one limit true script y.script_trees x.script_trees y.script_fault x.script_fault y.script_read x.script_read in
+    let both = one limit true answers y.answer_trees x.answer_trees y.answers_fault x.answers_fault y.answers_read x.answers_read in
     let commands : AreCommands y.pairs x.script_trees y.later = subst (λ (t : Sexps). AreCommands y.pairs t y.later) scripts.0 y.pairing.commands in
     let answered : x.answer_trees ≡ answers_then y.pairs y.rest = sym both.0 ∙ y.pairing.answered in
     let ends : turn_after y.pairs y.later x.script_fault y.rest x.answers_fault ≡ Ends y.fault = ap (λ (f : Option TextFault). turn_after y.pairs y.later f y.rest x.answers_fault) (sym scripts.1) ∙ ap (λ (f : Option TextFault). turn_after y.pairs y.later y.script_fault y.rest f) (sym both.1) ∙ y.ends in

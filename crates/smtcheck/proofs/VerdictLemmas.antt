@@ -3,7 +3,7 @@ use Rattle.std.proofs.Common.{◌≡◌, ◌+◌, ℕ, Bool, true, false, not, �
 use Rattle.std.proofs.lemmas.List.{append-nil}
 use Rattle.std.specs.List.{list_any}
 use Rattle.std.specs.Result.{IfOk}
-use Rattle.smt_text.proofs.Faults as text
+use Rattle.smt_text.specs.Grammar.{Forest}
 use Rattle.smt_text.specs.Reading.{Reads}
 use Rattle.smt_text.specs.Sexp.{Sexp, Sexps, Nil}
 use Rattle.smt_text.specs.declared.fault.TextFault.{TextFault}
@@ -50,26 +50,30 @@ fully_paired script answers st at' sf af ls v rs ra j h =
       clean.none,
     )
 
+-- a text has at most one forest: a law of the reader's crate
+abbrev pub OneForest : Type 0
+OneForest = (bound other : ℕ) (text : List ℕ) (xs ys : Sexps) → Forest bound text xs → Forest other text ys → xs ≡ ys
+
 -- there is one such pairing
-pub one_complete : (script answers : List ℕ) (xs ys : List Pair) → IsFullyPaired script answers xs → IsFullyPaired script answers ys → xs ≡ ys
-one_complete script answers xs ys a b =
-    let same_script : b.script_trees ≡ a.script_trees = text.one_forest limit limit script b.script_trees a.script_trees b.script_forest a.script_forest in
-    let same_answers : b.answer_trees ≡ a.answer_trees = text.one_forest limit limit answers b.answer_trees a.answer_trees b.answers_forest a.answers_forest in
+pub one_complete : OneForest → (script answers : List ℕ) (xs ys : List Pair) → IsFullyPaired script answers xs → IsFullyPaired script answers ys → xs ≡ ys
+one_complete one script answers xs ys a b =
+    let same_script : b.script_trees ≡ a.script_trees = one limit limit script b.script_trees a.script_trees b.script_forest a.script_forest in
+    let same_answers : b.answer_trees ≡ a.answer_trees = one limit limit answers b.answer_trees a.answer_trees b.answers_forest a.answers_forest in
     let once : IsPairing ys a.script_trees Nil b.answer_trees Nil = subst (λ (t : Sexps). IsPairing ys t Nil b.answer_trees Nil) same_script b.pairing in
     let twice : IsPairing ys a.script_trees Nil a.answer_trees Nil = subst (λ (t : Sexps). IsPairing ys a.script_trees Nil t Nil) same_answers once in
     (one_pairing xs ys a.script_trees Nil Nil a.answer_trees Nil Nil (all_commands xs a.script_trees a.pairing.commands ∙ sym (all_commands ys a.script_trees twice.commands)) a.pairing.commands twice.commands a.pairing.answered twice.answered a.pairing.fit twice.fit).0
 
 -- ## Valid means valid
 
-pub valid_means : (script answers : List ℕ) (st at' : Sexps) (sf af : Option TextFault) (ls : List Line) (v : Verdict) → Reads limit true script st sf → Reads limit true answers at' af → IsJudged st at' sf af ls v → v ≡ Valid → IsValid script answers
-valid_means script answers st at' sf af ls v rs ra j h =
+pub valid_means : OneForest → (script answers : List ℕ) (st at' : Sexps) (sf af : Option TextFault) (ls : List Line) (v : Verdict) → Reads limit true script st sf → Reads limit true answers at' af → IsJudged st at' sf af ls v → v ≡ Valid → IsValid script answers
+valid_means one script answers st at' sf af ls v rs ra j h =
     let mine = lines_in true [] j.pairs [] in
     let tests = valid_lines (mine ++ lines_of_end j.fault) (sym j.verdict_is ∙ h) in
     let whole = (fully_paired script answers st at' sf af ls v rs ra j tests.0).0 in
     record {
       pairs = j.pairs;
       paired = whole;
-      only = λ others other. one_complete script answers others j.pairs other whole;
+      only = λ others other. one_complete one script answers others j.pairs other whole;
       confirmed = λ before after a place sat. confirmed_at j.pairs before after a place j.faultless (none_of is_refuted_line mine (lines_of_end j.fault) tests.1).0 (none_of is_undecided_line mine (lines_of_end j.fault) tests.2).0 sat;
     }
 
@@ -361,9 +365,9 @@ invalid_means script answers st at' sf af ls v rs ra j h =
 
 -- ## What a call answered
 
-pub valid_answer : (r : Result Report Memory) (script answers : List ℕ) (st at' : Sexps) (sf af : Option TextFault) → Reads limit true script st sf → Reads limit true answers at' af → IfOk r (λ x. IsJudged st at' sf af x.lines.items x.verdict) → IfOk r (λ x. x.verdict ≡ Valid → IsValid script answers)
-valid_answer (Ok x) script answers st at' sf af rs ra j = valid_means script answers st at' sf af x.lines.items x.verdict rs ra j
-valid_answer (Err e) script answers st at' sf af rs ra j = tt
+pub valid_answer : OneForest → (r : Result Report Memory) (script answers : List ℕ) (st at' : Sexps) (sf af : Option TextFault) → Reads limit true script st sf → Reads limit true answers at' af → IfOk r (λ x. IsJudged st at' sf af x.lines.items x.verdict) → IfOk r (λ x. x.verdict ≡ Valid → IsValid script answers)
+valid_answer one (Ok x) script answers st at' sf af rs ra j = valid_means one script answers st at' sf af x.lines.items x.verdict rs ra j
+valid_answer one (Err e) script answers st at' sf af rs ra j = tt
 
 pub invalid_answer : (r : Result Report Memory) (script answers : List ℕ) (st at' : Sexps) (sf af : Option TextFault) → Reads limit true script st sf → Reads limit true answers at' af → IfOk r (λ x. IsJudged st at' sf af x.lines.items x.verdict) → IfOk r (λ x. x.verdict ≡ Invalid → IsInvalid script answers x.lines.items)
 invalid_answer (Ok x) script answers st at' sf af rs ra j = invalid_means script answers st at' sf af x.lines.items x.verdict rs ra j

@@ -1,10 +1,12 @@
-//! What holds of the definitions of a dialogue. Nothing here does anything: each contract is a law.
+//! What holds of the definitions of a dialogue. Nothing here does anything: each contract is a law, and each call is of a law that it rests on.
 
 ghost use Rattle.std.specs.Prelude.{◌≡◌, ℕ, List, length};
 ghost use Rattle.smt_text.specs.Sexp.{Sexps};
 ghost use Rattle.smtcheck.specs.Dialogue.Ending.{IsReport};
 ghost use Rattle.smtcheck.specs.Dialogue.Pairing.{IsPairing, Pair};
 ghost use Rattle.smtcheck.specs.declared.report.Line.{Line};
+
+use smt_text::laws::one_reading;
 
 /// So many commands have at most one pairing with the answers, and it leaves the same.
 pub fn one_pairing()
@@ -14,4 +16,6 @@ pub fn one_pairing()
 /// A dialogue has at most one report.
 pub fn one_report()
     ensures { (script answers : List ℕ) (ls ms : List Line) → IsReport script answers ls → IsReport script answers ms → ls ≡ ms }
-{}
+{
+    one_reading();
+}

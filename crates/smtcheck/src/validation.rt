@@ -13,6 +13,7 @@ use crate::dialogue::Dialogue;
 use crate::report::{Report, Verdict};
 use crate::texts::read_text;
 use crate::turns::judge_all;
+use smt_text::laws::one_forest;
 use std::alloc::Global;
 
 /// Checks a solver's dialogue: the script that it read, and the answers that it printed, in order.
@@ -26,6 +27,8 @@ pub fn validate(alloc: Global, script: &[u8], answers: &[u8], start: bool) -> Re
     ensures invalid { IfOk result (λ r. r.verdict ≡ Verdict.Invalid → IsInvalid script.now answers.now r.lines.items) }
 {
     let _ = start;
+    // A law: the texts have no other trees.
+    one_forest();
     let script = read_text(alloc, script)?;
     let answers = read_text(alloc, answers)?;
     judge_all(Dialogue::new(alloc), script, answers)

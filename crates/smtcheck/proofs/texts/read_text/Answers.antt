@@ -1,5 +1,5 @@
 use Rattle.std.proofs.Common.{◌≡◌, [], ◌∷◌, ap, subst, sym, ◌∙◌}
-use Rattle.smt_text.proofs.SexpLemmas.{sexps_of-append}
+use Rattle.smt_text.specs.TreeJoins.{sexps_of-append}
 use Rattle.smt_text.specs.History.{StandsFor}
 use Rattle.smt_text.specs.Sexp.{Sexps, Nil, Cons, append}
 use Rattle.smt_text.specs.TreeView.{sexp_of, sexps_of}
