@@ -15,5 +15,6 @@ pub mod EndLemmas
 pub mod HeadlineLemmas
 pub mod VerdictLemmas
 pub mod LawLemmas
+pub mod WayLemmas
 pub mod SettingsLemmas
 pub mod SettingsFacts

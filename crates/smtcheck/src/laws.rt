@@ -6,7 +6,7 @@ ghost use Rattle.smtcheck.specs.Dialogue.Ending.{IsReport};
 ghost use Rattle.smtcheck.specs.Dialogue.Pairing.{IsPairing, Pair};
 ghost use Rattle.smtcheck.specs.declared.report.Line.{Line};
 
-use smt_text::laws::one_reading;
+use smt_text::laws::{every_text_reads, one_reading};
 
 /// So many commands have at most one pairing with the answers, and it leaves the same.
 pub fn one_pairing()
@@ -18,4 +18,11 @@ pub fn one_report()
     ensures { (script answers : List ℕ) (ls ms : List Line) → IsReport script answers ls → IsReport script answers ms → ls ≡ ms }
 {
     one_reading();
+}
+
+/// Every script and answers have a report.
+pub fn every_dialogue_has_a_report()
+    ensures { (script answers : List ℕ) → (ls : List Line) × IsReport script answers ls }
+{
+    every_text_reads();
 }
