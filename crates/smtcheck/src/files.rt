@@ -50,6 +50,7 @@ pub fn run<R: Files + AllocGlobal + Print>(rt: &R, settings: Settings) -> Result
     };
     match print(rt, &report) {
         Ok(()) => Ok(status_of(report.verdict)),
+        Err(error) if error.kind() == io::ErrorKind::OutOfMemory => Err(RunFault::Memory),
         Err(_) => Err(RunFault::Output),
     }
 }

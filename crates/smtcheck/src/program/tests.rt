@@ -1,4 +1,5 @@
 use super::*;
+use crate::command_line::Settings;
 use std::fs;
 use std::test::Fail;
 
@@ -56,6 +57,49 @@ fn statuses_without_a_report(rt: HostRuntime) -> Result<(), Fail> {
         5
     );
     assert_eq!(rt; status(&rt, ["smtcheck", name].as_slice()), 5);
+    fs::remove_file(&rt, name)?;
+    Ok(())
+}
+
+#[test]
+fn texts_of_run_faults(rt: HostRuntime) -> Result<(), Fail> {
+    let rows = [
+        (RunFault::Script, "smtcheck: script"),
+        (RunFault::Answers, "smtcheck: answers"),
+        (RunFault::Output, "smtcheck: output"),
+        (RunFault::Memory, "smtcheck: memory"),
+    ];
+    for (fault, want) in rows {
+        let text = format!(in rt.alloc(); "{fault}")?;
+        assert_eq!(rt; text.as_str(), want);
+    }
+    Ok(())
+}
+
+// Which file is told when one or both are missing.
+#[test]
+fn faults_of_files(rt: HostRuntime) -> Result<(), Fail> {
+    let name = "/tmp/smtcheck-test-there.txt";
+    fs::write(&rt, name, "")?;
+    let rows = [
+        ("/tmp/smtcheck-no-such-file", name, "smtcheck: script"),
+        (name, "/tmp/smtcheck-no-such-file", "smtcheck: answers"),
+        ("/tmp/smtcheck-no-such-file", "/tmp", "smtcheck: script"),
+        ("/tmp", "/tmp/smtcheck-no-such-file", "smtcheck: answers"),
+        ("/tmp", name, "smtcheck: script"),
+    ];
+    for (script, answers, want) in rows {
+        let settings = Settings {
+            script,
+            answers,
+            start: true,
+        };
+        let Err(fault) = run(&rt, settings) else {
+            return Err("there was a report")?;
+        };
+        let text = format!(in rt.alloc(); "{fault}")?;
+        assert_eq!(rt; text.as_str(), want, "{script} {answers}");
+    }
     fs::remove_file(&rt, name)?;
     Ok(())
 }
