@@ -45,7 +45,7 @@ judge() {
     elif [ "$status" = 4 ] && [ "$met" = yes ]; then
         [ ! -s "$work/output" ] || fail "$what" 'a report, with status 4'
         case $(cat "$work/errors") in
-        'smtcheck: memory' | 'smtcheck: script' | 'smtcheck: answers' | 'smtcheck: output') ;;
+        'smtcheck: memory' | 'smtcheck: script' | 'smtcheck: answers') ;;
         *) fail "$what" "$(cat "$work/errors")" ;;
         esac
     else
