@@ -7,8 +7,8 @@ use crate::command_line::LineFault;
 use crate::files::{RunFault, run};
 use crate::settings;
 use std::alloc::{AllocError, Global};
-use std::env;
 use std::rt::{Env, Files};
+use std::{env, io};
 
 /// The status of a run that gives no report.
 const NO_REPORT: u8 = 4;
@@ -19,8 +19,13 @@ const REFUSED: u8 = 5;
 /// Runs the program, and answers its exit status: 0 to 3 by the verdict, 4 where there is no report, and 5 where the command line was
 /// refused or asked for help.
 pub fn start<R: Files + Env + AllocGlobal + Print + Eprint>(rt: &R) -> u8 {
-    let Some(words) = words(rt) else {
-        return no_report(rt, RunFault::Memory);
+    let words = match words(rt) {
+        Ok(words) => words,
+        Err(error) if error.kind() == io::ErrorKind::InvalidData => {
+            let _ = eprintln!(rt; "error: invalid UTF-8 was detected in one or more arguments");
+            return REFUSED;
+        }
+        Err(_) => return no_report(rt, RunFault::Memory),
     };
     match texts(rt.alloc(), words.as_slice()) {
         Ok(words) => status(rt, words.as_slice()),
@@ -50,8 +55,8 @@ fn no_report<R: Eprint>(rt: &R, fault: RunFault) -> u8 {
 }
 
 // The words of the command line, the program's name first.
-fn words<R: Env + AllocGlobal>(rt: &R) -> Option<Vec<String>> {
-    env::args(rt).ok()?.collect(rt.alloc()).ok()
+fn words<R: Env + AllocGlobal>(rt: &R) -> io::Result<Vec<String>> {
+    Ok(env::args(rt)?.collect(rt.alloc())?)
 }
 
 fn texts<'a>(alloc: Global, words: &'a [String]) -> Result<Vec<&'a str>, AllocError> {
