@@ -1,11 +1,15 @@
 -- Known values, one step at a time.
-use Rattle.std.proofs.Common.{◌≡◌, ℕ, zero, suc, ◌+◌, ◌<◌, ◌≤◌, cond, ◌&&◌, List, [], ◌∷◌, length, take, drop, get_or, slice_get, Option, Some, None, refl, ap, sym, ◌∙◌, arith, drop-cons, add-one}
-use Rattle.smt_text.specs.Sexp.{weight}
+use Rattle.std.proofs.Common.{◌≡◌, ℕ, zero, suc, ◌+◌, ◌<◌, cond, ◌&&◌, List, [], ◌∷◌, ◌++◌, length, take, drop, get_or, slice_get, Option, Some, None, refl, ap, sym, ◌∙◌, arith, drop-cons, add-one}
+use Rattle.std.proofs.Math.Seq.{take-length}
 use Rattle.smtcheck.specs.Eval.Known.{KnownMeaning, known_after, with_known, known_defined, is_same_known}
 use Rattle.smtcheck.specs.Eval.Meaning.{are_chained}
 use Rattle.smtcheck.specs.Terms.Operators.{is_same_name}
-use Rattle.smtcheck.specs.Terms.Signature.{Entry, Source, Declared, Defined, entry_named, AreDistinct}
+use Rattle.smtcheck.specs.Terms.Signature.{Entry, entry_named, AreDistinct}
 use Rattle.smtcheck.specs.declared.eval.values.Value.{Value}
+use Rattle.smtcheck.specs.Eval.Valued.{values_after}
+use Rattle.smtcheck.specs.Terms.View.{source_of}
+use Rattle.smtcheck.specs.declared.terms.library.Origin.{Origin}
+use Rattle.smtcheck.specs.declared.terms.library.Origin.TheVariants as origin
 use Rattle.smtcheck.proofs.NameLemmas.{none_step, same_self, entry_named-take}
 
 -- the next of a chain
@@ -31,19 +35,31 @@ known_at m (c ∷ es) (suc n) zero e args d at h =
     ∙ ap (λ b. cond b (known_defined m c.source args) (m c.name args)) (same_self c.name) ∙ ap (λ z. known_defined m z.source args) is
 known_at m (c ∷ es) (suc n) (suc p) e args d at h = known_at (with_known m c) es n p e args d.1 at (omega arith)
 
--- how much the bodies of definitions weigh
-abbrev pub source_weight : Source → ℕ
-source_weight (Declared command) = 0
-source_weight (Defined parameters body) = weight body
+-- a constant's definition gives for all arguments what it gives for none
+pub no_parameters : (m : KnownMeaning) (o : Origin) (args : List (Option Value)) → known_defined m (source_of o) args ≡ known_defined m (source_of o) []
+no_parameters m (origin.Declared command) args = refl
+no_parameters m (origin.Defined body) args = refl
 
--- and all the bodies of definitions
-abbrev pub bodies : List Entry → ℕ
-bodies [] = 0
-bodies (e ∷ es) = source_weight e.source + bodies es
+-- the value at a place is that of the definition there over those before it
+pub value_at : (m : KnownMeaning) (es : List Entry) (n p : ℕ) (e : Entry) (d : Option Value) → slice_get es p ≡ Some e → p < n → get_or (values_after m (take n es)) p d ≡ known_defined (known_after m (take p es)) e.source []
+value_at m [] n p e d at h = cc
+value_at m (c ∷ es) zero p e d at h = absurd (omega arith)
+value_at m (c ∷ es) (suc n) zero e d at h = let is : c ≡ e = cc in ap (λ z. known_defined m z.source []) is
+value_at m (c ∷ es) (suc n) (suc p) e d at h = value_at (with_known m c) es n p e d at (omega arith)
 
--- a body weighs no more, with those before it, than all up to a later place
-pub bodies_at : (es : List Entry) (n p : ℕ) (e : Entry) → slice_get es p ≡ Some e → p < n → source_weight e.source + bodies (take p es) ≤ bodies (take n es)
-bodies_at [] n p e at h = cc
-bodies_at (c ∷ es) zero p e at h = absurd (omega arith)
-bodies_at (c ∷ es) (suc n) zero e at h = let w : source_weight c.source ≡ source_weight e.source = cc in omega arith
-bodies_at (c ∷ es) (suc n) (suc p) e at h = omega (arith, bodies_at es n p e at (omega arith))
+-- one more definition, one more value
+values_next : (m : KnownMeaning) (es : List Entry) (n : ℕ) (e : Entry) → slice_get es n ≡ Some e → values_after m (take (suc n) es) ≡ values_after m (take n es) ++ known_defined (known_after m (take n es)) e.source [] ∷ []
+values_next m [] n e at = cc
+values_next m (c ∷ es) zero e at = let is : c ≡ e = cc in ap (λ z. known_defined m z.source [] ∷ []) is
+values_next m (c ∷ es) (suc n) e at = ap (λ vs. known_defined m c.source [] ∷ vs) (values_next (with_known m c) es n e at)
+
+pub values_more : (m : KnownMeaning) (es : List Entry) (n : ℕ) (e : Entry) → slice_get es n ≡ Some e → values_after m (take (n + 1) es) ≡ values_after m (take n es) ++ known_defined (known_after m (take n es)) e.source [] ∷ []
+values_more m es n e at = rw add-one (values_next m es n e at)
+
+-- where there is a value for each definition, none is left out
+values-length : (m : KnownMeaning) (es : List Entry) → length (values_after m es) ≡ length es
+values-length m [] = refl
+values-length m (e ∷ es) = ap suc (values-length (with_known m e) es)
+
+pub all_valued : (m : KnownMeaning) (es : List Entry) (vs : List (Option Value)) → vs ≡ values_after m es → take (length vs) es ≡ es
+all_valued m es vs h = ap (λ n. take n es) (ap length h ∙ values-length m es) ∙ take-length es

@@ -5,7 +5,7 @@ use Rattle.smt_text.specs.Reading.{Reads}
 use Rattle.smt_text.specs.Sexp.{Sexp, Sexps, Nil, Cons}
 use Rattle.smt_text.specs.declared.fault.TextFault.{TextFault}
 use Rattle.smtcheck.specs.Dialogue.Command.{Command, command_of}
-use Rattle.smtcheck.specs.Dialogue.Ending.{Ends, IsReport, end_without_fault, limit, lines_of_end, text_line, turn_after, turn_of_tree, want_of_answer}
+use Rattle.smtcheck.specs.Dialogue.Ending.{Ends, IsReport, end_without_fault, limit, lines_of_end, text_line, turn_after, want_of_answer}
 use Rattle.smtcheck.specs.Dialogue.InForce.{AreFaultless, fault_of_pair}
 use Rattle.smtcheck.specs.Dialogue.Lines.{lines_in, with_verdict}
 use Rattle.smtcheck.specs.Dialogue.Pairing.{AllFit, AreCommands, Pair, answers_taken, answers_then, takes}

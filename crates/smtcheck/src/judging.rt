@@ -8,6 +8,7 @@ ghost use Rattle.smtcheck.specs.Terms.View.{entries_of};
 use crate::allocation::Memory;
 use crate::eval::checked::Checked;
 use crate::eval::plain::Closed;
+use crate::eval::structure::Structure;
 use crate::eval::values::Value;
 use crate::model::{Interpretation, ModelFault};
 use crate::terms::faults::TermFault;
@@ -57,10 +58,12 @@ pub fn judge(names: &Library, assertions: &[Assertion], model: &Trees) -> Result
 fn weigh(definitions: &Library, assertions: &[Assertion]) -> Result<Judgement, Memory>
     ensures { IfOk result (λ j. j ≡ judged_over (assertions_seen assertions.now) (Ok (entries_of definitions.now))) }
 {
+    let structure = Structure::new(definitions)?;
+    let structure = &structure;
     let mut first_open = None;
     for assertion in assertions {
         let tree = &assertion.term;
-        let formula = Closed { definitions, tree };
+        let formula = Closed { structure, tree };
         match formula.known()? {
             Some(Value::Bool(true)) => {}
             Some(Value::Bool(false)) => {

@@ -2,26 +2,25 @@
 
 use crate::allocation::Memory;
 use crate::eval::checked::Checked;
-use crate::eval::evaluator::known;
+use crate::eval::structure::Structure;
 use crate::eval::values::Value;
-use crate::terms::library::Library;
 use smt_text::Tree;
 
-/// A term over definitions.
+/// A term over the definitions of a structure.
 #[derive(Clone, Copy)]
 pub struct Closed<'a> {
-    pub definitions: &'a Library,
+    pub structure: &'a Structure<'a>,
     pub tree: &'a Tree,
 }
 
 impl Checked for Closed<'_> {
     ghost use Rattle.smt_text.specs.TreeView.{sexp_of};
     ghost use Rattle.smtcheck.specs.Eval.Known.{known_over};
-    ghost use Rattle.smtcheck.specs.Terms.View.{entries_of};
+    ghost use Rattle.smtcheck.specs.Eval.StructureView.{definitions_of};
 
-    ghost known_value = { λ closed. known_over (entries_of closed.definitions.now) (sexp_of closed.tree.now) };
+    ghost known_value = { λ closed. known_over (definitions_of closed.structure.now) (sexp_of closed.tree.now) };
 
     fn known(&self) -> Result<Option<Value>, Memory> {
-        known(self.definitions, self.definitions.len(), self.tree)
+        self.structure.known_value(self.tree)
     }
 }

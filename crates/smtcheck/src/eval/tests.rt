@@ -2,6 +2,7 @@
 
 use crate::eval::checked::Checked;
 use crate::eval::plain::Closed;
+use crate::eval::structure::Structure;
 use crate::eval::values::Value;
 use crate::model::Interpretation;
 use crate::terms::library::Library;
@@ -43,11 +44,12 @@ fn known_values(rt: HostRuntime) -> Result<(), Fail> {
         "((define-fun p () Bool true) (define-fun q () Bool (not p)) (define-fun r () Bool (and p q)))",
     )?;
     let read = Interpretation::read(&Library::new(rt.alloc()), &model)?;
+    let structure = Structure::new(&read.definitions)?;
     for (text, want) in TERMS {
         let trees = trees_of(rt.alloc(), text)?;
         let tree = trees.as_slice().first().ok_or("no term")?;
         let closed = Closed {
-            definitions: &read.definitions,
+            structure: &structure,
             tree,
         };
         let found = match closed.known()? {

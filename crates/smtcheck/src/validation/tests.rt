@@ -558,6 +558,27 @@ fn many_checks(rt: HostRuntime) -> Result<(), Fail> {
     Ok(())
 }
 
+// A model of 3,000 definitions, each of which uses the one before twice.
+#[test]
+fn long_chain(rt: HostRuntime) -> Result<(), Fail> {
+    let alloc = rt.alloc();
+    let script = "(declare-const p Bool)(assert p)(check-sat)(get-model)";
+    let mut answers = String::from_str(alloc, "success success sat ((define-fun x0 () Bool true)")?;
+    for place in 1..3000u64 {
+        let before = place - 1;
+        let item = format!(in alloc; "(define-fun x{place} () Bool (and x{before} x{before}))")?;
+        answers.push_str(item.as_str())?;
+    }
+    answers.push_str("(define-fun p () Bool x2999))")?;
+    let report = validate(alloc, script.as_bytes(), answers.as_bytes(), true)?;
+    let text = text_of(alloc, &report)?;
+    assert_eq!(rt;
+        text.as_str(),
+        "check 1 at command 3: sat, confirmed\nverdict: valid, confirmed 1, refuted 0, undecided 0, unchecked 0\n"
+    );
+    Ok(())
+}
+
 // A dialogue with a model that is true, one that is not, one that lacks a name, a check without a model, and a fault.
 const SCRIPT: &str =
     "(declare-const p Bool)(declare-const q Bool)(assert (or p (not q)))(check-sat)(get-model)(get-model)\
