@@ -28,7 +28,7 @@ pub enum RunFault {
     Memory,
 }
 
-/// Checks the dialogue in two files, and prints the report. Answers the status.
+/// Checks the dialogue in two files, and prints the report. Answers the status. `settings.start` has to be true for now.
 pub fn run<R: Files + AllocGlobal + Print>(rt: &R, settings: Settings) -> Result<u8, RunFault>
     requires { settings.start ≡ true }
 {

@@ -1,4 +1,4 @@
-//! Complete texts.
+//! Texts, read to their end.
 
 ghost use Rattle.std.specs.Prelude.{◌≡◌, ◌≢◌, true, Some, None, IfOk, MatchOption};
 ghost use Rattle.smt_text.specs.Reading.{Reads};
