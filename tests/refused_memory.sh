@@ -1,5 +1,5 @@
 #!/bin/sh
-# Runs the reader, the validation and the program with each of their requests for memory refused in turn, until a run meets none. Each
+# Runs the reader and the program with each of their requests for memory refused in turn, until a run meets none. Each
 # run has to give the right answer, or to say that memory was refused. Needs what `rt ci` has built, and a C compiler. Says nothing
 # where all is well.
 set -e
@@ -35,8 +35,7 @@ judge() {
     [ "$status" = 0 ] || fail "$what" "status $status"
 }
 
-each_request 'the reader' "$top/crates/smt_text/out/smt_text_tests" reading::tests::right_or_out_of_memory
-each_request 'validation' "$top/crates/smtcheck/out/smtcheck_tests" validation::tests::right_or_out_of_memory
+each_request 'the reader' "$top/crates/smt_text/out/smt_text_tests" reader::tests::right_or_out_of_memory
 
 # The program has status 4, no report and a line that says why, or the status and the report that it has without a refusal.
 judge() {
@@ -63,6 +62,7 @@ program() {
 
 data=$top/crates/smtcheck/data
 program 'a valid dialogue' "$data/script.smt2" "$data/answers.txt"
+program 'checks of every kind' "$top/tests/every_kind.smt2" "$top/tests/every_kind.txt"
 program 'the texts swapped' "$data/answers.txt" "$data/script.smt2"
 program 'a missing file' "$data/script.smt2" "$work/none"
 program 'a word too many' "$data/script.smt2" "$data/answers.txt" "$data/script.smt2"

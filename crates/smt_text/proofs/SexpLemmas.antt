@@ -3,8 +3,8 @@ use Rattle.std.proofs.Common.{◌≡◌, ℕ, ◌+◌, ◌<◌, List, [], ◌∷
 use Rattle.std.proofs.lemmas.List.{take_more}
 use Rattle.smt_text.specs.Sexp.{Sexp, Sexps, Nil, Cons, append, count, weight_all}
 use Rattle.smt_text.specs.TreeJoins.{sexps_of-append}
-use Rattle.smt_text.specs.TreeView.{sexp_of, sexps_of}
-use Rattle.smt_text.specs.declared.syntax.Tree.{Tree}
+use Rattle.smt_text.specs.Tree.{sexp_of, sexps_of}
+use Rattle.smt_text.specs.declared.tree.Tree.{Tree}
 
 pub append_nil : (xs : Sexps) → append xs Nil ≡ xs
 append_nil Nil = refl

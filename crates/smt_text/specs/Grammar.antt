@@ -1,12 +1,17 @@
--- SMT-LIB 2.6, sections 3.1 and 3.2: texts, as tokens with white space between them, and the trees of a text. That two
--- neighbouring atoms need white space or a parenthesis between them is this project's rule.
-use Rattle.std.specs.Prelude.{◌≡◌, ◌≢◌, ◌⊎◌, ◌≤◌, ℕ, List, [], ◌∷◌, ◌++◌, codes}
+-- SMT-LIB 2.6, sections 3.1 and 3.2: texts, as tokens with white space and comments between them, and the trees of a text.
+-- This project's rules are that two neighbouring tokens, neither a parenthesis, need white space or a comment between them,
+-- that a comment may end with the text and may have any bytes, and that lists nest no deeper than a limit.
+use Rattle.std.specs.Prelude.{◌≡◌, ◌≢◌, ◌⊎◌, ◌≤◌, ℕ, Bool, true, List, [], ◌∷◌, ◌++◌, codes, ◌==◌, if◌then◌else◌}
 use Rattle.std.specs.List.{AllByRecursion}
-use Rattle.smt_text.specs.Lexical.{class_of}
+use Rattle.smt_text.specs.Lexical.{quote, bar, semicolon, point, zero_digit, is_white, is_line_end, is_digit, is_nonzero_digit, is_hexadecimal_digit, is_binary_digit, is_letter, is_symbol_byte, is_text_byte, is_quoted_byte, is_comment_byte, ends_token}
 use Rattle.smt_text.specs.Reserved.{spelling_of}
 use Rattle.smt_text.specs.Sexp.{AtomKind, Numeral, Decimal, Hexadecimal, Binary, Text, Symbol, Keyword, Sexp, Sexps, Atom, Reserved, Items, Nil, Cons, depth_all}
-use Rattle.smt_text.specs.declared.lexical.Class.TheVariants.{White, Open, Close, Zero, Digit, Letter}
+use Rattle.smt_text.specs.declared.reader.TheConstants.{MAX_DEPTH}
 use Rattle.smt_text.specs.declared.reserved.Word.{Word}
+
+-- how deep lists may nest, a list at the top being at depth 1
+abbrev pub limit : ℕ
+limit = MAX_DEPTH
 
 -- a token: a parenthesis, an atom with what it says, or a reserved word
 pub data Token : Type 0 where
@@ -15,56 +20,96 @@ pub data Token : Type 0 where
   AtomToken : (kind : AtomKind) → (bytes : List ℕ) → Token
   WordToken : (word : Word) → Token
 
-abbrev pub IsWhite : ℕ → Type 0
-IsWhite b = class_of b ≡ White
+-- bytes that pass a test
+abbrev pub ZeroOrMore : (ℕ → Bool) → List ℕ → Type 0
+ZeroOrMore test bytes = AllByRecursion (λ b. test b ≡ true) bytes
 
-abbrev pub IsDigit : ℕ → Type 0
-IsDigit b = (class_of b ≡ Zero) ⊎ (class_of b ≡ Digit)
-
-abbrev pub IsSymbolByte : ℕ → Type 0
-IsSymbolByte b = (class_of b ≡ Letter) ⊎ IsDigit b
+abbrev pub OneOrMore : (ℕ → Bool) → List ℕ → Type 0
+OneOrMore test [] = ⊥
+OneOrMore test (b ∷ bs) = (test b ≡ true) × ZeroOrMore test bs
 
 -- `0`, or digits that don't start with `0`
 abbrev pub IsNumeral : List ℕ → Type 0
 IsNumeral [] = ⊥
-IsNumeral (b ∷ bs) = ((class_of b ≡ Zero) × (bs ≡ [])) ⊎ ((class_of b ≡ Digit) × AllByRecursion IsDigit bs)
+IsNumeral (b ∷ bs) = ((b ≡ zero_digit) × (bs ≡ [])) ⊎ ((is_nonzero_digit b ≡ true) × ZeroOrMore is_digit bs)
+
+-- a numeral, a point and digits
+abbrev pub IsDecimal : List ℕ → Type 0
+IsDecimal text =
+    (whole : List ℕ) × (fraction : List ℕ) × (text ≡ whole ++ point ∷ fraction) × IsNumeral whole × OneOrMore is_digit fraction
 
 -- bytes of symbols that don't start with a digit and are no reserved word
 abbrev pub IsSimpleSymbol : List ℕ → Type 0
 IsSimpleSymbol [] = ⊥
 IsSimpleSymbol (b ∷ bs) =
-    (class_of b ≡ Letter) × AllByRecursion IsSymbolByte bs × ((word : Word) → b ∷ bs ≢ spelling_of word)
+    (is_letter b ≡ true) × ZeroOrMore is_symbol_byte bs × ((word : Word) → b ∷ bs ≢ spelling_of word)
 
--- how a token may be written. Kinds of atoms that are not read yet have no spelling
+-- each quote is written twice
+abbrev pub doubled : List ℕ → List ℕ
+doubled [] = []
+doubled (b ∷ bs) = if b == quote then b ∷ b ∷ doubled bs else b ∷ doubled bs
+
+-- the name between bars
+abbrev pub barred : List ℕ → List ℕ
+barred name = bar ∷ (name ++ bar ∷ [])
+
+-- how a token may be written
 abbrev pub IsSpelling : Token → List ℕ → Type 0
 IsSpelling OpenParenthesis text = text ≡ codes "("
 IsSpelling CloseParenthesis text = text ≡ codes ")"
 IsSpelling (WordToken word) text = text ≡ spelling_of word
 IsSpelling (AtomToken Numeral digits) text = (text ≡ digits) × IsNumeral digits
-IsSpelling (AtomToken Symbol name) text = (text ≡ name) × IsSimpleSymbol name
-IsSpelling (AtomToken Decimal bytes) text = ⊥
-IsSpelling (AtomToken Hexadecimal bytes) text = ⊥
-IsSpelling (AtomToken Binary bytes) text = ⊥
-IsSpelling (AtomToken Text bytes) text = ⊥
-IsSpelling (AtomToken Keyword bytes) text = ⊥
+IsSpelling (AtomToken Decimal bytes) text = (text ≡ bytes) × IsDecimal bytes
+IsSpelling (AtomToken Hexadecimal digits) text = (text ≡ codes "#x" ++ digits) × OneOrMore is_hexadecimal_digit digits
+IsSpelling (AtomToken Binary digits) text = (text ≡ codes "#b" ++ digits) × OneOrMore is_binary_digit digits
+IsSpelling (AtomToken Text bytes) text = (text ≡ quote ∷ (doubled bytes ++ quote ∷ [])) × ZeroOrMore is_text_byte bytes
+IsSpelling (AtomToken Symbol name) text =
+    ((text ≡ name) × IsSimpleSymbol name) ⊎ ((text ≡ barred name) × ZeroOrMore is_quoted_byte name)
+IsSpelling (AtomToken Keyword name) text = (text ≡ codes ":" ++ name) × OneOrMore is_symbol_byte name
 
--- an atom ends here: with the text, or before white space or a parenthesis
-abbrev pub EndsAtom : List ℕ → Type 0
-EndsAtom [] = Unit {0}
-EndsAtom (b ∷ bs) = IsWhite b ⊎ ((class_of b ≡ Open) ⊎ (class_of b ≡ Close))
+-- a comment, without the end of its line
+abbrev pub IsComment : List ℕ → Type 0
+IsComment text = (body : List ℕ) × (text ≡ semicolon ∷ body) × ZeroOrMore is_comment_byte body
+
+-- one byte of white space, or a comment with the end of its line
+abbrev pub IsSeparator : List ℕ → Type 0
+IsSeparator text =
+    ((b : ℕ) × (text ≡ b ∷ []) × (is_white b ≡ true)) ⊎ ((comment : List ℕ) × (b : ℕ) × (text ≡ comment ++ b ∷ []) × IsComment comment × (is_line_end b ≡ true))
+
+-- texts one after another
+abbrev pub joined : List (List ℕ) → List ℕ
+joined [] = []
+joined (text ∷ texts) = text ++ joined texts
+
+-- any number of separators
+abbrev pub IsGap : List ℕ → Type 0
+IsGap text = (parts : List (List ℕ)) × (text ≡ joined parts) × AllByRecursion IsSeparator parts
+
+-- a token ends here: with the text, or before a byte that shows it
+abbrev pub EndsToken : List ℕ → Type 0
+EndsToken [] = Unit {0}
+EndsToken (b ∷ bs) = ends_token b ≡ true
 
 -- what follows a token leaves it apart from the next one
 abbrev pub IsApart : Token → List ℕ → Type 0
 IsApart OpenParenthesis rest = Unit {0}
 IsApart CloseParenthesis rest = Unit {0}
-IsApart (AtomToken kind bytes) rest = EndsAtom rest
-IsApart (WordToken word) rest = EndsAtom rest
+IsApart (AtomToken kind bytes) rest = EndsToken rest
+IsApart (WordToken word) rest = EndsToken rest
 
--- the text is white space and the tokens in turn
+-- the text is these tokens, with a gap before each, then a gap, and then such a rest
+abbrev pub IsTextThen : (List ℕ → Type 0) → List Token → List ℕ → Type 0
+IsTextThen Last [] text = (gap : List ℕ) × (rest : List ℕ) × (text ≡ gap ++ rest) × IsGap gap × Last rest
+IsTextThen Last (token ∷ tokens) text =
+    (gap : List ℕ) × (spelled : List ℕ) × (rest : List ℕ) × (text ≡ gap ++ (spelled ++ rest)) × IsGap gap × IsSpelling token spelled × IsApart token rest × IsTextThen Last tokens rest
+
+-- nothing, or a comment that ends with the text
+abbrev pub IsTextEnd : List ℕ → Type 0
+IsTextEnd rest = (rest ≡ []) ⊎ IsComment rest
+
+-- the text is tokens and gaps in turn
 abbrev pub IsText : List Token → List ℕ → Type 0
-IsText [] text = AllByRecursion IsWhite text
-IsText (token ∷ tokens) text =
-    (gap spelled rest : List ℕ) × (text ≡ gap ++ (spelled ++ rest)) × AllByRecursion IsWhite gap × IsSpelling token spelled × IsApart token rest × IsText tokens rest
+IsText tokens text = IsTextThen IsTextEnd tokens text
 
 -- the tokens of a tree, or of trees side by side, and then those that come later
 abbrev mutual

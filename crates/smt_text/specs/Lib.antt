@@ -1,12 +1,9 @@
 pub mod Reserved
 pub mod Sexp
-pub mod SexpCode
-pub mod TreeView
-pub mod TreeFalls
+pub mod Tree
 pub mod TreeJoins
 pub mod Lexical
 pub mod Grammar
 pub mod Reading
-pub mod Machine
-pub mod ReaderState
-pub mod History
+pub mod Reader
+pub mod Internal

@@ -1,9 +1,8 @@
 -- What is read of a text that may still go on, and which fault a text has. These are this project's rules.
 use Rattle.std.specs.Prelude.{◌≡◌, ◌⊎◌, ◌≤◌, ℕ, List, [], ◌∷◌, ◌++◌, length, Bool, true, false, Option, Some, None}
-use Rattle.smt_text.specs.Grammar.{Forest}
-use Rattle.smt_text.specs.Lexical.{class_of}
-use Rattle.smt_text.specs.Sexp.{Sexps, Items, Nil, Cons, append}
-use Rattle.smt_text.specs.declared.lexical.Class.TheVariants.{White, Open, Close}
+use Rattle.smt_text.specs.Grammar.{Forest, Token, CloseParenthesis, AtomToken, IsSpelling, IsTextThen, barred, tokens_of_all}
+use Rattle.smt_text.specs.Lexical.{ends_token}
+use Rattle.smt_text.specs.Sexp.{Sexps, append, Symbol}
 use Rattle.smt_text.specs.declared.fault.TextFault.{TextFault}
 use Rattle.smt_text.specs.declared.fault.TextFault.TheVariants.{Byte, Deep, End, Memory}
 
@@ -21,23 +20,29 @@ pub record LongestPrefix (limit : ℕ) (text prefix rest : List ℕ) : Type 0 wh
   pub begins : Begins limit prefix
   pub longest : (longer other : List ℕ) → text ≡ longer ++ other → Begins limit longer → length longer ≤ length prefix
 
--- the last tree is a list
-abbrev pub EndsWithList : Sexps → Type 0
-EndsWithList trees = (prefix : Sexps) × (parts : Sexps) × (trees ≡ append prefix (Cons (Items parts) Nil))
+-- a token that shows its end itself: a closing parenthesis, or a symbol in bars
+abbrev pub IsClosed : Token → List ℕ → Type 0
+IsClosed CloseParenthesis spelled = Unit {0}
+IsClosed (AtomToken Symbol name) spelled = spelled ≡ barred name
+IsClosed _ spelled = ⊥
 
--- white space or a parenthesis follows
+-- the text ends with the last of the tokens, which shows its end itself
+abbrev pub EndsClosed : List Token → List ℕ → Type 0
+EndsClosed tokens text =
+    (before : List Token) × (last : Token) × (tokens ≡ before ++ last ∷ []) × IsTextThen (λ spelled. IsSpelling last spelled × IsClosed last spelled) before text
+
+-- a byte follows that shows the end of the token before it
 abbrev pub IsFollowed : List ℕ → Type 0
-IsFollowed rest =
-    (b : ℕ) × (bs : List ℕ) × (rest ≡ b ∷ bs) × ((class_of b ≡ White) ⊎ ((class_of b ≡ Open) ⊎ (class_of b ≡ Close)))
+IsFollowed rest = (b : ℕ) × (bs : List ℕ) × (rest ≡ b ∷ bs) × (ends_token b ≡ true)
 
--- these are the trees of a beginning of the prefix that is empty, ends with a list, or is followed by white space or a parenthesis:
--- so the last of them is complete, whatever comes
+-- these are the trees of a beginning of the prefix that is empty, ends with a list or a quoted symbol, or is followed by white
+-- space, a comment or a parenthesis: so the last of them is complete, whatever comes
 pub record AreSettled (limit : ℕ) (prefix : List ℕ) (trees : Sexps) : Type 0 where
   pub beginning : List ℕ
   pub rest : List ℕ
   pub parts : prefix ≡ beginning ++ rest
   pub forest : Forest limit beginning trees
-  pub settled : (beginning ≡ []) ⊎ (EndsWithList trees ⊎ IsFollowed rest)
+  pub settled : (beginning ≡ []) ⊎ (EndsClosed (tokens_of_all trees []) beginning ⊎ IsFollowed rest)
 
 -- the complete trees of a prefix: those of its longest such beginning
 pub record AreComplete (limit : ℕ) (prefix : List ℕ) (trees : Sexps) : Type 0 where
@@ -45,7 +50,7 @@ pub record AreComplete (limit : ℕ) (prefix : List ℕ) (trees : Sexps) : Type 
   pub most : (others : Sexps) → AreSettled limit prefix others → (later : Sexps) × (trees ≡ append others later)
 
 -- which fault a text has that is none of trees
---     End      it might have gone on, and ends inside a list
+--     End      it might have gone on, and ends inside a list or a token
 --     Deep     with the byte at this place, the text might go on if lists could be of any depth
 --     Byte     with the byte at this place, it is the beginning of no text
 abbrev pub HasFault : ℕ → List ℕ → TextFault → Type 0
@@ -56,7 +61,7 @@ HasFault limit text (Byte place) =
     (prefix : List ℕ) × (b : ℕ) × (rest : List ℕ) × (place ≡ length prefix) × LongestPrefix limit text prefix (b ∷ rest) × (((depth : ℕ) × Begins depth (prefix ++ b ∷ [])) → ⊥)
 HasFault limit text Memory = ⊥
 
--- a text that ends inside a list has this fault only once its end was told
+-- a text that ends inside a list or a token has this fault only once its end was told
 abbrev pub IsTold : Bool → TextFault → Type 0
 IsTold ended (End place) = ended ≡ true
 IsTold ended (Byte place) = Unit {0}

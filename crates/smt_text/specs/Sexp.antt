@@ -1,5 +1,6 @@
 -- SMT-LIB 2.6, section 3.2: S-expressions. A value of the code is seen as one.
-use Rattle.std.specs.Prelude.{ℕ, ◌+◌, max, List, suc}
+use Rattle.std.specs.Prelude.{ℕ, ◌+◌, max, List, suc, Bool, false}
+use Rattle.std.specs.Str.{bytes_eq}
 use Rattle.smt_text.specs.declared.reserved.Word.{Word}
 
 -- the kinds of atoms, apart from reserved words
@@ -22,6 +23,11 @@ mutual
   pub data Sexps : Type 0 where
     Nil : Sexps
     Cons : (first : Sexp) → (rest : Sexps) → Sexps
+
+-- the tree is the symbol of this name
+abbrev pub is_symbol : List ℕ → Sexp → Bool
+is_symbol name (Atom Symbol bytes) = bytes_eq bytes name
+is_symbol name _ = false
 
 -- the trees of xs, then those of ys
 abbrev pub append : Sexps → Sexps → Sexps

@@ -1,5 +1,8 @@
 //! Why a text can't be read.
 
+ghost use Rattle.std.specs.Prelude.{◌≡◌};
+ghost use Rattle.smt_text.specs.Internal.Machine.{fault_at};
+
 use std::alloc::{AllocError, AllocFailed};
 
 /// Why a text is none of the language, or can't be read.
@@ -34,5 +37,51 @@ impl<T: Drop> From<AllocFailed<T>> for TextFault {
 
     fn from(_error: AllocFailed<T>) -> TextFault {
         TextFault::Memory
+    }
+}
+
+/// Why a byte was refused, wherever it stands.
+#[derive(Clone, Copy, Debug, PartialEq, Eq)]
+pub(crate) enum Refusal {
+    /// No text goes on with the byte.
+    Unfit,
+    /// The byte opens a list deeper than lists may nest.
+    TooDeep,
+    /// Memory was refused.
+    NoMemory,
+}
+
+impl Refusal {
+    /// The fault of the byte at this place.
+    pub(crate) fn at(self, place: u64) -> TextFault
+        ensures { result ≡ fault_at place self }
+    {
+        match self {
+            Refusal::Unfit => TextFault::Byte { place },
+            Refusal::TooDeep => TextFault::Deep { place },
+            Refusal::NoMemory => TextFault::Memory,
+        }
+    }
+}
+
+impl From<AllocError> for Refusal {
+    ghost use Rattle.std.specs.Prelude.{◌≡◌};
+    ghost use Rattle.smt_text.specs.declared.fault.Refusal.TheVariants.{NoMemory};
+
+    ghost from_gives = { λ _ refusal. refusal ≡ NoMemory };
+
+    fn from(_error: AllocError) -> Refusal {
+        Refusal::NoMemory
+    }
+}
+
+impl<T: Drop> From<AllocFailed<T>> for Refusal {
+    ghost use Rattle.std.specs.Prelude.{◌≡◌};
+    ghost use Rattle.smt_text.specs.declared.fault.Refusal.TheVariants.{NoMemory};
+
+    ghost from_gives = { λ _ refusal. refusal ≡ NoMemory };
+
+    fn from(_error: AllocFailed<T>) -> Refusal {
+        Refusal::NoMemory
     }
 }

@@ -1,5 +1,7 @@
 //! Laws of the definitions of texts, trees and faults. Each is the contract of a function that does nothing.
 
+pub mod examples;
+
 ghost use Rattle.std.specs.Prelude.{◌≡◌, ℕ, List, ◌++◌, Bool, Option};
 ghost use Rattle.smt_text.specs.Grammar.{Forest};
 ghost use Rattle.smt_text.specs.Reading.{Begins, AreComplete, Reads};

@@ -1,8 +1,8 @@
 //! The reserved words.
 
 ghost use Rattle.std.specs.Prelude.{◌≡◌, ◌≢◌, MatchOption};
-ghost use Rattle.smt_text.specs.Machine as machine;
-ghost use Rattle.smt_text.specs.Machine.{word_named};
+ghost use Rattle.smt_text.specs.Internal.Machine as machine;
+ghost use Rattle.smt_text.specs.Internal.Machine.{word_named};
 ghost use Rattle.smt_text.specs.Reserved.{spelling_of};
 ghost use Rattle.smt_text.specs.declared.reserved.Word.{Word};
 
@@ -148,47 +148,47 @@ pub fn spelling(word: Word) -> &'static [u8]
     }
 }
 
-// The reserved words that are written with so many bytes.
-fn words_of_length(length: usize) -> &'static [Word]
-    ensures { result.now ≡ machine.words_of_length length }
+// The reserved words that are written with so many bytes and begin with this one.
+fn words_like(length: usize, first: u8) -> &'static [Word]
+    ensures { result.now ≡ machine.words_like length first }
 {
-    match length {
-        1 => &[Word::Bang, Word::Underscore],
-        2 => &[Word::As],
-        3 => &[Word::Let, Word::Par, Word::Pop],
-        4 => &[Word::Echo, Word::Exit, Word::Push],
-        5 => &[Word::Match, Word::Reset],
-        6 => &[
-            Word::Binary,
-            Word::Exists,
-            Word::Forall,
-            Word::String,
-            Word::Assert,
-        ],
-        7 => &[Word::Decimal, Word::Numeral],
-        8 => &[Word::GetInfo, Word::SetInfo],
-        9 => &[
-            Word::CheckSat,
-            Word::GetModel,
-            Word::GetProof,
-            Word::GetValue,
-            Word::SetLogic,
-        ],
-        10 => &[Word::DefineFun, Word::GetOption, Word::SetOption],
-        11 => &[Word::Hexadecimal, Word::DeclareFun, Word::DefineSort],
-        12 => &[Word::DeclareSort],
-        13 => &[Word::DeclareConst],
-        14 => &[
-            Word::DefineFunRec,
-            Word::GetAssertions,
-            Word::GetAssignment,
-            Word::GetUnsatCore,
-        ],
-        15 => &[Word::DefineFunsRec],
-        16 => &[Word::DeclareDatatype, Word::ResetAssertions],
-        17 => &[Word::DeclareDatatypes],
-        18 => &[Word::CheckSatAssuming],
-        21 => &[Word::GetUnsatAssumptions],
+    match (length, first) {
+        (1, b'!') => &[Word::Bang],
+        (1, b'_') => &[Word::Underscore],
+        (2, b'a') => &[Word::As],
+        (3, b'l') => &[Word::Let],
+        (3, b'p') => &[Word::Par, Word::Pop],
+        (4, b'e') => &[Word::Echo, Word::Exit],
+        (4, b'p') => &[Word::Push],
+        (5, b'm') => &[Word::Match],
+        (5, b'r') => &[Word::Reset],
+        (6, b'B') => &[Word::Binary],
+        (6, b'S') => &[Word::String],
+        (6, b'a') => &[Word::Assert],
+        (6, b'e') => &[Word::Exists],
+        (6, b'f') => &[Word::Forall],
+        (7, b'D') => &[Word::Decimal],
+        (7, b'N') => &[Word::Numeral],
+        (8, b'g') => &[Word::GetInfo],
+        (8, b's') => &[Word::SetInfo],
+        (9, b'c') => &[Word::CheckSat],
+        (9, b'g') => &[Word::GetModel, Word::GetProof, Word::GetValue],
+        (9, b's') => &[Word::SetLogic],
+        (10, b'd') => &[Word::DefineFun],
+        (10, b'g') => &[Word::GetOption],
+        (10, b's') => &[Word::SetOption],
+        (11, b'H') => &[Word::Hexadecimal],
+        (11, b'd') => &[Word::DeclareFun, Word::DefineSort],
+        (12, b'd') => &[Word::DeclareSort],
+        (13, b'd') => &[Word::DeclareConst],
+        (14, b'd') => &[Word::DefineFunRec],
+        (14, b'g') => &[Word::GetAssertions, Word::GetAssignment, Word::GetUnsatCore],
+        (15, b'd') => &[Word::DefineFunsRec],
+        (16, b'd') => &[Word::DeclareDatatype],
+        (16, b'r') => &[Word::ResetAssertions],
+        (17, b'd') => &[Word::DeclareDatatypes],
+        (18, b'c') => &[Word::CheckSatAssuming],
+        (21, b'g') => &[Word::GetUnsatAssumptions],
         _ => &[],
     }
 }
@@ -198,7 +198,10 @@ pub fn word_of(bytes: &[u8]) -> Option<Word>
     ensures named { result ≡ word_named bytes.now }
     ensures written { MatchOption result ((word : Word) → bytes.now ≢ spelling_of word) (λ word. bytes.now ≡ spelling_of word) }
 {
-    for word in words_of_length(bytes.len()) {
+    let Some(first) = bytes.first() else {
+        return None;
+    };
+    for word in words_like(bytes.len(), *first) {
         if spelling(*word) == bytes {
             return Some(*word);
         }

@@ -1,14 +1,12 @@
 -- The command line of the program, in the words in which clap says what a parse gives.
-use Rattle.std.specs.Prelude.{◌≡◌, ◌==◌, Bool, true, false, not, Some, ⊤, codes, is_some, List, [], ◌∷◌}
-use Rattle.std.specs.Prelude.{MatchResult, Result}
-use Rattle.clap.specs.Words.{App, IsAmong, IsParsedFrom, Rule, Text, fault_of, first_of, first_value}
-use Rattle.clap.specs.Words.{found_of, kind_of, matches_of, new_app, new_rule, with_rule}
+use Rattle.std.specs.Prelude.{◌≡◌, ◌==◌, Bool, true, false, not, Some, ⊤, codes, is_some, List, [], ◌∷◌, MatchResult, Result}
+use Rattle.clap.specs.Words.{App, IsAmong, IsParsedFrom, Rule, Text, fault_of, first_of, first_value, found_of, kind_of, matches_of, new_app, new_rule, with_rule}
 use Rattle.clap.specs.declared.builder.Command.{Command}
 use Rattle.clap.specs.declared.parser.ArgMatches.{ArgMatches}
 use Rattle.clap.specs.declared.builder.ArgAction.TheVariants.{Set}
-use Rattle.smtcheck.specs.declared.command_line.LineFault.{LineFault}
-use Rattle.smtcheck.specs.declared.command_line.LineFault.TheVariants as line
-use Rattle.smtcheck.specs.declared.command_line.Settings.{Settings}
+use Rattle.smtcheck.specs.declared.settings.LineFault.{LineFault}
+use Rattle.smtcheck.specs.declared.settings.LineFault.TheVariants as line
+use Rattle.smtcheck.specs.declared.settings.Settings.{Settings}
 
 -- a file that has to be named, once: a positional argument
 abbrev pub file_rule : Text → Rule

@@ -2,9 +2,9 @@
 
 ghost use Rattle.std.specs.Prelude.{◌≡◌, true};
 
-use crate::command_line::Settings;
-use crate::report::{Report, status_of};
-use crate::validation::validate;
+use crate::settings::Settings;
+use smt_dialogue::{Report, validate};
+use smtcheck_status::status_of;
 use std::alloc::Global;
 use std::io::{BufWriter, Read, Write};
 use std::rt::Files;

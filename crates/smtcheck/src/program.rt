@@ -3,9 +3,9 @@
 #[cfg(test)]
 mod tests;
 
-use crate::command_line::LineFault;
+use crate::command_line;
 use crate::files::{RunFault, run};
-use crate::settings;
+use crate::settings::LineFault;
 use std::alloc::{AllocError, Global};
 use std::rt::{Env, Files};
 use std::{env, io};
@@ -27,15 +27,15 @@ pub fn start<R: Files + Env + AllocGlobal + Print + Eprint>(rt: &R) -> u8 {
         }
         Err(_) => return no_report(rt, RunFault::Memory),
     };
-    match texts(rt.alloc(), words.as_slice()) {
-        Ok(words) => status(rt, words.as_slice()),
+    match as_strs(rt.alloc(), words.as_slice()) {
+        Ok(words) => run_words(rt, words.as_slice()),
         Err(_) => no_report(rt, RunFault::Memory),
     }
 }
 
 /// The same for these words, the program's name first.
-pub fn status<R: Files + AllocGlobal + Print + Eprint>(rt: &R, words: &[&str]) -> u8 {
-    match settings::settings(rt.alloc(), words) {
+pub fn run_words<R: Files + AllocGlobal + Print + Eprint>(rt: &R, words: &[&str]) -> u8 {
+    match command_line::settings(rt.alloc(), words) {
         Ok(settings) => match run(rt, settings) {
             Ok(status) => status,
             Err(fault) => no_report(rt, fault),
@@ -59,7 +59,7 @@ fn words<R: Env + AllocGlobal>(rt: &R) -> io::Result<Vec<String>> {
     Ok(env::args(rt)?.collect(rt.alloc())?)
 }
 
-fn texts<'a>(alloc: Global, words: &'a [String]) -> Result<Vec<&'a str>, AllocError> {
+fn as_strs<'a>(alloc: Global, words: &'a [String]) -> Result<Vec<&'a str>, AllocError> {
     let mut texts = Vec::with_capacity(alloc, words.len())?;
     for word in words {
         texts.push(word.as_str())?;

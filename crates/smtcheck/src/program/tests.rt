@@ -1,5 +1,5 @@
 use super::*;
-use crate::command_line::Settings;
+use crate::settings::Settings;
 use std::fs;
 use std::test::Fail;
 
@@ -10,7 +10,7 @@ fn of_texts(rt: &HostRuntime, name: &str, script: &str, answers: &str) -> Result
     fs::write(rt, script_name.as_str(), script)?;
     fs::write(rt, answers_name.as_str(), answers)?;
     let words = ["smtcheck", script_name.as_str(), answers_name.as_str()];
-    let status = status(rt, words.as_slice());
+    let status = run_words(rt, words.as_slice());
     fs::remove_file(rt, script_name.as_str())?;
     fs::remove_file(rt, answers_name.as_str())?;
     Ok(status)
@@ -36,27 +36,27 @@ fn statuses_without_a_report(rt: HostRuntime) -> Result<(), Fail> {
     let name = "/tmp/smtcheck-test-other.txt";
     fs::write(&rt, name, "")?;
     assert_eq!(rt;
-        status(
+        run_words(
             &rt,
             ["smtcheck", "/tmp/smtcheck-no-such-file", name].as_slice()
         ),
         4
     );
     assert_eq!(rt;
-        status(
+        run_words(
             &rt,
             ["smtcheck", name, "/tmp/smtcheck-no-such-file"].as_slice()
         ),
         4
     );
-    assert_eq!(rt; status(&rt, ["smtcheck", "/tmp", name].as_slice()), 4);
-    assert_eq!(rt; status(&rt, ["smtcheck", name, "/tmp"].as_slice()), 4);
-    assert_eq!(rt; status(&rt, ["smtcheck", "--help"].as_slice()), 5);
+    assert_eq!(rt; run_words(&rt, ["smtcheck", "/tmp", name].as_slice()), 4);
+    assert_eq!(rt; run_words(&rt, ["smtcheck", name, "/tmp"].as_slice()), 4);
+    assert_eq!(rt; run_words(&rt, ["smtcheck", "--help"].as_slice()), 5);
     assert_eq!(rt;
-        status(&rt, ["smtcheck", "--nonsense", name, name].as_slice()),
+        run_words(&rt, ["smtcheck", "--nonsense", name, name].as_slice()),
         5
     );
-    assert_eq!(rt; status(&rt, ["smtcheck", name].as_slice()), 5);
+    assert_eq!(rt; run_words(&rt, ["smtcheck", name].as_slice()), 5);
     fs::remove_file(&rt, name)?;
     Ok(())
 }

@@ -1,4 +1,4 @@
-use Rattle.smt_text.proofs.Faults.{every_text}
+use Rattle.smt_text.proofs.ReadingLemmas.{every_text}
 use Rattle.smt_text.proofs.laws.every_text_reads.Goals as goal
 
 pub returns : goal.returns

@@ -1,4 +1,4 @@
-use Rattle.smt_text.proofs.Faults as faults
+use Rattle.smt_text.proofs.ReadingLemmas as faults
 use Rattle.smt_text.proofs.laws.one_forest.Goals as goal
 
 pub returns : goal.returns

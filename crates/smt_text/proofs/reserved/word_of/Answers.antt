@@ -1,11 +1,13 @@
-use Rattle.std.proofs.Common.{◌∙◌, sym, ap}
-use Rattle.smt_text.specs.Machine.{find_word}
-use Rattle.smt_text.proofs.Words.{find_word-length, find_word-more}
+use Rattle.std.proofs.Common.{◌∙◌, sym, ap, length}
+use Rattle.smt_text.specs.Internal.Machine.{find_word, words_like}
+use Rattle.smt_text.proofs.ReservedLemmas.{find_word-like, find_word-more, first-got}
 use Rattle.smt_text.proofs.reserved.word_of.Goals as goal
 
 pub loop-word-init : goal.loop-word-init
-loop-word-init c = ap (find_word c.args.bytes.now) c.words_of_length-word-items.ensures ∙ find_word-length c.args.bytes.now
+loop-word-init c =
+    let bytes = c.args.bytes.now in
+    ap (find_word bytes) (c.words_like-word-items.ensures ∙ ap (words_like (length bytes)) (first-got bytes c.in-Some.first.now c.in-Some.ensures.value)) ∙ find_word-like bytes
 
 pub loop-word-preserved : goal.loop-word-preserved
 loop-word-preserved c =
-    find_word-more c.args.bytes.now c.words_of_length-word-items.result.now c.loop-word.word-index _ c.spelling.result.now c.loop-word-test.true c.spelling.ensures (sym c.eq.ensures ∙ c.if-eq.false) ∙ c.loop-word.invariant
+    find_word-more c.args.bytes.now c.words_like-word-items.result.now c.loop-word.word-index _ c.spelling.result.now c.loop-word-test.true c.spelling.ensures (sym c.eq.ensures ∙ c.if-eq.false) ∙ c.loop-word.invariant

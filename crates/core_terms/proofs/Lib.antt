@@ -1,0 +1,4 @@
+pub mod EntryLemmas
+pub mod LibraryLemmas
+pub mod CheckerLemmas
+pub mod NoMemoryLemmas

@@ -1,0 +1,3 @@
+pub mod Element
+pub mod Operations
+pub mod KnownOperations

@@ -1,0 +1,200 @@
+//! The texts of fields, which stand for bytes.
+//!
+//! | written | stands for |
+//! |---|---|
+//! | `\n`, `\t`, `\r` | line feed, tab, carriage return |
+//! | `\\`, `\{`, `\}` | the byte behind the backslash |
+//! | `\x0a` | the byte of this number, by two hexadecimal digits |
+//! | `\*12{..}` | what stands in the braces, 12 times |
+//! | `\#`, `\-` | in braces: the number of the time, counted from 1, and the number before it |
+//! | `\*#{..}` | in braces: what stands in these, as often as the number of the outer time |
+//!
+//! Every other byte but `}` in braces stands for itself.
+
+use anyhow::{Result, bail};
+use std::alloc::{AllocError, Global};
+use std::io::Write;
+use std::{io, mem};
+
+/// How often a text is repeated.
+#[derive(Clone, Copy)]
+enum Times {
+    Count(u64),
+    /// As often as the number of the time outside.
+    Outer,
+}
+
+/// A part of a text.
+#[derive(Drop)]
+enum Part {
+    Byte(u8),
+    /// The number of the time.
+    Number,
+    /// The number before it.
+    Before,
+    Repeat { times: Times, parts: Vec<Part> },
+}
+
+/// How far an escape has been read.
+#[derive(Clone, Copy)]
+enum State {
+    /// There is none.
+    Outside,
+    Backslash,
+    /// The two digits of a byte come next.
+    Byte,
+    /// The second of them comes next.
+    SecondDigit { first: u8 },
+    /// The times of a repetition come next.
+    Repeat,
+    /// The opening brace comes next, or one more digit.
+    Brace { times: Times },
+}
+
+/// The parts of the text so far.
+#[derive(Drop)]
+struct Reader {
+    alloc: Global,
+    state: State,
+    /// The parts behind the last brace that is open.
+    parts: Vec<Part>,
+    /// For each open brace the parts before it, and how often it is repeated.
+    outer: Vec<(Vec<Part>, Times)>,
+}
+
+/// The bytes that a text stands for.
+pub fn unescape(alloc: Global, text: &str) -> Result<Vec<u8>> {
+    let mut reader = Reader {
+        alloc,
+        state: State::Outside,
+        parts: Vec::new(alloc),
+        outer: Vec::new(alloc),
+    };
+    for byte in text.bytes() {
+        reader.state = reader.take(byte)?;
+    }
+    if !matches!(reader.state, State::Outside) || !reader.outer.is_empty() {
+        bail!("the text ends inside an escape");
+    }
+    let mut bytes = Vec::new(alloc);
+    for part in &reader.parts {
+        part.write(0, &mut bytes)?;
+    }
+    Ok(bytes)
+}
+
+impl Reader {
+    // Takes one byte, and answers the state behind it.
+    fn take(&mut self, byte: u8) -> Result<State> {
+        match self.state {
+            State::Outside => Ok(self.take_outside(byte)?),
+            State::Backslash => self.take_escaped(byte),
+            State::Byte => Ok(State::SecondDigit {
+                first: hex_digit(byte)?,
+            }),
+            State::SecondDigit { first } => Ok(self.add(Part::Byte(
+                first << 4 | hex_digit(byte)?,
+            ))?),
+            State::Repeat => self.take_times(byte),
+            State::Brace { times } => self.take_brace(byte, times),
+        }
+    }
+
+    fn take_outside(&mut self, byte: u8) -> Result<State, AllocError> {
+        match byte {
+            b'\\' => Ok(State::Backslash),
+            b'}' => self.close_brace(),
+            _ => self.add(Part::Byte(byte)),
+        }
+    }
+
+    fn take_escaped(&mut self, byte: u8) -> Result<State> {
+        let is_inside = !self.outer.is_empty();
+        Ok(match byte {
+            b'n' => self.add(Part::Byte(b'\n'))?,
+            b't' => self.add(Part::Byte(b'\t'))?,
+            b'r' => self.add(Part::Byte(b'\r'))?,
+            b'\\' | b'{' | b'}' => self.add(Part::Byte(byte))?,
+            b'x' => State::Byte,
+            b'*' => State::Repeat,
+            b'#' if is_inside => self.add(Part::Number)?,
+            b'-' if is_inside => self.add(Part::Before)?,
+            _ => bail!("there is no such escape"),
+        })
+    }
+
+    fn take_times(&mut self, byte: u8) -> Result<State> {
+        match byte {
+            b'0'..=b'9' => Ok(State::Brace {
+                times: Times::Count(u64::from(byte - b'0')),
+            }),
+            b'#' if !self.outer.is_empty() => Ok(State::Brace {
+                times: Times::Outer,
+            }),
+            _ => bail!("a repetition is not in form"),
+        }
+    }
+
+    fn take_brace(&mut self, byte: u8, times: Times) -> Result<State> {
+        match (byte, times) {
+            (b'{', _) => {
+                let before = mem::replace(&mut self.parts, Vec::new(self.alloc));
+                self.outer.push((before, times))?;
+                Ok(State::Outside)
+            }
+            (b'0'..=b'9', Times::Count(count)) => {
+                let digit = u64::from(byte - b'0');
+                let times = Times::Count(count.saturating_mul(10).saturating_add(digit));
+                Ok(State::Brace { times })
+            }
+            _ => bail!("a repetition is not in form"),
+        }
+    }
+
+    // Ends the innermost repetition; outside of all it is a brace like any other byte.
+    fn close_brace(&mut self) -> Result<State, AllocError> {
+        match self.outer.pop() {
+            Some((before, times)) => {
+                let parts = mem::replace(&mut self.parts, before);
+                self.add(Part::Repeat { times, parts })
+            }
+            None => self.add(Part::Byte(b'}')),
+        }
+    }
+
+    fn add(&mut self, part: Part) -> Result<State, AllocError> {
+        self.parts.push(part)?;
+        Ok(State::Outside)
+    }
+}
+
+impl Part {
+    // Writes the part, in a repetition for the time of this number.
+    fn write(&self, number: u64, bytes: &mut Vec<u8>) -> io::Result<()> {
+        match self {
+            Part::Byte(byte) => bytes.push(*byte)?,
+            Part::Number => write!(bytes, "{number}")?,
+            Part::Before => write!(bytes, "{}", number.saturating_sub(1))?,
+            Part::Repeat { times, parts } => {
+                let count = match times {
+                    Times::Count(count) => *count,
+                    Times::Outer => number,
+                };
+                for number in 1..=count {
+                    for part in parts {
+                        part.write(number, bytes)?;
+                    }
+                }
+            }
+        }
+        Ok(())
+    }
+}
+
+fn hex_digit(byte: u8) -> Result<u8> {
+    match byte {
+        b'0'..=b'9' => Ok(byte - b'0'),
+        b'a'..=b'f' => Ok(byte - b'a' + 10),
+        _ => bail!("a byte has two hexadecimal digits, 0 to 9 and a to f"),
+    }
+}

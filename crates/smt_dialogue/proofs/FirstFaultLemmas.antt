@@ -1,0 +1,109 @@
+-- What the end of a dialogue without a fault says, and that there is one pairing.
+use Rattle.std.proofs.Common.{◌≡◌, ◌+◌, ℕ, Bool, true, false, ◌||◌, List, [], ◌∷◌, ◌++◌, length, Option, Some, None, Result, Ok, Err, cond, refl, ap, sym, ◌∙◌}
+use Rattle.std.specs.List.{list_any}
+use Rattle.smt_text.specs.Sexp.{Sexps, Nil, Cons}
+use Rattle.smt_text.specs.declared.fault.TextFault.{TextFault}
+use Rattle.smt_text.specs.declared.fault.TextFault.TheVariants as texts
+use Rattle.smt_script.specs.Command.{Command, command_of}
+use Rattle.smt_dialogue.specs.FirstFault.{Stop, text_line, step_after, step_of_fault, step_of_tree}
+use Rattle.smt_dialogue.specs.Report.{lines_of_end}
+use Rattle.smt_dialogue.specs.InForce.{fault_of_pair}
+use Rattle.smt_dialogue.specs.Verdict.{is_fault_line, is_refuted_line, is_undecided_line, verdict_of}
+use Rattle.smt_dialogue.specs.Pairing.{Pair, answered_by, answers_taken}
+use Rattle.smt_dialogue.specs.Answers.{takes}
+use Rattle.smt_dialogue.specs.declared.line.Line.{Line}
+use Rattle.smt_dialogue.specs.declared.line.Line.TheVariants as lines
+use Rattle.smt_dialogue.specs.declared.line.Side.{Side}
+use Rattle.smt_dialogue.specs.declared.line.Side.TheVariants.{Script, Answers}
+use Rattle.smt_dialogue.specs.declared.verdict.Verdict.TheVariants as verdicts
+use Rattle.smt_script.specs.declared.fault.CommandFault.{CommandFault}
+
+-- ## Verdicts
+
+valid_tests : (f r u : Bool) → cond f verdicts.Refused (cond r verdicts.Invalid (cond u verdicts.NotDecided verdicts.Valid)) ≡ verdicts.Valid → (f ≡ false) × (r ≡ false) × (u ≡ false)
+valid_tests true r u h = cc
+valid_tests false true u h = cc
+valid_tests false false true h = cc
+valid_tests false false false h = (refl, refl, refl)
+
+pub valid_lines : (ls : List Line) → verdict_of ls ≡ verdicts.Valid → (list_any is_fault_line ls ≡ false) × (list_any is_refuted_line ls ≡ false) × (list_any is_undecided_line ls ≡ false)
+valid_lines ls h = valid_tests (list_any is_fault_line ls) (list_any is_refuted_line ls) (list_any is_undecided_line ls) h
+
+invalid_tests : (f r u : Bool) → cond f verdicts.Refused (cond r verdicts.Invalid (cond u verdicts.NotDecided verdicts.Valid)) ≡ verdicts.Invalid → (f ≡ false) × (r ≡ true)
+invalid_tests true r u h = cc
+invalid_tests false true u h = (refl, refl)
+invalid_tests false false true h = cc
+invalid_tests false false false h = cc
+
+pub invalid_lines : (ls : List Line) → verdict_of ls ≡ verdicts.Invalid → (list_any is_fault_line ls ≡ false) × (list_any is_refuted_line ls ≡ true)
+invalid_lines ls h = invalid_tests (list_any is_fault_line ls) (list_any is_refuted_line ls) (list_any is_undecided_line ls) h
+
+-- ## Tests over lists side by side
+
+or_assoc : (a b c : Bool) → a || (b || c) ≡ (a || b) || c
+or_assoc true b c = refl
+or_assoc false b c = refl
+
+pub none_left : (a b : Bool) → a || b ≡ false → a ≡ false
+none_left true b h = cc
+none_left false b h = refl
+
+pub none_right : (a b : Bool) → a || b ≡ false → b ≡ false
+none_right true b h = cc
+none_right false b h = h
+
+pub any-append : {A : Type 0} (p : A → Bool) (xs ys : List A) → list_any p (xs ++ ys) ≡ list_any p xs || list_any p ys
+any-append p [] ys = refl
+any-append p (x ∷ xs) ys = ap (λ (b : Bool). p x || b) (any-append p xs ys) ∙ or_assoc (p x) (list_any p xs) (list_any p ys)
+
+pub none_of : {A : Type 0} (p : A → Bool) (xs ys : List A) → list_any p (xs ++ ys) ≡ false → (list_any p xs ≡ false) × (list_any p ys ≡ false)
+none_of p xs ys h =
+    let e = sym (any-append p xs ys) ∙ h in
+    (none_left (list_any p xs) (list_any p ys) e, none_right (list_any p xs) (list_any p ys) e)
+
+-- ## A dialogue that ends without the line of a fault
+
+-- all trees and answers were taken, and neither text has a fault
+pub record IsClean (later : Sexps) (script_fault : Option TextFault) (rest : Sexps) (answers_fault : Option TextFault) (fault : Option Line) : Type 0 where
+  pub trees : later ≡ Nil
+  pub script : script_fault ≡ None
+  pub left : rest ≡ Nil
+  pub answers : answers_fault ≡ None
+  pub none : fault ≡ None
+
+text_line_is_fault : (side : Side) (f : TextFault) → is_fault_line (text_line side f) ≡ true
+text_line_is_fault side (texts.Byte place) = refl
+text_line_is_fault side (texts.Deep place) = refl
+text_line_is_fault side (texts.End place) = refl
+text_line_is_fault side texts.Memory = refl
+
+-- the end that has a line has that of a fault
+no_line : {P : Type 0} (line : Line) (fault : Option Line) → is_fault_line line ≡ true → Stop (Some line) ≡ Stop fault → list_any is_fault_line (lines_of_end fault) ≡ false → P
+no_line line None is e h = absurd (cc)
+no_line line (Some other) is e h =
+    let same : line ≡ other = cc in
+    let here : is_fault_line other ≡ false = none_left (is_fault_line other) false h in
+    let there : is_fault_line other ≡ true = ap is_fault_line (sym same) ∙ is in
+    absurd (cc)
+
+turn_of_fault_line : {P : Type 0} (n : ℕ) (f : Option CommandFault) (fault : Option Line) → step_of_fault n f ≡ Stop fault → list_any is_fault_line (lines_of_end fault) ≡ false → P
+turn_of_fault_line n None fault e h = absurd (cc)
+turn_of_fault_line n (Some f) fault e h = no_line (lines.CommandFault n f) fault refl e h
+
+chosen_line : {P : Type 0} (b : Bool) (n : ℕ) (f : Option CommandFault) (line : Line) (fault : Option Line) → is_fault_line line ≡ true → cond b (step_of_fault n f) (Stop (Some line)) ≡ Stop fault → list_any is_fault_line (lines_of_end fault) ≡ false → P
+chosen_line true n f line fault is e h = turn_of_fault_line n f fault e h
+chosen_line false n f line fault is e h = no_line line fault is e h
+
+command_line : {P : Type 0} (pairs : List Pair) (r : Result Command CommandFault) (rest : Sexps) (af : Option TextFault) (fault : Option Line) → step_of_tree pairs r rest af ≡ Stop fault → list_any is_fault_line (lines_of_end fault) ≡ false → P
+command_line pairs (Err f) rest af fault e h = no_line (lines.CommandFault (length pairs + 1) f) fault refl e h
+command_line pairs (Ok c) Nil None fault e h = no_line (lines.MissingAnswer (length pairs + 1)) fault refl e h
+command_line pairs (Ok c) Nil (Some f) fault e h = no_line (text_line Answers f) fault (text_line_is_fault Answers f) e h
+command_line pairs (Ok c) (Cons a rest) af fault e h =
+    chosen_line (takes c a) (length pairs + 1) (fault_of_pair pairs (answered_by c a)) (lines.UnexpectedAnswer (length pairs + 1) (answers_taken pairs + 1)) fault refl e h
+
+pub ends_clean : (pairs : List Pair) (later : Sexps) (sf : Option TextFault) (rest : Sexps) (af : Option TextFault) (fault : Option Line) → step_after pairs later sf rest af ≡ Stop fault → list_any is_fault_line (lines_of_end fault) ≡ false → IsClean later sf rest af fault
+ends_clean pairs (Cons t ts) sf rest af fault e h = command_line pairs (command_of t) rest af fault e h
+ends_clean pairs Nil (Some f) rest af fault e h = no_line (text_line Script f) fault (text_line_is_fault Script f) e h
+ends_clean pairs Nil None (Cons a rest) af fault e h = no_line (lines.ExtraAnswer (answers_taken pairs + 1)) fault refl e h
+ends_clean pairs Nil None Nil (Some f) fault e h = no_line (text_line Answers f) fault (text_line_is_fault Answers f) e h
+ends_clean pairs Nil None Nil None fault e h = record { trees = refl; script = refl; left = refl; answers = refl; none = cc }

@@ -1,0 +1,11 @@
+pub mod PairLemmas
+pub mod ChecksLemmas
+pub mod DialogueLemmas
+pub mod StepLemmas
+pub mod JudgementLemmas
+pub mod FirstFaultLemmas
+pub mod PairingUnique
+pub mod ReportUnique
+pub mod ReportExists
+pub mod ConfirmedLemmas
+pub mod ValidityLemmas

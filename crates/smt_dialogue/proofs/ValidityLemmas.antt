@@ -1,0 +1,406 @@
+-- What the verdicts mean.
+use Rattle.std.proofs.Common.{◌≡◌, ◌+◌, ℕ, Bool, true, false, not, ◌||◌, List, [], ◌∷◌, ◌++◌, length, Option, Some, None, Result, Ok, Err, cond, codes, refl, ap, sym, ◌∙◌, subst, arith, append_assoc}
+use Rattle.std.proofs.lemmas.List.{append-nil}
+use Rattle.std.specs.List.{AllByRecursion, list_any}
+use Rattle.std.specs.Result.{IfOk}
+use Rattle.smt_text.specs.Grammar.{Forest, limit}
+use Rattle.smt_text.specs.Reading.{Reads}
+use Rattle.smt_text.specs.Sexp.{Sexp, Sexps, Nil, is_symbol}
+use Rattle.smt_text.specs.declared.fault.TextFault.{TextFault}
+use Rattle.smt_eval.proofs.CompleteModelLemmas.{complete}
+use Rattle.smt_dialogue.proofs.FirstFaultLemmas.{any-append, ends_clean, invalid_lines, none_of, valid_lines}
+use Rattle.smt_dialogue.proofs.PairingUnique.{all_commands, one_pairing}
+use Rattle.smt_dialogue.proofs.ConfirmedLemmas.{asserted_formula, closed_value, confirmed_at, faultless_at, is_false_value, lines_at, lines_of_sat_at}
+use Rattle.smt_script.specs.Command.{Command, DeclareConst, Assert, CheckSat, GetModel}
+use Rattle.smt_dialogue.specs.Report.{lines_of_end}
+use Rattle.smt_dialogue.specs.Validity.{IsAsserted, IsFullyPaired, IsInvalid, IsSatCheck, IsTrueModel, IsValid}
+use Rattle.smt_dialogue.specs.InForce.{AreFaultless, assertions_after, effective_from, names_after}
+use Rattle.smt_script.specs.Stack.{Assertion, Numbered, assertions_in_force}
+use Rattle.smt_dialogue.specs.Lines.{checks_in, is_empty, line_of_judgement, lines_in, lines_of_pair, lines_of_sat, sat_lines, unconfirmed_line}
+use Rattle.smt_dialogue.specs.Verdict.{is_fault_line, is_refuted_line, is_undecided_line, tally_of, verdict_of}
+use Rattle.std.specs.Option.{option_or}
+use Rattle.smt_dialogue.specs.Pairing.{IsPairing, Pair, is_effective}
+use Rattle.smt_dialogue.specs.Internal.Steps.{IsJudged}
+use Rattle.smt_dialogue.specs.Window.{Printed, models_from, structure_at, window}
+use Rattle.smt_dialogue.specs.Judgement.{first_assertion, is_false_over, is_open_over, judgement_of, judged_over, open_or_confirmed, refuted_or}
+use Rattle.core_values.specs.Element.{Element, Truth}
+use Rattle.smt_eval.specs.CompleteModel.{IsModelOf}
+use Rattle.smt_eval.specs.Meaning.{value_over}
+use Rattle.smt_eval.specs.Known.{known_over}
+use Rattle.smt_eval.specs.Model.{model_in}
+use Rattle.core_terms.specs.Signature.{Entry}
+use Rattle.core_values.specs.declared.value.Value.TheVariants.{Bool as Boolean}
+use Rattle.smt_dialogue.specs.declared.judgement.Judgement.{Judgement}
+use Rattle.smt_dialogue.specs.declared.judgement.Judgement.TheVariants as judgements
+use Rattle.smt_eval.specs.declared.interpretation.ModelFault.{ModelFault}
+use Rattle.smt_eval.specs.declared.interpretation.ModelFault.TheVariants as faults
+use Rattle.smt_dialogue.specs.declared.line.CheckAnswer.TheVariants.{Unsat, Unknown}
+use Rattle.smt_dialogue.specs.declared.line.Line.{Line}
+use Rattle.smt_dialogue.specs.declared.line.Line.TheVariants as lines
+use Rattle.smt_eval.specs.declared.memory.Memory.{Memory}
+use Rattle.smt_dialogue.specs.declared.report.Report.{Report}
+use Rattle.smt_dialogue.specs.declared.verdict.Verdict.{Verdict}
+use Rattle.smt_dialogue.specs.declared.verdict.Verdict.TheVariants.{Valid, Invalid}
+
+-- ## A dialogue without the line of a fault is paired whole
+
+pub fully_paired : (script answers : List ℕ) (st at' : Sexps) (sf af : Option TextFault) (ls : List Line) (v : Verdict) → Reads limit true script st sf → Reads limit true answers at' af → (j : IsJudged st at' sf af ls v) → list_any is_fault_line (lines_in true [] j.pairs [] ++ lines_of_end j.fault) ≡ false → IsFullyPaired script answers j.pairs × (j.fault ≡ None)
+fully_paired script answers st at' sf af ls v rs ra j h =
+    let clean = ends_clean j.pairs j.later sf j.rest af j.fault j.ends (none_of is_fault_line (lines_in true [] j.pairs []) (lines_of_end j.fault) h).1 in
+    let one : IsPairing j.pairs st Nil at' j.rest = subst (λ (t : Sexps). IsPairing j.pairs st t at' j.rest) clean.trees j.pairing in (
+      record {
+        script_trees = st;
+        script_forest = subst (λ (f : Option TextFault). Reads limit true script st f) clean.script rs;
+        answer_trees = at';
+        answers_forest = subst (λ (f : Option TextFault). Reads limit true answers at' f) clean.answers ra;
+        pairing = subst (λ (t : Sexps). IsPairing j.pairs st Nil at' t) clean.left one;
+      },
+      clean.none,
+    )
+
+-- a text has at most one forest: a law of the reader's crate
+abbrev pub OneForest : Type 0
+OneForest = (bound other : ℕ) (text : List ℕ) (xs ys : Sexps) → Forest bound text xs → Forest other text ys → xs ≡ ys
+
+-- there is one such pairing, and none that leaves answers
+pub only_pairing : OneForest → (script answers : List ℕ) (pairs others : List Pair) (trees answered rest : Sexps) → IsFullyPaired script answers pairs → Forest limit script trees → Forest limit answers answered → IsPairing others trees Nil answered rest → (others ≡ pairs) × (rest ≡ Nil)
+only_pairing one script answers pairs others trees answered rest whole f g p =
+    let same_script : whole.script_trees ≡ trees = one limit limit script whole.script_trees trees whole.script_forest f in
+    let same_answers : whole.answer_trees ≡ answered = one limit limit answers whole.answer_trees answered whole.answers_forest g in
+    let once : IsPairing pairs trees Nil whole.answer_trees Nil = subst (λ (t : Sexps). IsPairing pairs t Nil whole.answer_trees Nil) same_script whole.pairing in
+    let mine : IsPairing pairs trees Nil answered Nil = subst (λ (t : Sexps). IsPairing pairs trees Nil t Nil) same_answers once in
+    let same = one_pairing others pairs trees Nil Nil answered rest Nil (all_commands others trees p.commands ∙ sym (all_commands pairs trees mine.commands)) p.commands mine.commands p.answered mine.answered p.fit mine.fit in
+    (same.0, same.2)
+
+-- ## Valid means valid
+
+pub valid_means : OneForest → (script answers : List ℕ) (st at' : Sexps) (sf af : Option TextFault) (ls : List Line) (v : Verdict) → Reads limit true script st sf → Reads limit true answers at' af → IsJudged st at' sf af ls v → v ≡ Valid → IsValid script answers
+valid_means one script answers st at' sf af ls v rs ra j h =
+    let mine = lines_in true [] j.pairs [] in
+    let tests = valid_lines (mine ++ lines_of_end j.fault) (sym j.verdict_is ∙ h) in
+    let whole = (fully_paired script answers st at' sf af ls v rs ra j tests.0).0 in
+    record {
+      pairs = j.pairs;
+      paired = whole;
+      only = λ others trees answered rest f g p. only_pairing one script answers j.pairs others trees answered rest whole f g p;
+      confirmed = λ before after p place sat. confirmed_at j.pairs before after p place j.faultless (none_of is_refuted_line mine (lines_of_end j.fault) tests.1).0 (none_of is_undecided_line mine (lines_of_end j.fault) tests.2).0 sat;
+    }
+
+-- ## Invalid means invalid
+
+by_or : {P : Type 0} (a b : Bool) → a || b ≡ true → (a ≡ true → P) → (b ≡ true → P) → P
+by_or true b h f g = f refl
+by_or false b h f g = g h
+
+-- the pair that has a line of a kind
+pub record HasLine (test : Line → Bool) (before pairs : List Pair) : Type 0 where
+  pub first : List Pair
+  pub pair : Pair
+  pub last : List Pair
+  pub place : pairs ≡ first ++ pair ∷ last
+  pub line : list_any test (lines_of_pair true (before ++ first) pair last) ≡ true
+
+some_line : (test : Line → Bool) (before pairs : List Pair) → list_any test (lines_in true before pairs []) ≡ true → HasLine test before pairs
+some_line test before [] h = absurd (cc)
+some_line test before (p ∷ ps) h =
+    by_or (list_any test (lines_of_pair true before p (ps ++ []))) (list_any test (lines_in true (before ++ p ∷ []) ps [])) (sym (any-append test (lines_of_pair true before p (ps ++ [])) (lines_in true (before ++ p ∷ []) ps [])) ∙ h)
+    (λ here. record {
+      first = [];
+      pair = p;
+      last = ps;
+      place = refl;
+      line = ap (λ (b : List Pair). list_any test (lines_of_pair true b p ps)) (append-nil before) ∙ ap (λ (a : List Pair). list_any test (lines_of_pair true before p a)) (sym (append-nil ps)) ∙ here;
+    })
+    (λ there. let g = some_line test (before ++ p ∷ []) ps there in record {
+      first = p ∷ g.first;
+      pair = g.pair;
+      last = g.last;
+      place = ap (λ (xs : List Pair). p ∷ xs) g.place;
+      line = ap (λ (b : List Pair). list_any test (lines_of_pair true b g.pair g.last)) (sym (append_assoc before (p ∷ []) g.first)) ∙ g.line;
+    })
+
+answer_cases : (unsat unknown sat : Bool) (k n : ℕ) (ls : List Line) → list_any is_refuted_line (cond unsat (lines.Unchecked k n Unsat ∷ []) (cond unknown (lines.Unchecked k n Unknown ∷ []) (cond sat ls []))) ≡ true → (sat ≡ true) × (list_any is_refuted_line ls ≡ true)
+answer_cases true unknown sat k n ls h = absurd (cc)
+answer_cases false true sat k n ls h = absurd (cc)
+answer_cases false false true k n ls h = (refl, h)
+answer_cases false false false k n ls h = absurd (cc)
+
+-- a pair that has the line of a refuted model is a check that was answered sat
+pub record IsRefutedCheck (before : List Pair) (p : Pair) (after : List Pair) : Type 0 where
+  pub sat : IsSatCheck p
+  pub line : list_any is_refuted_line (lines_of_sat true (checks_in before + 1) (length before + 1) (names_after before) (assertions_after before) ((length before + 1) + 1) after) ≡ true
+
+refuted_check : (before : List Pair) (c : Command) (o : Option Sexp) (after : List Pair) → list_any is_refuted_line (lines_of_pair true before (record { command = c; answer = o }) after) ≡ true → IsRefutedCheck before (record { command = c; answer = o }) after
+refuted_check before (DeclareConst x s) o after h = absurd (cc)
+refuted_check before (Assert t) o after h = absurd (cc)
+refuted_check before GetModel o after h = absurd (cc)
+refuted_check before CheckSat None after h = absurd (cc)
+refuted_check before CheckSat (Some a) after h =
+    let cases = answer_cases (is_symbol (codes "unsat") a) (is_symbol (codes "unknown") a) (is_symbol (codes "sat") a) (checks_in before + 1) (length before + 1) (lines_of_sat true (checks_in before + 1) (length before + 1) (names_after before) (assertions_after before) ((length before + 1) + 1) after) h in
+    record {
+      sat = record { check = refl; answer = a; answered = refl; sat = cases.0 };
+      line = cases.1;
+    }
+
+-- the line of a refuted model
+pub record IsRefutedLine (k n g : ℕ) (j : Judgement) (line : Line) : Type 0 where
+  pub assertion : ℕ
+  pub found : j ≡ judgements.Refuted assertion
+  pub line_is : line ≡ lines.Refuted k n g assertion
+
+some_line_same : {a b : Line} → ◌≡◌ {A = Option Line} (Some a) (Some b) → a ≡ b
+some_line_same h = cc
+
+refuted_judgement : (k n g : ℕ) (j : Judgement) (line : Line) → line_of_judgement k n g j ≡ Some line → is_refuted_line line ≡ true → IsRefutedLine k n g j line
+refuted_judgement k n g (judgements.Refuted a) line h r = record { assertion = a; found = refl; line_is = sym (some_line_same h) }
+refuted_judgement k n g (judgements.ItemFault i f) line h r = let e = ap is_refuted_line (some_line_same h) ∙ r in absurd (cc)
+refuted_judgement k n g (judgements.Lacks d) line h r = let e = ap is_refuted_line (some_line_same h) ∙ r in absurd (cc)
+refuted_judgement k n g (judgements.NotDecided a) line h r = let e = ap is_refuted_line (some_line_same h) ∙ r in absurd (cc)
+refuted_judgement k n g judgements.Confirmed line h r = absurd (cc)
+
+-- the model that has the line
+pub record HasModel (k n : ℕ) (names : List Entry) (as' : List Assertion) (ms : List Printed) (line : Line) : Type 0 where
+  pub first : List Printed
+  pub model : Printed
+  pub last : List Printed
+  pub place : ms ≡ first ++ model ∷ last
+  pub refuted : IsRefutedLine k n model.command (judgement_of names as' model.parts) line
+
+first_model : (k n : ℕ) (names : List Entry) (as' : List Assertion) (m : Printed) (ms : List Printed) (line : Line) (l : Option Line) → line_of_judgement k n m.command (judgement_of names as' m.parts) ≡ l → is_refuted_line line ≡ true → (unconfirmed_line k n names as' ms ≡ Some line → HasModel k n names as' ms line) → option_or l (unconfirmed_line k n names as' ms) ≡ Some line → HasModel k n names as' (m ∷ ms) line
+first_model k n names as' m ms line None is r later h = let g = later h in record {
+  first = m ∷ g.first;
+  model = g.model;
+  last = g.last;
+  place = ap (λ (xs : List Printed). m ∷ xs) g.place;
+  refuted = g.refuted;
+}
+first_model k n names as' m ms line (Some other) is r later h = record {
+  first = [];
+  model = m;
+  last = ms;
+  place = refl;
+  refuted = refuted_judgement k n m.command (judgement_of names as' m.parts) line (is ∙ h) r;
+}
+
+refuted_model : (k n : ℕ) (names : List Entry) (as' : List Assertion) (ms : List Printed) (line : Line) → is_refuted_line line ≡ true → unconfirmed_line k n names as' ms ≡ Some line → HasModel k n names as' ms line
+refuted_model k n names as' [] line r h = absurd (cc)
+refuted_model k n names as' (m ∷ ms) line r h =
+    first_model k n names as' m ms line (line_of_judgement k n m.command (judgement_of names as' m.parts)) refl r (refuted_model k n names as' ms line r) h
+
+or_false_true : (b : Bool) → b || false ≡ true → b ≡ true
+or_false_true true h = refl
+or_false_true false h = cc
+
+-- a check with the line of a refuted model
+pub record HasRefuted (k n : ℕ) (names : List Entry) (as' : List Assertion) (ms : List Printed) (ls : List Line) : Type 0 where
+  pub line : Line
+  pub model : HasModel k n names as' ms line
+  pub lines_are : ls ≡ line ∷ []
+
+sat_refuted : (k n : ℕ) (names : List Entry) (as' : List Assertion) (ms : List Printed) (some : Bool) (l : Option Line) → unconfirmed_line k n names as' ms ≡ l → list_any is_refuted_line (sat_lines k n l some true) ≡ true → HasRefuted k n names as' ms (sat_lines k n l some true)
+sat_refuted k n names as' ms some (Some line) is h = record {
+  line = line;
+  model = refuted_model k n names as' ms line (or_false_true (is_refuted_line line) h) is;
+  lines_are = refl;
+}
+sat_refuted k n names as' ms true None is h = absurd (cc)
+sat_refuted k n names as' ms false None is h = absurd (cc)
+
+-- ## What makes an assertion false
+
+pub record HasFirst (test : Sexp → Bool) (as' : List Assertion) (n : ℕ) : Type 0 where
+  pub first : List Assertion
+  pub assertion : Assertion
+  pub last : List Assertion
+  pub place : as' ≡ first ++ assertion ∷ last
+  pub command : assertion.command ≡ n
+  pub passes : test assertion.term ≡ true
+
+pick : (test : Sexp → Bool) (a : Assertion) (as' : List Assertion) (n : ℕ) (b : Bool) → test a.term ≡ b → (first_assertion test as' ≡ Some n → HasFirst test as' n) → cond b (Some a.command) (first_assertion test as') ≡ Some n → HasFirst test (a ∷ as') n
+pick test a as' n true is later h = record { first = []; assertion = a; last = as'; place = refl; command = cc; passes = is }
+pick test a as' n false is later h = let g = later h in record {
+  first = a ∷ g.first;
+  assertion = g.assertion;
+  last = g.last;
+  place = ap (λ (xs : List Assertion). a ∷ xs) g.place;
+  command = g.command;
+  passes = g.passes;
+}
+
+first_some : (test : Sexp → Bool) (as' : List Assertion) (n : ℕ) → first_assertion test as' ≡ Some n → HasFirst test as' n
+first_some test [] n h = absurd (cc)
+first_some test (a ∷ as') n h = pick test a as' n (test a.term) refl (first_some test as' n) h
+
+open_not_refuted : {P : Type 0} (o : Option ℕ) (n : ℕ) → open_or_confirmed o ≡ judgements.Refuted n → P
+open_not_refuted None n h = absurd (cc)
+open_not_refuted (Some m) n h = absurd (cc)
+
+refuted_first : (f o : Option ℕ) (n : ℕ) → refuted_or f o ≡ judgements.Refuted n → f ≡ Some n
+refuted_first (Some m) o n h = cc
+refuted_first None o n h = open_not_refuted o n h
+
+-- a model that is refuted has definitions over which the assertion is false
+refuted_over : (as' : List Assertion) (r : Result (List Entry) ModelFault) (n : ℕ) → judged_over as' r ≡ judgements.Refuted n → (d : List Entry) × (r ≡ Ok d) × HasFirst (is_false_over d) as' n
+refuted_over as' (Ok d) n h =
+    (d, refl, first_some (is_false_over d) as' n (refuted_first (first_assertion (is_false_over d) as') (first_assertion (is_open_over d) as') n h))
+refuted_over as' (Err (faults.Item i f)) n h = absurd (cc)
+refuted_over as' (Err (faults.Lacks m)) n h = absurd (cc)
+refuted_over as' (Err faults.Memory) n h = absurd (cc)
+
+-- where an assertion in force comes from
+pub record ComesFrom (n : ℕ) (pairs : List Pair) (a : Assertion) : Type 0 where
+  pub earlier : List Pair
+  pub pair : Pair
+  pub between : List Pair
+  pub place : pairs ≡ earlier ++ pair ∷ between
+  pub command : pair.command ≡ Assert a.term
+  pub effective : is_effective pair ≡ true
+  pub number : a.command ≡ n + length earlier
+
+comes_later : (n : ℕ) (p : Pair) (ps : List Pair) (a : Assertion) → ComesFrom (n + 1) ps a → ComesFrom n (p ∷ ps) a
+comes_later n p ps a g = record {
+  earlier = p ∷ g.earlier;
+  pair = g.pair;
+  between = g.between;
+  place = ap (λ (xs : List Pair). p ∷ xs) g.place;
+  command = g.command;
+  effective = g.effective;
+  number = g.number ∙ omega arith;
+}
+
+head_same : {A : Type 0} {x y : A} {xs ys : List A} → x ∷ xs ≡ y ∷ ys → x ≡ y
+head_same h = cc
+
+tail_same : {A : Type 0} {x y : A} {xs ys : List A} → x ∷ xs ≡ y ∷ ys → xs ≡ ys
+tail_same h = cc
+
+comes_here : (n : ℕ) (p : Pair) (ps : List Pair) (t : Sexp) (rest xs : List Assertion) (a : Assertion) (ys : List Assertion) → p.command ≡ Assert t → is_effective p ≡ true → ((zs : List Assertion) → rest ≡ zs ++ a ∷ ys → ComesFrom (n + 1) ps a) → record { command = n; term = t } ∷ rest ≡ xs ++ a ∷ ys → ComesFrom n (p ∷ ps) a
+comes_here n p ps t rest [] a ys is e later h =
+    let same : record { command = n; term = t } ≡ a = head_same h in
+    record {
+      earlier = [];
+      pair = p;
+      between = ps;
+      place = refl;
+      command = is ∙ ap (λ (b : Assertion). Assert b.term) same;
+      effective = e;
+      number = sym (ap (λ (b : Assertion). b.command) same) ∙ omega arith;
+    }
+comes_here n p ps t rest (x ∷ xs) a ys is e later h = comes_later n p ps a (later xs (tail_same h))
+
+comes_by : (n : ℕ) (p : Pair) (ps : List Pair) (cs : List Numbered) (xs : List Assertion) (a : Assertion) (ys : List Assertion) (b : Bool) (c : Command) → is_effective p ≡ b → p.command ≡ c → ((zs : List Assertion) → assertions_in_force cs ≡ zs ++ a ∷ ys → ComesFrom (n + 1) ps a)
+    → assertions_in_force (cond b (record { number = n; command = c } ∷ []) [] ++ cs) ≡ xs ++ a ∷ ys → ComesFrom n (p ∷ ps) a
+comes_by n p ps cs xs a ys false c e is later h = comes_later n p ps a (later xs h)
+comes_by n p ps cs xs a ys true (DeclareConst x s) e is later h = comes_later n p ps a (later xs h)
+comes_by n p ps cs xs a ys true (Assert t) e is later h = comes_here n p ps t (assertions_in_force cs) xs a ys is e later h
+comes_by n p ps cs xs a ys true CheckSat e is later h = comes_later n p ps a (later xs h)
+comes_by n p ps cs xs a ys true GetModel e is later h = comes_later n p ps a (later xs h)
+
+comes_from : (n : ℕ) (pairs : List Pair) (xs : List Assertion) (a : Assertion) (ys : List Assertion) → assertions_in_force (effective_from n pairs) ≡ xs ++ a ∷ ys → ComesFrom n pairs a
+comes_from n [] [] a ys h = absurd (cc)
+comes_from n [] (x ∷ xs) a ys h = absurd (cc)
+comes_from n (p ∷ ps) xs a ys h =
+    comes_by n p ps (effective_from (n + 1) ps) xs a ys (is_effective p) p.command refl refl (λ zs e. comes_from (n + 1) ps zs a ys e) h
+
+-- ## The meaning of an invalid verdict
+
+-- where the line stands in the report
+line_place : (l1 l2 end : List Line) (line : Line) → (l1 ++ (line ∷ [] ++ l2)) ++ end ≡ l1 ++ line ∷ (l2 ++ end)
+line_place l1 l2 end line = append_assoc l1 (line ∷ l2) end
+
+pub invalid_means : (script answers : List ℕ) (st at' : Sexps) (sf af : Option TextFault) (ls : List Line) (v : Verdict) → Reads limit true script st sf → Reads limit true answers at' af → IsJudged st at' sf af ls v → v ≡ Invalid → IsInvalid script answers ls
+invalid_means script answers st at' sf af ls v rs ra j h =
+    let mine = lines_in true [] j.pairs [] in
+    let tests = invalid_lines (mine ++ lines_of_end j.fault) (sym j.verdict_is ∙ h) in
+    let whole = fully_paired script answers st at' sf af ls v rs ra j tests.0 in
+    let no_fault : mine ++ lines_of_end j.fault ≡ mine = ap (λ (f : Option Line). mine ++ lines_of_end f) whole.1 ∙ append-nil mine in
+    let at_pair = some_line is_refuted_line [] j.pairs (ap (list_any is_refuted_line) (sym no_fault) ∙ tests.1) in
+    let before = at_pair.first in
+    let p = at_pair.pair in
+    let check : IsRefutedCheck before p at_pair.last = refuted_check before p.command p.answer at_pair.last at_pair.line in
+    let k = checks_in before + 1 in
+    let n = length before + 1 in
+    let names = names_after before in
+    let assertions = assertions_after before in
+    let ms = models_from (n + 1) (window at_pair.last) in
+    let found = sat_refuted k n names assertions ms (not (is_empty ms)) (unconfirmed_line k n names assertions ms) refl check.line in
+    let over = refuted_over assertions (model_in names found.model.model.parts) found.model.refuted.assertion found.model.refuted.found in
+    let source = comes_from 1 before over.2.first over.2.assertion over.2.last over.2.place in
+    let q = source.pair in
+    let l1 = lines_in true [] before ((p ∷ at_pair.last) ++ []) in
+    let l2 = lines_in true (before ++ p ∷ []) at_pair.last [] in
+    let line = lines.Refuted k n found.model.model.command (length source.earlier + 1) in
+    let number : found.model.refuted.assertion ≡ length source.earlier + 1 = sym over.2.command ∙ source.number ∙ omega arith in
+    let far : j.pairs ≡ source.earlier ++ q ∷ (source.between ++ p ∷ at_pair.last) = at_pair.place ∙ ap (λ (b : List Pair). b ++ p ∷ at_pair.last) source.place ∙ append_assoc source.earlier (q ∷ source.between) (p ∷ at_pair.last) in
+    let here : lines_of_pair true before p at_pair.last ≡ line ∷ [] = lines_of_sat_at before at_pair.last p check.sat ∙ found.lines_are ∙ ap (λ (l : Line). l ∷ []) found.model.refuted.line_is ∙ ap (λ (i : ℕ). lines.Refuted k n found.model.model.command i ∷ []) number in
+    let end : List Line = lines.Verdict (verdict_of (mine ++ lines_of_end j.fault)) (tally_of (mine ++ lines_of_end j.fault)) ∷ [] in
+    record {
+      pairs = j.pairs;
+      paired = whole.0;
+      before = before;
+      pair = p;
+      after = at_pair.last;
+      place = at_pair.place;
+      sat = check.sat;
+      models_before = found.model.first;
+      model = found.model.model;
+      models_after = found.model.last;
+      models = ap (λ (i : ℕ). models_from i (window at_pair.last)) (omega arith) ∙ found.model.place;
+      definitions = over.0;
+      model_of = complete names found.model.model.parts over.0 over.1;
+      earlier = source.earlier;
+      term = over.2.assertion.term;
+      asserted = record {
+        pair = q;
+        between = source.between;
+        place = source.place;
+        command = source.command;
+        effective = source.effective;
+      };
+      sorted = asserted_formula source.earlier q over.2.assertion.term source.command source.effective (faultless_at [] source.earlier q (source.between ++ p ∷ at_pair.last) (subst (AreFaultless []) far j.faultless));
+      false_in = closed_value over.0 over.2.assertion.term (Boolean false) (is_false_value (known_over over.0 over.2.assertion.term) over.2.passes);
+      lines_before = l1;
+      lines_after = l2 ++ end;
+      line = j.lines_are
+          ∙ ap (λ (x : List Line). x ++ end) (no_fault ∙ ap (λ (ps : List Pair). lines_in true [] ps []) at_pair.place ∙ lines_at before p at_pair.last ∙ ap (λ (x : List Line). l1 ++ (x ++ l2)) here)
+          ∙ line_place l1 l2 end line;
+    }
+
+-- ## Laws of the verdicts
+
+-- the pairs of a valid dialogue are all its pairs
+valid_pairs : (script answers : List ℕ) (pairs : List Pair) → (v : IsValid script answers) → IsFullyPaired script answers pairs → v.pairs ≡ pairs
+valid_pairs script answers pairs v w = sym (v.only pairs w.script_trees w.answer_trees Nil w.script_forest w.answers_forest w.pairing).0
+
+pub without_model : (script answers : List ℕ) (pairs before after : List Pair) (p : Pair) → IsFullyPaired script answers pairs → pairs ≡ before ++ p ∷ after → IsSatCheck p → models_from (length before + 2) (window after) ≡ [] → IsValid script answers → ⊥
+without_model script answers pairs before after p whole place sat none v =
+    let confirmed = v.confirmed before after p (valid_pairs script answers pairs v whole ∙ place) sat in
+    let bad : [] ≡ confirmed.first ∷ confirmed.others = sym none ∙ confirmed.models in
+    cc
+
+all_at : {A : Type 0} (P : A → Type 0) (xs : List A) (x : A) (ys : List A) → AllByRecursion P (xs ++ x ∷ ys) → P x
+all_at P [] x ys h = h.0
+all_at P (y ∷ xs) x ys h = all_at P xs x ys h.1
+
+not_both : (t : Element) → t ≡ Truth true → t ≡ Truth false → ⊥
+not_both t a b = let bad : Truth true ≡ Truth false = sym a ∙ b in let worse : true ≡ false = cc in cc
+
+pub with_false : (script answers : List ℕ) (pairs before after : List Pair) (p : Pair) (first last : List Printed) (m : Printed) (definitions : List Entry) (earlier : List Pair) (term : Sexp) → IsFullyPaired script answers pairs → pairs ≡ before ++ p ∷ after → IsSatCheck p
+    → models_from (length before + 2) (window after) ≡ first ++ m ∷ last → IsModelOf (names_after before) m.parts definitions → IsAsserted before earlier term → value_over (structure_at definitions before) [] term ≡ Truth false → IsValid script answers → ⊥
+with_false script answers pairs before after p first last m definitions earlier term whole place sat models of asserted is_false v =
+    let confirmed = v.confirmed before after p (valid_pairs script answers pairs v whole ∙ place) sat in
+    let all = subst (AllByRecursion (λ (n : Printed). IsTrueModel before n.parts)) (sym confirmed.models ∙ models) confirmed.true_models in
+    let one = all_at (λ (n : Printed). IsTrueModel before n.parts) first m last all in
+    let both : ◌≡◌ {A = Result (List Entry) ModelFault} (Ok one.definitions) (Ok definitions) = sym one.model.read ∙ of.read in
+    let same : one.definitions ≡ definitions = cc in
+    not_both (value_over definitions [] term) (ap (λ (d : List Entry). value_over d [] term) (sym same) ∙ one.true_in earlier term asserted) is_false
+
+-- ## What a call answered
+
+pub valid_answer : OneForest → (r : Result Report Memory) (script answers : List ℕ) (st at' : Sexps) (sf af : Option TextFault) → Reads limit true script st sf → Reads limit true answers at' af → IfOk r (λ x. IsJudged st at' sf af x.lines.items x.verdict) → IfOk r (λ x. x.verdict ≡ Valid → IsValid script answers)
+valid_answer one (Ok x) script answers st at' sf af rs ra j = valid_means one script answers st at' sf af x.lines.items x.verdict rs ra j
+valid_answer one (Err e) script answers st at' sf af rs ra j = tt
+
+pub invalid_answer : (r : Result Report Memory) (script answers : List ℕ) (st at' : Sexps) (sf af : Option TextFault) → Reads limit true script st sf → Reads limit true answers at' af → IfOk r (λ x. IsJudged st at' sf af x.lines.items x.verdict) → IfOk r (λ x. x.verdict ≡ Invalid → IsInvalid script answers x.lines.items)
+invalid_answer (Ok x) script answers st at' sf af rs ra j = invalid_means script answers st at' sf af x.lines.items x.verdict rs ra j
+invalid_answer (Err e) script answers st at' sf af rs ra j = tt

@@ -1,0 +1,6 @@
+use Rattle.smt_dialogue.proofs.PairingUnique as unique
+use Rattle.smt_dialogue.proofs.laws.one_pairing.Goals as goal
+
+pub returns : goal.returns
+returns c = λ xs ys trees answers later later' rest rest' len a b.
+    unique.one_pairing xs ys trees later later' answers rest rest' len a.commands b.commands a.answered b.answered a.fit b.fit

@@ -1,0 +1,3 @@
+pub mod ChecksState
+pub mod DialogueState
+pub mod Steps

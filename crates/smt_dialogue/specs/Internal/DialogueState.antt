@@ -1,0 +1,31 @@
+-- What the dialogue so far keeps, and what it stands for: which pairs of commands and answers it accepted.
+use Rattle.std.specs.Prelude.{◌≡◌, ◌≤◌, ℕ, ◌+◌, List, [], ◌++◌, length, Bool}
+use Rattle.smt_script.specs.StackView as stacks
+use Rattle.smt_script.specs.StackView.{last_of}
+use Rattle.smt_script.specs.declared.stack.Stack.{Stack}
+use Rattle.smt_dialogue.specs.InForce.{assertions_after, effective_commands, names_after}
+use Rattle.smt_dialogue.specs.Lines.{checks_in, lines_in}
+use Rattle.smt_dialogue.specs.Pairing.{Pair, answers_taken}
+use Rattle.smt_dialogue.specs.Internal.ChecksState.{ChecksState, checks_state, pending_lines}
+use Rattle.smt_dialogue.specs.declared.dialogue.Dialogue.{Dialogue}
+
+-- what is kept: what is in force, the checks, and the counts of commands and answers
+pub record State : Type 0 where
+  pub stack : Stack
+  pub checks : ChecksState
+  pub commands : ℕ
+  pub answers : ℕ
+
+abbrev pub state_of : Dialogue → State
+state_of d = record { stack = d.stack; checks = checks_state d.checks; commands = d.commands; answers = d.answers }
+
+-- the state fits these pairs: what it keeps is in force behind them, and whatever pairs come, the lines are those that are
+-- decided and those of the check whose window has not ended
+pub record StandsFor (s : State) (pairs : List Pair) : Type 0 where
+  pub stack : stacks.StandsFor s.stack (effective_commands pairs)
+  pub last : last_of s.stack ≤ s.commands
+  pub commands : s.commands ≡ length pairs
+  pub answers : s.answers ≡ answers_taken pairs
+  pub checks : s.checks.count ≡ checks_in pairs
+  pub lines : (ended : Bool) (after : List Pair)
+      → lines_in ended [] pairs after ≡ s.checks.lines ++ pending_lines ended s.checks.pending (names_after pairs) (assertions_after pairs) (length pairs + 1) after

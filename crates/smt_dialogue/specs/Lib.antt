@@ -1,0 +1,12 @@
+pub mod Answers
+pub mod Pairing
+pub mod InForce
+pub mod Window
+pub mod Judgement
+pub mod Lines
+pub mod Verdict
+pub mod LineText
+pub mod FirstFault
+pub mod Report
+pub mod Validity
+pub mod Internal

@@ -1,0 +1,80 @@
+-- The lines of a report on pairs of commands and answers. These are this project's rules.
+use Rattle.std.specs.Prelude.{ℕ, ◌+◌, List, [], ◌∷◌, ◌++◌, length, Bool, true, false, not, ◌||◌, Option, Some, None, codes, if◌then◌else◌}
+use Rattle.std.specs.List.{list_any}
+use Rattle.std.specs.Option.{option_or}
+use Rattle.smt_text.specs.Sexp.{Sexp, is_symbol}
+use Rattle.smt_script.specs.Command.{Command, DeclareConst, Assert, CheckSat, GetModel}
+use Rattle.smt_script.specs.Stack.{Assertion}
+use Rattle.smt_dialogue.specs.InForce.{names_after, assertions_after}
+use Rattle.smt_dialogue.specs.Pairing.{Pair}
+use Rattle.smt_dialogue.specs.Window.{Printed, closes, models_from, window}
+use Rattle.smt_dialogue.specs.Judgement.{judgement_of}
+use Rattle.core_terms.specs.Signature.{Entry}
+use Rattle.smt_dialogue.specs.declared.judgement.Judgement.{Judgement}
+use Rattle.smt_dialogue.specs.declared.judgement.Judgement.TheVariants as judgements
+use Rattle.smt_dialogue.specs.declared.line.CheckAnswer.TheVariants.{Unsat, Unknown}
+use Rattle.smt_dialogue.specs.declared.line.Line.{Line}
+use Rattle.smt_dialogue.specs.declared.line.Line.TheVariants as lines
+
+-- the line on check k at command n for a model of command g, if it isn't confirmed
+abbrev pub line_of_judgement : ℕ → ℕ → ℕ → Judgement → Option Line
+line_of_judgement k n g (judgements.ItemFault item fault) = Some (lines.ItemFault k n g item fault)
+line_of_judgement k n g (judgements.Lacks declaration) = Some (lines.Lacks k n g declaration)
+line_of_judgement k n g (judgements.Refuted assertion) = Some (lines.Refuted k n g assertion)
+line_of_judgement k n g (judgements.NotDecided assertion) = Some (lines.NotDecided k n g assertion)
+line_of_judgement k n g judgements.Confirmed = None
+
+-- the line of the first model that isn't confirmed
+abbrev pub unconfirmed_line : ℕ → ℕ → List Entry → List Assertion → List Printed → Option Line
+unconfirmed_line k n names assertions [] = None
+unconfirmed_line k n names assertions (m ∷ ms) =
+    option_or (line_of_judgement k n m.command (judgement_of names assertions m.parts)) (unconfirmed_line k n names assertions ms)
+
+abbrev pub is_empty : {A : Type 0} → List A → Bool
+is_empty [] = true
+is_empty (x ∷ xs) = false
+
+-- the line of a check whose models are all confirmed
+abbrev pub confirmed_line : ℕ → ℕ → Bool → Line
+confirmed_line k n some_model = if some_model then lines.Confirmed k n else lines.NoModel k n
+
+-- the line on a check that was answered `sat`: that of a model that isn't confirmed; else, once the window has closed, that
+-- all models are confirmed, or that there is none
+abbrev pub sat_lines : ℕ → ℕ → Option Line → Bool → Bool → List Line
+sat_lines k n (Some line) some_model closed = line ∷ []
+sat_lines k n None some_model closed = if closed then confirmed_line k n some_model ∷ [] else []
+
+-- the lines of a check that was answered `sat`, the pairs `after` it beginning with command m. `ended` says that no command follows them
+abbrev pub lines_of_sat : Bool → ℕ → ℕ → List Entry → List Assertion → ℕ → List Pair → List Line
+lines_of_sat ended k n names assertions m after =
+    let models = models_from m (window after) in
+    sat_lines k n (unconfirmed_line k n names assertions models) (not (is_empty models)) (ended || list_any closes after)
+
+-- the lines of a check with its answer
+abbrev pub lines_of_answer : Bool → List Pair → ℕ → Option Sexp → List Pair → List Line
+lines_of_answer ended before k None after = []
+lines_of_answer ended before k (Some answer) after =
+    let n = length before + 1 in
+    if is_symbol (codes "unsat") answer then lines.Unchecked k n Unsat ∷ [] else if is_symbol (codes "unknown") answer then lines.Unchecked k n Unknown ∷ [] else if is_symbol (codes "sat") answer then lines_of_sat ended k n (names_after before) (assertions_after before) (n + 1) after else []
+
+abbrev pub is_check : Command → Bool
+is_check (DeclareConst x sort) = false
+is_check (Assert term) = false
+is_check CheckSat = true
+is_check GetModel = false
+
+-- how many checks there are among pairs
+abbrev pub checks_in : List Pair → ℕ
+checks_in [] = 0
+checks_in (pair ∷ pairs) = (if is_check pair.command then 1 else 0) + checks_in pairs
+
+-- the lines that a pair has, for what stands before and after it: a check has one, once it is decided
+abbrev pub lines_of_pair : Bool → List Pair → Pair → List Pair → List Line
+lines_of_pair ended before pair after =
+    if is_check pair.command then lines_of_answer ended before (checks_in before + 1) pair.answer after else []
+
+-- the lines that pairs have, for what stands before and after them
+abbrev pub lines_in : Bool → List Pair → List Pair → List Pair → List Line
+lines_in ended before [] after = []
+lines_in ended before (pair ∷ pairs) after =
+    lines_of_pair ended before pair (pairs ++ after) ++ lines_in ended (before ++ pair ∷ []) pairs after

@@ -1,0 +1,89 @@
+-- What a valid and an invalid verdict mean, in the words of the standard and beside the report.
+use Rattle.std.specs.Prelude.{◌≡◌, ℕ, ◌+◌, List, [], ◌∷◌, ◌++◌, length, true, false, Some, Ok, codes}
+use Rattle.std.specs.List.{AllByRecursion}
+use Rattle.smt_text.specs.Grammar.{Forest, limit}
+use Rattle.smt_text.specs.Sexp.{Sexp, Sexps, Nil, is_symbol}
+use Rattle.core_theory.specs.declared.sort.Sort.TheVariants.{Bool as Boolean}
+use Rattle.core_values.specs.Element.{Truth}
+use Rattle.core_terms.specs.Checking.{sort_in}
+use Rattle.core_terms.specs.Signature.{Entry}
+use Rattle.smt_eval.specs.CompleteModel.{IsModelOf}
+use Rattle.smt_eval.specs.Meaning.{value_over}
+use Rattle.smt_script.specs.Command.{Assert}
+use Rattle.smt_dialogue.specs.InForce.{names_after}
+use Rattle.smt_dialogue.specs.Lines.{checks_in, is_check}
+use Rattle.smt_dialogue.specs.Pairing.{IsPairing, Pair, is_effective}
+use Rattle.smt_dialogue.specs.Window.{Printed, models_from, structure_at, window}
+use Rattle.smt_dialogue.specs.declared.line.Line.{Line}
+use Rattle.smt_dialogue.specs.declared.line.Line.TheVariants.{Refuted}
+
+-- both texts are of trees, and the pairs pair every command with every answer
+pub record IsFullyPaired (script answers : List ℕ) (pairs : List Pair) : Type 0 where
+  pub script_trees : Sexps
+  pub script_forest : Forest limit script script_trees
+  pub answer_trees : Sexps
+  pub answers_forest : Forest limit answers answer_trees
+  pub pairing : IsPairing pairs script_trees Nil answer_trees Nil
+
+-- the pair is a check that was answered `sat`
+pub record IsSatCheck (pair : Pair) : Type 0 where
+  pub check : is_check pair.command ≡ true
+  pub answer : Sexp
+  pub answered : pair.answer ≡ Some answer
+  pub sat : is_symbol (codes "sat") answer ≡ true
+
+-- an assertion of this term that took effect stands behind the earlier pairs
+pub record IsAsserted (before : List Pair) (earlier : List Pair) (term : Sexp) : Type 0 where
+  pub pair : Pair
+  pub between : List Pair
+  pub place : before ≡ earlier ++ pair ∷ between
+  pub command : pair.command ≡ Assert term
+  pub effective : is_effective pair ≡ true
+
+-- the parts are those of a model of the names in force. And every assertion in force is well sorted under the names in force before
+-- its command, and true
+pub record IsTrueModel (before : List Pair) (parts : Sexps) : Type 0 where
+  pub definitions : List Entry
+  pub model : IsModelOf (names_after before) parts definitions
+  pub sorted : (earlier : List Pair) (term : Sexp) → IsAsserted before earlier term → sort_in (names_after earlier) [] term ≡ Ok Boolean
+  pub true_in : (earlier : List Pair) (term : Sexp) → IsAsserted before earlier term → value_over (structure_at definitions before) [] term ≡ Truth true
+
+-- a check that was answered `sat`, behind the pairs before it, has a model in its window, and each model there is a true one
+pub record IsConfirmed (before after : List Pair) : Type 0 where
+  pub first : Printed
+  pub others : List Printed
+  pub models : models_from (length before + 2) (window after) ≡ first ∷ others
+  pub true_models : AllByRecursion (λ (m : Printed). IsTrueModel before m.parts) (first ∷ others)
+
+-- what a valid verdict means. No other pairing of all commands exists, whatever answers it might leave
+pub record IsValid (script answers : List ℕ) : Type 0 where
+  pub pairs : List Pair
+  pub paired : IsFullyPaired script answers pairs
+  pub only : (others : List Pair) (script_trees answer_trees rest : Sexps) → Forest limit script script_trees → Forest limit answers answer_trees
+      → IsPairing others script_trees Nil answer_trees rest → (others ≡ pairs) × (rest ≡ Nil)
+  pub confirmed : (before after : List Pair) (pair : Pair) → pairs ≡ before ++ pair ∷ after → IsSatCheck pair → IsConfirmed before after
+
+-- what an invalid verdict means: in the window of a check that was answered `sat` stands a model of the names in force that makes a
+-- well-sorted assertion in force false, and the report has the line that says so
+pub record IsInvalid (script answers : List ℕ) (ls : List Line) : Type 0 where
+  pub pairs : List Pair
+  pub paired : IsFullyPaired script answers pairs
+  pub before : List Pair
+  pub pair : Pair
+  pub after : List Pair
+  pub place : pairs ≡ before ++ pair ∷ after
+  pub sat : IsSatCheck pair
+  pub models_before : List Printed
+  pub model : Printed
+  pub models_after : List Printed
+  pub models : models_from (length before + 2) (window after) ≡ models_before ++ model ∷ models_after
+  pub definitions : List Entry
+  pub model_of : IsModelOf (names_after before) model.parts definitions
+  pub earlier : List Pair
+  pub term : Sexp
+  pub asserted : IsAsserted before earlier term
+  pub sorted : sort_in (names_after earlier) [] term ≡ Ok Boolean
+  pub false_in : value_over (structure_at definitions before) [] term ≡ Truth false
+  pub lines_before : List Line
+  pub lines_after : List Line
+  pub line : ls ≡ lines_before ++ Refuted (checks_in before + 1) (length before + 1) model.command (length earlier + 1) ∷ lines_after

@@ -1,0 +1,23 @@
+//! The dialogue of a script and its answers: which answer belongs to which command, what each `sat` comes to, and the report.
+//!
+//! The layer above uses one contract: `validate` answers the report of the two texts, and its verdict means what it says. So of the
+//! script `(check-sat)` and the answer `unsat` the lines are `check 1 at command 1: unsat` and that of the verdict, which is valid.
+#![tactic(auto)]
+
+mod answer;
+mod dialogue;
+mod judgement;
+pub mod laws;
+mod line;
+mod pairing;
+mod read_text;
+mod report;
+mod validation;
+mod verdict;
+mod window;
+
+pub use line::{CheckAnswer, Line, Side, TextFaultKind};
+pub use report::Report;
+pub use smt_eval::Memory;
+pub use validation::validate;
+pub use verdict::{Tally, Verdict};

@@ -1,0 +1,318 @@
+//! The lines of a report.
+
+ghost use Rattle.std.specs.Prelude.{◌≡◌};
+ghost use Rattle.smt_dialogue.specs.FirstFault as first_fault;
+ghost use Rattle.smt_dialogue.specs.Verdict as verdicts;
+
+use crate::verdict::{Tally, Verdict};
+use core_terms::TermFault;
+use smt_script::CommandFault;
+use smt_text::TextFault;
+use std::fmt;
+
+/// What a check was answered where it was not `sat`.
+#[derive(Clone, Copy, Debug, PartialEq, Eq)]
+pub enum CheckAnswer {
+    Unsat,
+    Unknown,
+}
+
+/// Which of the two texts.
+#[derive(Clone, Copy, Debug, PartialEq, Eq)]
+pub enum Side {
+    Script,
+    Answers,
+}
+
+/// Why a text is none of the language.
+#[derive(Clone, Copy, Debug, PartialEq, Eq)]
+pub enum TextFaultKind {
+    /// A byte with which no text goes on (`X1`).
+    Byte,
+    /// A list deeper than 1,000 (`X2`).
+    Deep,
+    /// A text that ends inside a list (`X3`).
+    End,
+}
+
+/// A line of a report. Checks, commands, answers and items of a model count from 1, and bytes from 0.
+#[derive(Clone, Copy, Debug, PartialEq, Eq)]
+pub enum Line {
+    /// A check that was answered otherwise than `sat`.
+    Unchecked {
+        check: u64,
+        command: u64,
+        answer: CheckAnswer,
+    },
+    /// A `sat` with a model or more, each of them confirmed.
+    Confirmed {
+        check: u64,
+        command: u64,
+    },
+    /// A `sat` without a model.
+    NoModel {
+        check: u64,
+        command: u64,
+    },
+    /// A `sat` with a model, printed for command `model`, whose first item with a fault this is.
+    ItemFault {
+        check: u64,
+        command: u64,
+        model: u64,
+        item: u64,
+        fault: TermFault,
+    },
+    /// A `sat` with a model that doesn't define what command `declaration` declares.
+    Lacks {
+        check: u64,
+        command: u64,
+        model: u64,
+        declaration: u64,
+    },
+    /// A `sat` with a complete model that makes the assertion of command `assertion` false.
+    Refuted {
+        check: u64,
+        command: u64,
+        model: u64,
+        assertion: u64,
+    },
+    /// A `sat` with a complete model in which the assertion of command `assertion` is open, and none is known to be false.
+    NotDecided {
+        check: u64,
+        command: u64,
+        model: u64,
+        assertion: u64,
+    },
+    /// A text that is none of the language.
+    TextFault {
+        side: Side,
+        kind: TextFaultKind,
+        place: u64,
+    },
+    /// A command that is refused.
+    CommandFault {
+        command: u64,
+        fault: CommandFault,
+    },
+    /// The answers end where a command needs one (`P1`).
+    MissingAnswer {
+        command: u64,
+    },
+    /// An answer that its command can't have (`P2`).
+    UnexpectedAnswer {
+        command: u64,
+        answer: u64,
+    },
+    /// The first answer that is left over (`P3`).
+    ExtraAnswer {
+        answer: u64,
+    },
+    /// What the report comes to: its last line.
+    Verdict {
+        verdict: Verdict,
+        tally: Tally,
+    },
+}
+
+impl Line {
+    /// The line on the fault of a text.
+    pub(crate) fn of_text(side: Side, fault: TextFault) -> Line
+        ensures { result ≡ first_fault.text_line side fault }
+    {
+        match fault {
+            TextFault::Byte { place } => Line::TextFault {
+                side,
+                kind: TextFaultKind::Byte,
+                place,
+            },
+            TextFault::Deep { place } => Line::TextFault {
+                side,
+                kind: TextFaultKind::Deep,
+                place,
+            },
+            TextFault::End { place } => Line::TextFault {
+                side,
+                kind: TextFaultKind::End,
+                place,
+            },
+            TextFault::Memory => Line::TextFault {
+                side,
+                kind: TextFaultKind::End,
+                place: 0,
+            },
+        }
+    }
+
+    /// Whether it is the line of a check whose models are all confirmed.
+    pub fn is_confirmed(&self) -> bool
+        ensures { result ≡ verdicts.is_confirmed_line self.now }
+    {
+        matches!(self, Line::Confirmed { .. })
+    }
+
+    /// Whether it is the line of a check with a refuted model.
+    pub fn is_refuted(&self) -> bool
+        ensures { result ≡ verdicts.is_refuted_line self.now }
+    {
+        matches!(self, Line::Refuted { .. })
+    }
+
+    /// Whether it is the line of a `sat` that is neither confirmed nor refuted.
+    pub fn is_undecided(&self) -> bool
+        ensures { result ≡ verdicts.is_undecided_line self.now }
+    {
+        match self {
+            Line::NoModel { .. }
+            | Line::ItemFault { .. }
+            | Line::Lacks { .. }
+            | Line::NotDecided { .. } => true,
+            _ => false,
+        }
+    }
+
+    /// Whether it is the line of a check that was answered otherwise than `sat`.
+    pub fn is_unchecked(&self) -> bool
+        ensures { result ≡ verdicts.is_unchecked_line self.now }
+    {
+        matches!(self, Line::Unchecked { .. })
+    }
+
+    /// Whether it is the line of a fault.
+    pub fn is_fault(&self) -> bool
+        ensures { result ≡ verdicts.is_fault_line self.now }
+    {
+        match self {
+            Line::TextFault { .. } | Line::CommandFault { .. } | Line::MissingAnswer { .. } => true,
+            Line::UnexpectedAnswer { .. } | Line::ExtraAnswer { .. } => true,
+            _ => false,
+        }
+    }
+}
+
+impl fmt::Display for CheckAnswer {
+    ghost use Rattle.std.specs.Prelude.{Some};
+    ghost use Rattle.smt_dialogue.specs.LineText.{text_of_answer};
+
+    ghost output = { λ x. Some (text_of_answer x) };
+
+    fn fmt<W: fmt::Write>(&self, f: &mut fmt::Formatter<W>) -> fmt::Result {
+        f.write_str(match self {
+            CheckAnswer::Unsat => "unsat",
+            CheckAnswer::Unknown => "unknown",
+        })
+    }
+}
+
+impl fmt::Display for Side {
+    ghost use Rattle.std.specs.Prelude.{Some};
+    ghost use Rattle.smt_dialogue.specs.LineText.{text_of_side};
+
+    ghost output = { λ x. Some (text_of_side x) };
+
+    fn fmt<W: fmt::Write>(&self, f: &mut fmt::Formatter<W>) -> fmt::Result {
+        f.write_str(match self {
+            Side::Script => "script",
+            Side::Answers => "answers",
+        })
+    }
+}
+
+impl fmt::Display for TextFaultKind {
+    ghost use Rattle.std.specs.Prelude.{Some};
+    ghost use Rattle.smt_dialogue.specs.LineText.{text_of_kind};
+
+    ghost output = { λ x. Some (text_of_kind x) };
+
+    fn fmt<W: fmt::Write>(&self, f: &mut fmt::Formatter<W>) -> fmt::Result {
+        f.write_str(match self {
+            TextFaultKind::Byte => "X1",
+            TextFaultKind::Deep => "X2",
+            TextFaultKind::End => "X3",
+        })
+    }
+}
+
+impl fmt::Display for Line {
+    ghost use Rattle.std.specs.Prelude.{Some};
+    ghost use Rattle.smt_dialogue.specs.LineText.{text_of};
+
+    ghost output = { λ x. Some (text_of x) };
+
+    fn fmt<W: fmt::Write>(&self, f: &mut fmt::Formatter<W>) -> fmt::Result {
+        match self {
+            Line::Unchecked {
+                check,
+                command,
+                answer,
+            } => write!(f, "check {check} at command {command}: {answer}"),
+            Line::Confirmed { check, command } => write!(
+                f,
+                "check {check} at command {command}: sat, confirmed"
+            ),
+            Line::NoModel { check, command } => write!(
+                f,
+                "check {check} at command {command}: sat, no model"
+            ),
+            Line::ItemFault {
+                check,
+                command,
+                model,
+                item,
+                fault,
+            } => {
+                write!(
+                    f,
+                    "check {check} at command {command}: sat, model of command {model}: item {item} {fault}"
+                )
+            }
+            Line::Lacks {
+                check,
+                command,
+                model,
+                declaration,
+            } => {
+                write!(
+                    f,
+                    "check {check} at command {command}: sat, model of command {model}: lacks the symbol of command {declaration}"
+                )
+            }
+            Line::Refuted {
+                check,
+                command,
+                model,
+                assertion,
+            } => {
+                write!(
+                    f,
+                    "check {check} at command {command}: sat, model of command {model}: refuted by the assertion of command {assertion}"
+                )
+            }
+            Line::NotDecided {
+                check,
+                command,
+                model,
+                assertion,
+            } => {
+                write!(
+                    f,
+                    "check {check} at command {command}: sat, model of command {model}: assertion of command {assertion} not decided"
+                )
+            }
+            Line::TextFault { side, kind, place } => write!(
+                f,
+                "fault {kind} in the {side} at byte {place}"
+            ),
+            Line::CommandFault { command, fault } => write!(
+                f,
+                "fault {fault} at command {command}"
+            ),
+            Line::MissingAnswer { command } => write!(f, "fault P1 at command {command}"),
+            Line::UnexpectedAnswer { command, answer } => write!(
+                f,
+                "fault P2 at command {command}, answer {answer}"
+            ),
+            Line::ExtraAnswer { answer } => write!(f, "fault P3 at answer {answer}"),
+            Line::Verdict { verdict, tally } => write!(f, "verdict: {verdict}, {tally}"),
+        }
+    }
+}

@@ -1,0 +1,33 @@
+//! The report on a whole script and whole answers.
+
+ghost use Rattle.std.specs.Prelude.{◌≡◌, true, IfOk};
+ghost use Rattle.smt_dialogue.specs.Report.{IsReport};
+ghost use Rattle.smt_dialogue.specs.Validity.{IsValid, IsInvalid};
+ghost use Rattle.smt_dialogue.specs.Verdict.{IsVerdictOf};
+
+use crate::dialogue::Dialogue;
+use crate::pairing::judge_all;
+use crate::read_text::read_whole;
+use crate::report::Report;
+use crate::verdict::Verdict;
+use smt_eval::Memory;
+use smt_text::laws::one_forest;
+use std::alloc::Global;
+
+/// Checks a solver's dialogue: the script that it read, and the answers that it printed, in order.
+///
+/// `start` says whether the solver prints `success` for commands without an answer of their own; it has to be true for now.
+pub fn validate(alloc: Global, script: &[u8], answers: &[u8], start: bool) -> Result<Report, Memory>
+    requires { start ≡ true }
+    ensures report { IfOk result (λ r. IsReport script.now answers.now r.lines.items) }
+    ensures verdict { IfOk result (λ r. IsVerdictOf r.verdict r.lines.items) }
+    ensures valid { IfOk result (λ r. r.verdict ≡ Verdict.Valid → IsValid script.now answers.now) }
+    ensures invalid { IfOk result (λ r. r.verdict ≡ Verdict.Invalid → IsInvalid script.now answers.now r.lines.items) }
+{
+    let _ = start;
+    // A law: the texts have no other trees.
+    one_forest();
+    let script = read_whole(alloc, script)?;
+    let answers = read_whole(alloc, answers)?;
+    judge_all(Dialogue::new(alloc), script, answers)
+}

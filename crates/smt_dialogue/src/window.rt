@@ -1,0 +1,181 @@
+//! The window of a check: the models printed behind it, and its line.
+
+ghost use Rattle.std.specs.Prelude.{◌≡◌, ◌<◌, ◌+◌, ◌^◌, [], None, OnOk};
+ghost use Rattle.smt_text.specs.Tree.{sexp_of};
+ghost use Rattle.smt_script.specs.CommandView.{command_view};
+ghost use Rattle.smt_script.specs.StackView.{assertions_of, names_of};
+ghost use Rattle.smt_dialogue.specs.Lines as check_lines;
+ghost use Rattle.smt_dialogue.specs.Internal.ChecksState.{checks_after, checks_state, with_check, with_model, with_window_ended};
+
+use crate::judgement::{Judgement, judge};
+use crate::line::{CheckAnswer, Line};
+use smt_eval::Memory;
+use smt_script::{Command, Stack};
+use smt_text::Tree;
+use std::alloc::Global;
+
+/// A check that was answered `sat`, whose window has not ended.
+#[derive(Clone, Copy)]
+pub struct PendingCheck {
+    /// The number of the check, from 1.
+    pub check: u64,
+    /// The number of its command, from 1.
+    pub command: u64,
+    /// Whether a model was printed for it. Each model so far is confirmed.
+    pub some_model: bool,
+}
+
+/// The checks so far: how many there were, the one whose window has not ended, and the lines that are decided.
+#[derive(Drop)]
+pub struct Checks {
+    pub count: u64,
+    pub pending: Option<PendingCheck>,
+    pub lines: Vec<Line>,
+}
+
+impl Checks {
+    /// No checks.
+    pub(crate) fn new(alloc: Global) -> Self
+        ensures { checks_state result ≡ record { count = 0; pending = None; lines = [] } }
+    {
+        Checks {
+            count: 0,
+            pending: None,
+            lines: Vec::new(alloc),
+        }
+    }
+
+    /// Takes the command of this number, which took effect, with its answer, and what is in force after it.
+    pub(crate) fn take(
+        &mut self,
+        number: u64,
+        command: &Command,
+        answer: &Tree,
+        stack: &Stack,
+    ) -> Result<(), Memory>
+        requires { self.old.count + 1 < 2 ^ 64 }
+        ensures { OnOk result (checks_state self.new
+            ≡ checks_after (checks_state self.old) (names_of stack.now) (assertions_of stack.now) number (command_view command.now) (sexp_of answer.now)) }
+    {
+        match command {
+            Command::DeclareConst { .. } | Command::Assert { .. } => self.end_window(),
+            Command::CheckSat => self.begin_window(number, answer),
+            Command::GetModel => self.judge_model(number, answer, stack),
+        }
+    }
+
+    // A check ends the window of the one before it.
+    fn begin_window(&mut self, number: u64, answer: &Tree) -> Result<(), Memory>
+        requires { self.old.count + 1 < 2 ^ 64 }
+        ensures { OnOk result (checks_state self.new ≡ with_check (checks_state self.old) number (sexp_of answer.now)) }
+    {
+        self.end_window()?;
+        let check = self.count + 1;
+        let command = number;
+        if answer.is_symbol(b"unsat") {
+            let answer = CheckAnswer::Unsat;
+            self.lines.push(Line::Unchecked {
+                check,
+                command,
+                answer,
+            })?;
+        } else if answer.is_symbol(b"unknown") {
+            let answer = CheckAnswer::Unknown;
+            self.lines.push(Line::Unchecked {
+                check,
+                command,
+                answer,
+            })?;
+        } else {
+            let some_model = false;
+            self.pending = Some(PendingCheck {
+                check,
+                command,
+                some_model,
+            });
+        }
+        self.count = check;
+        Ok(())
+    }
+
+    // A model printed outside every window is not looked at.
+    fn judge_model(&mut self, number: u64, answer: &Tree, stack: &Stack) -> Result<(), Memory>
+        ensures { OnOk result (checks_state self.new ≡ with_model (checks_state self.old) self.old.pending (names_of stack.now) (assertions_of stack.now) number (sexp_of answer.now)) }
+    {
+        let (Some(pending), Tree::List(model)) = (self.pending, answer) else {
+            return Ok(());
+        };
+        let judgement = judge(stack, model)?;
+        match line_of_judgement(pending, number, judgement) {
+            Some(line) => {
+                self.lines.push(line)?;
+                self.pending = None;
+            }
+            None => self.pending = Some(PendingCheck {
+                some_model: true,
+                ..pending
+            }),
+        }
+        Ok(())
+    }
+
+    /// Ends the window of the last check, if it has not ended: each model in it is confirmed.
+    pub(crate) fn end_window(&mut self) -> Result<(), Memory>
+        ensures { OnOk result (checks_state self.new ≡ with_window_ended (checks_state self.old)) }
+    {
+        if let Some(pending) = self.pending {
+            self.lines.push(confirmed_line(pending))?;
+            self.pending = None;
+        }
+        Ok(())
+    }
+}
+
+// The line of a check whose models are all confirmed.
+fn confirmed_line(pending: PendingCheck) -> Line
+    ensures { result ≡ check_lines.confirmed_line pending.check pending.command pending.some_model }
+{
+    let check = pending.check;
+    let command = pending.command;
+    if pending.some_model {
+        Line::Confirmed { check, command }
+    } else {
+        Line::NoModel { check, command }
+    }
+}
+
+// The line of a check at a model, printed for command `model`, that isn't confirmed.
+fn line_of_judgement(pending: PendingCheck, model: u64, judgement: Judgement) -> Option<Line>
+    ensures { result ≡ check_lines.line_of_judgement pending.check pending.command model judgement }
+{
+    let check = pending.check;
+    let command = pending.command;
+    match judgement {
+        Judgement::ItemFault { item, fault } => Some(Line::ItemFault {
+            check,
+            command,
+            model,
+            item,
+            fault,
+        }),
+        Judgement::Lacks { declaration } => Some(Line::Lacks {
+            check,
+            command,
+            model,
+            declaration,
+        }),
+        Judgement::Refuted { assertion } => Some(Line::Refuted {
+            check,
+            command,
+            model,
+            assertion,
+        }),
+        Judgement::NotDecided { assertion } => Some(Line::NotDecided {
+            check,
+            command,
+            model,
+            assertion,
+        }),
+        Judgement::Confirmed => None,
+    }
+}

@@ -1,0 +1,5 @@
+pub mod EvaluatorLemmas
+pub mod ModelLemmas
+pub mod MeaningLemmas
+pub mod CompleteModelLemmas
+pub mod NoMemoryLemmas

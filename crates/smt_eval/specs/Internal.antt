@@ -1,0 +1,2 @@
+pub mod ItemForm
+pub mod DefinitionValues

@@ -1,0 +1,7 @@
+pub mod Meaning
+pub mod Known
+pub mod Agreement
+pub mod Model
+pub mod CompleteModel
+pub mod Structure
+pub mod Internal

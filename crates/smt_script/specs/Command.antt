@@ -1,0 +1,44 @@
+-- SMT-LIB 2.6, section 4.2: the trees that are commands. Which commands are supported is this project's choice.
+use Rattle.std.specs.Prelude.{ℕ, List, Result, Ok, Err}
+use Rattle.smt_text.specs.Sexp.{Sexp, Atom, Reserved, Items, Nil, Cons, Symbol}
+use Rattle.smt_text.specs.declared.reserved.Word.{Word}
+use Rattle.smt_text.specs.declared.reserved.Word.TheVariants as words
+use Rattle.smt_script.specs.declared.fault.CommandFault.{CommandFault}
+use Rattle.smt_script.specs.declared.fault.CommandFault.TheVariants.{Form, Unsupported}
+
+pub data Command : Type 0 where
+  DeclareConst : (name : List ℕ) → (sort : Sexp) → Command
+  Assert : (term : Sexp) → Command
+  CheckSat : Command
+  GetModel : Command
+
+-- what is wrong with a list that begins with this word, and is no command in form: a command of the standard that isn't supported
+-- is refused as such, whatever follows the word
+abbrev pub refused_word : Word → CommandFault
+refused_word words.Bang = Form
+refused_word words.Underscore = Form
+refused_word words.As = Form
+refused_word words.Binary = Form
+refused_word words.Decimal = Form
+refused_word words.Exists = Form
+refused_word words.Hexadecimal = Form
+refused_word words.Forall = Form
+refused_word words.Let = Form
+refused_word words.Match = Form
+refused_word words.Numeral = Form
+refused_word words.Par = Form
+refused_word words.String = Form
+refused_word words.Assert = Form
+refused_word words.CheckSat = Form
+refused_word words.DeclareConst = Form
+refused_word words.GetModel = Form
+refused_word _ = Unsupported
+
+-- the command that a tree is, or why it is refused
+abbrev pub command_of : Sexp → Result Command CommandFault
+command_of (Items (Cons (Reserved words.DeclareConst) (Cons (Atom Symbol x) (Cons sort Nil)))) = Ok (DeclareConst x sort)
+command_of (Items (Cons (Reserved words.Assert) (Cons term Nil))) = Ok (Assert term)
+command_of (Items (Cons (Reserved words.CheckSat) Nil)) = Ok CheckSat
+command_of (Items (Cons (Reserved words.GetModel) Nil)) = Ok GetModel
+command_of (Items (Cons (Reserved word) rest)) = Err (refused_word word)
+command_of _ = Err Form

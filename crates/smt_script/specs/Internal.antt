@@ -1,0 +1,2 @@
+pub mod CommandForm
+pub mod Effect

@@ -1,0 +1,70 @@
+//! What can be wrong with a command.
+
+use core_terms::TermFault;
+use std::alloc::{AllocError, AllocFailed};
+use std::fmt;
+
+/// Why a command is refused.
+#[derive(Clone, Copy, Debug, PartialEq, Eq)]
+pub enum CommandFault {
+    /// It isn't in form (`C1`).
+    Form,
+    /// It is a command of the standard, and isn't supported (`C2`).
+    Unsupported,
+    /// A term, a sort or a name in it has a fault (`C7`).
+    Term { fault: TermFault },
+    /// Memory was refused (`C0`).
+    Memory,
+}
+
+impl fmt::Display for CommandFault {
+    ghost use Rattle.std.specs.Prelude.{Some};
+    ghost use Rattle.smt_script.specs.FaultText.{text_of_command_fault};
+
+    ghost output = { λ x. Some (text_of_command_fault x) };
+
+    fn fmt<W: fmt::Write>(&self, f: &mut fmt::Formatter<W>) -> fmt::Result {
+        match self {
+            CommandFault::Form => write!(f, "C1"),
+            CommandFault::Unsupported => write!(f, "C2"),
+            CommandFault::Term { fault } => write!(f, "C7 {fault}"),
+            CommandFault::Memory => write!(f, "C0"),
+        }
+    }
+}
+
+impl From<TermFault> for CommandFault {
+    ghost use Rattle.std.specs.Prelude.{◌≡◌};
+    ghost use Rattle.smt_script.specs.Stack.{command_fault};
+
+    ghost from_gives = { λ fault made. made ≡ command_fault fault };
+
+    fn from(fault: TermFault) -> CommandFault {
+        match fault {
+            TermFault::Memory => CommandFault::Memory,
+            _ => CommandFault::Term { fault },
+        }
+    }
+}
+
+impl From<AllocError> for CommandFault {
+    ghost use Rattle.std.specs.Prelude.{◌≡◌};
+    ghost use Rattle.smt_script.specs.declared.fault.CommandFault.TheVariants.{Memory};
+
+    ghost from_gives = { λ _ fault. fault ≡ Memory };
+
+    fn from(_error: AllocError) -> CommandFault {
+        CommandFault::Memory
+    }
+}
+
+impl<T: Drop> From<AllocFailed<T>> for CommandFault {
+    ghost use Rattle.std.specs.Prelude.{◌≡◌};
+    ghost use Rattle.smt_script.specs.declared.fault.CommandFault.TheVariants.{Memory};
+
+    ghost from_gives = { λ _ fault. fault ≡ Memory };
+
+    fn from(_error: AllocFailed<T>) -> CommandFault {
+        CommandFault::Memory
+    }
+}

@@ -1,0 +1,121 @@
+//! The trees that are commands.
+
+ghost use Rattle.std.specs.Prelude.{◌≡◌, ◌<◌, ◌++◌, ◌∷◌, [], length, MatchResult};
+ghost use Rattle.smt_text.specs.Sexp.{Items};
+ghost use Rattle.smt_text.specs.Tree.{sexp_of, sexps_of};
+ghost use Rattle.smt_script.specs.Command as commands;
+ghost use Rattle.smt_script.specs.CommandView.{command_view};
+ghost use Rattle.smt_script.specs.Internal.CommandForm.{HasForm, are_symbol_and_tree, is_one_tree};
+
+use crate::command::Command;
+use crate::fault::CommandFault;
+use smt_text::{Tree, Trees, Word, split_first};
+
+/// The command that a tree is. A tree that is none is refused: as unsupported where it is a list that begins with the name of
+/// another command, whatever follows, else for its form.
+pub fn read_command(tree: Tree) -> Result<Command, CommandFault>
+    ensures { MatchResult result (λ command. commands.command_of (sexp_of tree) ≡ Ok (command_view command))
+        (λ fault. commands.command_of (sexp_of tree) ≡ Err fault) }
+{
+    let Tree::List(parts) = tree else {
+        return Err(CommandFault::Form);
+    };
+    match form_of(parts.as_slice())? {
+        CommandForm::Declaration => Ok(declaration(parts)),
+        CommandForm::Assertion => Ok(assertion(parts)),
+        CommandForm::Check => Ok(Command::CheckSat),
+        CommandForm::Model => Ok(Command::GetModel),
+    }
+}
+
+// The kinds of commands.
+#[derive(Clone, Copy)]
+enum CommandForm {
+    Declaration,
+    Assertion,
+    Check,
+    Model,
+}
+
+// The kind of command that a list is, by its word and how many trees of which kind follow it.
+fn form_of(parts: &[Tree]) -> Result<CommandForm, CommandFault>
+    ensures { MatchResult result (λ form. HasForm form (sexps_of parts.now))
+        (λ fault. commands.command_of (Items (sexps_of parts.now)) ≡ Err fault) }
+{
+    let Some((Tree::Reserved(word), rest)) = split_first(parts) else {
+        return Err(CommandFault::Form);
+    };
+    match word {
+        Word::DeclareConst if is_declared(rest) => Ok(CommandForm::Declaration),
+        Word::Assert if is_single(rest) => Ok(CommandForm::Assertion),
+        Word::CheckSat if split_first(rest).is_none() => Ok(CommandForm::Check),
+        Word::GetModel if split_first(rest).is_none() => Ok(CommandForm::Model),
+        _ => Err(refused_word(*word)),
+    }
+}
+
+// Whether these are a symbol and one more tree.
+fn is_declared(trees: &[Tree]) -> bool
+    ensures { result ≡ are_symbol_and_tree (sexps_of trees.now) }
+{
+    let Some((Tree::Symbol(_), rest)) = split_first(trees) else {
+        return false;
+    };
+    is_single(rest)
+}
+
+// Whether this is one tree.
+fn is_single(trees: &[Tree]) -> bool
+    ensures { result ≡ is_one_tree (sexps_of trees.now) }
+{
+    let Some((_, rest)) = split_first(trees) else {
+        return false;
+    };
+    split_first(rest).is_none()
+}
+
+// Why a list that begins with this word, and is no command in form, is refused.
+fn refused_word(word: Word) -> CommandFault
+    ensures { result ≡ commands.refused_word word }
+{
+    match word {
+        Word::Bang | Word::Underscore | Word::As | Word::Binary | Word::Decimal =>
+            CommandFault::Form,
+        Word::Exists | Word::Hexadecimal | Word::Forall | Word::Let | Word::Match =>
+            CommandFault::Form,
+        Word::Numeral | Word::Par | Word::String => CommandFault::Form,
+        Word::Assert | Word::CheckSat | Word::DeclareConst | Word::GetModel => CommandFault::Form,
+        _ => CommandFault::Unsupported,
+    }
+}
+
+// The declaration that a list is.
+fn declaration(parts: Trees) -> Command
+    requires { HasForm CommandForm.Declaration parts }
+    ensures { commands.command_of (Items parts) ≡ Ok (command_view result) }
+{
+    let mut items = parts.into_vec();
+    let sort = pop_tree(&mut items);
+    match pop_tree(&mut items) {
+        Tree::Symbol(name) => Command::DeclareConst { name, sort },
+        _ => unreachable!(),
+    }
+}
+
+// The assertion that a list is.
+fn assertion(parts: Trees) -> Command
+    requires { HasForm CommandForm.Assertion parts }
+    ensures { commands.command_of (Items parts) ≡ Ok (command_view result) }
+{
+    let mut items = parts.into_vec();
+    let term = pop_tree(&mut items);
+    Command::Assert { term }
+}
+
+// Takes the last tree.
+fn pop_tree(items: &mut Vec<Tree>) -> Tree
+    requires { 0 < length items.old.items }
+    ensures { items.old.items ≡ items.new.items ++ result ∷ [] }
+{
+    items.pop().unwrap()
+}

@@ -1,0 +1,9 @@
+pub mod NameLemmas
+pub mod IdentifierLemmas
+pub mod EntryLemmas
+pub mod LibraryLemmas
+pub mod CheckerLemmas
+pub mod NameLookUps
+pub mod TermLemmas
+pub mod DeclarationLemmas
+pub mod NoMemoryLemmas

@@ -1,0 +1,173 @@
+-- Want of memory is no answer of a definition. Proofs of the crates above cite these too.
+use Rattle.std.proofs.Common.{◌≡◌, ℕ, Bool, true, false, cond, not, ◌&&◌, ◌||◌, List, [], ◌∷◌, Option, Some, None, is_some, option_map, Result, Ok, Err, ok_or}
+use Rattle.std.specs.Str.{bytes_eq}
+use Rattle.smt_text.specs.Sexp.{Sexp, Sexps, Atom, Reserved, Items, Nil, Cons, Symbol, Numeral, Decimal, Hexadecimal, Binary, Text, Keyword}
+use Rattle.smt_text.specs.declared.reserved.Word.{Word}
+use Rattle.smt_text.specs.declared.reserved.Word.TheVariants.{Let, Bang, Underscore, Forall, Exists, Match, As}
+use Rattle.smt_theory.specs.Index.{IndexView}
+use Rattle.smt_theory.specs.Operators.{op_by}
+use Rattle.smt_theory.specs.Ranks.{are_exactly, rank_of}
+use Rattle.smt_theory.specs.Words.{look_up, result_and_then}
+use Rattle.smt_theory.specs.declared.op.Op.{Op}
+use Rattle.smt_theory.specs.declared.op.OpFault.{OpFault}
+use Rattle.smt_theory.specs.declared.op.OpFault.TheVariants as ops
+use Rattle.smt_theory.specs.declared.sort.Sort.{Sort}
+use Rattle.smt_theory.specs.declared.theories.Theories.{Theories}
+use Rattle.smt_terms.specs.Checking.{sort_of_rank, sort_of_operator, sort_of_name, sort_of_plain, sort_applied, sort_of_symbol, sort_unless_variable, sort_of_call, sort_in, sorts_in}
+use Rattle.smt_terms.specs.Identifier.{Identifier, Plain, Indexed, all_indexes, applied, indexed, word_fault}
+use Rattle.smt_terms.specs.Signature.{Names, Rank, declaration, declared_in, is_taken, rank_named}
+use Rattle.smt_terms.specs.SortTrees.{indexed_fault, integers, is_one_numeral, is_some_tree, list_fault, sort_named, sorts_named}
+use Rattle.smt_terms.specs.SortTrees as sorts
+use Rattle.smt_terms.specs.declared.fault.TermFault.{TermFault}
+use Rattle.smt_terms.specs.declared.fault.TermFault.TheVariants.{Form, Unsupported, Unknown, IllSorted, NotFresh, Memory}
+
+-- an answer that is not want of memory
+abbrev pub IsOther : {A : Type 0} → Result A TermFault → Type 0
+IsOther r = r ≡ Err Memory → ⊥
+
+-- one answer after another
+pub IsOther-and_then : {A B : Type 0} (r : Result A TermFault) (next : A → Result B TermFault) → IsOther r → ((x : A) → IsOther (next x)) → IsOther (result_and_then r next)
+IsOther-and_then (Ok x) next h i = i x
+IsOther-and_then (Err f) next h i = λ e. h (cc)
+
+-- one of two answers
+pub IsOther-test : {A : Type 0} (b : Bool) (x y : Result A TermFault) → IsOther x → IsOther y → IsOther (cond b x y)
+IsOther-test true x y h i = h
+IsOther-test false x y h i = i
+
+-- one of two faults
+other_fault : (b : Bool) (x y : TermFault) → (x ≡ Memory → ⊥) → (y ≡ Memory → ⊥) → cond b x y ≡ Memory → ⊥
+other_fault true x y h i e = h e
+other_fault false x y h i e = i e
+
+-- ## Identifiers
+
+word_other : (w : Word) → word_fault w ≡ Memory → ⊥
+word_other Let h = cc
+word_other Bang h = cc
+word_other Forall h = cc
+word_other Exists h = cc
+word_other Match h = cc
+word_other As h = cc
+word_other _ h = cc
+
+IsOther-ok_or : {A : Type 0} (o : Option A) → IsOther (ok_or o Form)
+IsOther-ok_or None h = cc
+IsOther-ok_or (Some a) h = cc
+
+IsOther-indexed : (parts : Sexps) → IsOther (indexed parts)
+IsOther-indexed (Cons (Atom Symbol name) (Cons x xs)) h = IsOther-ok_or (option_map (λ is. Indexed name is) (all_indexes (Cons x xs))) h
+IsOther-indexed _ h = cc
+
+IsOther-applied : (head : Sexp) (args : Sexps) → IsOther (applied head args)
+IsOther-applied (Atom Symbol name) (Cons x xs) h = cc
+IsOther-applied (Items (Cons (Reserved As) parts)) args h = cc
+IsOther-applied (Items (Cons (Reserved Underscore) parts)) (Cons x xs) h = IsOther-indexed parts h
+IsOther-applied (Reserved word) args h = word_other word (cc)
+IsOther-applied _ _ h = cc
+
+-- ## Terms
+
+IsOther-rank : (o : Option Sort) → IsOther (sort_of_rank o)
+IsOther-rank None h = cc
+IsOther-rank (Some s) h = cc
+
+IsOther-operator : (r : Result Op OpFault) (args : List Sort) → IsOther (sort_of_operator r args)
+IsOther-operator (Ok op) args h = IsOther-rank (rank_of op args) h
+IsOther-operator (Err ops.Unknown) args h = cc
+IsOther-operator (Err ops.Index) args h = cc
+
+IsOther-plain : (names : Names) (f : List ℕ) (o : Option Rank) (args : List Sort) → IsOther (sort_of_plain names f o args)
+IsOther-plain names f None args h = IsOther-operator (op_by names.theories f []) args h
+IsOther-plain names f (Some rank) args h = IsOther-test (are_exactly rank.parameters args) (Ok rank.sort) (Err IllSorted) (λ e. cc) (λ e. cc) h
+
+IsOther-sort_applied : (names : Names) (f : Identifier) (args : List Sort) → IsOther (sort_applied names f args)
+IsOther-sort_applied names (Plain f) args h = IsOther-plain names f (look_up names.ranks f) args h
+IsOther-sort_applied names (Indexed f is) args h = IsOther-operator (op_by names.theories f is) args h
+
+IsOther-symbol : (names : Names) (x : List ℕ) (o : Option Sort) → IsOther (sort_of_symbol names x o)
+IsOther-symbol names x None h = IsOther-sort_applied names (Plain x) [] h
+IsOther-symbol names x (Some s) h = cc
+
+IsOther-unless : (o : Option Sort) (r : Result Sort TermFault) → IsOther r → IsOther (sort_unless_variable o r)
+IsOther-unless None r i h = i h
+IsOther-unless (Some s) r i h = cc
+
+IsOther-call : (names : Names) (scope : List (List ℕ × Sort)) (f : Identifier) (ss : List Sort) → IsOther (sort_of_call names scope f ss)
+IsOther-call names scope (Plain f) ss h = IsOther-unless (look_up scope f) (sort_applied names (Plain f) ss) (IsOther-sort_applied names (Plain f) ss) h
+IsOther-call names scope (Indexed f is) ss h = IsOther-sort_applied names (Indexed f is) ss h
+
+IsOther-integers : (theories : Theories) → IsOther (integers theories)
+IsOther-integers theories = IsOther-test theories.ints _ _ (λ e. cc) (λ e. cc)
+
+-- a list that applies an identifier
+IsOther-application : (names : Names) (scope : List (List ℕ × Sort)) (head : Sexp) (args : Sexps) → IsOther (sorts_in names scope args)
+    → IsOther (result_and_then (applied head args) (λ f. result_and_then (sorts_in names scope args) (λ ss. sort_of_call names scope f ss)))
+IsOther-application names scope head args i =
+    IsOther-and_then (applied head args) (λ f. result_and_then (sorts_in names scope args) (λ ss. sort_of_call names scope f ss)) (IsOther-applied head args)
+    (λ f. IsOther-and_then (sorts_in names scope args) (λ ss. sort_of_call names scope f ss) i (λ ss. IsOther-call names scope f ss))
+
+-- a list whose head is a reserved word
+IsOther-reserved : (names : Names) (scope : List (List ℕ × Sort)) (word : Word) (args : Sexps) → IsOther (sorts_in names scope args) → IsOther (sort_in names scope (Items (Cons (Reserved word) args)))
+IsOther-reserved names scope Underscore args i h = IsOther-and_then (indexed args) (λ f. sort_applied names f []) (IsOther-indexed args) (λ f. IsOther-sort_applied names f []) h
+IsOther-reserved names scope word args i h = IsOther-application names scope (Reserved word) args i h
+
+-- terms, and terms in order
+mutual
+  pub IsOther-sort : (names : Names) (scope : List (List ℕ × Sort)) (t : Sexp) → IsOther (sort_in names scope t)
+  IsOther-sort names scope (Atom Symbol x) h = IsOther-symbol names x (look_up scope x) h
+  IsOther-sort names scope (Atom Numeral x) h = IsOther-integers names.theories h
+  IsOther-sort names scope (Atom Keyword x) h = cc
+  IsOther-sort names scope (Atom Decimal x) h = cc
+  IsOther-sort names scope (Atom Hexadecimal x) h = cc
+  IsOther-sort names scope (Atom Binary x) h = cc
+  IsOther-sort names scope (Atom Text x) h = cc
+  IsOther-sort names scope (Reserved word) h = cc
+  IsOther-sort names scope (Items Nil) h = cc
+  IsOther-sort names scope (Items (Cons (Reserved word) args)) h = IsOther-reserved names scope word args (IsOther-sorts names scope args) h
+  IsOther-sort names scope (Items (Cons (Atom kind x) args)) h = IsOther-application names scope (Atom kind x) args (IsOther-sorts names scope args) h
+  IsOther-sort names scope (Items (Cons (Items parts) args)) h = IsOther-application names scope (Items parts) args (IsOther-sorts names scope args) h
+
+  pub IsOther-sorts : (names : Names) (scope : List (List ℕ × Sort)) (ts : Sexps) → IsOther (sorts_in names scope ts)
+  IsOther-sorts names scope Nil h = cc
+  IsOther-sorts names scope (Cons x xs) h =
+      IsOther-and_then (sort_in names scope x) (λ s. result_and_then (sorts_in names scope xs) (λ ss. Ok (s ∷ ss))) (IsOther-sort names scope x)
+      (λ s. IsOther-and_then (sorts_in names scope xs) (λ ss. Ok (s ∷ ss)) (IsOther-sorts names scope xs) (λ ss e. cc)) h
+
+-- ## Sorts and declarations
+
+indexed_other : (parts : Sexps) → indexed_fault parts ≡ Memory → ⊥
+indexed_other (Cons (Atom Symbol name) indexes) h =
+    other_fault (not (is_some (all_indexes indexes))) Form _ (λ e. cc) (other_fault (bytes_eq name _ && not (is_one_numeral indexes)) Form Unknown (λ e. cc) (λ e. cc)) h
+indexed_other _ h = cc
+
+list_other : (parts : Sexps) → list_fault parts ≡ Memory → ⊥
+list_other (Cons (Reserved Underscore) parts) h = indexed_other parts h
+list_other (Cons (Atom Symbol name) args) h = other_fault (bytes_eq name _) Unsupported _ (λ e. cc) (other_fault (is_some_tree args) Unknown Form (λ e. cc) (λ e. cc)) h
+list_other _ h = cc
+
+IsOther-sort_symbol : (theories : Theories) (name : List ℕ) → IsOther (sorts.sort_of_symbol theories name)
+IsOther-sort_symbol theories name =
+    IsOther-test (bytes_eq name _) _ _ (λ e. cc) (IsOther-test (bytes_eq name _) _ _ (IsOther-integers theories) (IsOther-test (bytes_eq name _ || bytes_eq name _) _ _ (λ e. cc) (λ e. cc)))
+
+-- trees that name sorts
+pub IsOther-named : (theories : Theories) (t : Sexp) → IsOther (sort_named theories t)
+IsOther-named theories (Atom Symbol x) h = IsOther-sort_symbol theories x h
+IsOther-named theories (Items parts) h = list_other parts (cc)
+IsOther-named theories _ h = cc
+
+pub IsOther-all_named : (theories : Theories) (ts : Sexps) → IsOther (sorts_named theories ts)
+IsOther-all_named theories Nil h = cc
+IsOther-all_named theories (Cons x xs) h =
+    IsOther-and_then (sort_named theories x) (λ s. result_and_then (sorts_named theories xs) (λ ss. Ok (s ∷ ss))) (IsOther-named theories x)
+    (λ s. IsOther-and_then (sorts_named theories xs) (λ ss. Ok (s ∷ ss)) (IsOther-all_named theories xs) (λ ss e. cc)) h
+
+IsOther-rank_named : (names : Names) (ps : Sexps) (t : Sexp) → IsOther (rank_named names ps t)
+IsOther-rank_named names ps t =
+    IsOther-and_then (sorts_named names.theories ps) _ (IsOther-all_named names.theories ps) (λ ss. IsOther-and_then (sort_named names.theories t) _ (IsOther-named names.theories t) (λ s e. cc))
+
+-- declarations
+pub IsOther-declared : (names : Names) (command : ℕ) (x : List ℕ) (ps : Sexps) (t : Sexp) → IsOther (declared_in names command x ps t)
+IsOther-declared names command x ps t =
+    IsOther-test (is_taken names x) (Err NotFresh) (result_and_then (rank_named names ps t) (λ rank. Ok (declaration x command rank))) (λ e. cc)
+    (IsOther-and_then (rank_named names ps t) (λ rank. Ok (declaration x command rank)) (IsOther-rank_named names ps t) (λ rank e. cc))

@@ -1,0 +1,16 @@
+-- Terms by their numbers.
+use Rattle.std.proofs.Common.{◌≡◌, ℕ, zero, suc, List, [], ◌∷◌, ◌++◌, map, slice_get, Some, ap, ◌∙◌}
+use Rattle.std.proofs.lemmas.List.{map-append}
+use Rattle.smt_text.specs.Sexp.{Sexp}
+use Rattle.smt_text.specs.Tree.{sexp_of}
+use Rattle.smt_text.specs.declared.tree.Tree.{Tree}
+
+stays : {A : Type 0} (xs ys : List A) (i : ℕ) (x : A) → slice_get xs i ≡ Some x → slice_get (xs ++ ys) i ≡ Some x
+stays [] ys i x h = cc
+stays (y ∷ xs) ys zero x h = h
+stays (y ∷ xs) ys (suc i) x h = stays xs ys i x h
+
+-- a term keeps its number as others are added
+pub term_stays : (old new : List Tree) (tree : Tree) (i : ℕ) (t : Sexp) → new ≡ old ++ tree ∷ [] → slice_get (map sexp_of old) i ≡ Some t → slice_get (map sexp_of new) i ≡ Some t
+term_stays old new tree i t is h =
+    ap (λ (ts : List Tree). slice_get (map sexp_of ts) i) is ∙ ap (λ (ts : List Sexp). slice_get ts i) (map-append sexp_of old (tree ∷ [])) ∙ stays (map sexp_of old) (map sexp_of (tree ∷ [])) i t h

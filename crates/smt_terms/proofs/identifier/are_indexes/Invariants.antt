@@ -1,0 +1,11 @@
+use Rattle.std.proofs.Common.{◌≡◌, is_some}
+use Rattle.smt_text.specs.Sexp.{weight_all}
+use Rattle.smt_text.specs.Tree.{sexps_of}
+use Rattle.smt_terms.specs.Identifier.{all_indexes}
+use Rattle.smt_terms.proofs.identifier.are_indexes.Given as goal
+
+abbrev pub invariant-loop-tree : goal.invariant-loop-tree
+invariant-loop-tree l = is_some (all_indexes (sexps_of l.trees)) ≡ is_some (all_indexes (sexps_of l.left))
+
+abbrev pub decreases-loop-tree : goal.decreases-loop-tree
+decreases-loop-tree l = weight_all (sexps_of l.left)

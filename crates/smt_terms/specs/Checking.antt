@@ -1,0 +1,82 @@
+-- SMT-LIB 2.6, sections 3.6 and 5.2: the sort of a term, or its first fault. That decimals and strings are not supported as terms is
+-- this project's choice for now, and bit vectors are unknown; so is the order of the faults.
+use Rattle.std.specs.Prelude.{ℕ, List, [], ◌∷◌, Bool, true, false, Option, Some, None, Result, Ok, Err, if◌then◌else◌}
+use Rattle.smt_text.specs.Sexp as sexp
+use Rattle.smt_text.specs.Sexp.{Sexp, Sexps, Atom, Reserved, Items, Nil, Cons, Symbol, Keyword, Numeral, Hexadecimal, Binary}
+use Rattle.smt_text.specs.declared.reserved.Word.TheVariants.{Underscore}
+use Rattle.smt_theory.specs.Operators.{op_by}
+use Rattle.smt_theory.specs.Ranks.{are_exactly, rank_of}
+use Rattle.smt_theory.specs.Words.{look_up, result_and_then}
+use Rattle.smt_theory.specs.declared.op.Op.{Op}
+use Rattle.smt_theory.specs.declared.op.OpFault.{OpFault}
+use Rattle.smt_theory.specs.declared.op.OpFault.TheVariants as ops
+use Rattle.smt_theory.specs.declared.sort.Sort.{Sort}
+use Rattle.smt_terms.specs.Identifier.{Identifier, Plain, Indexed, applied, indexed, operator_of}
+use Rattle.smt_terms.specs.Signature.{Names, Rank}
+use Rattle.smt_terms.specs.SortTrees.{integers}
+use Rattle.smt_terms.specs.declared.fault.TermFault.{TermFault}
+use Rattle.smt_terms.specs.declared.fault.TermFault.TheVariants.{Form, Unsupported, Unknown, IllSorted, Index}
+
+-- the sort of a rank that fits
+abbrev pub sort_of_rank : Option Sort → Result Sort TermFault
+sort_of_rank None = Err IllSorted
+sort_of_rank (Some sort) = Ok sort
+
+-- the sort of an operator applied to arguments of these sorts
+abbrev pub sort_of_operator : Result Op OpFault → List Sort → Result Sort TermFault
+sort_of_operator (Ok op) args = sort_of_rank (rank_of op args)
+sort_of_operator (Err ops.Unknown) args = Err Unknown
+sort_of_operator (Err ops.Index) args = Err Index
+
+-- the sort of a name in force applied to arguments of these sorts
+abbrev pub sort_of_name : Rank → List Sort → Result Sort TermFault
+sort_of_name rank args = if are_exactly rank.parameters args then Ok rank.sort else Err IllSorted
+
+-- a name that isn't in force may be an operator
+abbrev pub sort_of_plain : Names → List ℕ → Option Rank → List Sort → Result Sort TermFault
+sort_of_plain names f None args = sort_of_operator (op_by names.theories f []) args
+sort_of_plain names f (Some rank) args = sort_of_name rank args
+
+abbrev pub sort_applied : Names → Identifier → List Sort → Result Sort TermFault
+sort_applied names (Plain f) args = sort_of_plain names f (look_up names.ranks f) args
+sort_applied names (Indexed f indexes) args = sort_of_operator (op_by names.theories f indexes) args
+
+-- the sort of a symbol alone: that of a variable, or of a name without arguments
+abbrev pub sort_of_symbol : Names → List ℕ → Option Sort → Result Sort TermFault
+sort_of_symbol names x None = sort_applied names (Plain x) []
+sort_of_symbol names x (Some sort) = Ok sort
+
+-- the sort of an identifier applied to arguments: a variable takes none
+abbrev pub sort_unless_variable : Option Sort → Result Sort TermFault → Result Sort TermFault
+sort_unless_variable None found = found
+sort_unless_variable (Some sort) found = Err IllSorted
+
+abbrev pub sort_of_call : Names → List (List ℕ × Sort) → Identifier → List Sort → Result Sort TermFault
+sort_of_call names scope (Plain f) args = sort_unless_variable (look_up scope f) (sort_applied names (Plain f) args)
+sort_of_call names scope (Indexed f indexes) args = sort_applied names (Indexed f indexes) args
+
+-- whether a list that begins so is an identifier with indexes
+abbrev pub is_underscore_tree : Sexp → Bool
+is_underscore_tree (Reserved Underscore) = true
+is_underscore_tree _ = false
+
+-- the sort of a term over names and variables, the innermost variable first, or the first fault; the sorts of terms, in order
+abbrev mutual
+  pub sort_in : Names → List (List ℕ × Sort) → Sexp → Result Sort TermFault
+  sort_in names scope (Atom Symbol x) = sort_of_symbol names x (look_up scope x)
+  sort_in names scope (Atom Numeral digits) = integers names.theories
+  sort_in names scope (Atom Hexadecimal digits) = Err Unknown
+  sort_in names scope (Atom Binary digits) = Err Unknown
+  sort_in names scope (Atom sexp.Decimal bytes) = Err Unsupported
+  sort_in names scope (Atom sexp.Text bytes) = Err Unsupported
+  sort_in names scope (Atom Keyword x) = Err Form
+  sort_in names scope (Reserved word) = Err Form
+  sort_in names scope (Items Nil) = Err Form
+  sort_in names scope (Items (Cons (Reserved Underscore) parts)) = result_and_then (indexed parts) (λ f. sort_applied names f [])
+  sort_in names scope (Items (Cons head args)) =
+      result_and_then (applied head args) (λ f. result_and_then (sorts_in names scope args) (λ ss. sort_of_call names scope f ss))
+
+  pub sorts_in : Names → List (List ℕ × Sort) → Sexps → Result (List Sort) TermFault
+  sorts_in names scope Nil = Ok []
+  sorts_in names scope (Cons x xs) =
+      result_and_then (sort_in names scope x) (λ s. result_and_then (sorts_in names scope xs) (λ ss. Ok (s ∷ ss)))

@@ -1,0 +1,65 @@
+-- SMT-LIB 2.6, sections 3.3 and 3.6: identifiers, and what a list applies to its arguments. That `let`, annotations, quantifiers,
+-- `match` and `as` are not supported is this project's choice, as are the limit of an index, 2^64 - 1, and which fault is told.
+use Rattle.std.specs.Prelude.{ℕ, ◌^◌, List, [], ◌∷◌, Option, Some, None, option_map, option_and_then, Result, Ok, Err, ok_or, nat_lt, if◌then◌else◌}
+use Rattle.std.specs.Str.Parse.{digits_value}
+use Rattle.smt_text.specs.Sexp as sexp
+use Rattle.smt_text.specs.Sexp.{Sexp, Sexps, Atom, Reserved, Items, Nil, Cons, Numeral, Symbol}
+use Rattle.smt_text.specs.declared.reserved.Word.{Word}
+use Rattle.smt_text.specs.declared.reserved.Word.TheVariants.{Let, Bang, Underscore, Forall, Exists, Match, As}
+use Rattle.smt_theory.specs.Index.{IndexView, Number, Large, Name}
+use Rattle.smt_theory.specs.Operators.{op_by}
+use Rattle.smt_theory.specs.declared.op.Op.{Op}
+use Rattle.smt_theory.specs.declared.op.OpFault.{OpFault}
+use Rattle.smt_theory.specs.declared.theories.Theories.{Theories}
+use Rattle.smt_terms.specs.declared.fault.TermFault.{TermFault}
+use Rattle.smt_terms.specs.declared.fault.TermFault.TheVariants.{Form, Unsupported}
+
+-- a symbol, or a symbol with indexes
+pub data Identifier : Type 0 where
+  Plain : (name : List ℕ) → Identifier
+  Indexed : (name : List ℕ) → (indexes : List IndexView) → Identifier
+
+-- a numeral as an index
+abbrev pub index_of_numeral : List ℕ → IndexView
+index_of_numeral digits =
+    let n = digits_value 10 digits in
+    if nat_lt n (2 ^ 64) then Number n else Large
+
+-- the index that a tree is: a numeral or a symbol
+abbrev pub index_of_tree : Sexp → Option IndexView
+index_of_tree (Atom Numeral digits) = Some (index_of_numeral digits)
+index_of_tree (Atom Symbol name) = Some (Name name)
+index_of_tree _ = None
+
+-- the indexes that trees are, if each is one
+abbrev pub all_indexes : Sexps → Option (List IndexView)
+all_indexes Nil = Some []
+all_indexes (Cons x xs) = option_and_then (λ i. option_map (λ is. i ∷ is) (all_indexes xs)) (index_of_tree x)
+
+-- the identifier `(_ symbol index ..)`, by what stands behind the `_`
+abbrev pub indexed : Sexps → Result Identifier TermFault
+indexed (Cons (Atom Symbol name) (Cons x xs)) = ok_or (option_map (λ is. Indexed name is) (all_indexes (Cons x xs))) Form
+indexed _ = Err Form
+
+-- what is wrong with a list that begins with this word
+abbrev pub word_fault : Word → TermFault
+word_fault Let = Unsupported
+word_fault Bang = Unsupported
+word_fault Forall = Unsupported
+word_fault Exists = Unsupported
+word_fault Match = Unsupported
+word_fault As = Unsupported
+word_fault _ = Form
+
+-- the identifier that a list of this head applies to its arguments, or what is wrong with its form
+abbrev pub applied : Sexp → Sexps → Result Identifier TermFault
+applied (Atom Symbol name) (Cons x xs) = Ok (Plain name)
+applied (Items (Cons (Reserved As) parts)) args = Err Unsupported
+applied (Items (Cons (Reserved Underscore) parts)) (Cons x xs) = indexed parts
+applied (Reserved word) args = Err (word_fault word)
+applied _ _ = Err Form
+
+-- the operator of an identifier
+abbrev pub operator_of : Theories → Identifier → Result Op OpFault
+operator_of theories (Plain name) = op_by theories name []
+operator_of theories (Indexed name indexes) = op_by theories name indexes

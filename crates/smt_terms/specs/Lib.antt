@@ -1,0 +1,9 @@
+pub mod Identifier
+pub mod IdentifierView
+pub mod SortTrees
+pub mod Signature
+pub mod Checking
+pub mod WellSorted
+pub mod Library
+pub mod FaultText
+pub mod Internal

@@ -1,0 +1,92 @@
+-- SMT-LIB 2.6, sections 4.2.3 and 5.1: a signature: the theories, and the names in force, with what they stand for, in the order in
+-- which they came.
+use Rattle.std.specs.Prelude.{◌≡◌, ℕ, List, [], ◌∷◌, ◌++◌, Bool, Option, Some, None, Result, Ok, Err, is_some, ◌||◌, map, bytes_eq, if◌then◌else◌}
+use Rattle.smt_text.specs.Sexp.{Sexp, Sexps}
+use Rattle.smt_theory.specs.Operators.{is_plain_operator}
+use Rattle.smt_theory.specs.Words.{look_up, result_and_then}
+use Rattle.smt_theory.specs.declared.sort.Sort.{Sort}
+use Rattle.smt_theory.specs.declared.theories.Theories.{Theories}
+use Rattle.smt_terms.specs.SortTrees.{sort_named, sorts_named}
+use Rattle.smt_terms.specs.declared.fault.TermFault.{TermFault}
+use Rattle.smt_terms.specs.declared.fault.TermFault.TheVariants.{NotFresh}
+
+-- where a name comes from: from the command that declared it, or from a definition with parameters and a body
+pub data Origin : Type 0 where
+  Declared : (command : ℕ) → Origin
+  Defined : (parameters : List (List ℕ)) → (body : Sexp) → Origin
+
+-- a name, its rank, and where it comes from
+pub record Entry : Type 0 where
+  pub name : List ℕ
+  pub parameters : List Sort
+  pub sort : Sort
+  pub origin : Origin
+
+-- the theories, and the names in force in order
+pub record Signature : Type 0 where
+  pub theories : Theories
+  pub entries : List Entry
+
+-- what the sort checker needs of a signature: the names with their ranks
+pub record Rank : Type 0 where
+  pub parameters : List Sort
+  pub sort : Sort
+
+pub record Names : Type 0 where
+  pub theories : Theories
+  pub ranks : List (List ℕ × Rank)
+
+abbrev pub rank_of_entry : Entry → Rank
+rank_of_entry e = record { parameters = e.parameters; sort = e.sort }
+
+abbrev pub ranks_of : List Entry → List (List ℕ × Rank)
+ranks_of entries = map (λ e. (e.name, rank_of_entry e)) entries
+
+abbrev pub names_of : Signature → Names
+names_of s = record { theories = s.theories; ranks = ranks_of s.entries }
+
+-- one more name
+abbrev pub with_entry : Signature → Entry → Signature
+with_entry s e = record s { entries = s.entries ++ e ∷ [] }
+
+-- no names
+abbrev pub no_names : Theories → Signature
+no_names theories = record { theories = theories; entries = [] }
+
+-- the entry of a name
+abbrev pub entry_named : List Entry → List ℕ → Option Entry
+entry_named [] x = None
+entry_named (e ∷ es) x = if bytes_eq x e.name then Some e else entry_named es x
+
+-- no name stands twice
+abbrev pub AreDistinct : List Entry → Type 0
+AreDistinct [] = Unit {0}
+AreDistinct (e ∷ es) = (entry_named es e.name ≡ None) × AreDistinct es
+
+-- a declaration
+abbrev pub IsDeclared : Origin → Type 0
+IsDeclared (Declared command) = Unit {0}
+IsDeclared (Defined parameters body) = ⊥
+
+-- there is an entry, and it has the rank of this one
+abbrev pub KeepsRank : Entry → Option Entry → Type 0
+KeepsRank e None = ⊥
+KeepsRank e (Some d) = (d.parameters ≡ e.parameters) × (d.sort ≡ e.sort)
+
+-- whether a name may not be given to something new: it stands for something, or is a plain operator of the theories
+abbrev pub is_taken : Names → List ℕ → Bool
+is_taken names x = is_some (look_up names.ranks x) || is_plain_operator names.theories x
+
+-- the rank that trees name: the sorts of parameters, and the sort of a result
+abbrev pub rank_named : Names → Sexps → Sexp → Result Rank TermFault
+rank_named names parameters tree =
+    result_and_then (sorts_named names.theories parameters) (λ ps. result_and_then (sort_named names.theories tree) (λ s. Ok (record { parameters = ps; sort = s })))
+
+-- a name declared by the command, of this rank
+abbrev pub declaration : List ℕ → ℕ → Rank → Entry
+declaration x command rank = record { name = x; parameters = rank.parameters; sort = rank.sort; origin = Declared command }
+
+-- what the declaration of a name with parameters and a result of these sorts brings, or its first fault
+abbrev pub declared_in : Names → ℕ → List ℕ → Sexps → Sexp → Result Entry TermFault
+declared_in names command x parameters tree =
+    if is_taken names x then Err NotFresh else result_and_then (rank_named names parameters tree) (λ rank. Ok (declaration x command rank))

@@ -1,0 +1,33 @@
+-- SMT-LIB 2.6, section 5.2: definitions that are well sorted.
+use Rattle.std.specs.Prelude.{◌≡◌, ℕ, List, [], ◌∷◌, ◌++◌, false, length, bytes_eq, Ok}
+use Rattle.std.specs.List.{list_any, zip}
+use Rattle.smt_text.specs.Sexp.{Sexp}
+use Rattle.smt_theory.specs.declared.sort.Sort.{Sort}
+use Rattle.smt_theory.specs.declared.theories.Theories.{Theories}
+use Rattle.smt_terms.specs.Checking.{sort_in}
+use Rattle.smt_terms.specs.Signature.{Entry, Names, Origin, Declared, Defined, ranks_of}
+
+-- no name stands twice
+abbrev pub AreDifferent : List (List ℕ) → Type 0
+AreDifferent [] = Unit {0}
+AreDifferent (x ∷ xs) = (list_any (bytes_eq x) xs ≡ false) × AreDifferent xs
+
+-- a definition with these parameters and this body: it has a sort for each parameter, no parameter stands twice, and its body has its
+-- sort, over the earlier names and its parameters
+pub record IsDefinition (names : Names) (sorts : List Sort) (sort : Sort) (parameters : List (List ℕ)) (body : Sexp) : Type 0 where
+  pub counted : length parameters ≡ length sorts
+  pub different : AreDifferent parameters
+  pub sorted : sort_in names (zip parameters sorts) body ≡ Ok sort
+
+abbrev pub IsWellSortedFrom : Names → List Sort → Sort → Origin → Type 0
+IsWellSortedFrom names sorts sort (Defined parameters body) = IsDefinition names sorts sort parameters body
+IsWellSortedFrom names sorts sort (Declared command) = ⊥
+
+-- the entry is a definition that is well sorted over the earlier ones
+abbrev pub IsWellSorted : Theories → List Entry → Entry → Type 0
+IsWellSorted theories earlier e = IsWellSortedFrom (record { theories = theories; ranks = ranks_of earlier }) e.parameters e.sort e.origin
+
+-- each definition is well sorted over the earlier ones
+abbrev pub AreWellSorted : Theories → List Entry → List Entry → Type 0
+AreWellSorted theories earlier [] = Unit {0}
+AreWellSorted theories earlier (e ∷ es) = IsWellSorted theories earlier e × AreWellSorted theories (earlier ++ e ∷ []) es

@@ -1,0 +1,137 @@
+//! The sort checker.
+
+ghost use Rattle.std.specs.Prelude.{◌≡◌, ◌⊎◌, [], MatchResult};
+ghost use Rattle.smt_text.specs.Sexp.{Items};
+ghost use Rattle.smt_text.specs.Tree.{sexp_of, sexps_of};
+ghost use Rattle.smt_theory.specs.Ranks.{are_exactly};
+ghost use Rattle.smt_terms.specs.Checking as checking;
+ghost use Rattle.smt_terms.specs.Checking.{is_underscore_tree, sort_in, sorts_in, sort_of_name};
+ghost use Rattle.smt_terms.specs.Identifier.{Plain};
+ghost use Rattle.smt_terms.specs.IdentifierView.{identifier_view};
+ghost use Rattle.smt_terms.specs.Internal.LibraryView.{names_of_library};
+ghost use Rattle.smt_terms.specs.SortTrees.{integers};
+ghost use Rattle.smt_terms.specs.declared.fault.TermFault.TheVariants.{Memory};
+
+use crate::fault::TermFault;
+use crate::identifier::{Identifier, applied_identifier, indexed_identifier};
+use crate::library::{Entry, Library};
+use smt_text::{Tree, Trees, Word, split_first};
+use smt_theory::{Op, OpFault, Sort, op_of, rank};
+
+impl Library {
+    /// The sort of a term over these names, or its first fault.
+    #[cycle(check)]
+    pub(crate) fn sort_of(&self, term: &Tree) -> Result<Sort, TermFault>
+        ensures { MatchResult result (λ sort. sort_in (names_of_library self.now) [] (sexp_of term.now) ≡ Ok sort)
+            (λ fault. (fault ≡ Memory) ⊎ (sort_in (names_of_library self.now) [] (sexp_of term.now) ≡ Err fault)) }
+    {
+        match term {
+            Tree::Symbol(name) => self.sort_of_plain(name.as_slice(), &[]),
+            Tree::Numeral(_) => self.sort_of_numeral(),
+            Tree::List(parts) => self.sort_of_list(parts),
+            Tree::Hex(_) | Tree::Bin(_) => Err(TermFault::Unknown),
+            Tree::Decimal(_) | Tree::Text(_) => Err(TermFault::Unsupported),
+            Tree::Keyword(_) | Tree::Reserved(_) => Err(TermFault::Form),
+        }
+    }
+
+    fn sort_of_numeral(&self) -> Result<Sort, TermFault>
+        ensures { result ≡ integers (names_of_library self.now).theories }
+    {
+        if self.theories.ints {
+            Ok(Sort::Int)
+        } else {
+            Err(TermFault::Unknown)
+        }
+    }
+
+    // The sort of the term that is a list of these parts.
+    #[cycle(check)]
+    fn sort_of_list(&self, parts: &Trees) -> Result<Sort, TermFault>
+        ensures { MatchResult result (λ sort. sort_in (names_of_library self.now) [] (Items parts.now) ≡ Ok sort)
+            (λ fault. (fault ≡ Memory) ⊎ (sort_in (names_of_library self.now) [] (Items parts.now) ≡ Err fault)) }
+    {
+        let Some((head, args)) = split_first(parts.as_slice()) else {
+            return Err(TermFault::Form);
+        };
+        if is_underscore(head) {
+            let identifier = indexed_identifier(self.alloc, args)?;
+            return self.sort_applied(&identifier, &[]);
+        }
+        let identifier = applied_identifier(self.alloc, head, args)?;
+        let sorts = self.sorts_of(args)?;
+        self.sort_applied(&identifier, sorts.as_slice())
+    }
+
+    // The sorts of terms, in order.
+    #[cycle(check)]
+    fn sorts_of(&self, terms: &[Tree]) -> Result<Vec<Sort>, TermFault>
+        ensures { MatchResult result (λ sorts. sorts_in (names_of_library self.now) [] (sexps_of terms.now) ≡ Ok sorts.items)
+            (λ fault. (fault ≡ Memory) ⊎ (sorts_in (names_of_library self.now) [] (sexps_of terms.now) ≡ Err fault)) }
+    {
+        let mut sorts = Vec::new(self.alloc);
+        let mut left = terms;
+        while let Some((term, rest)) = split_first(left) {
+            sorts.push(self.sort_of(term)?)?;
+            left = rest;
+        }
+        Ok(sorts)
+    }
+
+    // The sort of an identifier applied to arguments of these sorts.
+    fn sort_applied(&self, identifier: &Identifier<'_>, args: &[Sort]) -> Result<Sort, TermFault>
+        ensures { result ≡ checking.sort_applied (names_of_library self.now) (identifier_view identifier.now) args.now }
+    {
+        match identifier {
+            Identifier::Plain(name) => self.sort_of_plain(*name, args),
+            Identifier::Indexed { name, indexes } => {
+                sort_of_operator(op_of(self.theories, *name, indexes.as_slice()), args)
+            }
+        }
+    }
+
+    // The sort of a symbol that is no variable: a name in force, or else an operator.
+    fn sort_of_plain(&self, name: &[u8], args: &[Sort]) -> Result<Sort, TermFault>
+        ensures { result ≡ checking.sort_applied (names_of_library self.now) (Plain name.now) args.now }
+    {
+        match self.get(name) {
+            Some(entry) => sort_of_entry(entry, args),
+            None => sort_of_operator(op_of(self.theories, name, &[]), args),
+        }
+    }
+}
+
+// The sort of a name in force applied to arguments of these sorts.
+fn sort_of_entry(entry: &Entry, args: &[Sort]) -> Result<Sort, TermFault>
+    ensures { result ≡ sort_of_name (record { parameters = entry.now.parameters.items; sort = entry.now.sort }) args.now }
+{
+    if are_same(entry.parameters.as_slice(), args) {
+        Ok(entry.sort)
+    } else {
+        Err(TermFault::IllSorted)
+    }
+}
+
+// The sort of an operator applied to arguments of these sorts.
+fn sort_of_operator(op: Result<Op, OpFault>, args: &[Sort]) -> Result<Sort, TermFault>
+    ensures { result ≡ checking.sort_of_operator op args.now }
+{
+    match op {
+        Ok(op) => rank(op, args).ok_or(TermFault::IllSorted),
+        Err(OpFault::Unknown) => Err(TermFault::Unknown),
+        Err(OpFault::Index) => Err(TermFault::Index),
+    }
+}
+
+// Whether the sorts of the arguments are those of the parameters.
+fn are_same(parameters: &[Sort], args: &[Sort]) -> bool
+    ensures { result ≡ are_exactly parameters.now args.now }
+{
+    args == parameters
+}
+
+fn is_underscore(tree: &Tree) -> bool
+    ensures { result ≡ is_underscore_tree (sexp_of tree.now) }
+{
+    matches!(tree, Tree::Reserved(Word::Underscore))
+}

@@ -1,0 +1,261 @@
+//! What is answered to terms and to declarations, worked out by hand from sections 3.3, 3.5, 3.6 and 5.2 and the theory files.
+
+use crate::{Library, TermFault};
+use smt_text::{Tree, Trees, split_first};
+use smt_theory::{Sort, Theories};
+use std::alloc::Global;
+use std::process::Abort;
+use std::test::Fail;
+
+const INTEGERS: Theories = Theories {
+    ints: true,
+    bits: false,
+};
+
+const CORE: Theories = Theories {
+    ints: false,
+    bits: false,
+};
+
+// What is answered, and a term, over `x` of sort Int, `p` of sort Bool and `f` from Int and Bool to Int.
+const TERMS: &str = r#"
+    Int  x
+    Bool p
+    Int  |x|
+    Bool true
+    Int  0
+    Int  (+ x 1 2)
+    Int  (- x)
+    Int  (- x 1 2)
+    Int  (f x p)
+    Int  (f (f x p) (not p))
+    Int  (ite p x 1)
+    Bool (ite p p false)
+    Bool ((_ divisible 3) x)
+    Bool ((_ divisible 18446744073709551615) x)
+    Bool (distinct x 1 2)
+    Bool (= p p p)
+    Bool (< x 1 2)
+    Bool (=> p p p)
+    Int  (mod x 0)
+    Int  (abs x)
+    F4   (+ x)
+    F4   (f x)
+    F4   (f x p p)
+    F4   (f p x)
+    F4   f
+    F4   and
+    F4   (x 1)
+    F4   (true p)
+    F4   (= x p)
+    F4   (= x 1 p)
+    F4   (= x)
+    F4   (distinct x)
+    F4   (and p)
+    F4   (not p p)
+    F4   (mod x 1 2)
+    F4   (abs x 1)
+    F4   (< x)
+    F4   (ite x x 1)
+    F4   (ite p x p)
+    F4   (_ divisible 3)
+    F4   ((_ divisible 3) p)
+    F4   ((_ divisible 3) x 1)
+    F5   ((_ divisible 0) x)
+    F5   (_ divisible 0)
+    F5   ((_ divisible 18446744073709551616) x)
+    F5   ((_ divisible 3 3) x)
+    F5   ((_ divisible x) x)
+    F3   (g x)
+    F3   g
+    F3   divisible
+    F3   (divisible x)
+    F3   ((_ foo 1) x)
+    F3   ((_ f 1) x p)
+    F3   (_ x 1)
+    F3   #x0
+    F3   #b1
+    F2   1.0
+    F2   "a"
+    F2   (forall ((y Int)) p)
+    F2   (as x Int)
+    F2   ((as f Int) x p)
+    F1   ()
+    F1   :k
+    F1   assert
+    F1   (x)
+    F1   (_ x)
+    F1   ((_ divisible) x)
+    F1   ((_ divisible #x0) x)
+    F1   ((f x) p)
+"#;
+
+// Terms with two faults or more. The form of the head comes first, then the arguments from the left, then the name of the head, then
+// its rank.
+const TERMS_WITH_MORE_FAULTS: &str = r#"
+    F4   (g (+ x))
+    F2   (g 1.0 ())
+    F1   (g () 1.0)
+    F3   (g h p)
+    F3   (not x g)
+    F4   (+ (and x) (g x))
+    F3   (+ (g x) (and x))
+    F2   (+ p (f (g 1.0)))
+    F1   (f x (f x (f x :k)))
+    F1   (f :k ((_ divisible 0) g))
+    F3   (f ((_ divisible 0) g) :k)
+    F5   ((_ divisible 0) p)
+    F5   ((_ divisible 0) x 1)
+    F4   ((_ divisible 0) (+ x))
+    F4   ((_ foo 18446744073709551616) (and p))
+    F1   ((_ divisible 0 #b1) g)
+    F1   ((_ divisible) 1.0)
+    F2   (exists 1.0 (g ()))
+    F1   ((f (and)) 1.0)
+"#;
+
+// What is answered, a name and the sort of which it is declared, one after the other.
+const DECLARATIONS: &str = "
+    done p Bool
+    F7   p Bool
+    F7   p U
+    F7   and Bool
+    F7   mod Int
+    done Int Int
+    done divisible Int
+    F2   r Real
+    F2   r (Array Int Int)
+    F2   r (Array)
+    F3   r U
+    F3   r (Pair Int Int)
+    F3   r (_ BitVec 8)
+    F1   r (_ BitVec x)
+    F3   r (_ Foo x)
+    F1   r (Int)
+    F1   r 1
+    F1   r ()
+    done r |Int|
+";
+
+const TERMS_WITHOUT_INTEGERS: &str = "
+    F3   1
+    F3   (+ mod mod)
+    F3   ((_ divisible 3) mod)
+    Bool mod
+";
+
+fn trees(alloc: Global, text: &str) -> Result<Trees, Fail> {
+    match Trees::read(alloc, text.as_bytes()) {
+        Ok(trees) => Ok(trees),
+        Err(_) => Err("this is no text of the language".into()),
+    }
+}
+
+fn word_of_fault(fault: TermFault) -> &'static [u8] {
+    match fault {
+        TermFault::Form => b"F1",
+        TermFault::Unsupported => b"F2",
+        TermFault::Unknown => b"F3",
+        TermFault::IllSorted => b"F4",
+        TermFault::Index => b"F5",
+        TermFault::NotFresh => b"F7",
+        _ => b"another fault",
+    }
+}
+
+fn word_of_sort(sort: Sort) -> &'static [u8] {
+    match sort {
+        Sort::Bool => b"Bool",
+        Sort::Int => b"Int",
+        Sort::Bits(_) => b"BitVec",
+    }
+}
+
+// Checks each term of a text of answers and terms.
+fn check_all(
+    rt: &impl Abort,
+    alloc: Global,
+    library: &mut Library,
+    text: &str,
+) -> Result<(), Fail> {
+    let rows = trees(alloc, text)?;
+    let mut left = rows.as_slice();
+    for _ in 0..1000 {
+        let Some((answer, rest)) = split_first(left) else {
+            return Ok(());
+        };
+        let Some((term, rest)) = split_first(rest) else {
+            return Err("an answer has no term".into());
+        };
+        let found = match library.check(term) {
+            Ok((_, sort)) => word_of_sort(sort),
+            Err(fault) => word_of_fault(fault),
+        };
+        assert!(rt; answer.is_symbol(found), "answered {found:?}");
+        left = rest;
+    }
+    Err("there are more than 1,000 rows".into())
+}
+
+// Declares each name of a text of answers, names and sorts.
+fn declare_all(
+    rt: &impl Abort,
+    alloc: Global,
+    library: &mut Library,
+    text: &str,
+) -> Result<(), Fail> {
+    let rows = trees(alloc, text)?;
+    let mut left = rows.as_slice();
+    for _ in 0..1000 {
+        let Some((answer, rest)) = split_first(left) else {
+            return Ok(());
+        };
+        let Some((Tree::Symbol(name), rest)) = split_first(rest) else {
+            return Err("an answer has no name".into());
+        };
+        let Some((sort, rest)) = split_first(rest) else {
+            return Err("a name has no sort".into());
+        };
+        let found = match library.declare(1, name.as_slice(), &[], sort) {
+            Ok(()) => b"done".as_slice(),
+            Err(fault) => word_of_fault(fault),
+        };
+        assert!(rt; answer.is_symbol(found), "answered {found:?}");
+        left = rest;
+    }
+    Err("there are more than 1,000 rows".into())
+}
+
+#[test]
+fn terms(rt: HostRuntime) -> Result<(), Fail> {
+    let alloc = rt.alloc();
+    let mut library = Library::new(alloc, INTEGERS);
+    declare_all(&rt, alloc, &mut library, "done x Int done p Bool")?;
+    let sorts = trees(alloc, "Int Bool Int")?;
+    let [int, truth, result] = sorts.as_slice() else {
+        return Err("these are no three sorts".into());
+    };
+    let parameters = [int.copy(alloc)?, truth.copy(alloc)?];
+    assert_eq!(rt; library.declare(3, b"f", &parameters, result).err(), None);
+    check_all(&rt, alloc, &mut library, TERMS)?;
+    check_all(&rt, alloc, &mut library, TERMS_WITH_MORE_FAULTS)?;
+    assert!(rt; matches!(library.declared(), [_, _, f] if f.command == 3));
+    Ok(())
+}
+
+#[test]
+fn declarations(rt: HostRuntime) -> Result<(), Fail> {
+    let alloc = rt.alloc();
+    let mut library = Library::new(alloc, INTEGERS);
+    declare_all(&rt, alloc, &mut library, DECLARATIONS)?;
+    assert_eq!(rt; library.declared().len(), 4);
+    Ok(())
+}
+
+#[test]
+fn without_integers(rt: HostRuntime) -> Result<(), Fail> {
+    let alloc = rt.alloc();
+    let mut library = Library::new(alloc, CORE);
+    declare_all(&rt, alloc, &mut library, "F3 x Int done mod Bool")?;
+    check_all(&rt, alloc, &mut library, TERMS_WITHOUT_INTEGERS)
+}

@@ -1,6 +1,0 @@
-use Rattle.std.proofs.Common.{[], arith}
-use Rattle.smt_text.proofs.Levels.{length-lists_of}
-use Rattle.smt_text.proofs.building.Builder.depth.Goals as goal
-
-pub returns : goal.returns
-returns c = omega (arith, length-lists_of c.args.self.now.lists.items [], c.args.self.now.lists.ok.0)

@@ -1,0 +1,74 @@
+-- What a reader's value says of the text that it was fed and the trees that it handed out. These are this project's rules.
+use Rattle.std.specs.Prelude.{◌≡◌, ◌⊎◌, ℕ, List, ◌+◌, length, Bool, true, false, Option, Some, None}
+use Rattle.smt_text.specs.Internal.Machine.{Leaves}
+use Rattle.smt_text.specs.Reading.{Reads}
+use Rattle.smt_text.specs.Internal.ReaderState.{state_of, after_taken}
+use Rattle.smt_text.specs.Sexp.{Sexps, Nil, Cons, append}
+use Rattle.smt_text.specs.Tree.{sexp_of, sexps_of}
+use Rattle.smt_text.specs.declared.fault.TextFault.{TextFault}
+use Rattle.smt_text.specs.declared.fault.TextFault.TheVariants.{Byte, Deep, End as EndFault, Memory}
+use Rattle.smt_text.specs.declared.reader.Next.{Next}
+use Rattle.smt_text.specs.declared.reader.Next.TheVariants.{Tree, Wait, End, Fault}
+use Rattle.smt_text.specs.declared.reader.Reader.{Reader}
+use Rattle.smt_text.specs.declared.reader.TheConstants.{MAX_DEPTH}
+
+-- the end of the text was told
+abbrev pub is_finished : Reader → Bool
+is_finished reader = reader.finished
+
+abbrev pub bytes_fed : Reader → ℕ
+bytes_fed reader = reader.fed
+
+-- the fault that was found so far
+abbrev pub fault_of : Reader → Option TextFault
+fault_of reader = reader.fault
+
+-- the trees that are complete and were not handed out
+abbrev pub trees_ready : Reader → Sexps
+trees_ready reader = sexps_of reader.builder.ready.items
+
+abbrev pub trees_waiting : Reader → ℕ
+trees_waiting reader = length reader.builder.ready.items
+
+-- while more may come: what the reader keeps is what these bytes leave after these trees
+-- once the end was told: these trees and those that are ready, with the fault, are what is read of these bytes
+abbrev pub Keeps : Bool → Reader → List ℕ → Sexps → Type 0
+Keeps false reader fed taken = Leaves MAX_DEPTH fed (after_taken taken (state_of reader)) (fault_of reader)
+Keeps true reader fed taken = Reads MAX_DEPTH true fed (append taken (trees_ready reader)) (fault_of reader)
+
+-- the reader's value fits this history: these bytes were fed, and these trees were handed out
+abbrev pub StandsFor : Reader → List ℕ → Sexps → Type 0
+StandsFor reader fed taken =
+    (bytes_fed reader ≡ length fed) × ((fault_of reader ≡ Some Memory) ⊎ Keeps (is_finished reader) reader fed taken)
+
+-- the trees that were handed out, after this answer
+abbrev pub with_answer : Sexps → Next → Sexps
+with_answer taken (Tree t) = append taken (Cons (sexp_of t) Nil)
+with_answer taken Wait = taken
+with_answer taken End = taken
+with_answer taken (Fault f) = taken
+
+-- the answer is right after these bytes and these trees. Want of memory says nothing of the text
+abbrev pub Answers : Bool → List ℕ → Sexps → Next → Type 0
+Answers ended fed taken (Tree t) =
+    (later : Sexps) × (fault : Option TextFault) × Reads MAX_DEPTH ended fed (append taken (Cons (sexp_of t) later)) fault
+Answers ended fed taken Wait = (ended ≡ false) × Reads MAX_DEPTH false fed taken None
+Answers ended fed taken End = (ended ≡ true) × Reads MAX_DEPTH true fed taken None
+Answers ended fed taken (Fault (Byte place)) = Reads MAX_DEPTH ended fed taken (Some (Byte place))
+Answers ended fed taken (Fault (Deep place)) = Reads MAX_DEPTH ended fed taken (Some (Deep place))
+Answers ended fed taken (Fault (EndFault place)) = Reads MAX_DEPTH ended fed taken (Some (EndFault place))
+Answers ended fed taken (Fault Memory) = Unit {0}
+
+-- how many trees wait after this answer
+abbrev pub FewerWait : ℕ → ℕ → Next → Type 0
+FewerWait before now (Tree t) = before ≡ now + 1
+FewerWait before now Wait = now ≡ before
+FewerWait before now End = now ≡ before
+FewerWait before now (Fault f) = now ≡ before
+
+-- a fault that is answered is the one that was found
+abbrev pub IsFound : Option TextFault → Next → Type 0
+IsFound found (Fault f) = found ≡ Some f
+IsFound found (Tree t) = Unit {0}
+IsFound found Wait = Unit {0}
+IsFound found End = Unit {0}

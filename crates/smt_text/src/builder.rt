@@ -1,0 +1,115 @@
+//! Trees, built from tokens in order.
+
+ghost use Rattle.std.specs.Prelude.{◌≡◌, ◌<◌, [], ◌∷◌, MatchOption, MatchResult};
+ghost use Rattle.smt_text.specs.Internal.Machine.{On, add, begun, ended, depth_of};
+ghost use Rattle.smt_text.specs.Internal.ReaderState.{levels_of};
+ghost use Rattle.smt_text.specs.Sexp.{Nil};
+ghost use Rattle.smt_text.specs.declared.fault.Refusal.TheVariants.{NoMemory};
+ghost use Rattle.smt_text.specs.Tree.{sexp_of};
+
+use crate::fault::Refusal;
+use crate::tree::{Tree, Trees};
+use std::alloc::Global;
+use std::collections::VecDeque;
+
+/// The trees of the tokens so far.
+#[derive(Drop)]
+pub(crate) struct Builder {
+    alloc: Global,
+    /// What each list that is not closed holds so far, the outermost list first.
+    lists: Vec<Vec<Tree>>,
+    /// Vectors whose memory the next lists use.
+    spare: Vec<Vec<Tree>>,
+    /// The trees at the top that were not handed out.
+    ready: VecDeque<Tree>,
+}
+
+impl Builder {
+    pub(crate) fn new(alloc: Global) -> Self
+        ensures { levels_of result ≡ On [] Nil }
+    {
+        Builder {
+            alloc,
+            lists: Vec::new(alloc),
+            spare: Vec::new(alloc),
+            ready: VecDeque::new(alloc),
+        }
+    }
+
+    /// How many lists are not closed.
+    pub(crate) fn depth(&self) -> usize
+        ensures { result ≡ depth_of (levels_of self.now) }
+    {
+        self.lists.len()
+    }
+
+    /// Adds a tree to the innermost list that is not closed, or at the top.
+    pub(crate) fn add(&mut self, tree: Tree) -> Result<(), Refusal>
+        ensures { MatchResult result (λ _. levels_of self.new ≡ add (sexp_of tree) (levels_of self.old)) (λ e. e ≡ NoMemory) }
+    {
+        match self.lists.last_mut() {
+            Some(parts) => parts.push(tree)?,
+            None => self.ready.push_back(tree)?,
+        }
+        Ok(())
+    }
+
+    /// Begins a list.
+    pub(crate) fn begin_list(&mut self) -> Result<(), Refusal>
+        ensures { MatchResult result (λ _. levels_of self.new ≡ begun (levels_of self.old)) (λ e. e ≡ NoMemory) }
+    {
+        let parts = self.empty_list();
+        self.lists.push(parts)?;
+        Ok(())
+    }
+
+    /// Closes the innermost list.
+    pub(crate) fn end_list(&mut self) -> Result<(), Refusal>
+        requires { 0 < depth_of (levels_of self.old) }
+        ensures { MatchResult result (λ _. ended (levels_of self.old) ≡ levels_of self.new) (λ e. e ≡ NoMemory) }
+    {
+        match self.lists.pop() {
+            Some(parts) => {
+                let parts = self.exact(parts)?;
+                self.add(Tree::List(Trees::new(parts)))
+            }
+            None => Ok(()),
+        }
+    }
+
+    // An empty vector, with the memory of a list that was closed, if there is one.
+    fn empty_list(&mut self) -> Vec<Tree>
+        ensures empty { result.items ≡ [] }
+        ensures lists { self.new.lists ≡ self.old.lists }
+        ensures ready { self.new.ready ≡ self.old.ready }
+    {
+        match self.spare.pop() {
+            Some(mut parts) => {
+                parts.clear();
+                parts
+            }
+            None => Vec::new(self.alloc),
+        }
+    }
+
+    // The parts in a vector that has room for no more. The memory that they had is for the next list.
+    fn exact(&mut self, parts: Vec<Tree>) -> Result<Vec<Tree>, Refusal>
+        ensures same { MatchResult result (λ exact. exact.items ≡ parts.items) (λ e. e ≡ NoMemory) }
+        ensures lists { self.new.lists ≡ self.old.lists }
+        ensures ready { self.new.ready ≡ self.old.ready }
+    {
+        let mut parts = parts;
+        let mut exact = Vec::with_capacity(self.alloc, parts.len())?;
+        exact.append(&mut parts)?;
+        self.spare.push(parts)?;
+        Ok(exact)
+    }
+
+    /// The first tree that was not handed out.
+    pub(crate) fn hand_out(&mut self) -> Option<Tree>
+        ensures lists { self.new.lists ≡ self.old.lists }
+        ensures first { MatchOption result ((self.old.ready.items ≡ []) × (self.new.ready.items ≡ [])) (λ tree. self.old.ready.items ≡ tree ∷ self.new.ready.items) }
+    {
+        self.ready.pop_front()
+    }
+}

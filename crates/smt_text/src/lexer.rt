@@ -1,0 +1,348 @@
+//! Tokens, byte by byte.
+
+ghost use Rattle.std.specs.Prelude.{◌≡◌, ◌<◌, ◌≤◌, ℕ, [], true, length, slice_index, take, IfOk};
+ghost use Rattle.std.specs.Option.{option_map};
+ghost use Rattle.smt_text.specs.Internal.Machine as machine;
+ghost use Rattle.smt_text.specs.Tree.{sexp_of};
+ghost use Rattle.smt_text.specs.declared.lexer.AtomState.TheVariants.{Zero, Digits, Hash, InText, InBars, InComment};
+ghost use Rattle.smt_text.specs.declared.lexer.LexerStep.TheVariants.{Push, Skip};
+
+use crate::byte_class::{
+    is_binary_digit, is_comment_byte, is_digit, is_hexadecimal_digit, is_letter, is_nonzero_digit,
+    is_quoted_byte, is_symbol_byte, is_text_byte, is_white,
+};
+use crate::bytes::Bytes;
+use crate::reserved::word_of;
+use crate::tree::Tree;
+use memchr::memchr2;
+use std::alloc::{AllocError, Global};
+
+/// Where in a token (SMT-LIB 2.6, section 3.1) or in a comment a text is.
+#[derive(Clone, Copy, Debug, PartialEq, Eq)]
+pub enum AtomState {
+    /// No token has begun.
+    Nothing,
+    /// `0`, which no digit may follow.
+    Zero,
+    /// Digits of a numeral that does not begin with `0`.
+    Digits,
+    /// The point of a decimal, which a digit must follow.
+    Point,
+    /// Digits after the point.
+    Fraction,
+    /// `#`
+    Hash,
+    /// `#x`, which a digit must follow.
+    HexMark,
+    HexDigits,
+    /// `#b`, which a digit must follow.
+    BinMark,
+    BinDigits,
+    /// A simple symbol or a reserved word.
+    Name,
+    /// `:`, which a name must follow.
+    Colon,
+    KeywordName,
+    /// A string literal, after its first quote.
+    InText,
+    /// A quote in a string literal: its last, or the first of two that stand for one.
+    TextQuote,
+    /// A quoted symbol, after its first bar.
+    InBars,
+    /// Behind the last bar of a quoted symbol, which is complete.
+    AfterBar,
+    InComment,
+}
+
+/// What a byte does to the token that has begun.
+#[derive(Clone, Copy, Debug, PartialEq, Eq)]
+pub enum LexerStep {
+    /// The byte is kept, and the token goes on.
+    Push(AtomState),
+    /// The byte is not kept, and the token goes on.
+    Skip(AtomState),
+    /// The token has ended.
+    Finish(AtomState),
+    /// The token has ended, and a list begins.
+    Open,
+    /// The token has ended, and so does the innermost list.
+    Close,
+    /// No text goes on with the byte.
+    Stuck,
+}
+
+impl AtomState {
+    /// What one more byte does.
+    pub fn after(self, byte: u8) -> LexerStep
+        ensures { result ≡ machine.lex self byte }
+    {
+        match self {
+            AtomState::Nothing => begun_by(byte),
+            AtomState::Zero => after_zero(byte),
+            AtomState::Digits => after_digits(byte),
+            AtomState::Point if is_digit(byte) => LexerStep::Push(AtomState::Fraction),
+            AtomState::Fraction if is_digit(byte) => LexerStep::Push(AtomState::Fraction),
+            AtomState::Hash => after_hash(byte),
+            AtomState::HexMark if is_hexadecimal_digit(byte) => {
+                LexerStep::Push(AtomState::HexDigits)
+            }
+            AtomState::HexDigits if is_hexadecimal_digit(byte) => {
+                LexerStep::Push(AtomState::HexDigits)
+            }
+            AtomState::BinMark if is_binary_digit(byte) => LexerStep::Push(AtomState::BinDigits),
+            AtomState::BinDigits if is_binary_digit(byte) => LexerStep::Push(AtomState::BinDigits),
+            AtomState::Name if is_symbol_byte(byte) => LexerStep::Push(AtomState::Name),
+            AtomState::Colon if is_symbol_byte(byte) => LexerStep::Push(AtomState::KeywordName),
+            AtomState::KeywordName if is_symbol_byte(byte) => {
+                LexerStep::Push(AtomState::KeywordName)
+            }
+            AtomState::InText => in_text(byte),
+            AtomState::TextQuote if byte == b'"' => LexerStep::Push(AtomState::InText),
+            AtomState::InBars => in_bars(byte),
+            AtomState::InComment => in_comment(byte),
+            AtomState::Point | AtomState::HexMark | AtomState::BinMark | AtomState::Colon => {
+                LexerStep::Stuck
+            }
+            AtomState::Fraction
+            | AtomState::HexDigits
+            | AtomState::BinDigits
+            | AtomState::Name
+            | AtomState::KeywordName
+            | AtomState::TextQuote
+            | AtomState::AfterBar => separated(byte),
+        }
+    }
+
+    /// How many bytes at the beginning of a text the token keeps and stays what it is.
+    #[inline]
+    pub fn run_length(self, text: &[u8]) -> usize
+        ensures within { result ≤ length text.now }
+        ensures kept { (k : ℕ) → k < result → machine.lex self (slice_index text.now k) ≡ Push self }
+    {
+        for (i, byte) in text.iter().enumerate() {
+            if !self.keeps(*byte) {
+                return i;
+            }
+        }
+        text.len()
+    }
+
+    #[inline]
+    fn keeps(self, byte: u8) -> bool
+        ensures { result ≡ true → machine.lex self byte ≡ Push self }
+    {
+        match self {
+            AtomState::Name | AtomState::KeywordName => is_symbol_byte(byte),
+            AtomState::InText => byte != b'"' && is_text_byte(byte),
+            AtomState::InBars => is_quoted_byte(byte),
+            AtomState::HexDigits => is_hexadecimal_digit(byte),
+            AtomState::BinDigits => is_binary_digit(byte),
+            AtomState::Digits | AtomState::Fraction => is_digit(byte),
+            _ => false,
+        }
+    }
+
+    /// Whether a text may end here.
+    pub fn may_end(self) -> bool
+        ensures { result ≡ machine.may_end self }
+    {
+        match self {
+            AtomState::Point
+            | AtomState::Hash
+            | AtomState::HexMark
+            | AtomState::BinMark
+            | AtomState::Colon
+            | AtomState::InText
+            | AtomState::InBars => false,
+            AtomState::Nothing
+            | AtomState::Zero
+            | AtomState::Digits
+            | AtomState::Fraction
+            | AtomState::HexDigits
+            | AtomState::BinDigits
+            | AtomState::Name
+            | AtomState::KeywordName
+            | AtomState::TextQuote
+            | AtomState::AfterBar
+            | AtomState::InComment => true,
+        }
+    }
+}
+
+// The first byte of a token, or a byte between tokens.
+fn begun_by(byte: u8) -> LexerStep
+    ensures { result ≡ machine.begun_by byte }
+{
+    if byte == b'0' {
+        LexerStep::Push(AtomState::Zero)
+    } else if is_nonzero_digit(byte) {
+        LexerStep::Push(AtomState::Digits)
+    } else if byte == b'"' {
+        LexerStep::Skip(AtomState::InText)
+    } else if byte == b'|' {
+        LexerStep::Skip(AtomState::InBars)
+    } else if byte == b'#' {
+        LexerStep::Skip(AtomState::Hash)
+    } else if byte == b':' {
+        LexerStep::Skip(AtomState::Colon)
+    } else if is_letter(byte) {
+        LexerStep::Push(AtomState::Name)
+    } else {
+        separated(byte)
+    }
+}
+
+// A byte that may show the end of the token before it.
+fn separated(byte: u8) -> LexerStep
+    ensures { result ≡ machine.separated byte }
+{
+    if byte == b'(' {
+        LexerStep::Open
+    } else if byte == b')' {
+        LexerStep::Close
+    } else if byte == b';' {
+        LexerStep::Finish(AtomState::InComment)
+    } else if is_white(byte) {
+        LexerStep::Finish(AtomState::Nothing)
+    } else {
+        LexerStep::Stuck
+    }
+}
+
+fn after_zero(byte: u8) -> LexerStep
+    ensures { result ≡ machine.lex Zero byte }
+{
+    if byte == b'.' {
+        LexerStep::Push(AtomState::Point)
+    } else {
+        separated(byte)
+    }
+}
+
+fn after_digits(byte: u8) -> LexerStep
+    ensures { result ≡ machine.lex Digits byte }
+{
+    if is_digit(byte) {
+        LexerStep::Push(AtomState::Digits)
+    } else if byte == b'.' {
+        LexerStep::Push(AtomState::Point)
+    } else {
+        separated(byte)
+    }
+}
+
+fn after_hash(byte: u8) -> LexerStep
+    ensures { result ≡ machine.lex Hash byte }
+{
+    if byte == b'x' {
+        LexerStep::Skip(AtomState::HexMark)
+    } else if byte == b'b' {
+        LexerStep::Skip(AtomState::BinMark)
+    } else {
+        LexerStep::Stuck
+    }
+}
+
+fn in_text(byte: u8) -> LexerStep
+    ensures { result ≡ machine.lex InText byte }
+{
+    if byte == b'"' {
+        LexerStep::Skip(AtomState::TextQuote)
+    } else if is_text_byte(byte) {
+        LexerStep::Push(AtomState::InText)
+    } else {
+        LexerStep::Stuck
+    }
+}
+
+fn in_bars(byte: u8) -> LexerStep
+    ensures { result ≡ machine.lex InBars byte }
+{
+    if is_quoted_byte(byte) {
+        LexerStep::Push(AtomState::InBars)
+    } else if byte == b'|' {
+        LexerStep::Finish(AtomState::AfterBar)
+    } else {
+        LexerStep::Stuck
+    }
+}
+
+fn in_comment(byte: u8) -> LexerStep
+    ensures { result ≡ machine.lex InComment byte }
+{
+    if is_comment_byte(byte) {
+        LexerStep::Skip(AtomState::InComment)
+    } else {
+        LexerStep::Finish(AtomState::Nothing)
+    }
+}
+
+/// The atom that a token which says these bytes is if it ends here. The vector is empty then.
+pub fn atom_of(
+    alloc: Global,
+    token: AtomState,
+    bytes: &mut Vec<u8>,
+) -> Result<Option<Tree>, AllocError>
+    ensures atom { IfOk result (λ tree. option_map sexp_of tree ≡ machine.atom_of token bytes.old.items) }
+    ensures emptied { IfOk result (λ tree. bytes.new.items ≡ []) }
+{
+    let atom = match token {
+        AtomState::Name => name_of(alloc, bytes)?,
+        AtomState::Zero | AtomState::Digits => Tree::Numeral(Bytes::taken_from(alloc, bytes)?),
+        AtomState::Fraction => Tree::Decimal(Bytes::taken_from(alloc, bytes)?),
+        AtomState::HexDigits => Tree::Hex(Bytes::taken_from(alloc, bytes)?),
+        AtomState::BinDigits => Tree::Bin(Bytes::taken_from(alloc, bytes)?),
+        AtomState::KeywordName => Tree::Keyword(Bytes::taken_from(alloc, bytes)?),
+        AtomState::TextQuote => Tree::Text(Bytes::taken_from(alloc, bytes)?),
+        AtomState::InBars => Tree::Symbol(Bytes::taken_from(alloc, bytes)?),
+        AtomState::Nothing
+        | AtomState::Point
+        | AtomState::Hash
+        | AtomState::HexMark
+        | AtomState::BinMark
+        | AtomState::Colon
+        | AtomState::InText
+        | AtomState::AfterBar
+        | AtomState::InComment => {
+            bytes.clear();
+            return Ok(None);
+        }
+    };
+    Ok(Some(atom))
+}
+
+// A reserved word or a simple symbol.
+fn name_of(alloc: Global, bytes: &mut Vec<u8>) -> Result<Tree, AllocError>
+    ensures atom { IfOk result (λ tree. sexp_of tree ≡ machine.name_or_word (machine.word_named bytes.old.items) bytes.old.items) }
+    ensures emptied { IfOk result (λ tree. bytes.new.items ≡ []) }
+{
+    match word_of(bytes.as_slice()) {
+        Some(word) => {
+            bytes.clear();
+            Ok(Tree::Reserved(word))
+        }
+        None => Ok(Tree::Symbol(Bytes::taken_from(alloc, bytes)?)),
+    }
+}
+
+/// The reserved word or the simple symbol at the beginning of a text, of so many bytes.
+pub fn name_at(alloc: Global, text: &[u8], count: usize) -> Result<Tree, AllocError>
+    requires { count ≤ length text.now }
+    ensures { IfOk result (λ tree. let name = take count text.now in sexp_of tree ≡ machine.name_or_word (machine.word_named name) name) }
+{
+    match word_of(&text[..count]) {
+        Some(word) => Ok(Tree::Reserved(word)),
+        None => Ok(Tree::Symbol(Bytes::first_of(alloc, text, count)?)),
+    }
+}
+
+/// How many bytes at the beginning of a text belong to a comment that has begun.
+pub fn comment_length(text: &[u8]) -> usize
+    ensures within { result ≤ length text.now }
+    ensures skipped { (k : ℕ) → k < result → machine.lex InComment (slice_index text.now k) ≡ Skip InComment }
+{
+    match memchr2(b'\n', b'\r', text) {
+        Some(end) => end,
+        None => text.len(),
+    }
+}

@@ -1,0 +1,354 @@
+//! The reader: bytes in, S-expressions out.
+
+ghost use Rattle.std.specs.Prelude.{◌≡◌, ◌≢◌, ℕ, ◌+◌, ◌<◌, ◌^◌, List, [], ◌∷◌, ◌++◌, ◌⊎◌, length, slice_index, true, false, None, Some, MatchBool, MatchResult};
+ghost use Rattle.smt_text.specs.Grammar.{limit, OpenParenthesis, CloseParenthesis};
+ghost use Rattle.smt_text.specs.Reader.{is_finished, bytes_fed, fault_of, trees_waiting, StandsFor, Answers, FewerWait, IsFound, with_answer};
+ghost use Rattle.smt_text.specs.Internal.Machine.{act, finished, flush, lex, refusal_of, settle, step};
+ghost use Rattle.smt_text.specs.Internal.ReaderState.{state_of, Ends, Goes, GoesOver, GoesThrough, IsBeside};
+ghost use Rattle.smt_text.specs.Reading.{Reads};
+ghost use Rattle.smt_text.specs.Sexp.{Sexps, Nil};
+ghost use Rattle.smt_text.specs.declared.fault.TextFault.{TextFault as Fault};
+ghost use Rattle.smt_text.specs.declared.fault.TextFault.TheVariants.{Memory};
+ghost use Rattle.smt_text.specs.declared.fault.Refusal.TheVariants.{NoMemory, TooDeep, Unfit};
+ghost use Rattle.smt_text.specs.declared.lexer.AtomState.TheVariants.{InComment, Nothing};
+ghost use Rattle.smt_text.specs.Lexical.{is_letter};
+
+use crate::builder::Builder;
+use crate::byte_class::{is_letter, is_white};
+use crate::fault::{Refusal, TextFault};
+use crate::lexer::{AtomState, LexerStep, atom_of, comment_length, name_at};
+use crate::tree::{Tree, Trees};
+use std::alloc::Global;
+use std::mem;
+
+/// How deep lists may nest, a list at the top being at depth 1.
+pub const MAX_DEPTH: usize = 1000;
+
+/// What a reader has to hand out.
+#[derive(Drop)]
+pub enum Next {
+    /// The next tree, in the order of the text.
+    Tree(Tree),
+    /// No complete tree is left, and more bytes may come.
+    Wait,
+    /// The text has ended, without a fault, and no tree is left.
+    End,
+    /// No tree is left before the fault. It is told again for good.
+    Fault(TextFault),
+}
+
+/// A reader of a text (SMT-LIB 2.6, sections 3.1 and 3.2) that comes in pieces. Lists nest at most 1,000 deep.
+#[derive(Drop)]
+pub struct Reader {
+    alloc: Global,
+    fed: u64,
+    finished: bool,
+    /// Where in a token the text is, and what the token says so far.
+    token: AtomState,
+    bytes: Vec<u8>,
+    builder: Builder,
+    fault: Option<TextFault>,
+}
+
+impl Reader {
+    /// A reader that nothing was fed.
+    pub fn new(alloc: Global) -> Self
+        ensures stands { StandsFor result [] Nil }
+        ensures finished { is_finished result ≡ false }
+        ensures fault { fault_of result ≡ None }
+        ensures fed { bytes_fed result ≡ 0 }
+    {
+        Reader {
+            alloc,
+            fed: 0,
+            finished: false,
+            token: AtomState::Nothing,
+            bytes: Vec::new(alloc),
+            builder: Builder::new(alloc),
+            fault: None,
+        }
+    }
+
+    /// Reads the next piece of the text, of any length. After a fault it is only counted.
+    pub fn feed(&mut self, piece: &[u8])
+        requires unfinished { is_finished self.old ≡ false }
+        requires room { bytes_fed self.old + length piece.now < 2 ^ 64 }
+        ensures stands { (fed : List ℕ) (taken : Sexps) → StandsFor self.old fed taken → StandsFor self.new (fed ++ piece.now) taken }
+        ensures finished { is_finished self.new ≡ false }
+        ensures counted { bytes_fed self.new ≡ bytes_fed self.old + length piece.now }
+        ensures fault { (f : Fault) → fault_of self.old ≡ Some f → fault_of self.new ≡ Some f }
+    {
+        if self.fault.is_none() {
+            self.fault = self.read(piece).err();
+        }
+        self.fed += piece.len() as u64;
+    }
+
+    /// How many bytes were fed.
+    pub fn fed(&self) -> u64
+        ensures count { result ≡ bytes_fed self.now }
+        ensures stands { (fed : List ℕ) (taken : Sexps) → StandsFor self.now fed taken → result ≡ length fed }
+    {
+        self.fed
+    }
+
+    /// Tells that the text has ended.
+    pub fn finish(&mut self)
+        requires unfinished { is_finished self.old ≡ false }
+        ensures stands { (fed : List ℕ) (taken : Sexps) → StandsFor self.old fed taken → StandsFor self.new fed taken }
+        ensures finished { is_finished self.new ≡ true }
+        ensures counted { bytes_fed self.new ≡ bytes_fed self.old }
+        ensures fault { (f : Fault) → fault_of self.old ≡ Some f → fault_of self.new ≡ Some f }
+    {
+        self.finished = true;
+        if self.fault.is_none() {
+            self.fault = self.close_text().err();
+        }
+    }
+
+    /// Hands out the next tree, or tells why there is none.
+    pub fn next(&mut self) -> Next
+        ensures right { (fed : List ℕ) (taken : Sexps) → StandsFor self.old fed taken → Answers (is_finished self.old) fed taken result }
+        ensures stands { (fed : List ℕ) (taken : Sexps) → StandsFor self.old fed taken → StandsFor self.new fed (with_answer taken result) }
+        ensures finished { is_finished self.new ≡ is_finished self.old }
+        ensures counted { bytes_fed self.new ≡ bytes_fed self.old }
+        ensures fault { fault_of self.new ≡ fault_of self.old }
+        ensures found { IsFound (fault_of self.old) result }
+        ensures refused { fault_of self.old ≡ Some Memory → result ≡ Next.Fault Memory }
+        ensures fewer { FewerWait (trees_waiting self.old) (trees_waiting self.new) result }
+    {
+        if self.is_refused() {
+            return Next::Fault(TextFault::Memory);
+        }
+        if let Some(tree) = self.builder.hand_out() {
+            return Next::Tree(tree);
+        }
+        match self.fault {
+            Some(fault) => Next::Fault(fault),
+            None if self.finished => Next::End,
+            None => Next::Wait,
+        }
+    }
+
+    // Memory was refused.
+    fn is_refused(&self) -> bool
+        ensures { MatchBool result (self.now.fault ≡ Some Memory) (self.now.fault ≢ Some Memory) }
+    {
+        matches!(self.fault, Some(TextFault::Memory))
+    }
+
+    // Reads a piece, while there is no fault.
+    fn read(&mut self, piece: &[u8]) -> Result<(), TextFault>
+        requires { self.old.fed + length piece.now < 2 ^ 64 }
+        ensures beside { IsBeside self.old self.new }
+        ensures goes { GoesThrough (state_of self.old) self.old.fed piece.now result (state_of self.new) }
+    {
+        let mut place = 0;
+        while place < piece.len() {
+            match self.read_some(&piece[place..]) {
+                Ok(count) => place += count,
+                Err(refusal) => return Err(refusal.at(self.fed + place as u64)),
+            }
+        }
+        Ok(())
+    }
+
+    // Reads some bytes of a text that is not empty.
+    fn read_some(&mut self, text: &[u8]) -> Result<usize, Refusal>
+        requires { 0 < length text.now }
+        ensures beside { IsBeside self.old self.new }
+        ensures goes { GoesOver (state_of self.old) text.now result (state_of self.new) }
+    {
+        match self.token {
+            AtomState::Nothing if self.bytes.is_empty() => self.read_token(text),
+            AtomState::InComment => self.read_comment(text),
+            _ => self.read_run(text),
+        }
+    }
+
+    // Reads on where no token has begun.
+    fn read_token(&mut self, text: &[u8]) -> Result<usize, Refusal>
+        requires some { 0 < length text.now }
+        requires token { self.old.token ≡ Nothing }
+        requires bytes { self.old.bytes.items ≡ [] }
+        ensures beside { IsBeside self.old self.new }
+        ensures goes { GoesOver (state_of self.old) text.now result (state_of self.new) }
+    {
+        match text[0] {
+            b'(' if self.builder.depth() < MAX_DEPTH => {
+                self.builder.begin_list()?;
+                Ok(1)
+            }
+            b')' if self.builder.depth() > 0 => {
+                self.builder.end_list()?;
+                Ok(1)
+            }
+            b' ' | b'\n' => Ok(1),
+            first if is_letter(first) => self.read_name(text),
+            _ => self.read_byte(text),
+        }
+    }
+
+    // Reads a name, and the byte behind it where it ends the name.
+    fn read_name(&mut self, text: &[u8]) -> Result<usize, Refusal>
+        requires some { 0 < length text.now }
+        requires letter { is_letter (slice_index text.now 0) ≡ true }
+        requires token { self.old.token ≡ Nothing }
+        requires bytes { self.old.bytes.items ≡ [] }
+        ensures beside { IsBeside self.old self.new }
+        ensures goes { GoesOver (state_of self.old) text.now result (state_of self.new) }
+    {
+        let count = AtomState::Name.run_length(text);
+        if count == 0 {
+            return self.read_byte(text);
+        }
+        if count < text.len() {
+            if is_white(text[count]) {
+                self.builder.add(name_at(self.alloc, text, count)?)?;
+                return Ok(count + 1);
+            }
+            if text[count] == b')' && self.builder.depth() > 0 {
+                self.builder.add(name_at(self.alloc, text, count)?)?;
+                self.builder.end_list()?;
+                return Ok(count + 1);
+            }
+        }
+        self.bytes.extend_from_slice(&text[..count])?;
+        self.token = AtomState::Name;
+        Ok(count)
+    }
+
+    // Reads on in a comment.
+    fn read_comment(&mut self, text: &[u8]) -> Result<usize, Refusal>
+        requires some { 0 < length text.now }
+        requires token { self.old.token ≡ InComment }
+        ensures beside { IsBeside self.old self.new }
+        ensures goes { GoesOver (state_of self.old) text.now result (state_of self.new) }
+    {
+        let count = comment_length(text);
+        if count == 0 {
+            return self.read_byte(text);
+        }
+        Ok(count)
+    }
+
+    // Reads on in a token that has begun.
+    fn read_run(&mut self, text: &[u8]) -> Result<usize, Refusal>
+        requires { 0 < length text.now }
+        ensures beside { IsBeside self.old self.new }
+        ensures goes { GoesOver (state_of self.old) text.now result (state_of self.new) }
+    {
+        let count = self.token.run_length(text);
+        if count == 0 {
+            return self.read_byte(text);
+        }
+        self.bytes.extend_from_slice(&text[..count])?;
+        Ok(count)
+    }
+
+    // Reads the first byte of a text.
+    fn read_byte(&mut self, text: &[u8]) -> Result<usize, Refusal>
+        requires { 0 < length text.now }
+        ensures beside { IsBeside self.old self.new }
+        ensures goes { GoesOver (state_of self.old) text.now result (state_of self.new) }
+    {
+        self.advance(text[0])?;
+        Ok(1)
+    }
+
+    // One byte, while there is no fault.
+    fn advance(&mut self, byte: u8) -> Result<(), Refusal>
+        ensures beside { IsBeside self.old self.new }
+        ensures goes { Goes (step MAX_DEPTH (state_of self.old) byte) (refusal_of (lex self.old.token byte)) (state_of self.old) result (state_of self.new) }
+    {
+        match self.token.after(byte) {
+            LexerStep::Push(token) => {
+                self.bytes.push(byte)?;
+                self.token = token;
+                Ok(())
+            }
+            LexerStep::Skip(token) => {
+                self.token = token;
+                Ok(())
+            }
+            LexerStep::Finish(token) => self.finish_token(token),
+            LexerStep::Open => self.begin_list(),
+            LexerStep::Close => self.end_list(),
+            LexerStep::Stuck => Err(Refusal::Unfit),
+        }
+    }
+
+    // The token that has begun ends here, and a list begins.
+    fn begin_list(&mut self) -> Result<(), Refusal>
+        ensures beside { IsBeside self.old self.new }
+        ensures goes { Goes (settle (act MAX_DEPTH OpenParenthesis (flush (state_of self.old)))) TooDeep (state_of self.old) result (state_of self.new) }
+    {
+        if self.builder.depth() >= MAX_DEPTH {
+            return Err(Refusal::TooDeep);
+        }
+        self.finish_token(AtomState::Nothing)?;
+        self.builder.begin_list()
+    }
+
+    // The token that has begun ends here, and so does the innermost list.
+    fn end_list(&mut self) -> Result<(), Refusal>
+        ensures beside { IsBeside self.old self.new }
+        ensures goes { Goes (settle (act MAX_DEPTH CloseParenthesis (flush (state_of self.old)))) Unfit (state_of self.old) result (state_of self.new) }
+    {
+        if self.builder.depth() == 0 {
+            return Err(Refusal::Unfit);
+        }
+        self.finish_token(AtomState::Nothing)?;
+        self.builder.end_list()
+    }
+
+    // Adds the atom that has begun, if one has, which ends here.
+    fn finish_token(&mut self, next: AtomState) -> Result<(), Refusal>
+        ensures beside { IsBeside self.old self.new }
+        ensures finished { MatchResult result (λ _. finished next (state_of self.old) ≡ state_of self.new) (λ e. e ≡ NoMemory) }
+    {
+        let token = mem::replace(&mut self.token, next);
+        match atom_of(self.alloc, token, &mut self.bytes)? {
+            Some(tree) => self.builder.add(tree),
+            None => Ok(()),
+        }
+    }
+
+    // Ends the text.
+    fn close_text(&mut self) -> Result<(), TextFault>
+        ensures beside { IsBeside self.old self.new }
+        ensures ends { Ends (state_of self.old) self.old.fed result (state_of self.new) }
+    {
+        if self.builder.depth() > 0 || !self.token.may_end() {
+            return Err(TextFault::End { place: self.fed });
+        }
+        match self.finish_token(AtomState::Nothing) {
+            Ok(()) => Ok(()),
+            Err(refusal) => Err(refusal.at(self.fed)),
+        }
+    }
+}
+
+impl Trees {
+    /// The trees of a whole text, or its fault.
+    pub fn read(alloc: Global, text: &[u8]) -> Result<Trees, TextFault>
+        ensures { MatchResult result (λ trees. Reads limit true text.now trees None)
+            (λ fault. (fault ≡ Memory) ⊎ ((trees : Sexps) × Reads limit true text.now trees (Some fault))) }
+    {
+        let mut reader = Reader::new(alloc);
+        reader.feed(text);
+        reader.finish();
+        let mut trees = Vec::new(alloc);
+        loop {
+            match reader.next() {
+                Next::Tree(tree) => trees.push(tree)?,
+                Next::End => return Ok(Trees::new(trees)),
+                Next::Fault(fault) => return Err(fault),
+                Next::Wait => unreachable!(),
+            }
+        }
+    }
+}
+
+#[cfg(test)]
+mod tests;

@@ -1,0 +1,3 @@
+pub mod OperatorLemmas
+pub mod DigitLemmas
+pub mod RankLemmas

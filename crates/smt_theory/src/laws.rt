@@ -1,0 +1,28 @@
+//! What holds of the definitions that the contracts name. Nothing here does anything: each contract is a law.
+
+ghost use Rattle.std.specs.Prelude.{◌≡◌, ◌↔◌, ℕ, List, IsTrue, Ok, Some};
+ghost use Rattle.smt_theory.specs.Operators.{IsOperatorOf, indexes_of, name_of, op_by};
+ghost use Rattle.smt_theory.specs.Ranks.{HasRank, rank_of};
+ghost use Rattle.smt_theory.specs.Sort.{is_same_sort};
+ghost use Rattle.smt_theory.specs.Index.{IndexView};
+ghost use Rattle.smt_theory.specs.declared.op.Op.{Op};
+ghost use Rattle.smt_theory.specs.declared.sort.Sort.{Sort};
+ghost use Rattle.smt_theory.specs.declared.theories.Theories.{Theories};
+
+/// An operator has a result's sort for arguments of given sorts exactly where the table has it, and no second one.
+pub fn ranks_are_the_table()
+    ensures computed { (op : Op) (args : List Sort) (sort : Sort) → (rank_of op args ≡ Some sort) ↔ HasRank op args sort }
+    ensures one { (op : Op) (args : List Sort) (a b : Sort) → HasRank op args a → HasRank op args b → a ≡ b }
+{}
+
+/// A symbol with indexes is an operator exactly where the symbol is the operator's own name, the indexes are its own, and the
+/// operator is one of the theories.
+pub fn operators_are_found_by_their_names()
+    ensures { (theories : Theories) (symbol : List ℕ) (indexes : List IndexView) (op : Op)
+        → (op_by theories symbol indexes ≡ Ok op) ↔ (IsOperatorOf theories op × (symbol ≡ name_of op) × (indexes ≡ indexes_of op)) }
+{}
+
+/// Two sorts are the same exactly where the test says so.
+pub fn sorts_are_compared()
+    ensures { (a b : Sort) → IsTrue (is_same_sort a b) ↔ (a ≡ b) }
+{}

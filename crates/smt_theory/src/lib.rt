@@ -1,0 +1,36 @@
+//! Sorts, theories and operators of SMT-LIB 2.6.
+//!
+//! A logic has theories (`theories_of`), a symbol with its indexes is an operator of theories (`op_of`), and an operator has a
+//! result's sort for the sorts of its arguments (`rank`). Nothing here takes memory, knows a text or a value.
+//!
+//! **The contract for the layer above**: `rank` gives a sort exactly where the table of ranks, `HasRank` of `specs/Ranks.antt`,
+//! has the operator with these arguments and that result. The table has one line for each row of the standard's theory files.
+//!
+//! A call, of `(< 1 2 3)` in the logic `QF_LIA`:
+//!
+//! ```text
+//! let theories = theories_of(b"QF_LIA")?;                                   // Core and Ints
+//! let op = op_of(theories, b"<", &[]).ok()?;                                // the relation <
+//! rank(op, &[Sort::Int, Sort::Int, Sort::Int])                              // Some(Sort::Bool)
+//! ```
+#![tactic(auto)]
+
+mod index;
+pub mod laws;
+mod numbers;
+mod op;
+mod ranks;
+mod sort;
+#[cfg(test)]
+mod tests;
+mod theories;
+mod width;
+
+pub use index::Index;
+pub use numbers::number;
+pub use op::names::op_of;
+pub use op::{Arithmetic, Comparison, CoreOp, IntsOp, Op, OpFault};
+pub use ranks::rank;
+pub use sort::Sort;
+pub use theories::{Theories, theories_of};
+pub use width::Width;

@@ -1,0 +1,116 @@
+//! Operators by their names and indexes.
+
+ghost use Rattle.std.specs.Prelude.{map, ◌≡◌, Option, option_map, bytes_eq};
+ghost use Rattle.smt_theory.specs.Index.{index_view};
+ghost use Rattle.smt_theory.specs.Operators.{core_named, ints_named, plain_op, indexed_op, divisible_by, op_by};
+
+use crate::index::Index;
+use crate::op::{Arithmetic, Comparison, CoreOp, IntsOp, Op, OpFault};
+use crate::theories::Theories;
+
+/// The operator that these theories have under this symbol (without bars) with these indexes.
+///
+/// `Unknown` where they have none of that name in that form; `Index` where the indexes are wrong in number, kind or range.
+pub fn op_of(theories: Theories, symbol: &[u8], indexes: &[Index]) -> Result<Op, OpFault>
+    ensures { result ≡ op_by theories symbol.now (map index_view indexes.now) }
+{
+    if indexes.is_empty() {
+        plain(theories, symbol).ok_or(OpFault::Unknown)
+    } else {
+        indexed(theories, symbol, indexes)
+    }
+}
+
+fn plain(theories: Theories, symbol: &[u8]) -> Option<Op>
+    ensures { result ≡ plain_op theories symbol.now }
+{
+    if let Some(op) = core_op(symbol) {
+        Some(Op::Core(op))
+    } else if theories.ints {
+        ints_op(symbol).map(Op::Ints)
+    } else {
+        None
+    }
+}
+
+fn indexed(theories: Theories, symbol: &[u8], indexes: &[Index]) -> Result<Op, OpFault>
+    ensures { result ≡ indexed_op theories symbol.now (map index_view indexes.now) }
+{
+    if theories.ints && is_named(symbol, b"divisible") {
+        divisible(indexes).ok_or(OpFault::Index)
+    } else {
+        Err(OpFault::Unknown)
+    }
+}
+
+fn divisible(indexes: &[Index]) -> Option<Op>
+    ensures { result ≡ divisible_by (map index_view indexes.now) }
+{
+    match indexes {
+        [Index::Number(n)] if *n > 0 => Some(Op::Ints(IntsOp::Divisible(*n))),
+        _ => None,
+    }
+}
+
+fn core_op(symbol: &[u8]) -> Option<CoreOp>
+    ensures { result ≡ core_named symbol.now }
+{
+    if is_named(symbol, b"true") {
+        Some(CoreOp::True)
+    } else if is_named(symbol, b"false") {
+        Some(CoreOp::False)
+    } else if is_named(symbol, b"not") {
+        Some(CoreOp::Not)
+    } else if is_named(symbol, b"=>") {
+        Some(CoreOp::Implies)
+    } else if is_named(symbol, b"and") {
+        Some(CoreOp::And)
+    } else if is_named(symbol, b"or") {
+        Some(CoreOp::Or)
+    } else if is_named(symbol, b"xor") {
+        Some(CoreOp::Xor)
+    } else if is_named(symbol, b"=") {
+        Some(CoreOp::Equal)
+    } else if is_named(symbol, b"distinct") {
+        Some(CoreOp::Distinct)
+    } else if is_named(symbol, b"ite") {
+        Some(CoreOp::Ite)
+    } else {
+        None
+    }
+}
+
+fn ints_op(symbol: &[u8]) -> Option<IntsOp>
+    ensures { result ≡ ints_named symbol.now }
+{
+    if is_named(symbol, b"-") {
+        Some(IntsOp::Arithmetic(Arithmetic::Minus))
+    } else if is_named(symbol, b"+") {
+        Some(IntsOp::Arithmetic(Arithmetic::Plus))
+    } else if is_named(symbol, b"*") {
+        Some(IntsOp::Arithmetic(Arithmetic::Times))
+    } else if is_named(symbol, b"div") {
+        Some(IntsOp::Arithmetic(Arithmetic::Div))
+    } else if is_named(symbol, b"mod") {
+        Some(IntsOp::Mod)
+    } else if is_named(symbol, b"abs") {
+        Some(IntsOp::Abs)
+    } else if is_named(symbol, b"<=") {
+        Some(IntsOp::Comparison(Comparison::AtMost))
+    } else if is_named(symbol, b"<") {
+        Some(IntsOp::Comparison(Comparison::Less))
+    } else if is_named(symbol, b">=") {
+        Some(IntsOp::Comparison(Comparison::AtLeast))
+    } else if is_named(symbol, b">") {
+        Some(IntsOp::Comparison(Comparison::Greater))
+    } else {
+        None
+    }
+}
+
+/// Whether the symbol is this word.
+pub(crate) fn is_named(symbol: &[u8], word: &[u8]) -> bool
+    ensures { result ≡ bytes_eq symbol.now word.now }
+{
+    symbol == word
+}

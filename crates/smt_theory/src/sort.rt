@@ -1,0 +1,12 @@
+//! Sorts.
+
+use crate::width::Width;
+
+/// A sort of the theories (SMT-LIB 2.6, theories Core, Ints and FixedSizeBitVectors).
+#[derive(Clone, Copy, Debug, PartialEq, Eq)]
+pub enum Sort {
+    Bool,
+    Int,
+    /// `(_ BitVec n)`.
+    Bits(Width),
+}

@@ -1,0 +1,46 @@
+//! Theories, and the logics that choose them.
+
+ghost use Rattle.std.specs.Prelude.{◌≡◌};
+ghost use Rattle.smt_theory.specs.Theories.{theories_named, is_logic_of_integers};
+
+use crate::op::names::is_named;
+
+/// The theories that a logic has besides Core.
+#[derive(Clone, Copy, Debug, PartialEq, Eq)]
+pub struct Theories {
+    /// The theory Ints.
+    pub ints: bool,
+    /// The theory FixedSizeBitVectors with the operators of the logic QF_BV.
+    pub bits: bool,
+}
+
+/// The theories of the logic of this name; `None` for a name that is not taken. Which logics are taken is this project's own
+/// choice, and a logic chooses theories alone.
+pub fn theories_of(logic: &[u8]) -> Option<Theories>
+    ensures { result ≡ theories_named logic.now }
+{
+    if is_named(logic, b"QF_UF") {
+        Some(Theories {
+            ints: false,
+            bits: false,
+        })
+    } else if is_of_integers(logic) || is_named(logic, b"ALL") {
+        Some(Theories {
+            ints: true,
+            bits: false,
+        })
+    } else {
+        None
+    }
+}
+
+fn is_of_integers(logic: &[u8]) -> bool
+    ensures { result ≡ is_logic_of_integers logic.now }
+{
+    is_named(logic, b"QF_IDL")
+        || is_named(logic, b"QF_LIA")
+        || is_named(logic, b"QF_NIA")
+        || is_named(logic, b"QF_UFIDL")
+        || is_named(logic, b"QF_UFLIA")
+        || is_named(logic, b"QF_UFNIA")
+}

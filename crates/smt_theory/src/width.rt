@@ -1,0 +1,46 @@
+//! Widths of bit vectors.
+
+ghost use Rattle.std.specs.Prelude.{◌≡◌, ◌≤◌};
+ghost use Rattle.smt_theory.specs.Width.{width_of};
+
+use std::marker::Model;
+
+/// The width of a bit vector, in bits: 1 to 128. Contracts see it as a number. The upper limit is this project's own.
+#[derive(Clone, Copy, Debug, PartialEq, Eq)]
+pub struct Width {
+    bits: u8,
+}
+
+impl Model for Width {
+    ghost use Rattle.std.specs.Prelude.{ℕ, ◌≤◌};
+
+    ghost Value = { ℕ };
+
+    ghost view = { λ w. w.bits };
+
+    ghost invariant = { λ w. (1 ≤ w.bits) × (w.bits ≤ 128) };
+
+    ghost inverse = { λ n. record { bits = n } };
+}
+
+impl Width {
+    /// The width of so many bits; `None` for 0 and above 128.
+    pub fn new(bits: u64) -> Option<Width>
+        ensures { result ≡ width_of bits }
+    {
+        if bits >= 1 && bits <= 128 {
+            Some(Width { bits: bits as u8 })
+        } else {
+            None
+        }
+    }
+
+    /// How many bits it has, 1 to 128.
+    pub fn bits(self) -> u64
+        ensures value { result ≡ self }
+        ensures some { 1 ≤ result }
+        ensures within { result ≤ 128 }
+    {
+        u64::from(self.bits)
+    }
+}

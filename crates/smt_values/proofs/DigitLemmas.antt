@@ -1,0 +1,33 @@
+-- Digits are read from the left.
+use Rattle.std.proofs.Common.{◌≡◌, ℕ, ◌+◌, ◌*◌, ◌^◌, ◌<◌, ◌≤◌, Bool, true, false, cond, List, [], ◌∷◌, Some, None, length, drop, get_or, nat_lt, refl, sym, ap, ◌∙◌, add-one, drop-cons, arith, rules}
+use Rattle.std.proofs.Math.Nat.{mul-le-mul_left}
+use Rattle.std.specs.Char.{digit_value}
+use Rattle.std.specs.Str.Parse.{digits_value_after}
+use Rattle.smt_values.specs.Literals.{below_word}
+
+-- one digit more
+pub digits_at : (base value : ℕ) (bytes : List ℕ) (i : ℕ) → i < length bytes
+    → digits_value_after base value (drop i bytes) ≡ digits_value_after base (value * base + digit_value (get_or bytes i 0)) (drop (i + 1) bytes)
+digits_at base value bytes i below = ap (digits_value_after base value) (drop-cons bytes i 0 below ∙ ap (λ n. get_or bytes i 0 ∷ drop n bytes) (sym (add-one i)))
+
+-- what has been read stays below the whole
+pub digits_value_after-ge : (base n : ℕ) (bytes : List ℕ) → 0 < base → n ≤ digits_value_after base n bytes
+digits_value_after-ge base n [] h = omega arith
+digits_value_after-ge base n (c ∷ bytes) h =
+    let rest = digits_value_after-ge base (n * base + digit_value c) bytes h in
+    let one : n * 1 ≤ n * base = mul-le-mul_left n h in
+    omega arith
+
+below_word-large : (n : ℕ) → 2 ^ 128 ≤ n → below_word n ≡ None
+below_word-large n h = let e : nat_lt n (2 ^ 128) ≡ false = search rules in rw e refl
+
+large_below_word : (n : ℕ) → below_word n ≡ None → 2 ^ 128 ≤ n
+large_below_word n h = by (nat_lt n (2 ^ 128)) (λ e. search rules) h
+  where
+    by : (b : Bool) → (b ≡ false → 2 ^ 128 ≤ n) → cond b (Some n) None ≡ None → 2 ^ 128 ≤ n
+    by true f h = cc
+    by false f h = f refl
+
+-- where a beginning is too large, so is the whole
+pub too_large : (m n : ℕ) → below_word m ≡ None → m ≤ n → below_word n ≡ None
+too_large m n h le = let big = large_below_word m h in below_word-large n (omega arith)

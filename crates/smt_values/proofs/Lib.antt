@@ -1,0 +1,5 @@
+pub mod DigitLemmas
+pub mod DivisionLemmas
+pub mod KnownLemmas
+pub mod MeaningLemmas
+pub mod SortLemmas

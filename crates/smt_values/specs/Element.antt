@@ -1,0 +1,51 @@
+-- SMT-LIB 2.6, theories Core and Ints: the elements of the sorts' domains, and what is known of them.
+use Rattle.std.specs.Prelude.{◌≡◌, ℤ, List, [], ◌∷◌, Bool, Option, Some, None, option_map, map}
+use Rattle.smt_theory.specs.declared.sort.Sort.{Sort}
+use Rattle.smt_theory.specs.declared.sort.Sort.TheVariants.{Bool as BoolSort, Int as IntSort}
+use Rattle.smt_values.specs.declared.value.Value.{Value}
+use Rattle.smt_values.specs.declared.value.Value.TheVariants.{Bool as BoolValue, Int as IntValue}
+
+-- an element: a truth value, or an integer of any size
+pub data Element : Type 0 where
+  Truth : (b : Bool) → Element
+  Integer : (z : ℤ) → Element
+
+-- ---- sorts
+
+abbrev pub IsOfSort : Sort → Element → Type 0
+IsOfSort BoolSort (Truth b) = Unit {0}
+IsOfSort IntSort (Integer z) = Unit {0}
+IsOfSort _ _ = ⊥
+
+-- each element is of the sort at its place, and there are as many
+abbrev pub AreOfSorts : List Sort → List Element → Type 0
+AreOfSorts [] [] = Unit {0}
+AreOfSorts (sort ∷ sorts) (e ∷ es) = IsOfSort sort e × AreOfSorts sorts es
+AreOfSorts _ _ = ⊥
+
+-- ---- values
+
+-- the element that a value is
+abbrev pub element_of : Value → Element
+element_of (BoolValue b) = Truth b
+element_of (IntValue z) = Integer z
+
+-- what an optional value says of an element: which it is, or nothing
+abbrev pub known_element : Option Value → Option Element
+known_element value = option_map element_of value
+
+abbrev pub known_elements : List (Option Value) → List (Option Element)
+known_elements values = map known_element values
+
+-- ---- what is known, and what is so
+
+-- what is known of an element, if anything, is true of it
+abbrev pub Agrees : Option Element → Element → Type 0
+Agrees None e = Unit {0}
+Agrees (Some known) e = e ≡ known
+
+-- what is known of each element is true of it, and there are as many
+abbrev pub AllAgree : List (Option Element) → List Element → Type 0
+AllAgree [] [] = Unit {0}
+AllAgree (known ∷ knowns) (e ∷ es) = Agrees known e × AllAgree knowns es
+AllAgree _ _ = ⊥

@@ -1,0 +1,32 @@
+//! What holds of the definitions that the contracts name. Nothing here does anything: each contract is a law.
+
+ghost use Rattle.std.specs.Prelude.{◌≡◌, ◌≢◌, ◌≤ℤ◌, ◌<ℤ◌, ℤ, pos, ◌+ℤ◌, ◌*ℤ◌, unsigned_abs, List, Option};
+ghost use Rattle.smt_theory.specs.Ranks.{HasRank};
+ghost use Rattle.smt_theory.specs.declared.op.Op.{Op};
+ghost use Rattle.smt_theory.specs.declared.sort.Sort.{Sort};
+ghost use Rattle.smt_values.specs.Element.{Agrees, AllAgree, AreOfSorts, Element, IsOfSort};
+ghost use Rattle.smt_values.specs.KnownOperations.{known_step};
+ghost use Rattle.smt_values.specs.Operations.{DivisionByZero, operate, quotient, remainder};
+
+/// What is known of an operator's result is the standard's value, whatever the open arguments are and whatever division by zero
+/// gives (SMT-LIB 2.6, theories Core and Ints).
+pub fn known_results_are_true()
+    ensures { (z : DivisionByZero) (op : Op) (knowns : List (Option Element)) (args : List Element)
+        → AllAgree knowns args → Agrees (known_step op knowns) (operate z op args) }
+{}
+
+/// An operator that has a rank gives an element of the rank's sort for arguments of the rank's sorts.
+pub fn results_are_of_their_sorts()
+    ensures { (z : DivisionByZero) (op : Op) (sorts : List Sort) (sort : Sort) (args : List Element)
+        → HasRank op sorts sort → AreOfSorts sorts args → IsOfSort sort (operate z op args) }
+{}
+
+/// `div` and `mod` by a number that is not 0 are the one quotient and the one remainder with `a = n * q + r` and `0 <= r < |n|`
+/// (SMT-LIB 2.6, theory Ints).
+pub fn division_is_by_the_law()
+    ensures exact { (z : DivisionByZero) (a n : ℤ) → n ≢ pos 0 → a ≡ n *ℤ quotient z a n +ℤ remainder z a n }
+    ensures low { (z : DivisionByZero) (a n : ℤ) → n ≢ pos 0 → pos 0 ≤ℤ remainder z a n }
+    ensures high { (z : DivisionByZero) (a n : ℤ) → n ≢ pos 0 → remainder z a n <ℤ pos (unsigned_abs n) }
+    ensures one { (z : DivisionByZero) (a n q r : ℤ) → n ≢ pos 0 → a ≡ n *ℤ q +ℤ r → pos 0 ≤ℤ r → r <ℤ pos (unsigned_abs n)
+        → (q ≡ quotient z a n) × (r ≡ remainder z a n) }
+{}

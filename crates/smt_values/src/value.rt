@@ -1,0 +1,9 @@
+//! Values.
+
+/// A value of a sort's domain (SMT-LIB 2.6, theories Core and Ints).
+#[derive(Clone, Copy, Debug, PartialEq, Eq)]
+pub enum Value {
+    Bool(bool),
+    /// From -2^127 to 2^127 - 1: an integer outside has no value here.
+    Int(i128),
+}

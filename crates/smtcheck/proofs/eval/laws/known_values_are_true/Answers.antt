@@ -1,5 +1,0 @@
-use Rattle.smtcheck.proofs.MeaningLemmas.{known_is_true}
-use Rattle.smtcheck.proofs.eval.laws.known_values_are_true.Goals as goal
-
-pub returns : goal.returns
-returns c = known_is_true

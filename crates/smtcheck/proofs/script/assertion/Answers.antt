@@ -1,5 +1,0 @@
-use Rattle.smtcheck.proofs.CommandLemmas.{assertion_read}
-use Rattle.smtcheck.proofs.script.assertion.Goals as goal
-
-pub returns : goal.returns
-returns c = assertion_read _ _ _ _ c.into_vec-items.ensures c.pop_tree-term.ensures c.requires

@@ -1,0 +1,92 @@
+//! Trees and faults, written as the rows have them.
+
+ghost use Rattle.std.specs.Prelude.{◌<◌};
+
+use smt_text::{Bytes, TextFault, Tree, Word, spelling, split_first};
+use std::alloc::{AllocError, Global};
+
+/// Writes trees, with a space behind each.
+pub fn write_trees(out: &mut Vec<u8>, trees: &[Tree]) -> Result<(), AllocError> {
+    let Some((tree, rest)) = split_first(trees) else {
+        return Ok(());
+    };
+    match tree {
+        Tree::Numeral(digits) => write_atom(out, b'n', digits)?,
+        Tree::Decimal(text) => write_atom(out, b'd', text)?,
+        Tree::Hex(digits) => write_atom(out, b'x', digits)?,
+        Tree::Bin(digits) => write_atom(out, b'b', digits)?,
+        Tree::Text(bytes) => write_atom(out, b't', bytes)?,
+        Tree::Symbol(name) => write_atom(out, b's', name)?,
+        Tree::Keyword(name) => write_atom(out, b'k', name)?,
+        Tree::Reserved(word) => write_word(out, *word)?,
+        Tree::List(parts) => {
+            out.extend_from_slice(b"( ")?;
+            write_trees(out, parts.as_slice())?;
+            out.extend_from_slice(b") ")?;
+        }
+    }
+    write_trees(out, rest)
+}
+
+/// Writes the fault with its place, or that there is none.
+pub fn write_end(
+    alloc: Global,
+    out: &mut Vec<u8>,
+    fault: Option<TextFault>,
+) -> Result<(), AllocError> {
+    let end = match fault {
+        None => format!(in alloc; ".")?,
+        Some(TextFault::Byte { place }) => format!(in alloc; "byte {place}")?,
+        Some(TextFault::Deep { place }) => format!(in alloc; "deep {place}")?,
+        Some(TextFault::End { place }) => format!(in alloc; "end {place}")?,
+        Some(TextFault::Memory) => format!(in alloc; "memory")?,
+    };
+    out.extend_from_slice(end.as_bytes())?;
+    Ok(())
+}
+
+fn write_word(out: &mut Vec<u8>, word: Word) -> Result<(), AllocError> {
+    out.extend_from_slice(b"r:")?;
+    out.extend_from_slice(spelling(word))?;
+    out.push(b' ')?;
+    Ok(())
+}
+
+fn write_atom(out: &mut Vec<u8>, kind: u8, bytes: &Bytes) -> Result<(), AllocError> {
+    out.push(kind)?;
+    out.push(b':')?;
+    for byte in bytes.as_slice() {
+        write_byte(out, *byte)?;
+    }
+    out.push(b' ')?;
+    Ok(())
+}
+
+// Writes a byte, by an escape where it is white space or can't be printed.
+fn write_byte(out: &mut Vec<u8>, byte: u8) -> Result<(), AllocError> {
+    match byte {
+        b'\n' => out.extend_from_slice(b"\\n")?,
+        b'\r' => out.extend_from_slice(b"\\r")?,
+        b'\t' => out.extend_from_slice(b"\\t")?,
+        b' ' => out.extend_from_slice(b"\\s")?,
+        b'\\' => out.extend_from_slice(b"\\\\")?,
+        b'!'..=b'~' => out.push(byte)?,
+        _ => {
+            out.extend_from_slice(b"\\x")?;
+            out.push(digit(byte / 16))?;
+            out.push(digit(byte % 16))?;
+        }
+    }
+    Ok(())
+}
+
+// The hexadecimal digit of a value below 16.
+fn digit(value: u8) -> u8
+    requires { value < 16 }
+{
+    if value < 10 {
+        b'0' + value
+    } else {
+        b'a' + (value - 10)
+    }
+}
