@@ -3,6 +3,7 @@ pub mod IdentifierView
 pub mod SortTrees
 pub mod Signature
 pub mod Checking
+pub mod Items
 pub mod WellSorted
 pub mod Library
 pub mod FaultText

@@ -115,7 +115,7 @@ fn long_text(rt: HostRuntime) -> Result<(), Fail> {
     Ok(())
 }
 
-// Whether this is the tree at a place of the text `(a (b 1) check-sat) c 0`.
+// Whether this is the tree at a place of the text `(a (b 1) check-sat) c`, ten lists `(b 1)`, and `0`.
 fn is_right(place: u32, tree: &Tree) -> bool {
     match (place, tree) {
         (0, Tree::List(parts)) => match parts.as_slice() {
@@ -127,7 +127,8 @@ fn is_right(place: u32, tree: &Tree) -> bool {
             _ => false,
         },
         (1, Tree::Symbol(name)) => says(name, b"c"),
-        (2, Tree::Numeral(digits)) => says(digits, b"0"),
+        (12, Tree::Numeral(digits)) => says(digits, b"0"),
+        (_, Tree::List(parts)) => place > 1 && is_b_and_one(parts.as_slice()),
         _ => false,
     }
 }
@@ -148,9 +149,9 @@ fn is_b_and_one(trees: &[Tree]) -> bool {
 fn right_or_out_of_memory(rt: HostRuntime) {
     let mut reader = Reader::new(rt.alloc());
     reader.feed(b"(a (b 1) check-");
-    reader.feed(b"sat) c 0");
+    reader.feed(b"sat) c (b 1) (b 1) (b 1) (b 1) (b 1) (b 1) (b 1) (b 1) (b 1) (b 1) 0");
     reader.finish();
-    for place in 0..3 {
+    for place in 0..13 {
         match reader.next() {
             Next::Tree(tree) => assert!(rt; is_right(place, &tree)),
             Next::Fault(TextFault::Memory) => {
