@@ -1,18 +1,17 @@
--- When known values and values agree, and when definitions are well sorted: the premises of the laws.
+-- When what is known of variables and their values agree, and when values fit a scope: the premises of the laws.
 use Rattle.std.specs.Prelude.{ℕ, List, Option, Some, None}
-use Rattle.core_values.specs.Element.{Element, IsOfSort, IsTrueOf}
-use Rattle.core_theory.specs.Words.{look_up}
-use Rattle.core_values.specs.declared.value.Value.{Value}
-use Rattle.core_theory.specs.declared.sort.Sort.{Sort}
+use Rattle.smt_theory.specs.Words.{look_up}
+use Rattle.smt_theory.specs.declared.sort.Sort.{Sort}
+use Rattle.smt_values.specs.Element.{Agrees, Element, IsOfSort}
 
 -- the same variables have values, and what is known of each is true
-abbrev pub IsTrueOfBoth : Option (Option Value) → Option Element → Type 0
-IsTrueOfBoth None None = Unit {0}
-IsTrueOfBoth (Some known) (Some e) = IsTrueOf known e
-IsTrueOfBoth _ _ = ⊥
+abbrev pub AgreeBoth : Option (Option Element) → Option Element → Type 0
+AgreeBoth None None = Unit {0}
+AgreeBoth (Some known) (Some e) = Agrees known e
+AgreeBoth _ _ = ⊥
 
-abbrev pub AgreesWith : List (List ℕ × Option Value) → List (List ℕ × Element) → Type 0
-AgreesWith known r = (x : List ℕ) → IsTrueOfBoth (look_up known x) (look_up r x)
+abbrev pub AgreesWith : List (List ℕ × Option Element) → List (List ℕ × Element) → Type 0
+AgreesWith known r = (x : List ℕ) → AgreeBoth (look_up known x) (look_up r x)
 
 -- each variable's value is of its sort
 abbrev pub IsOfSorts : Option Sort → Option Element → Type 0

@@ -1,54 +1,66 @@
--- The known value of a term: a value, or open. Which terms are open is this project's rule; where a value is known, it is the
--- standard's.
-use Rattle.std.specs.Prelude.{ℕ, List, [], ◌∷◌, Option, Some, None, if◌then◌else◌, unwrap_or, bytes_eq}
+-- What is known of the value of a term: which element it is, or nothing; then the term is open. Which terms are open is this
+-- project's rule; where the value is known, it is the standard's.
+use Rattle.std.specs.Prelude.{ℕ, List, [], ◌∷◌, Option, Some, None, Result, Ok, Err, if◌then◌else◌, unwrap_or, bytes_eq}
 use Rattle.std.specs.List.{zip}
-use Rattle.smt_text.specs.Sexp.{Sexp, Sexps, Atom, Items, Nil, Cons, Symbol}
-use Rattle.core_values.specs.KnownOperations.{known_step}
-use Rattle.core_theory.specs.Operators.{op_named}
-use Rattle.core_terms.specs.Signature.{Entry, Origin, Declared, Defined}
-use Rattle.core_theory.specs.Words.{look_up}
-use Rattle.core_values.specs.declared.value.Value.{Value}
-use Rattle.core_theory.specs.declared.op.Op.{Op}
+use Rattle.smt_text.specs.Sexp.{Sexp, Sexps, Atom, Reserved, Items, Nil, Cons, Symbol, Numeral}
+use Rattle.smt_text.specs.declared.reserved.Word.TheVariants.{Underscore}
+use Rattle.smt_theory.specs.Words.{look_up}
+use Rattle.smt_theory.specs.declared.op.Op.{Op}
+use Rattle.smt_theory.specs.declared.op.OpFault.{OpFault}
+use Rattle.smt_theory.specs.declared.theories.Theories.{Theories}
+use Rattle.smt_values.specs.Element.{Element}
+use Rattle.smt_values.specs.KnownOperations.{known_step}
+use Rattle.smt_values.specs.Literals.{numeral_element}
+use Rattle.smt_terms.specs.Identifier.{Identifier, Plain, Indexed, applied, indexed, operator_of}
+use Rattle.smt_terms.specs.Signature.{Entry, Origin, Declared, Defined, Signature}
+use Rattle.smt_terms.specs.declared.fault.TermFault.{TermFault}
 
--- what names are known to mean: for each, what is known of the element that it gives for arguments
+-- what identifiers are known to mean: for each, what is known of the element that it gives for arguments
 abbrev pub KnownMeaning : Type 0
-KnownMeaning = List ℕ → List (Option Value) → Option Value
+KnownMeaning = Identifier → List (Option Element) → Option Element
 
--- the known value of a term where the names mean m and the variables have these values, of which some may be open
+abbrev pub known_by : Result Identifier TermFault → (Identifier → Option Element) → Option Element
+known_by (Ok f) give = give f
+known_by (Err fault) give = None
+
+-- what is known of a term where identifiers mean m and this is known of the variables, of which some may be open
 abbrev mutual
-  pub known_of : KnownMeaning → List (List ℕ × Option Value) → Sexp → Option Value
-  known_of m r (Atom Symbol x) = unwrap_or (look_up r x) (m x [])
-  known_of m r (Items (Cons (Atom Symbol f) args)) = m f (knowns_of m r args)
+  pub known_of : KnownMeaning → List (List ℕ × Option Element) → Sexp → Option Element
+  known_of m r (Atom Symbol x) = unwrap_or (look_up r x) (m (Plain x) [])
+  known_of m r (Atom Numeral digits) = numeral_element digits
+  known_of m r (Items (Cons (Reserved Underscore) parts)) = known_by (indexed parts) (λ f. m f [])
+  known_of m r (Items (Cons head args)) = known_by (applied head args) (λ f. m f (knowns_of m r args))
   known_of m r _ = None
 
-  pub knowns_of : KnownMeaning → List (List ℕ × Option Value) → Sexps → List (Option Value)
+  pub knowns_of : KnownMeaning → List (List ℕ × Option Element) → Sexps → List (Option Element)
   knowns_of m r Nil = []
   knowns_of m r (Cons x xs) = known_of m r x ∷ knowns_of m r xs
 
-abbrev pub known_of_op : Option Op → List (Option Value) → Option Value
-known_of_op None args = None
-known_of_op (Some op) args = known_step op args
+abbrev pub known_of_op : Result Op OpFault → List (Option Element) → Option Element
+known_of_op (Ok op) args = known_step op args
+known_of_op (Err fault) args = None
 
-abbrev pub known_operators : KnownMeaning
-known_operators f args = known_of_op (op_named f) args
+abbrev pub known_operators : Theories → KnownMeaning
+known_operators theories f args = known_of_op (operator_of theories f) args
 
 -- what a definition gives for arguments, where earlier names mean m
-abbrev pub known_defined : KnownMeaning → Origin → List (Option Value) → Option Value
+abbrev pub known_defined : KnownMeaning → Origin → List (Option Element) → Option Element
 known_defined m (Defined parameters body) args = known_of m (zip parameters args) body
 known_defined m (Declared command) args = None
 
--- what names mean with one more definition, whose body sees the earlier ones alone
+-- what identifiers mean with one more definition, whose body sees the earlier ones alone
 abbrev pub with_known : KnownMeaning → Entry → KnownMeaning
-with_known m e f args = if bytes_eq f e.name then known_defined m e.origin args else m f args
+with_known m e (Plain f) args = if bytes_eq f e.name then known_defined m e.origin args else m (Plain f) args
+with_known m e (Indexed f indexes) args = m (Indexed f indexes) args
 
 abbrev pub known_after : KnownMeaning → List Entry → KnownMeaning
 known_after m [] = m
 known_after m (e ∷ es) = known_after (with_known m e) es
 
--- what names are known to mean in the structure of these definitions
-abbrev pub known_in : List Entry → KnownMeaning
-known_in definitions = known_after known_operators definitions
+-- what identifiers are known to mean in the structure of these theories and definitions
+abbrev pub known_in : Signature → KnownMeaning
+known_in definitions = known_after (known_operators definitions.theories) definitions.entries
 
--- the known value of a closed term over definitions
-abbrev pub known_over : List Entry → Sexp → Option Value
+-- what is known of a closed term over definitions
+abbrev pub known_over : Signature → Sexp → Option Element
 known_over definitions term = known_of (known_in definitions) [] term

@@ -1,55 +1,67 @@
--- SMT-LIB 2.6, section 5.3, and theory Core: the value of a well-sorted term in a structure, which is given by definitions.
-use Rattle.std.specs.Prelude.{ℕ, List, [], ◌∷◌, false, Option, Some, None, if◌then◌else◌, bytes_eq, unwrap_or}
+-- SMT-LIB 2.6, section 5.3: the value of a well-sorted term in a structure, which is given by theories and definitions.
+use Rattle.std.specs.Prelude.{ℕ, pos, List, [], ◌∷◌, false, Result, Ok, Err, if◌then◌else◌, bytes_eq, unwrap_or}
 use Rattle.std.specs.List.{zip}
-use Rattle.smt_text.specs.Sexp.{Sexp, Sexps, Atom, Items, Nil, Cons, Symbol}
-use Rattle.core_theory.specs.Operators.{op_named}
-use Rattle.core_values.specs.Element.{Element, Truth}
-use Rattle.core_values.specs.Operations.{operate}
-use Rattle.core_terms.specs.Signature.{Entry, Origin, Declared, Defined}
-use Rattle.core_theory.specs.Words.{look_up}
-use Rattle.core_theory.specs.declared.op.Op.{Op}
+use Rattle.std.specs.Str.Parse.{digits_value}
+use Rattle.smt_text.specs.Sexp.{Sexp, Sexps, Atom, Reserved, Items, Nil, Cons, Symbol, Numeral}
+use Rattle.smt_text.specs.declared.reserved.Word.TheVariants.{Underscore}
+use Rattle.smt_theory.specs.Words.{look_up}
+use Rattle.smt_theory.specs.declared.op.Op.{Op}
+use Rattle.smt_theory.specs.declared.op.OpFault.{OpFault}
+use Rattle.smt_theory.specs.declared.theories.Theories.{Theories}
+use Rattle.smt_values.specs.Element.{Element, Truth, Integer}
+use Rattle.smt_values.specs.Operations.{DivisionByZero, operate}
+use Rattle.smt_terms.specs.Identifier.{Identifier, Plain, Indexed, applied, indexed, operator_of}
+use Rattle.smt_terms.specs.Signature.{Entry, Origin, Declared, Defined, Signature}
+use Rattle.smt_terms.specs.declared.fault.TermFault.{TermFault}
 
--- what the names mean: for each, the element that it gives for arguments
+-- what identifiers mean: for each, the element that it gives for arguments
 abbrev pub Meaning : Type 0
-Meaning = List ℕ → List Element → Element
+Meaning = Identifier → List Element → Element
 
--- the value of a term where the names mean m and the variables have these values, the innermost first; what is no well-sorted term
--- has a value of no interest
+-- what is no well-sorted term has a value of no interest
+abbrev pub element_by : Result Identifier TermFault → (Identifier → Element) → Element
+element_by (Ok f) give = give f
+element_by (Err fault) give = Truth false
+
+-- the value of a term where identifiers mean m and the variables have these values, the innermost first
 abbrev mutual
   pub value_of : Meaning → List (List ℕ × Element) → Sexp → Element
-  value_of m r (Atom Symbol x) = unwrap_or (look_up r x) (m x [])
-  value_of m r (Items (Cons (Atom Symbol f) args)) = m f (values_of m r args)
+  value_of m r (Atom Symbol x) = unwrap_or (look_up r x) (m (Plain x) [])
+  value_of m r (Atom Numeral digits) = Integer (pos (digits_value 10 digits))
+  value_of m r (Items (Cons (Reserved Underscore) parts)) = element_by (indexed parts) (λ f. m f [])
+  value_of m r (Items (Cons head args)) = element_by (applied head args) (λ f. m f (values_of m r args))
   value_of m r _ = Truth false
 
   pub values_of : Meaning → List (List ℕ × Element) → Sexps → List Element
   values_of m r Nil = []
   values_of m r (Cons x xs) = value_of m r x ∷ values_of m r xs
 
--- where no name is defined, names mean the operators
-abbrev pub meaning_of_op : Option Op → List Element → Element
-meaning_of_op None args = Truth false
-meaning_of_op (Some op) args = operate op args
+-- where no name is defined, identifiers mean the operators of the theories
+abbrev pub meaning_of_op : DivisionByZero → Result Op OpFault → List Element → Element
+meaning_of_op z (Ok op) args = operate z op args
+meaning_of_op z (Err fault) args = Truth false
 
-abbrev pub operators : Meaning
-operators f args = meaning_of_op (op_named f) args
+abbrev pub operators : DivisionByZero → Theories → Meaning
+operators z theories f args = meaning_of_op z (operator_of theories f) args
 
 -- what a definition gives for arguments, where earlier names mean m
 abbrev pub defined_value : Meaning → Origin → List Element → Element
 defined_value m (Defined parameters body) args = value_of m (zip parameters args) body
 defined_value m (Declared command) args = Truth false
 
--- what names mean with one more definition, whose body sees the earlier ones alone
+-- what identifiers mean with one more definition, whose body sees the earlier ones alone
 abbrev pub with_definition : Meaning → Entry → Meaning
-with_definition m e f args = if bytes_eq f e.name then defined_value m e.origin args else m f args
+with_definition m e (Plain f) args = if bytes_eq f e.name then defined_value m e.origin args else m (Plain f) args
+with_definition m e (Indexed f indexes) args = m (Indexed f indexes) args
 
 abbrev pub meaning_after : Meaning → List Entry → Meaning
 meaning_after m [] = m
 meaning_after m (e ∷ es) = meaning_after (with_definition m e) es
 
--- what names mean in the structure of these definitions
-abbrev pub meaning_in : List Entry → Meaning
-meaning_in definitions = meaning_after operators definitions
+-- what identifiers mean in the structure of these theories and definitions, where division by zero gives what z has
+abbrev pub meaning_in : DivisionByZero → Signature → Meaning
+meaning_in z definitions = meaning_after (operators z definitions.theories) definitions.entries
 
 -- the value of a term in the structure of these definitions, where the variables have these values
-abbrev pub value_over : List Entry → List (List ℕ × Element) → Sexp → Element
-value_over definitions r term = value_of (meaning_in definitions) r term
+abbrev pub value_over : DivisionByZero → Signature → List (List ℕ × Element) → Sexp → Element
+value_over z definitions r term = value_of (meaning_in z definitions) r term

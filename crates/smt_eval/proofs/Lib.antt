@@ -1,5 +1,0 @@
-pub mod EvaluatorLemmas
-pub mod ModelLemmas
-pub mod MeaningLemmas
-pub mod CompleteModelLemmas
-pub mod NoMemoryLemmas

@@ -1,2 +1,0 @@
-pub mod ItemForm
-pub mod DefinitionValues
