@@ -1,0 +1,2 @@
+pub mod MeaningLemmas
+pub mod SortedValueLemmas

@@ -1,0 +1,132 @@
+-- What is known of a term is true of its value.
+use Rattle.std.proofs.Common.{◌≡◌, ℕ, Bool, true, false, cond, List, [], ◌∷◌, Option, Some, None, Result, Ok, Err, refl, sym, ◌∙◌, subst}
+use Rattle.std.specs.List.{zip}
+use Rattle.std.specs.Prelude.{unwrap_or, bytes_eq, pos, nat_lt, ◌^◌}
+use Rattle.std.specs.Str.Parse.{digits_value}
+use Rattle.smt_text.specs.Sexp.{Sexp, Sexps, Atom, Reserved, Items, Nil, Cons, Symbol, Numeral, Decimal, Hexadecimal, Binary, Text, Keyword}
+use Rattle.smt_text.specs.declared.reserved.Word.{Word}
+use Rattle.smt_text.specs.declared.reserved.Word.TheVariants.{Underscore}
+use Rattle.smt_theory.specs.Words.{look_up}
+use Rattle.smt_theory.specs.declared.op.Op.{Op}
+use Rattle.smt_theory.specs.declared.op.OpFault.{OpFault}
+use Rattle.smt_theory.specs.declared.theories.Theories.{Theories}
+use Rattle.smt_values.specs.Element.{Element, Truth, Integer, Agrees, AllAgree}
+use Rattle.smt_values.specs.KnownOperations.{known_step}
+use Rattle.smt_values.specs.Literals.{numeral_element}
+use Rattle.smt_values.specs.Operations.{DivisionByZero, operate}
+use Rattle.smt_terms.specs.Checking.{is_underscore_tree}
+use Rattle.smt_terms.specs.Identifier.{Identifier, Plain, Indexed, applied, indexed, operator_of}
+use Rattle.smt_terms.specs.Signature.{Entry, Origin, Declared, Defined, Signature}
+use Rattle.smt_terms.specs.declared.fault.TermFault.{TermFault}
+use Rattle.smt_eval.specs.Agreement.{AgreeBoth, AgreesWith}
+use Rattle.smt_eval.specs.Known.{KnownMeaning, known_by, known_of, knowns_of, known_of_op, known_operators, known_defined, with_known, known_after, known_in}
+use Rattle.smt_eval.specs.Meaning.{Meaning, element_by, value_of, values_of, meaning_of_op, operators, defined_value, with_definition, meaning_after, meaning_in}
+
+-- what identifiers are known to mean is true of what they mean
+abbrev pub Means : KnownMeaning → Meaning → Type 0
+Means k m = (f : Identifier) (ks : List (Option Element)) (es : List Element) → AllAgree ks es → Agrees (k f ks) (m f es)
+
+-- the law of the operators
+abbrev pub StepsAreTrue : Type 0
+StepsAreTrue = (z : DivisionByZero) (op : Op) (ks : List (Option Element)) (es : List Element) → AllAgree ks es → Agrees (known_step op ks) (operate z op es)
+
+-- what operators are known to mean is true
+Means-operators : StepsAreTrue → (z : DivisionByZero) (theories : Theories) → Means (known_operators theories) (operators z theories)
+Means-operators law z theories f ks es h = by (operator_of theories f)
+  where
+    by : (o : Result Op OpFault) → Agrees (known_of_op o ks) (meaning_of_op z o es)
+    by (Err fault) = tt
+    by (Ok op) = law z op ks es h
+
+-- a list with another head than `_`
+known-other : (k : KnownMeaning) (r : List (List ℕ × Option Element)) (head : Sexp) (args : Sexps) → is_underscore_tree head ≡ false
+    → known_of k r (Items (Cons head args)) ≡ known_by (applied head args) (λ f. k f (knowns_of k r args))
+known-other k r (Reserved Underscore) args h = cc
+known-other k r _ args h = refl
+
+pub value-other : (m : Meaning) (r : List (List ℕ × Element)) (head : Sexp) (args : Sexps) → is_underscore_tree head ≡ false
+    → value_of m r (Items (Cons head args)) ≡ element_by (applied head args) (λ f. m f (values_of m r args))
+value-other m r (Reserved Underscore) args h = cc
+value-other m r _ args h = refl
+
+-- a variable, or else a name
+unwrap_or_true : (a : Option (Option Element)) (b : Option Element) (k : Option Element) (e : Element) → AgreeBoth a b → Agrees k e → Agrees (unwrap_or a k) (unwrap_or b e)
+unwrap_or_true None None k e h i = i
+unwrap_or_true None (Some f) k e h i = absurd h
+unwrap_or_true (Some l) None k e h i = absurd h
+unwrap_or_true (Some l) (Some f) k e h i = h
+
+-- what an identifier gives, if the tree is one
+by_true : (o : Result Identifier TermFault) (k : Identifier → Option Element) (m : Identifier → Element) → ((f : Identifier) → Agrees (k f) (m f)) → Agrees (known_by o k) (element_by o m)
+by_true (Ok f) k m h = h f
+by_true (Err fault) k m h = tt
+
+-- a numeral that is known is the integer that it spells
+numeral_true : (digits : List ℕ) → Agrees (numeral_element digits) (Integer (pos (digits_value 10 digits)))
+numeral_true digits = by (nat_lt (digits_value 10 digits) (2 ^ 127)) refl
+  where
+    by : (b : Bool) → nat_lt (digits_value 10 digits) (2 ^ 127) ≡ b → Agrees (numeral_element digits) (Integer (pos (digits_value 10 digits)))
+    by true h = rw h refl
+    by false h = rw h tt
+
+-- what is known of a term is true of its value
+module _ (k : KnownMeaning) (m : Meaning) (means : Means k m) (known : List (List ℕ × Option Element)) (r : List (List ℕ × Element)) (agrees : AgreesWith known r) where
+  list_true : (head : Sexp) (args : Sexps) → AllAgree (knowns_of k known args) (values_of m r args) → (b : Bool) → is_underscore_tree head ≡ b
+      → Agrees (known_of k known (Items (Cons head args))) (value_of m r (Items (Cons head args)))
+  list_true head args all false other =
+      subst (λ o. Agrees o (value_of m r (Items (Cons head args)))) (sym (known-other k known head args other))
+      (subst (λ e. Agrees (known_by (applied head args) (λ f. k f (knowns_of k known args))) e) (sym (value-other m r head args other))
+      (by_true (applied head args) (λ f. k f (knowns_of k known args)) (λ f. m f (values_of m r args)) (λ f. means f (knowns_of k known args) (values_of m r args) all)))
+  list_true (Reserved Underscore) args all true is = by_true (indexed args) (λ f. k f []) (λ f. m f []) (λ f. means f [] [] tt)
+  list_true _ args all true is = cc
+
+  mutual
+    pub term_true : (t : Sexp) → Agrees (known_of k known t) (value_of m r t)
+    term_true (Atom Symbol x) = unwrap_or_true (look_up known x) (look_up r x) (k (Plain x) []) (m (Plain x) []) (agrees x) (means (Plain x) [] [] tt)
+    term_true (Atom Numeral x) = numeral_true x
+    term_true (Atom Decimal x) = tt
+    term_true (Atom Hexadecimal x) = tt
+    term_true (Atom Binary x) = tt
+    term_true (Atom Text x) = tt
+    term_true (Atom Keyword x) = tt
+    term_true (Reserved word) = tt
+    term_true (Items Nil) = tt
+    term_true (Items (Cons head args)) = list_true head args (terms_true args) (is_underscore_tree head) refl
+
+    pub terms_true : (ts : Sexps) → AllAgree (knowns_of k known ts) (values_of m r ts)
+    terms_true Nil = tt
+    terms_true (Cons t ts) = (term_true t, terms_true ts)
+
+-- arguments that agree make parameters that agree
+AgreesWith-zip : (ps : List (List ℕ)) (ks : List (Option Element)) (es : List Element) → AllAgree ks es → AgreesWith (zip ps ks) (zip ps es)
+AgreesWith-zip [] ks es h x = tt
+AgreesWith-zip (p ∷ ps) [] [] h x = tt
+AgreesWith-zip (p ∷ ps) [] (e ∷ es) h x = absurd h
+AgreesWith-zip (p ∷ ps) (k ∷ ks) [] h x = absurd h
+AgreesWith-zip (p ∷ ps) (k ∷ ks) (e ∷ es) h x = by (bytes_eq x p) (AgreesWith-zip ps ks es h.1 x)
+  where
+    by : (b : Bool) → AgreeBoth (look_up (zip ps ks) x) (look_up (zip ps es) x) → AgreeBoth (cond b (Some k) (look_up (zip ps ks) x)) (cond b (Some e) (look_up (zip ps es) x))
+    by true rest = h.0
+    by false rest = rest
+
+-- one more definition keeps that
+Means-with : (k : KnownMeaning) (m : Meaning) (e : Entry) → Means k m → Means (with_known k e) (with_definition m e)
+Means-with k m e means (Indexed f indexes) ks es h = means (Indexed f indexes) ks es h
+Means-with k m e means (Plain f) ks es h = by (bytes_eq f e.name) e.origin
+  where
+    by : (b : Bool) (s : Origin) → Agrees (cond b (known_defined k s ks) (k (Plain f) ks)) (cond b (defined_value m s es) (m (Plain f) es))
+    by true (Declared command) = tt
+    by true (Defined ps body) = term_true k m means (zip ps ks) (zip ps es) (AgreesWith-zip ps ks es h) body
+    by false s = means (Plain f) ks es h
+
+-- and so do any
+Means-after : (k : KnownMeaning) (m : Meaning) (ds : List Entry) → Means k m → Means (known_after k ds) (meaning_after m ds)
+Means-after k m [] means = means
+Means-after k m (d ∷ ds) means = Means-after (with_known k d) (with_definition m d) ds (Means-with k m d means)
+
+-- what is known is the value
+pub known_is_true : StepsAreTrue → (z : DivisionByZero) (definitions : Signature) (known : List (List ℕ × Option Element)) (r : List (List ℕ × Element)) (term : Sexp)
+    → AgreesWith known r → Agrees (known_of (known_in definitions) known term) (value_of (meaning_in z definitions) r term)
+known_is_true law z definitions known r term agrees =
+    term_true (known_in definitions) (meaning_in z definitions)
+    (Means-after (known_operators definitions.theories) (operators z definitions.theories) definitions.entries (Means-operators law z definitions.theories)) known r agrees term

@@ -1,0 +1,244 @@
+-- The value of a well-sorted term is of the term's sort.
+use Rattle.std.proofs.Common.{◌≡◌, ℕ, Bool, true, false, cond, List, [], ◌∷◌, ◌++◌, Option, Some, None, Result, Ok, Err, ◌&&◌, refl, ap, sym, ◌∙◌, subst, append_assoc, append-nil}
+use Rattle.std.specs.List.{zip}
+use Rattle.std.specs.Option.{option_or}
+use Rattle.std.specs.Prelude.{unwrap_or, bytes_eq}
+use Rattle.smt_text.specs.Sexp.{Sexp, Sexps, Atom, Reserved, Items, Nil, Cons, Symbol, Numeral, Decimal, Hexadecimal, Binary, Text, Keyword}
+use Rattle.smt_text.specs.declared.reserved.Word.TheVariants.{Underscore}
+use Rattle.smt_theory.specs.Ranks.{are_exactly, rank_of}
+use Rattle.smt_theory.specs.Sort.{is_same_sort}
+use Rattle.smt_theory.specs.Words.{look_up, result_and_then}
+use Rattle.smt_theory.specs.declared.op.Op.{Op}
+use Rattle.smt_theory.specs.declared.op.OpFault.{OpFault}
+use Rattle.smt_theory.specs.declared.op.OpFault.TheVariants as ops
+use Rattle.smt_theory.specs.declared.sort.Sort.{Sort}
+use Rattle.smt_theory.specs.declared.sort.Sort.TheVariants.{Bool as Boolean, Int}
+use Rattle.smt_theory.specs.declared.theories.Theories.{Theories}
+use Rattle.smt_values.specs.Element.{Element, Truth, Integer, IsOfSort, AreOfSorts}
+use Rattle.smt_values.specs.Operations.{DivisionByZero, operate}
+use Rattle.smt_terms.specs.Checking.{is_underscore_tree, sort_applied, sort_in, sorts_in, sort_of_call, sort_of_name, sort_of_operator, sort_of_plain, sort_of_rank, sort_of_symbol, sort_unless_variable}
+use Rattle.smt_terms.specs.Identifier.{Identifier, Plain, Indexed, applied, indexed, operator_of}
+use Rattle.smt_terms.specs.Signature.{AreDistinct, Entry, Origin, Declared, Defined, Names, Rank, Signature, entry_named, names_of, rank_of_entry, ranks_of}
+use Rattle.smt_terms.specs.WellSorted.{AreWellSorted, IsWellSorted, IsWellSortedFrom}
+use Rattle.smt_terms.specs.declared.fault.TermFault.{TermFault}
+use Rattle.smt_terms.specs.declared.fault.TermFault.TheVariants.{IllSorted, Unknown}
+use Rattle.smt_terms.proofs.NameLemmas.{same_name, same_self, none_step}
+use Rattle.smt_eval.specs.Agreement.{FitsScope, IsOfSorts}
+use Rattle.smt_eval.specs.Meaning.{Meaning, element_by, value_of, values_of, meaning_of_op, operators, defined_value, with_definition, meaning_after, meaning_in}
+use Rattle.smt_eval.proofs.MeaningLemmas.{value-other}
+
+-- where an identifier has a sort for arguments of some sorts, it gives an element of that sort for elements of those
+abbrev pub Fits : Names → Meaning → Type 0
+Fits names m = (f : Identifier) (sorts : List Sort) (sort : Sort) (es : List Element) → sort_applied names f sorts ≡ Ok sort → AreOfSorts sorts es → IsOfSort sort (m f es)
+
+-- the law of the operators
+abbrev pub ResultsAreOfTheirSorts : Type 0
+ResultsAreOfTheirSorts = (z : DivisionByZero) (op : Op) (sorts : List Sort) (sort : Sort) (es : List Element) → rank_of op sorts ≡ Some sort → AreOfSorts sorts es → IsOfSort sort (operate z op es)
+
+-- operators give what their ranks say
+operator-fits : ResultsAreOfTheirSorts → (z : DivisionByZero) (o : Result Op OpFault) (sorts : List Sort) (sort : Sort) (es : List Element)
+    → sort_of_operator o sorts ≡ Ok sort → AreOfSorts sorts es → IsOfSort sort (meaning_of_op z o es)
+operator-fits law z (Err ops.Unknown) sorts sort es is h = cc
+operator-fits law z (Err ops.Index) sorts sort es is h = cc
+operator-fits law z (Ok op) sorts sort es is h = by (rank_of op sorts) refl is
+  where
+    by : (o : Option Sort) → rank_of op sorts ≡ o → sort_of_rank o ≡ Ok sort → IsOfSort sort (operate z op es)
+    by None ranked is = cc
+    by (Some found) ranked is = let same : found ≡ sort = cc in law z op sorts sort es (ranked ∙ ap (λ (s : Sort). Some s) same) h
+
+Fits-operators : ResultsAreOfTheirSorts → (z : DivisionByZero) (theories : Theories) → Fits (record { theories = theories; ranks = [] }) (operators z theories)
+Fits-operators law z theories (Plain f) sorts sort es is h = operator-fits law z (operator_of theories (Plain f)) sorts sort es is h
+Fits-operators law z theories (Indexed f indexes) sorts sort es is h = operator-fits law z (operator_of theories (Indexed f indexes)) sorts sort es is h
+
+-- a first answer, where the whole is one
+first_ok : {A B : Type 0} (r : Result A TermFault) (next : A → Result B TermFault) (b : B) → result_and_then r next ≡ Ok b → (a : A) × (r ≡ Ok a) × (next a ≡ Ok b)
+first_ok (Ok a) next b h = (a, refl, h)
+first_ok (Err f) next b h = cc
+
+-- a variable, or else a name
+variable-fits : (names : Names) (m : Meaning) (x : List ℕ) (s : Option Sort) (e : Option Element) (sort : Sort) → Fits names m → IsOfSorts s e → sort_of_symbol names x s ≡ Ok sort
+    → IsOfSort sort (unwrap_or e (m (Plain x) []))
+variable-fits names m x None None sort fits h is = fits (Plain x) [] sort [] is tt
+variable-fits names m x None (Some e) sort fits h is = absurd h
+variable-fits names m x (Some s) None sort fits h is = absurd h
+variable-fits names m x (Some s) (Some e) sort fits h is = let same : s ≡ sort = cc in subst (λ t. IsOfSort t e) same h
+
+-- a call of what is no variable
+call_applied : (names : Names) (scope : List (List ℕ × Sort)) (f : Identifier) (sorts : List Sort) (sort : Sort) → sort_of_call names scope f sorts ≡ Ok sort → sort_applied names f sorts ≡ Ok sort
+call_applied names scope (Indexed f indexes) sorts sort is = is
+call_applied names scope (Plain f) sorts sort is = by (look_up scope f) is
+  where
+    by : (o : Option Sort) → sort_unless_variable o (sort_applied names (Plain f) sorts) ≡ Ok sort → sort_applied names (Plain f) sorts ≡ Ok sort
+    by None is = is
+    by (Some s) is = cc
+
+-- a numeral is an integer
+numeral-sort : (b : Bool) (sort : Sort) → cond b (Ok Int) (Err Unknown) ≡ Ok sort → sort ≡ Int
+numeral-sort true sort is = cc
+numeral-sort false sort is = cc
+
+-- a list with another head than `_`
+sort-other : (names : Names) (scope : List (List ℕ × Sort)) (head : Sexp) (args : Sexps) → is_underscore_tree head ≡ false
+    → sort_in names scope (Items (Cons head args)) ≡ result_and_then (applied head args) (λ f. result_and_then (sorts_in names scope args) (λ ss. sort_of_call names scope f ss))
+sort-other names scope (Reserved Underscore) args h = cc
+sort-other names scope _ args h = refl
+
+-- over names whose meaning fits, and variables whose values fit
+module _ (names : Names) (m : Meaning) (fits : Fits names m) (scope : List (List ℕ × Sort)) (r : List (List ℕ × Element)) (fit : FitsScope scope r) where
+  call-fits : (head : Sexp) (args : Sexps) (sort : Sort) → ((ss : List Sort) → sorts_in names scope args ≡ Ok ss → AreOfSorts ss (values_of m r args))
+      → result_and_then (applied head args) (λ f. result_and_then (sorts_in names scope args) (λ ss. sort_of_call names scope f ss)) ≡ Ok sort
+      → IsOfSort sort (element_by (applied head args) (λ f. m f (values_of m r args)))
+  call-fits head args sort all is =
+      let p = first_ok (applied head args) (λ f. result_and_then (sorts_in names scope args) (λ ss. sort_of_call names scope f ss)) sort is in
+      let q = first_ok (sorts_in names scope args) (λ ss. sort_of_call names scope p.0 ss) sort p.1.1 in
+      subst (λ o. IsOfSort sort (element_by o (λ f. m f (values_of m r args)))) (sym p.1.0)
+      (fits p.0 q.0 sort (values_of m r args) (call_applied names scope p.0 q.0 sort q.1.1) (all q.0 q.1.0))
+
+  list-fits : (head : Sexp) (args : Sexps) (sort : Sort) → ((ss : List Sort) → sorts_in names scope args ≡ Ok ss → AreOfSorts ss (values_of m r args)) → (b : Bool) → is_underscore_tree head ≡ b
+      → sort_in names scope (Items (Cons head args)) ≡ Ok sort → IsOfSort sort (value_of m r (Items (Cons head args)))
+  list-fits head args sort all false other is =
+      subst (λ e. IsOfSort sort e) (sym (value-other m r head args other)) (call-fits head args sort all (sym (sort-other names scope head args other) ∙ is))
+  list-fits (Reserved Underscore) args sort all true other is =
+      let p = first_ok (indexed args) (λ f. sort_applied names f []) sort is in
+      subst (λ o. IsOfSort sort (element_by o (λ f. m f []))) (sym p.1.0) (fits p.0 [] sort [] p.1.1 tt)
+  list-fits _ args sort all true other is = cc
+
+  mutual
+    pub term-fits : (t : Sexp) (sort : Sort) → sort_in names scope t ≡ Ok sort → IsOfSort sort (value_of m r t)
+    term-fits (Atom Symbol x) sort is = variable-fits names m x (look_up scope x) (look_up r x) sort fits (fit x) is
+    term-fits (Atom Numeral x) sort is = subst (λ s. IsOfSort s (value_of m r (Atom Numeral x))) (sym (numeral-sort names.theories.ints sort is)) tt
+    term-fits (Atom Decimal x) sort is = cc
+    term-fits (Atom Hexadecimal x) sort is = cc
+    term-fits (Atom Binary x) sort is = cc
+    term-fits (Atom Text x) sort is = cc
+    term-fits (Atom Keyword x) sort is = cc
+    term-fits (Reserved word) sort is = cc
+    term-fits (Items Nil) sort is = cc
+    term-fits (Items (Cons head args)) sort is = list-fits head args sort (λ ss h. terms-fit args ss h) (is_underscore_tree head) refl is
+
+    terms-fit : (ts : Sexps) (sorts : List Sort) → sorts_in names scope ts ≡ Ok sorts → AreOfSorts sorts (values_of m r ts)
+    terms-fit Nil sorts is = let none : [] ≡ sorts = cc in subst (λ ss. AreOfSorts ss []) none tt
+    terms-fit (Cons t ts) sorts is =
+        let p = first_ok (sort_in names scope t) (λ s. result_and_then (sorts_in names scope ts) (λ ss. Ok (s ∷ ss))) sorts is in
+        let q = first_ok (sorts_in names scope ts) (λ ss. Ok (p.0 ∷ ss)) sorts p.1.1 in
+        let whole : p.0 ∷ q.0 ≡ sorts = cc in
+        subst (λ ss. AreOfSorts ss (values_of m r (Cons t ts))) whole (term-fits t p.0 p.1.0, terms-fit ts q.0 q.1.0)
+
+-- values of the parameters' sorts make a scope
+FitsScope-zip : (ps : List (List ℕ)) (sorts : List Sort) (es : List Element) → AreOfSorts sorts es → FitsScope (zip ps sorts) (zip ps es)
+FitsScope-zip [] sorts es h x = tt
+FitsScope-zip (p ∷ ps) [] [] h x = tt
+FitsScope-zip (p ∷ ps) [] (e ∷ es) h x = absurd h
+FitsScope-zip (p ∷ ps) (s ∷ sorts) [] h x = absurd h
+FitsScope-zip (p ∷ ps) (s ∷ sorts) (e ∷ es) h x = by (bytes_eq x p) (FitsScope-zip ps sorts es h.1 x)
+  where
+    by : (b : Bool) → IsOfSorts (look_up (zip ps sorts) x) (look_up (zip ps es) x) → IsOfSorts (cond b (Some s) (look_up (zip ps sorts) x)) (cond b (Some e) (look_up (zip ps es) x))
+    by true rest = h.0
+    by false rest = rest
+
+-- ---- definitions
+
+-- the names of entries
+abbrev pub names_over : Theories → List Entry → Names
+names_over theories es = record { theories = theories; ranks = ranks_of es }
+
+option_or_none : {A : Type 0} (o : Option A) → option_or o None ≡ o
+option_or_none None = refl
+option_or_none (Some a) = refl
+
+-- the rank of a name, with one more entry at the end
+look_up-more : (es : List Entry) (e : Entry) (x : List ℕ) → look_up (ranks_of (es ++ e ∷ [])) x ≡ option_or (look_up (ranks_of es) x) (cond (bytes_eq x e.name) (Some (rank_of_entry e)) None)
+look_up-more [] e x = refl
+look_up-more (d ∷ es) e x = by (bytes_eq x d.name) (look_up-more es e x)
+  where
+    by : (b : Bool) → look_up (ranks_of (es ++ e ∷ [])) x ≡ option_or (look_up (ranks_of es) x) (cond (bytes_eq x e.name) (Some (rank_of_entry e)) None)
+        → cond b (Some (rank_of_entry d)) (look_up (ranks_of (es ++ e ∷ [])) x) ≡ option_or (cond b (Some (rank_of_entry d)) (look_up (ranks_of es) x)) (cond (bytes_eq x e.name) (Some (rank_of_entry e)) None)
+    by true rest = refl
+    by false rest = rest
+
+-- a name without an entry has no rank
+no_rank : (es : List Entry) (x : List ℕ) → entry_named es x ≡ None → look_up (ranks_of es) x ≡ None
+no_rank [] x h = refl
+no_rank (d ∷ es) x h = by (bytes_eq x d.name) h (λ g. no_rank es x g)
+  where
+    by : (b : Bool) → cond b (Some d) (entry_named es x) ≡ None → (entry_named es x ≡ None → look_up (ranks_of es) x ≡ None) → cond b (Some (rank_of_entry d)) (look_up (ranks_of es) x) ≡ None
+    by true h next = cc
+    by false h next = next h
+
+-- an entry after others has another name than those
+found_behind : (ds : List Entry) (e : Entry) (es : List Entry) (x : List ℕ) → e.name ≡ x → entry_named (ds ++ e ∷ es) x ≡ None → ⊥
+found_behind [] e es x is none = let p = none_step (bytes_eq x e.name) e (entry_named es x) none in let self : bytes_eq x e.name ≡ true = ap (λ n. bytes_eq x n) is ∙ same_self x in cc
+found_behind (d ∷ ds) e es x is none = found_behind ds e es x is (none_step (bytes_eq x d.name) d (entry_named (ds ++ e ∷ es) x) none).1
+
+none_before : (earlier : List Entry) (e : Entry) (es : List Entry) → AreDistinct (earlier ++ e ∷ es) → entry_named earlier e.name ≡ None
+none_before [] e es distinct = refl
+none_before (d ∷ earlier) e es distinct = by (bytes_eq e.name d.name) refl
+  where
+    by : (b : Bool) → bytes_eq e.name d.name ≡ b → cond b (Some d) (entry_named earlier e.name) ≡ None
+    by false other = none_before earlier e es distinct.1
+    by true is = absurd (found_behind earlier e es d.name (same_name e.name d.name is) distinct.0)
+
+-- sorts that pass the test are the same
+abbrev pub SameSorts : Type 0
+SameSorts = (a b : Sort) → is_same_sort a b ≡ true → a ≡ b
+
+exactly-same : SameSorts → (sorts args : List Sort) → are_exactly sorts args ≡ true → args ≡ sorts
+exactly-same same [] [] h = refl
+exactly-same same [] (a ∷ args) h = cc
+exactly-same same (s ∷ sorts) [] h = cc
+exactly-same same (s ∷ sorts) (a ∷ args) h = by (is_same_sort a s) refl h
+  where
+    by : (b : Bool) → is_same_sort a s ≡ b → (b && are_exactly sorts args) ≡ true → a ∷ args ≡ s ∷ sorts
+    by false is h = cc
+    by true is h = let head = same a s is in let tail = exactly-same same sorts args h in cc
+
+-- a name in force for arguments
+name-fits : SameSorts → (rank : Rank) (sorts : List Sort) (sort : Sort) → sort_of_name rank sorts ≡ Ok sort → (sorts ≡ rank.parameters) × (rank.sort ≡ sort)
+name-fits same rank sorts sort is = by (are_exactly rank.parameters sorts) refl is
+  where
+    by : (b : Bool) → are_exactly rank.parameters sorts ≡ b → cond b (Ok rank.sort) (Err IllSorted) ≡ Ok sort → (sorts ≡ rank.parameters) × (rank.sort ≡ sort)
+    by true all is = (exactly-same same rank.parameters sorts all, cc)
+    by false all is = cc
+
+-- what a definition gives
+definition-fits : (theories : Theories) (earlier : List Entry) (m : Meaning) (sorts : List Sort) (sort : Sort) (origin : Origin) (es : List Element) → Fits (names_over theories earlier) m
+    → IsWellSortedFrom (names_over theories earlier) sorts sort origin → AreOfSorts sorts es → IsOfSort sort (defined_value m origin es)
+definition-fits theories earlier m sorts sort (Declared command) es fits sorted h = absurd sorted
+definition-fits theories earlier m sorts sort (Defined ps body) es fits sorted h =
+    term-fits (names_over theories earlier) m fits (zip ps sorts) (zip ps es) (FitsScope-zip ps sorts es h) body sort sorted.sorted
+
+-- one more definition
+Fits-with : SameSorts → (theories : Theories) (earlier : List Entry) (m : Meaning) (e : Entry) → Fits (names_over theories earlier) m → IsWellSorted theories earlier e → entry_named earlier e.name ≡ None
+    → Fits (names_over theories (earlier ++ e ∷ [])) (with_definition m e)
+Fits-with same theories earlier m e fits sorted fresh (Indexed f indexes) sorts sort es is h = fits (Indexed f indexes) sorts sort es is h
+Fits-with same theories earlier m e fits sorted fresh (Plain f) sorts sort es is h = by (bytes_eq f e.name) refl
+  where
+    sort_by : Option Rank → Result Sort TermFault
+    sort_by o = sort_of_plain (names_over theories (earlier ++ e ∷ [])) f o sorts
+
+    by : (b : Bool) → bytes_eq f e.name ≡ b → IsOfSort sort (cond b (defined_value m e.origin es) (m (Plain f) es))
+    by true is_name =
+        let none = no_rank earlier f (ap (λ n. entry_named earlier n) (same_name f e.name is_name) ∙ fresh) in
+        let ranked : look_up (ranks_of (earlier ++ e ∷ [])) f ≡ Some (rank_of_entry e) = look_up-more earlier e f ∙ ap (λ o. option_or o (cond (bytes_eq f e.name) (Some (rank_of_entry e)) None)) none ∙ ap (λ b. cond b (Some (rank_of_entry e)) None) is_name in
+        let p = name-fits same (rank_of_entry e) sorts sort (sym (ap sort_by ranked) ∙ is) in
+        subst (λ s. IsOfSort s (defined_value m e.origin es)) p.1 (definition-fits theories earlier m e.parameters e.sort e.origin es fits sorted (subst (λ ss. AreOfSorts ss es) p.0 h))
+    by false other =
+        fits (Plain f) sorts sort es
+        (sym (ap sort_by (look_up-more earlier e f ∙ ap (λ b. option_or (look_up (ranks_of earlier) f) (cond b (Some (rank_of_entry e)) None)) other ∙ option_or_none (look_up (ranks_of earlier) f))) ∙ is) h
+
+-- and any
+Fits-after : SameSorts → (theories : Theories) (earlier es : List Entry) (m : Meaning) → Fits (names_over theories earlier) m → AreWellSorted theories earlier es → AreDistinct (earlier ++ es)
+    → Fits (names_over theories (earlier ++ es)) (meaning_after m es)
+Fits-after same theories earlier [] m fits sorted distinct = subst (λ ds. Fits (names_over theories ds) m) (sym (append-nil earlier)) fits
+Fits-after same theories earlier (e ∷ es) m fits sorted distinct =
+    let together = append_assoc earlier (e ∷ []) es in
+    subst (λ ds. Fits (names_over theories ds) (meaning_after (with_definition m e) es)) together
+    (Fits-after same theories (earlier ++ e ∷ []) es (with_definition m e) (Fits-with same theories earlier m e fits sorted.0 (none_before earlier e es distinct)) sorted.1 (subst AreDistinct (sym together) distinct))
+
+-- the value of a well-sorted term is of its sort
+pub sorted-value : ResultsAreOfTheirSorts → SameSorts → (z : DivisionByZero) (definitions : Signature) (scope : List (List ℕ × Sort)) (r : List (List ℕ × Element)) (term : Sexp) (sort : Sort)
+    → AreWellSorted definitions.theories [] definitions.entries → AreDistinct definitions.entries → FitsScope scope r → sort_in (names_of definitions) scope term ≡ Ok sort
+    → IsOfSort sort (value_of (meaning_in z definitions) r term)
+sorted-value law same z definitions scope r term sort sorted distinct fit is =
+    term-fits (names_of definitions) (meaning_in z definitions)
+    (Fits-after same definitions.theories [] definitions.entries (operators z definitions.theories) (Fits-operators law z definitions.theories) sorted distinct) scope r fit term sort is
