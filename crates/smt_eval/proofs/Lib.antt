@@ -1,2 +1,4 @@
 pub mod MeaningLemmas
 pub mod SortedValueLemmas
+pub mod CompleteModelLemmas
+pub mod NoMemoryLemmas

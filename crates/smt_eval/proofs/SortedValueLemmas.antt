@@ -90,9 +90,9 @@ module _ (names : Names) (m : Meaning) (fits : Fits names m) (scope : List (List
       → IsOfSort sort (element_by (applied head args) (λ f. m f (values_of m r args)))
   call-fits head args sort all is =
       let p = first_ok (applied head args) (λ f. result_and_then (sorts_in names scope args) (λ ss. sort_of_call names scope f ss)) sort is in
-      let q = first_ok (sorts_in names scope args) (λ ss. sort_of_call names scope p.0 ss) sort p.1.1 in
-      subst (λ o. IsOfSort sort (element_by o (λ f. m f (values_of m r args)))) (sym p.1.0)
-      (fits p.0 q.0 sort (values_of m r args) (call_applied names scope p.0 q.0 sort q.1.1) (all q.0 q.1.0))
+      let q = first_ok (sorts_in names scope args) (λ ss. sort_of_call names scope p.0 ss) sort p.2 in
+      subst (λ o. IsOfSort sort (element_by o (λ f. m f (values_of m r args)))) (sym p.1)
+      (fits p.0 q.0 sort (values_of m r args) (call_applied names scope p.0 q.0 sort q.2) (all q.0 q.1))
 
   list-fits : (head : Sexp) (args : Sexps) (sort : Sort) → ((ss : List Sort) → sorts_in names scope args ≡ Ok ss → AreOfSorts ss (values_of m r args)) → (b : Bool) → is_underscore_tree head ≡ b
       → sort_in names scope (Items (Cons head args)) ≡ Ok sort → IsOfSort sort (value_of m r (Items (Cons head args)))
@@ -100,7 +100,7 @@ module _ (names : Names) (m : Meaning) (fits : Fits names m) (scope : List (List
       subst (λ e. IsOfSort sort e) (sym (value-other m r head args other)) (call-fits head args sort all (sym (sort-other names scope head args other) ∙ is))
   list-fits (Reserved Underscore) args sort all true other is =
       let p = first_ok (indexed args) (λ f. sort_applied names f []) sort is in
-      subst (λ o. IsOfSort sort (element_by o (λ f. m f []))) (sym p.1.0) (fits p.0 [] sort [] p.1.1 tt)
+      subst (λ o. IsOfSort sort (element_by o (λ f. m f []))) (sym p.1) (fits p.0 [] sort [] p.2 tt)
   list-fits _ args sort all true other is = cc
 
   mutual
@@ -120,9 +120,9 @@ module _ (names : Names) (m : Meaning) (fits : Fits names m) (scope : List (List
     terms-fit Nil sorts is = let none : [] ≡ sorts = cc in subst (λ ss. AreOfSorts ss []) none tt
     terms-fit (Cons t ts) sorts is =
         let p = first_ok (sort_in names scope t) (λ s. result_and_then (sorts_in names scope ts) (λ ss. Ok (s ∷ ss))) sorts is in
-        let q = first_ok (sorts_in names scope ts) (λ ss. Ok (p.0 ∷ ss)) sorts p.1.1 in
+        let q = first_ok (sorts_in names scope ts) (λ ss. Ok (p.0 ∷ ss)) sorts p.2 in
         let whole : p.0 ∷ q.0 ≡ sorts = cc in
-        subst (λ ss. AreOfSorts ss (values_of m r (Cons t ts))) whole (term-fits t p.0 p.1.0, terms-fit ts q.0 q.1.0)
+        subst (λ ss. AreOfSorts ss (values_of m r (Cons t ts))) whole (term-fits t p.0 p.1, terms-fit ts q.0 q.1)
 
 -- values of the parameters' sorts make a scope
 FitsScope-zip : (ps : List (List ℕ)) (sorts : List Sort) (es : List Element) → AreOfSorts sorts es → FitsScope (zip ps sorts) (zip ps es)
@@ -172,11 +172,11 @@ found_behind (d ∷ ds) e es x is none = found_behind ds e es x is (none_step (b
 
 none_before : (earlier : List Entry) (e : Entry) (es : List Entry) → AreDistinct (earlier ++ e ∷ es) → entry_named earlier e.name ≡ None
 none_before [] e es distinct = refl
-none_before (d ∷ earlier) e es distinct = by (bytes_eq e.name d.name) refl
+none_before (d ∷ earlier) e es distinct = by (bytes_eq e.name d.name) refl (none_before earlier e es distinct.1)
   where
-    by : (b : Bool) → bytes_eq e.name d.name ≡ b → cond b (Some d) (entry_named earlier e.name) ≡ None
-    by false other = none_before earlier e es distinct.1
-    by true is = absurd (found_behind earlier e es d.name (same_name e.name d.name is) distinct.0)
+    by : (b : Bool) → bytes_eq e.name d.name ≡ b → entry_named earlier e.name ≡ None → cond b (Some d) (entry_named earlier e.name) ≡ None
+    by false other rest = rest
+    by true is rest = absurd (found_behind earlier e es d.name (same_name e.name d.name is) distinct.0)
 
 -- sorts that pass the test are the same
 abbrev pub SameSorts : Type 0
@@ -186,11 +186,11 @@ exactly-same : SameSorts → (sorts args : List Sort) → are_exactly sorts args
 exactly-same same [] [] h = refl
 exactly-same same [] (a ∷ args) h = cc
 exactly-same same (s ∷ sorts) [] h = cc
-exactly-same same (s ∷ sorts) (a ∷ args) h = by (is_same_sort a s) refl h
+exactly-same same (s ∷ sorts) (a ∷ args) h = by (is_same_sort a s) refl h (λ g. exactly-same same sorts args g)
   where
-    by : (b : Bool) → is_same_sort a s ≡ b → (b && are_exactly sorts args) ≡ true → a ∷ args ≡ s ∷ sorts
-    by false is h = cc
-    by true is h = let head = same a s is in let tail = exactly-same same sorts args h in cc
+    by : (b : Bool) → is_same_sort a s ≡ b → (b && are_exactly sorts args) ≡ true → (are_exactly sorts args ≡ true → args ≡ sorts) → a ∷ args ≡ s ∷ sorts
+    by false is h rest = cc
+    by true is h rest = let head = same a s is in let tail = rest h in cc
 
 -- a name in force for arguments
 name-fits : SameSorts → (rank : Rank) (sorts : List Sort) (sort : Sort) → sort_of_name rank sorts ≡ Ok sort → (sorts ≡ rank.parameters) × (rank.sort ≡ sort)

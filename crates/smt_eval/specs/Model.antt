@@ -1,11 +1,11 @@
 -- SMT-LIB 2.6, section 4.2.6: the model that an answer to `get-model` prints. The order of the faults, and that a model may begin
 -- with the symbol `model`, are this project's rules.
-use Rattle.std.specs.Prelude.{ℕ, ◌+◌, List, [], ◌∷◌, ◌++◌, Option, Some, None, is_some, Result, Ok, Err, codes, if◌then◌else◌}
+use Rattle.std.specs.Prelude.{◌≡◌, ℕ, ◌+◌, List, [], ◌∷◌, ◌++◌, true, slice_get, Option, Some, None, is_some, Result, Ok, Err, codes, if◌then◌else◌}
 use Rattle.std.specs.Option.{option_or}
 use Rattle.smt_text.specs.Sexp.{Sexp, Sexps, Nil, Cons, is_symbol}
 use Rattle.smt_theory.specs.Words.{result_and_then}
 use Rattle.smt_terms.specs.Items.{item_in, items_before}
-use Rattle.smt_terms.specs.Signature.{Entry, Origin, Declared, Defined, Signature, entry_named}
+use Rattle.smt_terms.specs.Signature.{Entry, Origin, Declared, Defined, IsDeclared, Signature, entry_named}
 use Rattle.smt_terms.specs.declared.fault.TermFault.{TermFault}
 use Rattle.smt_eval.specs.declared.interpretation.ModelFault.{ModelFault}
 use Rattle.smt_eval.specs.declared.interpretation.ModelFault.TheVariants.{Item, Lacks}
@@ -50,3 +50,15 @@ complete_or (Some command) definitions = Err (Lacks command)
 abbrev pub model_in : Signature → Sexps → Result Signature ModelFault
 model_in script parts =
     result_and_then (items_from script [] 1 (items_of parts)) (λ items. complete_or (first_lacking script.entries items) (items_before script items))
+
+-- ---- what a model is, item by item
+
+-- the trees are items of a model of the script's names behind earlier ones, and these are the definitions that they are, in order
+abbrev pub AreItems : Signature → List Entry → Sexps → List Entry → Type 0
+AreItems script earlier Nil [] = Unit {0}
+AreItems script earlier (Cons x xs) (e ∷ es) = (item_in script earlier x ≡ Ok e) × AreItems script (earlier ++ e ∷ []) xs es
+AreItems script earlier _ _ = ⊥
+
+-- each entry that a command declared is defined by an item
+abbrev pub AreDefined : List Entry → List Entry → Type 0
+AreDefined entries items = (place : ℕ) (e : Entry) → slice_get entries place ≡ Some e → IsDeclared e.origin → is_some (entry_named items e.name) ≡ true
