@@ -39,7 +39,7 @@ Means-operators law z theories f ks es h = by (operator_of theories f)
     by (Ok op) = law z op ks es h
 
 -- a list with another head than `_`
-known-other : (k : KnownMeaning) (r : List (List ℕ × Option Element)) (head : Sexp) (args : Sexps) → is_underscore_tree head ≡ false
+pub known-other : (k : KnownMeaning) (r : List (List ℕ × Option Element)) (head : Sexp) (args : Sexps) → is_underscore_tree head ≡ false
     → known_of k r (Items (Cons head args)) ≡ known_by (applied head args) (λ f. k f (knowns_of k r args))
 known-other k r (Reserved Underscore) args h = cc
 known-other k r _ args h = refl

@@ -3,3 +3,5 @@ pub mod Known
 pub mod Agreement
 pub mod Model
 pub mod CompleteModel
+pub mod Interpretation
+pub mod Internal

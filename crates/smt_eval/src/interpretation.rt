@@ -1,6 +1,25 @@
 //! Models, as solvers print them.
 
-use smt_terms::TermFault;
+ghost use Rattle.std.specs.Prelude.{◌≡◌, ◌⊎◌, [], length, Ok, Err, MatchResult, IfOk};
+ghost use Rattle.smt_text.specs.Tree.{sexps_of};
+ghost use Rattle.smt_values.specs.Element.{known_elements};
+ghost use Rattle.smt_terms.specs.Items.{items_before};
+ghost use Rattle.smt_terms.specs.Library.{StandsFor};
+ghost use Rattle.smt_terms.specs.Signature.{AreDistinct, Entry, Signature};
+ghost use Rattle.std.specs.Prelude.{List};
+ghost use Rattle.smt_eval.specs.Internal.DefinitionValues.{AreConstants, Evaluates, definition_values};
+ghost use Rattle.smt_eval.specs.Internal.ItemFault.{fault_of_item};
+ghost use Rattle.smt_eval.specs.Interpretation.{IsInterpretation};
+ghost use Rattle.smt_eval.specs.Model as model;
+ghost use Rattle.smt_eval.specs.Model.{model_in, items_from, items_of};
+ghost use Rattle.smt_eval.specs.declared.interpretation.ModelFault.TheVariants.{Memory as OutOfMemory};
+
+use crate::evaluator::known_value;
+use crate::laws::models_are_complete;
+use crate::memory::Memory;
+use smt_terms::{Library, TermFault};
+use smt_text::{Tree, Trees, split_first};
+use smt_values::Value;
 
 /// Why a model can't be used.
 #[derive(Clone, Copy, Debug, PartialEq, Eq)]
@@ -11,4 +30,98 @@ pub enum ModelFault {
     Lacks { command: u64 },
     /// Memory was refused.
     Memory,
+}
+
+/// The definitions of a model, in order, and what is known of the value of each.
+#[derive(Drop)]
+pub struct Interpretation {
+    pub(crate) definitions: Library,
+    pub(crate) values: Vec<Option<Value>>,
+}
+
+impl Interpretation {
+    /// Reads a model of the names of a library (SMT-LIB 2.6, section 4.2.6). Refused are the first item with a fault, before a
+    /// declared name that is lacking, and want of memory.
+    pub fn read(declared: &Library, model: &Trees) -> Result<Interpretation, ModelFault>
+        requires { (s : Signature) × StandsFor declared.now s }
+        ensures { (s : Signature) → StandsFor declared.now s → MatchResult result (λ i. (d : Signature) × (model_in s model.now ≡ Ok d) × IsInterpretation i d)
+            (λ fault. (fault ≡ OutOfMemory) ⊎ (model_in s model.now ≡ Err fault)) }
+    {
+        let definitions = read_items(declared, items(model.as_slice()))?;
+        if let Some(command) = first_lacking(declared, &definitions) {
+            return Err(ModelFault::Lacks { command });
+        }
+        models_are_complete();
+        let values = values_of(&definitions)?;
+        Ok(Interpretation {
+            definitions,
+            values,
+        })
+    }
+}
+
+// The library of what the items define, in order, or the first fault.
+fn read_items(declared: &Library, items: &[Tree]) -> Result<Library, ModelFault>
+    ensures { (s : Signature) → StandsFor declared.now s
+        → MatchResult result (λ library. (es : List Entry) × (items_from s [] 1 (sexps_of items.now) ≡ Ok es) × StandsFor library (items_before s es))
+        (λ fault. (fault ≡ OutOfMemory) ⊎ (items_from s [] 1 (sexps_of items.now) ≡ Err fault)) }
+{
+    let mut definitions = declared.for_model();
+    for (index, item) in items.iter().enumerate() {
+        if let Err(fault) = definitions.define_item(declared, item) {
+            return Err(item_fault(index as u64 + 1, fault));
+        }
+    }
+    Ok(definitions)
+}
+
+fn item_fault(number: u64, fault: TermFault) -> ModelFault
+    ensures { result ≡ fault_of_item number fault }
+{
+    if fault == TermFault::Memory {
+        ModelFault::Memory
+    } else {
+        ModelFault::Item { number, fault }
+    }
+}
+
+// The items of a model: a leading symbol `model` is none.
+fn items(trees: &[Tree]) -> &[Tree]
+    ensures { sexps_of result.now ≡ items_of (sexps_of trees.now) }
+{
+    match split_first(trees) {
+        Some((first, rest)) if first.is_symbol(b"model") => rest,
+        _ => trees,
+    }
+}
+
+// The command of the first declared name that isn't defined.
+fn first_lacking(declared: &Library, definitions: &Library) -> Option<u64>
+    requires { (s : Signature) × StandsFor declared.now s }
+    ensures { (s d : Signature) → StandsFor declared.now s → StandsFor definitions.now d → result ≡ model.first_lacking s.entries d.entries }
+{
+    let mut left = declared.declared();
+    while let Some((declaration, rest)) = left.split_first() {
+        if definitions.find(declared.name(declaration.name)).is_none() {
+            return Some(declaration.command);
+        }
+        left = rest;
+    }
+    None
+}
+
+// What is known of the value of each definition, in order.
+fn values_of(definitions: &Library) -> Result<Vec<Option<Value>>, Memory>
+    requires { (d : Signature) × StandsFor definitions.now d }
+    ensures { (d : Signature) → StandsFor definitions.now d → AreConstants d.entries → AreDistinct d.entries
+        → IfOk result (λ values. known_elements values.items ≡ definition_values d) }
+{
+    let mut values = Vec::new(definitions.alloc());
+    let mut left = definitions.definitions();
+    while let Some((definition, rest)) = left.split_first() {
+        let body = definitions.tree(definition.body);
+        values.push(known_value(definitions, values.as_slice(), body)?)?;
+        left = rest;
+    }
+    Ok(values)
 }

@@ -1,6 +1,6 @@
 //! What holds of the definitions that the contracts name. Nothing here does anything: each contract is a law.
 
-ghost use Rattle.std.specs.Prelude.{◌≡◌, ◌↔◌, ℕ, List, [], Ok, Option};
+ghost use Rattle.std.specs.Prelude.{◌≡◌, ◌↔◌, ℕ, List, [], Ok, Err, Option};
 ghost use Rattle.smt_text.specs.Sexp.{Sexp, Sexps};
 ghost use Rattle.smt_theory.specs.declared.sort.Sort.{Sort};
 ghost use Rattle.smt_values.specs.Element.{Agrees, Element, IsOfSort};
@@ -10,10 +10,15 @@ ghost use Rattle.smt_terms.specs.Items.{items_before};
 ghost use Rattle.smt_terms.specs.Signature.{AreDistinct, Entry, Signature, names_of};
 ghost use Rattle.smt_terms.specs.WellSorted.{AreWellSorted};
 ghost use Rattle.smt_eval.specs.Agreement.{AgreesWith, FitsScope};
+ghost use Rattle.smt_terms.specs.declared.fault.TermFault.TheVariants.{Memory};
+ghost use Rattle.smt_eval.specs.CompleteModel.{IsModelOf};
 ghost use Rattle.smt_eval.specs.Known.{known_in, known_of};
 ghost use Rattle.smt_eval.specs.Meaning.{value_over};
 ghost use Rattle.smt_eval.specs.Model.{AreDefined, AreItems, items_of, model_in};
+ghost use Rattle.smt_eval.specs.declared.interpretation.ModelFault.TheVariants.{Item, Memory as OutOfMemory};
 
+use smt_terms::laws as terms;
+use smt_terms::laws::items_are_well_sorted;
 use smt_theory::laws::{ranks_are_the_table, sorts_are_compared};
 use smt_values::laws::{known_results_are_true, results_are_of_their_sorts};
 
@@ -36,6 +41,22 @@ pub fn well_sorted_terms_have_values()
     ranks_are_the_table();
     results_are_of_their_sorts();
     sorts_are_compared();
+}
+
+/// The definitions of a model are over the script's theories and well sorted, none stands twice, and there is one of each declared name,
+/// with the rank that it was declared with (SMT-LIB 2.6, section 4.2.6).
+pub fn models_are_complete()
+    ensures { (script : Signature) (parts : Sexps) (definitions : Signature) → model_in script parts ≡ Ok definitions → IsModelOf script parts definitions }
+{
+    items_are_well_sorted();
+}
+
+/// No definition answers that memory was refused.
+pub fn faults_are_no_memory()
+    ensures models { (script : Signature) (parts : Sexps) → model_in script parts ≡ Err OutOfMemory → ⊥ }
+    ensures items { (script : Signature) (parts : Sexps) (number : ℕ) → model_in script parts ≡ Err (Item number Memory) → ⊥ }
+{
+    terms::faults_are_no_memory();
 }
 
 /// A model of the script's names is its items: they are definitions in order, each over the earlier ones, and every declared name is

@@ -1,0 +1,2 @@
+pub mod DefinitionValues
+pub mod ItemFault

@@ -1,0 +1,11 @@
+-- A fault of an item of a model, by its number.
+use Rattle.std.specs.Prelude.{ℕ}
+use Rattle.smt_terms.specs.declared.fault.TermFault.{TermFault}
+use Rattle.smt_terms.specs.declared.fault.TermFault.TheVariants.{Memory}
+use Rattle.smt_eval.specs.declared.interpretation.ModelFault.{ModelFault}
+use Rattle.smt_eval.specs.declared.interpretation.ModelFault.TheVariants.{Item, Memory as OutOfMemory}
+
+-- want of memory is no item's
+abbrev pub fault_of_item : ℕ → TermFault → ModelFault
+fault_of_item number Memory = OutOfMemory
+fault_of_item number fault = Item number fault

@@ -1,0 +1,19 @@
+//! Terms that have been checked, whatever they are kept as.
+
+use crate::memory::Memory;
+use smt_values::Value;
+
+/// A closed term, with the definitions that it stands over.
+pub trait Checked {
+    ghost use Rattle.std.specs.Prelude.{◌≡◌, IfOk};
+    ghost use Rattle.smt_text.specs.Sexp.{Sexp};
+    ghost use Rattle.smt_values.specs.Element.{known_element};
+    ghost use Rattle.smt_terms.specs.Signature.{Signature};
+    ghost use Rattle.smt_eval.specs.Known.{known_over};
+
+    ghost IsTerm: { Self → Signature → Sexp → Type 0 };
+
+    /// What is known of the term's value, over its definitions; `None` says that it is open.
+    fn known(&self) -> Result<Option<Value>, Memory>
+        ensures { IfOk result (λ v. (definitions : Signature) (term : Sexp) → IsTerm self.now definitions term → known_element v ≡ known_over definitions term) };
+}
