@@ -1,6 +1,5 @@
 -- What each command does to a stack.
 use Rattle.std.proofs.Common.{◌≡◌, ℕ, List, [], ◌∷◌, ◌++◌, ◌⊎◌, inl, inr, Bool, true, false, cond, ◌||◌, Option, Some, Result, Ok, Err, refl, ap, sym, subst, ◌∙◌}
-use Rattle.std.proofs.Math.Bool.{or-false, or-true}
 use Rattle.std.proofs.lemmas.List.{append-nil}
 use Rattle.std.specs.Global.{Vec}
 use Rattle.smt_text.specs.Sexp.{Sexp, Nil}
@@ -18,11 +17,14 @@ use Rattle.smt_terms.specs.declared.fault.TermFault.{TermFault}
 use Rattle.smt_terms.specs.declared.fault.TermFault.TheVariants as terms
 use Rattle.smt_terms.specs.declared.library.Library.{Library}
 use Rattle.smt_terms.specs.declared.library.TermId.{TermId}
-use Rattle.smt_script.specs.Command.{SetLogic, DeclareConst, Assert, CheckSat, GetModel}
+use Rattle.smt_script.specs.Command.{Command, SetLogic, DeclareConst, Assert, CheckSat, GetModel}
+use Rattle.smt_script.specs.CommandView.{command_view}
+use Rattle.smt_script.specs.declared.command.Command as code
+use Rattle.smt_script.specs.declared.command.Command.TheVariants as variants
 use Rattle.smt_script.specs.Stack as spec
 use Rattle.smt_script.specs.Stack.{Numbered, assertions_by, assertions_in_force, command_fault, declaration_or_none, fault_of_declaration, fault_of_effect, fault_of_formula, fault_of_logic, fixes_logic, is_logic_fixed, names_in_force, signature_in_force, theories_in_force, theories_or}
 use Rattle.smt_script.specs.StackView.{AreAssertions, StandsFor}
-use Rattle.smt_script.specs.Internal.Effect.{HasEffect, IsUnchanged}
+use Rattle.smt_script.specs.Internal.Effect.{HasEffect, IsUnchanged, noted}
 use Rattle.smt_script.specs.declared.fault.CommandFault.{CommandFault}
 use Rattle.smt_script.specs.declared.fault.CommandFault.TheVariants.{Term, Memory}
 use Rattle.smt_script.specs.declared.stack.Assertion.{Assertion}
@@ -67,6 +69,10 @@ stands_after new cs c names assertions fixed =
       fixed = fixed ∙ sym (fixed-push cs c);
     }
 
+-- the note is the one after the command
+note_of : (s : Stack) (command : Command) (cs : List Numbered) → s.fixed ≡ is_logic_fixed cs → (s.fixed || fixes_logic command) ≡ (is_logic_fixed cs || fixes_logic command)
+note_of s command cs h = ap (λ (b : Bool). b || fixes_logic command) h
+
 -- the names and assertions of a command that brings none
 same_names : (l : Library) (cs : List Numbered) → library.StandsFor l (signature_in_force cs) → library.StandsFor l (record { theories = theories_in_force cs; entries = names_in_force cs ++ [] })
 same_names l cs h =
@@ -78,24 +84,29 @@ same_assertions l as' cs h =
     let P : List spec.Assertion → Type 0 = λ bs. AreAssertions l as' bs in
     subst P (sym (append-nil (assertions_in_force cs))) h
 
-pub check_effect : (s : Stack) (n : ℕ) → HasEffect s (record s { fixed = true }) n CheckSat
+check_effect : (s : Stack) (n : ℕ) → HasEffect s s n CheckSat
 check_effect s n = record {
   faultless = λ cs h. refl;
   stands = λ cs h.
-      stands_after (record s { fixed = true }) cs (record { number = n; command = CheckSat }) (same_names s.library cs h.library)
-      (same_assertions s.library s.assertions.items cs h.assertions) (sym (or-true (is_logic_fixed cs)));
+      stands_after (noted CheckSat s) cs (record { number = n; command = CheckSat }) (same_names s.library cs h.library)
+      (same_assertions s.library s.assertions.items cs h.assertions) (note_of s CheckSat cs h.fixed);
 }
 
-pub model_effect : (s : Stack) (n : ℕ) → HasEffect s s n GetModel
+model_effect : (s : Stack) (n : ℕ) → HasEffect s s n GetModel
 model_effect s n = record {
   faultless = λ cs h. refl;
   stands = λ cs h.
-      stands_after s cs (record { number = n; command = GetModel }) (same_names s.library cs h.library)
-      (same_assertions s.library s.assertions.items cs h.assertions) (h.fixed ∙ sym (or-false (is_logic_fixed cs)));
+      stands_after (noted GetModel s) cs (record { number = n; command = GetModel }) (same_names s.library cs h.library)
+      (same_assertions s.library s.assertions.items cs h.assertions) (note_of s GetModel cs h.fixed);
 }
 
+-- a command that changes nothing but the note
+pub idle_effect : (s : Stack) (n : ℕ) (command : code.Command) → (command ≡ variants.CheckSat) ⊎ (command ≡ variants.GetModel) → HasEffect s s n (command_view command)
+idle_effect s n command (inl e) = rw (ap command_view e) (check_effect s n)
+idle_effect s n command (inr e) = rw (ap command_view e) (model_effect s n)
+
 pub logic_effect : (old : Stack) (l : Library) (theories : Theories) (name : List ℕ) → old.fixed ≡ false → theories_named name ≡ Some theories → library.StandsFor l (no_names theories)
-    → (n : ℕ) → HasEffect old (record old { library = l; fixed = true }) n (SetLogic name)
+    → (n : ℕ) → HasEffect old (record old { library = l }) n (SetLogic name)
 logic_effect old l theories name free named fresh n = record {
   faultless = λ cs h. rw (sym h.fixed ∙ free, named);
   stands = λ cs h.
@@ -107,10 +118,10 @@ logic_effect old l theories name free named fresh n = record {
       let same : no_names theories ≡ signature_after cs (record { number = n; command = SetLogic name }) =
       ap (λ (o : Option Theories). no_names (theories_or (theories_in_force cs) o)) (sym named)
       ∙ ap (λ (es : List Entry). record { theories = theories_or (theories_in_force cs) (theories_named name); entries = es ++ [] }) (sym (no_names_in_force cs unfixed)) in
-      stands_after (record old { library = l; fixed = true }) cs (record { number = n; command = SetLogic name })
+      stands_after (noted (SetLogic name) (record old { library = l })) cs (record { number = n; command = SetLogic name })
       (subst P same fresh)
       (same_assertions l old.assertions.items cs (subst R (sym empty) (none_of_any old.library l old.assertions.items (subst Q empty h.assertions))))
-      (sym (or-true (is_logic_fixed cs)));
+      (note_of old (SetLogic name) cs h.fixed);
 }
 
 -- what is declared is what the command brings
@@ -125,17 +136,17 @@ DeclaresIn old new n x sort =
     (s : Signature) → library.StandsFor old s → (e : Entry) × (declared_in (names_of s) n x Nil sort ≡ Ok e) × library.StandsFor new (with_entry s e)
 
 pub declare_effect : (old : Stack) (l : Library) (n : ℕ) (x : List ℕ) (sort : Sexp) → DeclaresIn old.library l n x sort → KeepsTerms old.library l
-    → HasEffect old (record old { library = l; fixed = true }) n (DeclareConst x sort)
+    → HasEffect old (record old { library = l }) n (DeclareConst x sort)
 declare_effect old l n x sort declares keeps = record {
   faultless = λ cs h. ap fault_of_declaration (declares (signature_in_force cs) h.library).1;
   stands = λ cs h.
       let made = declares (signature_in_force cs) h.library in
       let s = signature_in_force cs in
       let P : List Entry → Type 0 = λ es. library.StandsFor l (record { theories = theories_in_force cs; entries = names_in_force cs ++ es }) in
-      stands_after (record old { library = l; fixed = true }) cs (record { number = n; command = DeclareConst x sort })
+      stands_after (noted (DeclareConst x sort) (record old { library = l })) cs (record { number = n; command = DeclareConst x sort })
       (subst P (sym (declared_is_brought (is_taken (names_of s) x) x n (rank_named (names_of s) Nil sort) made.0 made.1)) made.2)
       (same_assertions l old.assertions.items cs (assertions_stay old.library l keeps old.assertions.items _ h.assertions))
-      (sym (or-true (is_logic_fixed cs)));
+      (note_of old (DeclareConst x sort) cs h.fixed);
 }
 
 -- a formula over the names
@@ -144,16 +155,16 @@ ChecksIn old new i sort term = (s : Signature) → library.StandsFor old s → (
 
 pub assert_effect : (old : Stack) (l : Library) (as' : Vec Assertion) (a : Assertion) (sort : Sort) (term : Sexp) → ChecksIn old.library l a.term sort term → KeepsNames old.library l → KeepsTerms old.library l
     → is_same_sort sort Boolean ≡ true → as'.items ≡ old.assertions.items ++ a ∷ []
-    → HasEffect old (record old { library = l; assertions = as'; fixed = true }) a.command (Assert term)
+    → HasEffect old (record old { library = l; assertions = as' }) a.command (Assert term)
 assert_effect old l as' a sort term checks names keeps formula pushed = record {
   faultless = λ cs h. rw ((checks (signature_in_force cs) h.library).0, formula);
   stands = λ cs h.
       let P : List Assertion → Type 0 = λ xs. AreAssertions l xs (assertions_in_force cs ++ record { command = a.command; term = term } ∷ []) in
-      stands_after (record old { library = l; assertions = as'; fixed = true }) cs (record { number = a.command; command = Assert term })
+      stands_after (noted (Assert term) (record old { library = l; assertions = as' })) cs (record { number = a.command; command = Assert term })
       (same_names l cs (names _ h.library))
       (subst P (sym pushed)
       (one_more_assertion l old.assertions.items _ a (record { command = a.command; term = term }) (assertions_stay old.library l keeps old.assertions.items _ h.assertions) refl (checks (signature_in_force cs) h.library).1))
-      (sym (or-true (is_logic_fixed cs)));
+      (note_of old (Assert term) cs h.fixed);
 }
 
 -- a library with the same names and more terms changes nothing

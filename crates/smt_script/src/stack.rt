@@ -100,10 +100,12 @@ impl Stack {
         ensures unchanged { OnErr result (((commands : List Numbered) → StandsFor self.old commands → StandsFor self.new commands) × (last_of self.new ≡ last_of self.old)) }
     {
         self.take_effect(number, command)?;
+        self.fixed |= fixes_logic(command);
         self.last = number;
         Ok(())
     }
 
+    // What a command does to all but `fixed` and `last`.
     fn take_effect(&mut self, number: u64, command: &Command) -> Result<(), CommandFault>
         ensures effect { OnOk result (HasEffect self.old self.new number (command_view command.now)) }
         ensures refused { IfErr result (λ fault. IsRefused self.old number (command_view command.now) fault) }
@@ -113,11 +115,7 @@ impl Stack {
             Command::SetLogic { name } => self.set_logic(name.as_slice()),
             Command::DeclareConst { name, sort } => self.declare(number, name.as_slice(), sort),
             Command::Assert { term } => self.assert(number, term),
-            Command::CheckSat => {
-                self.fixed = true;
-                Ok(())
-            }
-            Command::GetModel => Ok(()),
+            Command::CheckSat | Command::GetModel => Ok(()),
         }
     }
 
@@ -134,7 +132,6 @@ impl Stack {
             return Err(CommandFault::Logic);
         };
         self.library = Library::new(self.alloc, theories);
-        self.fixed = true;
         Ok(())
     }
 
@@ -144,9 +141,7 @@ impl Stack {
         ensures unchanged { OnErr result (IsUnchanged self.old self.new) }
     {
         faults_are_no_memory();
-        self.library.declare(number, name, &[], sort)?;
-        self.fixed = true;
-        Ok(())
+        Ok(self.library.declare(number, name, &[], sort)?)
     }
 
     fn assert(&mut self, number: u64, term: &Tree) -> Result<(), CommandFault>
@@ -161,8 +156,18 @@ impl Stack {
         }
         let command = number;
         self.assertions.push(Assertion { command, term })?;
-        self.fixed = true;
         Ok(())
+    }
+}
+
+// Whether no logic may be set after the command.
+fn fixes_logic(command: &Command) -> bool
+    ensures { result ≡ stack.fixes_logic (command_view command.now) }
+{
+    match command {
+        Command::SetLogic { .. } | Command::DeclareConst { .. } => true,
+        Command::Assert { .. } | Command::CheckSat => true,
+        Command::GetModel => false,
     }
 }
 

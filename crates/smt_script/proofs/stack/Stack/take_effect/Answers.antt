@@ -4,7 +4,7 @@ use Rattle.smt_script.specs.CommandView.{command_view}
 use Rattle.smt_script.specs.Internal.Effect.{IsRefused}
 use Rattle.smt_script.specs.declared.fault.CommandFault.{CommandFault}
 use Rattle.smt_script.specs.declared.stack.Stack.{Stack}
-use Rattle.smt_script.proofs.EffectLemmas.{check_effect, model_effect}
+use Rattle.smt_script.proofs.EffectLemmas.{idle_effect}
 use Rattle.smt_script.proofs.stack.Stack.take_effect.Goals as goal
 
 refused_at : (r : Result (Unit {0}) CommandFault) (old : Stack) (name : List ℕ) (command : Command) (n : ℕ) → command ≡ SetLogic name
@@ -18,7 +18,7 @@ returns-in-SetLogic-clause-refused c =
     (ap command_view c.in-SetLogic.is ∙ ap (λ x. SetLogic x) (sym c.as_slice.ensures)) c.set_logic.ensures.refused
 
 pub returns-in-CheckSat-clause-effect : goal.returns-in-CheckSat-clause-effect
-returns-in-CheckSat-clause-effect c = rw (ap command_view c.in-CheckSat.is) (check_effect c.args.self.now c.args.number)
+returns-in-CheckSat-clause-effect c = idle_effect c.args.self.now c.args.number c.args.command.now c.in-CheckSat.is
 
-pub returns-in-GetModel-clause-effect : goal.returns-in-GetModel-clause-effect
-returns-in-GetModel-clause-effect c = rw (ap command_view c.in-GetModel.is) (model_effect c.args.self.now c.args.number)
+pub returns-in-CheckSat-2-clause-effect : goal.returns-in-CheckSat-2-clause-effect
+returns-in-CheckSat-2-clause-effect c = idle_effect c.args.self.now c.args.number c.args.command.now c.in-CheckSat.is
