@@ -3,9 +3,9 @@ use Rattle.std.proofs.Common.{◌≡◌, ◌<◌, ℕ, List, [], ◌∷◌, ◌+
 use Rattle.smt_text.specs.TreeJoins.{sexps_of-append}
 use Rattle.smt_text.specs.Sexp.{Sexp, Sexps, Atom, Items, Reserved, Nil, Cons, append}
 use Rattle.smt_text.specs.Sexp as sexp
-use Rattle.smt_script.specs.Command.{Assert, DeclareConst, command_of}
+use Rattle.smt_script.specs.Command.{Assert, DeclareConst, SetLogic, command_of}
 use Rattle.smt_script.specs.Internal.CommandForm.{HasForm}
-use Rattle.smt_script.specs.declared.forms.CommandForm.TheVariants.{Declaration, Assertion}
+use Rattle.smt_script.specs.declared.forms.CommandForm.TheVariants.{Declaration, Assertion, Logic}
 use Rattle.smt_text.specs.declared.tree.Tree.TheVariants.{Numeral, Decimal, Hex, Bin, Text, Symbol, Reserved as Worded, Keyword, List as Listed}
 use Rattle.smt_text.specs.declared.reserved.Word.TheVariants as words
 use Rattle.smt_text.specs.Tree.{sexp_of, sexps_of}
@@ -39,6 +39,14 @@ pub assertion_read : (items rest : List Tree) (term : Tree) (parts : Sexps) → 
 assertion_read items rest term parts seen split h =
     let e = split_two (sexps_of rest) (sexp_of term) (Reserved words.Assert) h.0 (by_last items rest term parts seen split ∙ h.1) in
     rw h.1 (ap (λ (t : Sexp). Ok (Assert t)) (sym e.0))
+
+-- the last tree of the setting of a logic is the symbol
+pub logic_symbol : (items rest : List Tree) (name : Tree) (parts : Sexps) → sexps_of items ≡ parts → items ≡ rest ++ name ∷ [] → (h : HasForm Logic parts) → sexp_of name ≡ Atom sexp.Symbol h.0
+logic_symbol items rest name parts seen split h =
+    (split_two (sexps_of rest) (sexp_of name) (Reserved words.SetLogic) (Atom sexp.Symbol h.0) (by_last items rest name parts seen split ∙ h.1)).0
+
+pub logic_read : (parts : Sexps) (name : List ℕ) (h : HasForm Logic parts) → Atom sexp.Symbol name ≡ Atom sexp.Symbol h.0 → command_of (Items parts) ≡ Ok (SetLogic name)
+logic_read parts name h same_name = rw h.1 (let e : name ≡ h.0 = cc in cc)
 
 -- the two trees before the last of a declaration
 pub declaration_rest : (items rest : List Tree) (sort : Tree) (parts : Sexps) → sexps_of items ≡ parts → items ≡ rest ++ sort ∷ [] → (h : HasForm Declaration parts) → (sexp_of sort ≡ h.1) × (sexps_of rest ≡ Cons (Reserved words.DeclareConst) (Cons (Atom sexp.Symbol h.0) Nil))

@@ -1,1 +1,3 @@
 pub mod FormLemmas
+pub mod InForceLemmas
+pub mod EffectLemmas

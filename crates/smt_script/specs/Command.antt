@@ -7,6 +7,7 @@ use Rattle.smt_script.specs.declared.fault.CommandFault.{CommandFault}
 use Rattle.smt_script.specs.declared.fault.CommandFault.TheVariants.{Form, Unsupported}
 
 pub data Command : Type 0 where
+  SetLogic : (name : List ℕ) → Command
   DeclareConst : (name : List ℕ) → (sort : Sexp) → Command
   Assert : (term : Sexp) → Command
   CheckSat : Command
@@ -32,10 +33,12 @@ refused_word words.Assert = Form
 refused_word words.CheckSat = Form
 refused_word words.DeclareConst = Form
 refused_word words.GetModel = Form
+refused_word words.SetLogic = Form
 refused_word _ = Unsupported
 
 -- the command that a tree is, or why it is refused
 abbrev pub command_of : Sexp → Result Command CommandFault
+command_of (Items (Cons (Reserved words.SetLogic) (Cons (Atom Symbol x) Nil))) = Ok (SetLogic x)
 command_of (Items (Cons (Reserved words.DeclareConst) (Cons (Atom Symbol x) (Cons sort Nil)))) = Ok (DeclareConst x sort)
 command_of (Items (Cons (Reserved words.Assert) (Cons term Nil))) = Ok (Assert term)
 command_of (Items (Cons (Reserved words.CheckSat) Nil)) = Ok CheckSat

@@ -1,6 +1,6 @@
 //! What can be wrong with a command.
 
-use core_terms::TermFault;
+use smt_terms::TermFault;
 use std::alloc::{AllocError, AllocFailed};
 use std::fmt;
 
@@ -11,6 +11,8 @@ pub enum CommandFault {
     Form,
     /// It is a command of the standard, and isn't supported (`C2`).
     Unsupported,
+    /// It sets a logic that isn't taken, or sets one too late (`C5`).
+    Logic,
     /// A term, a sort or a name in it has a fault (`C7`).
     Term { fault: TermFault },
     /// Memory was refused (`C0`).
@@ -27,6 +29,7 @@ impl fmt::Display for CommandFault {
         match self {
             CommandFault::Form => write!(f, "C1"),
             CommandFault::Unsupported => write!(f, "C2"),
+            CommandFault::Logic => write!(f, "C5"),
             CommandFault::Term { fault } => write!(f, "C7 {fault}"),
             CommandFault::Memory => write!(f, "C0"),
         }

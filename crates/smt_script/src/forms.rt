@@ -5,13 +5,13 @@ ghost use Rattle.smt_text.specs.Sexp.{Items};
 ghost use Rattle.smt_text.specs.Tree.{sexp_of, sexps_of};
 ghost use Rattle.smt_script.specs.Command as commands;
 ghost use Rattle.smt_script.specs.CommandView.{command_view};
-ghost use Rattle.smt_script.specs.Internal.CommandForm.{HasForm, are_symbol_and_tree, is_one_tree};
+ghost use Rattle.smt_script.specs.Internal.CommandForm.{HasForm, are_symbol_and_tree, is_one_symbol, is_one_tree};
 
 use crate::command::Command;
 use crate::fault::CommandFault;
 use smt_text::{Tree, Trees, Word, split_first};
 
-/// The command that a tree is. A tree that is none is refused: as unsupported where it is a list that begins with the name of
+/// The command that a tree is (SMT-LIB 2.6, section 4.2). A tree that is none is refused: as unsupported where it is a list that begins with the name of
 /// another command, whatever follows, else for its form.
 pub fn read_command(tree: Tree) -> Result<Command, CommandFault>
     ensures { MatchResult result (λ command. commands.command_of (sexp_of tree) ≡ Ok (command_view command))
@@ -21,6 +21,7 @@ pub fn read_command(tree: Tree) -> Result<Command, CommandFault>
         return Err(CommandFault::Form);
     };
     match form_of(parts.as_slice())? {
+        CommandForm::Logic => Ok(logic(parts)),
         CommandForm::Declaration => Ok(declaration(parts)),
         CommandForm::Assertion => Ok(assertion(parts)),
         CommandForm::Check => Ok(Command::CheckSat),
@@ -31,6 +32,7 @@ pub fn read_command(tree: Tree) -> Result<Command, CommandFault>
 // The kinds of commands.
 #[derive(Clone, Copy)]
 enum CommandForm {
+    Logic,
     Declaration,
     Assertion,
     Check,
@@ -46,12 +48,23 @@ fn form_of(parts: &[Tree]) -> Result<CommandForm, CommandFault>
         return Err(CommandFault::Form);
     };
     match word {
+        Word::SetLogic if is_symbol(rest) => Ok(CommandForm::Logic),
         Word::DeclareConst if is_declared(rest) => Ok(CommandForm::Declaration),
         Word::Assert if is_single(rest) => Ok(CommandForm::Assertion),
         Word::CheckSat if split_first(rest).is_none() => Ok(CommandForm::Check),
         Word::GetModel if split_first(rest).is_none() => Ok(CommandForm::Model),
         _ => Err(refused_word(*word)),
     }
+}
+
+// Whether this is one symbol.
+fn is_symbol(trees: &[Tree]) -> bool
+    ensures { result ≡ is_one_symbol (sexps_of trees.now) }
+{
+    let Some((Tree::Symbol(_), rest)) = split_first(trees) else {
+        return false;
+    };
+    split_first(rest).is_none()
 }
 
 // Whether these are a symbol and one more tree.
@@ -85,7 +98,20 @@ fn refused_word(word: Word) -> CommandFault
             CommandFault::Form,
         Word::Numeral | Word::Par | Word::String => CommandFault::Form,
         Word::Assert | Word::CheckSat | Word::DeclareConst | Word::GetModel => CommandFault::Form,
+        Word::SetLogic => CommandFault::Form,
         _ => CommandFault::Unsupported,
+    }
+}
+
+// The setting of a logic that a list is.
+fn logic(parts: Trees) -> Command
+    requires { HasForm CommandForm.Logic parts }
+    ensures { commands.command_of (Items parts) ≡ Ok (command_view result) }
+{
+    let mut items = parts.into_vec();
+    match pop_tree(&mut items) {
+        Tree::Symbol(name) => Command::SetLogic { name },
+        _ => unreachable!(),
     }
 }
 

@@ -2,8 +2,10 @@
 //! commands that took effect, each with its number.
 //!
 //! The layer above uses two contracts: `read_command` answers the command that a tree is, or why it is none; and after any commands
-//! that took effect a `Stack` holds exactly the names and assertions that are in force, in order. So after
-//! `(declare-const p Bool)` as command 1 and `(assert p)` as command 2 it holds the name `p` and one assertion, of command 2.
+//! that took effect a `Stack` holds exactly the theories, names and assertions that are in force, in order. So after
+//! `(set-logic QF_LIA)` as command 1, `(declare-const x Int)` as command 2 and `(assert (< x 1))` as command 3 it holds the theories
+//! Core and Ints, the name `x` and one assertion, of command 3, whose term is one of its `library`. Another `set-logic` is then
+//! refused, with `CommandFault::Logic`: a logic is set once, and before every declaration, assertion and check.
 #![tactic(auto)]
 
 mod command;
@@ -14,4 +16,4 @@ mod stack;
 pub use command::Command;
 pub use fault::CommandFault;
 pub use forms::read_command;
-pub use stack::{Assertion, Stack};
+pub use stack::{Assertion, Stack, all_theories};
