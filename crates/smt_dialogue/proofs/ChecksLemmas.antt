@@ -4,12 +4,12 @@ use Rattle.std.proofs.lemmas.List.{append-nil}
 use Rattle.std.specs.List.{list_any}
 use Rattle.std.specs.Option.{option_or}
 use Rattle.smt_text.specs.Sexp.{Sexp, Sexps, Atom, Reserved, Items, is_symbol}
-use Rattle.core_terms.specs.Signature.{Entry}
-use Rattle.smt_script.specs.Command.{Command, DeclareConst, Assert, CheckSat, GetModel}
+use Rattle.smt_terms.specs.Signature.{Signature}
+use Rattle.smt_script.specs.Command.{Command, SetLogic, DeclareConst, Assert, CheckSat, GetModel}
 use Rattle.smt_script.specs.Stack.{Assertion}
-use Rattle.smt_dialogue.proofs.PairLemmas.{assertions_after-push, names_after-push, taken_is_effective}
+use Rattle.smt_dialogue.proofs.PairLemmas.{assertions_after-push, signature_after-check, signature_after-model, taken_is_effective}
 use Rattle.smt_dialogue.specs.Answers.{is_model, takes}
-use Rattle.smt_dialogue.specs.InForce.{assertions_after, names_after}
+use Rattle.smt_dialogue.specs.InForce.{assertions_after, signature_after}
 use Rattle.smt_dialogue.specs.Internal.ChecksState.{ChecksState, checks_after, closing_lines, pending_lines, with_check, with_line, with_model, with_window_ended}
 use Rattle.smt_dialogue.specs.Judgement.{judgement_of}
 use Rattle.smt_dialogue.specs.Lines.{checks_in, confirmed_line, line_of_judgement, lines_of_pair, lines_of_sat, sat_lines, unconfirmed_line}
@@ -28,7 +28,7 @@ sat_lines-closing true false more k n = refl
 sat_lines-closing false true more k n = refl
 sat_lines-closing false false more k n = refl
 
-pub pending-closing : (ended : Bool) (o : Option PendingCheck) (names : List Entry) (assertions : List Assertion) (m : ℕ) (p : Pair) (after : List Pair) → closes p ≡ true → pending_lines ended o names assertions m (p ∷ after) ≡ closing_lines o
+pub pending-closing : (ended : Bool) (o : Option PendingCheck) (names : Signature) (assertions : List Assertion) (m : ℕ) (p : Pair) (after : List Pair) → closes p ≡ true → pending_lines ended o names assertions m (p ∷ after) ≡ closing_lines o
 pending-closing ended None names assertions m p after h = refl
 pending-closing ended (Some c) names assertions m p after h =
     rw h (sat_lines-closing ended c.some_model (list_any closes after) c.check c.command)
@@ -39,18 +39,24 @@ pending-closing ended (Some c) names assertions m p after h =
 pub record GoesOn (s : ChecksState) (pairs : List Pair) (c : Command) (a : Sexp) (t : ChecksState) : Type 0 where
   pub count : t.count ≡ s.count + checks_in (answered_by c a ∷ [])
   pub lines : (ended : Bool) (after : List Pair)
-      → s.lines ++ (pending_lines ended s.pending (names_after pairs) (assertions_after pairs) (length pairs + 1) (answered_by c a ∷ after) ++ lines_of_pair ended pairs (answered_by c a) after)
-      ≡ t.lines ++ pending_lines ended t.pending (names_after (pairs ++ answered_by c a ∷ [])) (assertions_after (pairs ++ answered_by c a ∷ [])) (length (pairs ++ answered_by c a ∷ []) + 1) after
+      → s.lines ++ (pending_lines ended s.pending (signature_after pairs) (assertions_after pairs) (length pairs + 1) (answered_by c a ∷ after) ++ lines_of_pair ended pairs (answered_by c a) after)
+      ≡ t.lines ++ pending_lines ended t.pending (signature_after (pairs ++ answered_by c a ∷ [])) (assertions_after (pairs ++ answered_by c a ∷ [])) (length (pairs ++ answered_by c a ∷ []) + 1) after
 
 -- the lines where the window ends at a pair that has these lines itself
 closes_with : (s : ChecksState) (pairs : List Pair) (c : Command) (a : Sexp) (ended : Bool) (after : List Pair) (own : List Line) → closes (answered_by c a) ≡ true → lines_of_pair ended pairs (answered_by c a) after ≡ own
-    → s.lines ++ (pending_lines ended s.pending (names_after pairs) (assertions_after pairs) (length pairs + 1) (answered_by c a ∷ after) ++ lines_of_pair ended pairs (answered_by c a) after) ≡ (s.lines ++ closing_lines s.pending) ++ own
+    → s.lines ++ (pending_lines ended s.pending (signature_after pairs) (assertions_after pairs) (length pairs + 1) (answered_by c a ∷ after) ++ lines_of_pair ended pairs (answered_by c a) after) ≡ (s.lines ++ closing_lines s.pending) ++ own
 closes_with s pairs c a ended after own h is =
-    ap (λ (ls : List Line). s.lines ++ (ls ++ lines_of_pair ended pairs (answered_by c a) after)) (pending-closing ended s.pending (names_after pairs) (assertions_after pairs) (length pairs + 1) (answered_by c a) after h)
+    ap (λ (ls : List Line). s.lines ++ (ls ++ lines_of_pair ended pairs (answered_by c a) after)) (pending-closing ended s.pending (signature_after pairs) (assertions_after pairs) (length pairs + 1) (answered_by c a) after h)
     ∙ ap (λ (ls : List Line). s.lines ++ (closing_lines s.pending ++ ls)) is
     ∙ sym (append_assoc s.lines (closing_lines s.pending) own)
 
--- a declaration and an assertion end the window, and have no line
+-- a logic, a declaration and an assertion end the window, and have no line
+logic_goes : (s : ChecksState) (pairs : List Pair) (x : List ℕ) (a : Sexp) → takes (SetLogic x) a ≡ true → GoesOn s pairs (SetLogic x) a (with_window_ended s)
+logic_goes s pairs x a h = record {
+  count = omega arith;
+  lines = λ ended after. closes_with s pairs (SetLogic x) a ended after [] (taken_is_effective (SetLogic x) a h) refl;
+}
+
 declaration_goes : (s : ChecksState) (pairs : List Pair) (x : List ℕ) (sort a : Sexp) → takes (DeclareConst x sort) a ≡ true → GoesOn s pairs (DeclareConst x sort) a (with_window_ended s)
 declaration_goes s pairs x sort a h = record {
   count = omega arith;
@@ -75,22 +81,22 @@ answered_goes s pairs a line own = record {
 
 -- a check that was answered sat
 begun_goes : (s : ChecksState) (pairs : List Pair) (a : Sexp) (k n : ℕ) → k ≡ checks_in pairs + 1 → n ≡ length pairs + 1 → takes CheckSat a ≡ true
-    → ((ended : Bool) (after : List Pair) → lines_of_pair ended pairs (answered_by CheckSat a) after ≡ lines_of_sat ended (checks_in pairs + 1) (length pairs + 1) (names_after pairs) (assertions_after pairs) ((length pairs + 1) + 1) after)
+    → ((ended : Bool) (after : List Pair) → lines_of_pair ended pairs (answered_by CheckSat a) after ≡ lines_of_sat ended (checks_in pairs + 1) (length pairs + 1) (signature_after pairs) (assertions_after pairs) ((length pairs + 1) + 1) after)
     → GoesOn s pairs CheckSat a (record (with_window_ended s) { count = s.count + 1; pending = Some (record { check = k; command = n; some_model = false }) })
 begun_goes s pairs a k n is_k is_n h own =
     let new = pairs ++ answered_by CheckSat a ∷ [] in
     let len : length new ≡ length pairs + 1 = length-append pairs (answered_by CheckSat a ∷ []) ∙ omega arith in
-    let names : names_after new ≡ names_after pairs = names_after-push pairs CheckSat a h ∙ append-nil (names_after pairs) in
+    let names : signature_after new ≡ signature_after pairs = signature_after-check pairs a h in
     let assertions : assertions_after new ≡ assertions_after pairs = assertions_after-push pairs CheckSat a h ∙ append-nil (assertions_after pairs) in
     record {
       count = omega arith;
       lines = λ ended after.
           closes_with s pairs CheckSat a ended after _ refl (own ended after)
-          ∙ ap (λ (i : ℕ). (with_window_ended s).lines ++ lines_of_sat ended i (length pairs + 1) (names_after pairs) (assertions_after pairs) ((length pairs + 1) + 1) after) (sym is_k)
-          ∙ ap (λ (i : ℕ). (with_window_ended s).lines ++ lines_of_sat ended k i (names_after pairs) (assertions_after pairs) ((length pairs + 1) + 1) after) (sym is_n)
-          ∙ ap (λ (m : ℕ). (with_window_ended s).lines ++ lines_of_sat ended k n (names_after pairs) (assertions_after pairs) (m + 1) after) (sym len)
-          ∙ ap (λ (es : List Entry). (with_window_ended s).lines ++ lines_of_sat ended k n es (assertions_after pairs) (length new + 1) after) (sym names)
-          ∙ ap (λ (es : List Assertion). (with_window_ended s).lines ++ lines_of_sat ended k n (names_after new) es (length new + 1) after) (sym assertions);
+          ∙ ap (λ (i : ℕ). (with_window_ended s).lines ++ lines_of_sat ended i (length pairs + 1) (signature_after pairs) (assertions_after pairs) ((length pairs + 1) + 1) after) (sym is_k)
+          ∙ ap (λ (i : ℕ). (with_window_ended s).lines ++ lines_of_sat ended k i (signature_after pairs) (assertions_after pairs) ((length pairs + 1) + 1) after) (sym is_n)
+          ∙ ap (λ (m : ℕ). (with_window_ended s).lines ++ lines_of_sat ended k n (signature_after pairs) (assertions_after pairs) (m + 1) after) (sym len)
+          ∙ ap (λ (es : Signature). (with_window_ended s).lines ++ lines_of_sat ended k n es (assertions_after pairs) (length new + 1) after) (sym names)
+          ∙ ap (λ (es : List Assertion). (with_window_ended s).lines ++ lines_of_sat ended k n (signature_after new) es (length new + 1) after) (sym assertions);
     }
 
 by_test : (b : Bool) (P : Type 0) → (b ≡ true → P) → (b ≡ false → P) → P
@@ -123,48 +129,48 @@ or_true true = refl
 or_true false = refl
 
 -- the lines of a pending check at one more model
-pending-model : (ended : Bool) (c : PendingCheck) (names : List Entry) (assertions : List Assertion) (m : ℕ) (parts : Sexps) (after : List Pair) → is_model (Items parts) ≡ true
+pending-model : (ended : Bool) (c : PendingCheck) (names : Signature) (assertions : List Assertion) (m : ℕ) (parts : Sexps) (after : List Pair) → is_model (Items parts) ≡ true
     → pending_lines ended (Some c) names assertions m (answered_by GetModel (Items parts) ∷ after)
     ≡ sat_lines c.check c.command (option_or (line_of_judgement c.check c.command m (judgement_of names assertions parts)) (unconfirmed_line c.check c.command names assertions (models_from (m + 1) (window after)))) true (ended || list_any closes after)
 pending-model ended c names assertions m parts after h = rw (h, or_true) refl
 
 -- what is added where the model has a line, and where it is confirmed
 model_line : (s : ChecksState) (pairs : List Pair) (c : PendingCheck) (parts : Sexps) (l : Option Line) → s.pending ≡ Some c → is_model (Items parts) ≡ true
-    → line_of_judgement c.check c.command (length pairs + 1) (judgement_of (names_after pairs) (assertions_after pairs) parts) ≡ l → GoesOn s pairs GetModel (Items parts) (with_line s c l)
+    → line_of_judgement c.check c.command (length pairs + 1) (judgement_of (signature_after pairs) (assertions_after pairs) parts) ≡ l → GoesOn s pairs GetModel (Items parts) (with_line s c l)
 model_line s pairs c parts (Some line) is_pending h is = record {
   count = omega arith;
   lines = λ ended after.
-      ap (λ (o : Option PendingCheck). s.lines ++ (pending_lines ended o (names_after pairs) (assertions_after pairs) (length pairs + 1) (answered_by GetModel (Items parts) ∷ after) ++ [])) is_pending
-      ∙ ap (λ (ls : List Line). s.lines ++ (ls ++ [])) (pending-model ended c (names_after pairs) (assertions_after pairs) (length pairs + 1) parts after h)
-      ∙ ap (λ (l : Option Line). s.lines ++ (sat_lines c.check c.command (option_or l (unconfirmed_line c.check c.command (names_after pairs) (assertions_after pairs) (models_from ((length pairs + 1) + 1) (window after)))) true (ended || list_any closes after) ++ [])) is
+      ap (λ (o : Option PendingCheck). s.lines ++ (pending_lines ended o (signature_after pairs) (assertions_after pairs) (length pairs + 1) (answered_by GetModel (Items parts) ∷ after) ++ [])) is_pending
+      ∙ ap (λ (ls : List Line). s.lines ++ (ls ++ [])) (pending-model ended c (signature_after pairs) (assertions_after pairs) (length pairs + 1) parts after h)
+      ∙ ap (λ (l : Option Line). s.lines ++ (sat_lines c.check c.command (option_or l (unconfirmed_line c.check c.command (signature_after pairs) (assertions_after pairs) (models_from ((length pairs + 1) + 1) (window after)))) true (ended || list_any closes after) ++ [])) is
       ∙ sym (append-nil (s.lines ++ line ∷ []));
 }
 model_line s pairs c parts None is_pending h is =
     let new = pairs ++ answered_by GetModel (Items parts) ∷ [] in
     let noted : PendingCheck = record c { some_model = true } in
     let len : length new ≡ length pairs + 1 = length-append pairs (answered_by GetModel (Items parts) ∷ []) ∙ omega arith in
-    let names : names_after new ≡ names_after pairs = names_after-push pairs GetModel (Items parts) h ∙ append-nil (names_after pairs) in
+    let names : signature_after new ≡ signature_after pairs = signature_after-model pairs (Items parts) h in
     let assertions : assertions_after new ≡ assertions_after pairs = assertions_after-push pairs GetModel (Items parts) h ∙ append-nil (assertions_after pairs) in
     record {
       count = omega arith;
       lines = λ ended after.
-          ap (λ (o : Option PendingCheck). s.lines ++ (pending_lines ended o (names_after pairs) (assertions_after pairs) (length pairs + 1) (answered_by GetModel (Items parts) ∷ after) ++ [])) is_pending
-          ∙ ap (λ (ls : List Line). s.lines ++ (ls ++ [])) (pending-model ended c (names_after pairs) (assertions_after pairs) (length pairs + 1) parts after h)
-          ∙ ap (λ (l : Option Line). s.lines ++ (sat_lines c.check c.command (option_or l (unconfirmed_line c.check c.command (names_after pairs) (assertions_after pairs) (models_from ((length pairs + 1) + 1) (window after)))) true (ended || list_any closes after) ++ [])) is
-          ∙ ap (λ (ls : List Line). s.lines ++ ls) (append-nil (pending_lines ended (Some noted) (names_after pairs) (assertions_after pairs) ((length pairs + 1) + 1) after))
-          ∙ ap (λ (m : ℕ). s.lines ++ pending_lines ended (Some noted) (names_after pairs) (assertions_after pairs) (m + 1) after) (sym len)
-          ∙ ap (λ (es : List Entry). s.lines ++ pending_lines ended (Some noted) es (assertions_after pairs) (length new + 1) after) (sym names)
-          ∙ ap (λ (es : List Assertion). s.lines ++ pending_lines ended (Some noted) (names_after new) es (length new + 1) after) (sym assertions);
+          ap (λ (o : Option PendingCheck). s.lines ++ (pending_lines ended o (signature_after pairs) (assertions_after pairs) (length pairs + 1) (answered_by GetModel (Items parts) ∷ after) ++ [])) is_pending
+          ∙ ap (λ (ls : List Line). s.lines ++ (ls ++ [])) (pending-model ended c (signature_after pairs) (assertions_after pairs) (length pairs + 1) parts after h)
+          ∙ ap (λ (l : Option Line). s.lines ++ (sat_lines c.check c.command (option_or l (unconfirmed_line c.check c.command (signature_after pairs) (assertions_after pairs) (models_from ((length pairs + 1) + 1) (window after)))) true (ended || list_any closes after) ++ [])) is
+          ∙ ap (λ (ls : List Line). s.lines ++ ls) (append-nil (pending_lines ended (Some noted) (signature_after pairs) (assertions_after pairs) ((length pairs + 1) + 1) after))
+          ∙ ap (λ (m : ℕ). s.lines ++ pending_lines ended (Some noted) (signature_after pairs) (assertions_after pairs) (m + 1) after) (sym len)
+          ∙ ap (λ (es : Signature). s.lines ++ pending_lines ended (Some noted) es (assertions_after pairs) (length new + 1) after) (sym names)
+          ∙ ap (λ (es : List Assertion). s.lines ++ pending_lines ended (Some noted) (signature_after new) es (length new + 1) after) (sym assertions);
     }
 
 model_goes : (s : ChecksState) (pairs : List Pair) (o : Option PendingCheck) (a : Sexp) → s.pending ≡ o → takes GetModel a ≡ true
-    → GoesOn s pairs GetModel a (with_model s o (names_after pairs) (assertions_after pairs) (length pairs + 1) a)
+    → GoesOn s pairs GetModel a (with_model s o (signature_after pairs) (assertions_after pairs) (length pairs + 1) a)
 model_goes s pairs None a is_pending h = record {
   count = omega arith;
   lines = λ ended after. rw is_pending refl;
 }
 model_goes s pairs (Some c) (Items parts) is_pending h =
-    model_line s pairs c parts (line_of_judgement c.check c.command (length pairs + 1) (judgement_of (names_after pairs) (assertions_after pairs) parts)) is_pending h refl
+    model_line s pairs c parts (line_of_judgement c.check c.command (length pairs + 1) (judgement_of (signature_after pairs) (assertions_after pairs) parts)) is_pending h refl
 model_goes s pairs (Some c) (Atom kind x) is_pending h = cc
 model_goes s pairs (Some c) (Reserved w) is_pending h = cc
 
@@ -172,14 +178,15 @@ model_goes s pairs (Some c) (Reserved w) is_pending h = cc
 
 -- what is in force behind a model is what was in force before it
 model_after : (s : ChecksState) (pairs : List Pair) (a : Sexp) → takes GetModel a ≡ true
-    → with_model s s.pending (names_after (pairs ++ answered_by GetModel a ∷ [])) (assertions_after (pairs ++ answered_by GetModel a ∷ [])) (length pairs + 1) a ≡ with_model s s.pending (names_after pairs) (assertions_after pairs) (length pairs + 1) a
+    → with_model s s.pending (signature_after (pairs ++ answered_by GetModel a ∷ [])) (assertions_after (pairs ++ answered_by GetModel a ∷ [])) (length pairs + 1) a ≡ with_model s s.pending (signature_after pairs) (assertions_after pairs) (length pairs + 1) a
 model_after s pairs a h =
     let new = pairs ++ answered_by GetModel a ∷ [] in
-    ap (λ (es : List Entry). with_model s s.pending es (assertions_after new) (length pairs + 1) a) (names_after-push pairs GetModel a h ∙ append-nil (names_after pairs))
-    ∙ ap (λ (es : List Assertion). with_model s s.pending (names_after pairs) es (length pairs + 1) a) (assertions_after-push pairs GetModel a h ∙ append-nil (assertions_after pairs))
+    ap (λ (es : Signature). with_model s s.pending es (assertions_after new) (length pairs + 1) a) (signature_after-model pairs a h)
+    ∙ ap (λ (es : List Assertion). with_model s s.pending (signature_after pairs) es (length pairs + 1) a) (assertions_after-push pairs GetModel a h ∙ append-nil (assertions_after pairs))
 
 pub goes_on : (s : ChecksState) (pairs : List Pair) (c : Command) (a : Sexp) → takes c a ≡ true → s.count ≡ checks_in pairs
-    → GoesOn s pairs c a (checks_after s (names_after (pairs ++ answered_by c a ∷ [])) (assertions_after (pairs ++ answered_by c a ∷ [])) (length pairs + 1) c a)
+    → GoesOn s pairs c a (checks_after s (signature_after (pairs ++ answered_by c a ∷ [])) (assertions_after (pairs ++ answered_by c a ∷ [])) (length pairs + 1) c a)
+goes_on s pairs (SetLogic x) a h count = logic_goes s pairs x a h
 goes_on s pairs (DeclareConst x sort) a h count = declaration_goes s pairs x sort a h
 goes_on s pairs (Assert t) a h count = assertion_goes s pairs t a h
 goes_on s pairs CheckSat a h count = check_goes s pairs a h count
@@ -192,6 +199,6 @@ or_false true = refl
 or_false false = refl
 
 -- at the end the window that has not ended does
-pub pending-end : (o : Option PendingCheck) (names : List Entry) (assertions : List Assertion) (m : ℕ) → pending_lines true o names assertions m [] ≡ closing_lines o
+pub pending-end : (o : Option PendingCheck) (names : Signature) (assertions : List Assertion) (m : ℕ) → pending_lines true o names assertions m [] ≡ closing_lines o
 pending-end None names assertions m = refl
 pending-end (Some c) names assertions m = ap (λ (b : Bool). confirmed_line c.check c.command b ∷ []) (or_false c.some_model)

@@ -4,13 +4,11 @@ use Rattle.std.proofs.lemmas.List.{append-nil}
 use Rattle.std.specs.List.{AllByRecursion, list_any}
 use Rattle.smt_text.specs.Sexp as sexp
 use Rattle.smt_text.specs.Sexp.{Sexp, Sexps, Atom, is_symbol}
-use Rattle.smt_eval.proofs.CompleteModelLemmas.{complete}
 use Rattle.smt_dialogue.proofs.FirstFaultLemmas.{none_of}
-use Rattle.smt_eval.proofs.MeaningLemmas.{known_is_true}
 use Rattle.smt_dialogue.proofs.PairLemmas.{assertions_after-append, is_word, lines_in-append}
 use Rattle.smt_script.specs.Command.{Command, Assert}
 use Rattle.smt_dialogue.specs.Validity.{IsConfirmed, IsSatCheck, IsTrueModel}
-use Rattle.smt_dialogue.specs.InForce.{AreFaultless, assertions_after, effective_from, fault_of_pair, names_after}
+use Rattle.smt_dialogue.specs.InForce.{AreFaultless, assertions_after, effective_from, fault_of_pair, signature_after}
 use Rattle.smt_script.specs.Stack.{Assertion, assertions_by, assertions_in_force, fault_of_formula}
 use Rattle.smt_dialogue.specs.Lines.{checks_in, is_empty, line_of_judgement, lines_in, lines_of_answer, lines_of_pair, lines_of_sat, sat_lines, unconfirmed_line}
 use Rattle.smt_dialogue.specs.Verdict.{is_refuted_line, is_undecided_line}
@@ -18,23 +16,24 @@ use Rattle.std.specs.Option.{option_or}
 use Rattle.smt_dialogue.specs.Pairing.{Pair, is_effective}
 use Rattle.smt_dialogue.specs.Window.{Printed, models_from, window}
 use Rattle.smt_dialogue.specs.Judgement.{first_assertion, is_false_over, is_open_over, judgement_of, judged_over, refuted_or}
-use Rattle.core_values.specs.Element.{element_of}
-use Rattle.core_values.specs.KnownOperations.{is_known}
-use Rattle.smt_eval.specs.Known.{known_over}
-use Rattle.smt_eval.specs.Meaning.{meaning_in, value_of}
+use Rattle.smt_values.specs.Element.{Agrees, Element, Truth, Integer}
+use Rattle.smt_values.specs.Operations.{DivisionByZero}
+use Rattle.smt_values.specs.KnownOperations.{is_known}
+use Rattle.smt_eval.specs.Agreement.{AgreesWith}
+use Rattle.smt_eval.specs.CompleteModel.{IsModelOf}
+use Rattle.smt_eval.specs.Known.{known_in, known_of, known_over}
+use Rattle.smt_eval.specs.Meaning.{value_over}
 use Rattle.smt_eval.specs.Model.{model_in}
-use Rattle.core_terms.specs.Checking.{sort_in}
-use Rattle.core_terms.specs.Signature.{Entry}
-use Rattle.core_values.specs.declared.value.Value.{Value}
-use Rattle.core_values.specs.declared.value.Value.TheVariants.{Bool as Boolean}
+use Rattle.smt_terms.specs.Checking.{sort_in}
+use Rattle.smt_terms.specs.Signature.{Signature, names_of}
 use Rattle.smt_dialogue.specs.declared.judgement.Judgement.{Judgement}
 use Rattle.smt_dialogue.specs.declared.judgement.Judgement.TheVariants as judgements
 use Rattle.smt_eval.specs.declared.interpretation.ModelFault.{ModelFault}
 use Rattle.smt_eval.specs.declared.interpretation.ModelFault.TheVariants as faults
 use Rattle.smt_dialogue.specs.declared.line.Line.{Line}
-use Rattle.core_terms.specs.declared.fault.TermFault.{TermFault}
-use Rattle.core_theory.specs.declared.sort.Sort.{Sort}
-use Rattle.core_theory.specs.declared.sort.Sort.TheVariants.{Bool as BooleanSort}
+use Rattle.smt_terms.specs.declared.fault.TermFault.{TermFault}
+use Rattle.smt_theory.specs.declared.sort.Sort.{Sort}
+use Rattle.smt_theory.specs.declared.sort.Sort.TheVariants.{Bool as BooleanSort, Int as IntSort, Bits}
 
 -- ## What stands behind what
 
@@ -58,12 +57,14 @@ faultless_at before (x ∷ xs) p ys h =
 
 formula_sort : (r : Result Sort TermFault) → fault_of_formula r ≡ None → r ≡ Ok BooleanSort
 formula_sort (Ok BooleanSort) h = refl
+formula_sort (Ok IntSort) h = absurd (cc)
+formula_sort (Ok (Bits w)) h = absurd (cc)
 formula_sort (Err f) h = absurd (cc)
 
 -- an assertion that took effect, without a fault, is a formula
-pub asserted_formula : (earlier : List Pair) (p : Pair) (term : Sexp) → p.command ≡ Assert term → is_effective p ≡ true → fault_of_pair earlier p ≡ None → sort_in (names_after earlier) [] term ≡ Ok BooleanSort
+pub asserted_formula : (earlier : List Pair) (p : Pair) (term : Sexp) → p.command ≡ Assert term → is_effective p ≡ true → fault_of_pair earlier p ≡ None → sort_in (names_of (signature_after earlier)) [] term ≡ Ok BooleanSort
 asserted_formula earlier p term is effective h =
-    formula_sort (sort_in (names_after earlier) [] term) (rw (effective, is) at h)
+    formula_sort (sort_in (names_of (signature_after earlier)) [] term) (rw (effective, is) at h)
 
 -- the lines of a pair are among those of all pairs
 pub lines_at : (before : List Pair) (p : Pair) (after : List Pair) → lines_in true [] (before ++ p ∷ after) [] ≡ lines_in true [] before ((p ∷ after) ++ []) ++ (lines_of_pair true before p after ++ lines_in true (before ++ p ∷ []) after [])
@@ -72,7 +73,7 @@ lines_at before p after =
     ∙ ap (λ (a : List Pair). lines_in true [] before ((p ∷ after) ++ []) ++ (lines_of_pair true before p a ++ lines_in true (before ++ p ∷ []) after [])) (append-nil after)
 
 -- the lines of a check that was answered sat
-pub lines_of_sat_at : (before after : List Pair) (p : Pair) → IsSatCheck p → lines_of_pair true before p after ≡ lines_of_sat true (checks_in before + 1) (length before + 1) (names_after before) (assertions_after before) ((length before + 1) + 1) after
+pub lines_of_sat_at : (before after : List Pair) (p : Pair) → IsSatCheck p → lines_of_pair true before p after ≡ lines_of_sat true (checks_in before + 1) (length before + 1) (signature_after before) (assertions_after before) ((length before + 1) + 1) after
 lines_of_sat_at before after p s =
     let w = is_word (codes "sat") s.answer s.sat in
     let e : s.answer ≡ Atom sexp.Symbol (codes "sat") = w.1 ∙ ap (λ (x : List ℕ). Atom sexp.Symbol x) w.2 in
@@ -81,19 +82,27 @@ lines_of_sat_at before after p s =
 
 -- ## Judgements
 
-is_true_value : (v : Option Value) → is_known false v ≡ false → not (is_some v) ≡ false → v ≡ Some (Boolean true)
-is_true_value None h s = absurd (cc)
-is_true_value (Some (Boolean true)) h s = refl
-is_true_value (Some (Boolean false)) h s = absurd (cc)
+is_true_value : (v : Option Element) → not (is_known true v) ≡ false → v ≡ Some (Truth true)
+is_true_value None h = absurd (cc)
+is_true_value (Some (Truth true)) h = refl
+is_true_value (Some (Truth false)) h = absurd (cc)
+is_true_value (Some (Integer z)) h = absurd (cc)
 
-pub is_false_value : (v : Option Value) → is_known false v ≡ true → v ≡ Some (Boolean false)
+pub is_false_value : (v : Option Element) → is_known false v ≡ true → v ≡ Some (Truth false)
 is_false_value None h = absurd (cc)
-is_false_value (Some (Boolean true)) h = absurd (cc)
-is_false_value (Some (Boolean false)) h = refl
+is_false_value (Some (Truth true)) h = absurd (cc)
+is_false_value (Some (Truth false)) h = refl
+is_false_value (Some (Integer z)) h = absurd (cc)
 
--- a known value of a closed term is its value
-pub closed_value : (definitions : List Entry) (term : Sexp) (v : Value) → known_over definitions term ≡ Some v → value_of (meaning_in definitions) [] term ≡ element_of v
-closed_value definitions term v h = known_is_true definitions [] [] term v (λ x. tt) h
+-- the laws of models and of what is known over them
+pub record Laws : Type 0 where
+  pub complete : (script : Signature) (parts : Sexps) (definitions : Signature) → model_in script parts ≡ Ok definitions → IsModelOf script parts definitions
+  pub known : (z : DivisionByZero) (definitions : Signature) (known : List (List ℕ × Option Element)) (r : List (List ℕ × Element)) (term : Sexp)
+      → AgreesWith known r → Agrees (known_of (known_in definitions) known term) (value_over z definitions r term)
+
+-- what is known of a closed term is its value
+pub closed_value : Laws → (z : DivisionByZero) (definitions : Signature) (term : Sexp) (e : Element) → known_over definitions term ≡ Some e → value_over z definitions [] term ≡ e
+closed_value laws z definitions term e h = subst (λ (o : Option Element). Agrees o (value_over z definitions [] term)) h (laws.known z definitions [] [] term (λ x. tt))
 
 chosen_none : (b : Bool) (n : ℕ) (r : Option ℕ) → cond b (Some n) r ≡ None → (b ≡ false) × (r ≡ None)
 chosen_none true n r h = absurd (cc)
@@ -110,7 +119,7 @@ refuted_none None (Some n) h = absurd (cc)
 refuted_none None None h = (refl, refl)
 
 -- a model that is confirmed has definitions over which no assertion is false or open
-confirmed_over : (as' : List Assertion) (r : Result (List Entry) ModelFault) → judged_over as' r ≡ judgements.Confirmed → (d : List Entry) × (r ≡ Ok d) × (first_assertion (is_false_over d) as' ≡ None) × (first_assertion (is_open_over d) as' ≡ None)
+confirmed_over : (as' : List Assertion) (r : Result Signature ModelFault) → judged_over as' r ≡ judgements.Confirmed → (d : Signature) × (r ≡ Ok d) × (first_assertion (is_false_over d) as' ≡ None) × (first_assertion (is_open_over d) as' ≡ None)
 confirmed_over as' (Ok d) h =
     let none = refuted_none (first_assertion (is_false_over d) as') (first_assertion (is_open_over d) as') h in
     (d, refl, none.0, none.1)
@@ -121,23 +130,22 @@ confirmed_over as' (Err faults.Memory) h = absurd (cc)
 -- ## Models that are confirmed are true
 
 -- a model that is confirmed under what is in force is a true one
-pub true_model : (pairs before after : List Pair) (p : Pair) (parts : Sexps) → pairs ≡ before ++ p ∷ after → AreFaultless [] pairs → judgement_of (names_after before) (assertions_after before) parts ≡ judgements.Confirmed → IsTrueModel before parts
-true_model pairs before after p parts place faultless h =
-    let confirmed = confirmed_over (assertions_after before) (model_in (names_after before) parts) h in
+pub true_model : Laws → (pairs before after : List Pair) (p : Pair) (parts : Sexps) → pairs ≡ before ++ p ∷ after → AreFaultless [] pairs → judgement_of (signature_after before) (assertions_after before) parts ≡ judgements.Confirmed → IsTrueModel before parts
+true_model laws pairs before after p parts place faultless h =
+    let confirmed = confirmed_over (assertions_after before) (model_in (signature_after before) parts) h in
     record {
       definitions = confirmed.0;
-      model = complete (names_after before) parts confirmed.0 confirmed.1;
+      model = laws.complete (signature_after before) parts confirmed.0 confirmed.1;
       sorted = λ earlier term asserted.
           let q = asserted.pair in
           let far : pairs ≡ earlier ++ q ∷ (asserted.between ++ p ∷ after) = place ∙ ap (λ (b : List Pair). b ++ p ∷ after) asserted.place ∙ append_assoc earlier (q ∷ asserted.between) (p ∷ after) in
           asserted_formula earlier q term asserted.command asserted.effective (faultless_at [] earlier q (asserted.between ++ p ∷ after) (subst (AreFaultless []) far faultless));
-      true_in = λ earlier term asserted.
+      true_in = λ z earlier term asserted.
           let here : Assertion = record { command = length earlier + 1; term = term } in
           let later = assertions_later earlier asserted.between in
           let among : assertions_after before ≡ assertions_after earlier ++ here ∷ later = ap assertions_after asserted.place ∙ asserted_at earlier asserted.between asserted.pair term asserted.command asserted.effective in
-          let not_false = first_none (is_false_over confirmed.0) (assertions_after earlier) here later (ap (first_assertion (is_false_over confirmed.0)) (sym among) ∙ confirmed.2) in
           let not_open = first_none (is_open_over confirmed.0) (assertions_after earlier) here later (ap (first_assertion (is_open_over confirmed.0)) (sym among) ∙ confirmed.3) in
-          closed_value confirmed.0 term (Boolean true) (is_true_value (known_over confirmed.0 term) not_false not_open);
+          closed_value laws z confirmed.0 term (Truth true) (is_true_value (known_over confirmed.0 term) not_open);
     }
 
 -- ## The line of a check
@@ -154,7 +162,7 @@ judged_confirmed k n g (judgements.NotDecided a) h = absurd (cc)
 judged_confirmed k n g judgements.Confirmed h = refl
 
 -- where no model has a line, each is confirmed
-all_confirmed : (k n : ℕ) (names : List Entry) (as' : List Assertion) (ms : List Printed) → unconfirmed_line k n names as' ms ≡ None → AllByRecursion (λ (m : Printed). judgement_of names as' m.parts ≡ judgements.Confirmed) ms
+all_confirmed : (k n : ℕ) (names : Signature) (as' : List Assertion) (ms : List Printed) → unconfirmed_line k n names as' ms ≡ None → AllByRecursion (λ (m : Printed). judgement_of names as' m.parts ≡ judgements.Confirmed) ms
 all_confirmed k n names as' [] h = tt
 all_confirmed k n names as' (m ∷ ms) h =
     let none = or_none (line_of_judgement k n m.command (judgement_of names as' m.parts)) (unconfirmed_line k n names as' ms) h in
@@ -179,7 +187,7 @@ first_shown : (k n g : ℕ) (j : Judgement) (l r : Option Line) (line : Line) �
 first_shown k n g j None r line is later h = later h
 first_shown k n g j (Some other) r line is later h = shown k n g j line (is ∙ h)
 
-unconfirmed_shown : (k n : ℕ) (names : List Entry) (as' : List Assertion) (ms : List Printed) (line : Line) → unconfirmed_line k n names as' ms ≡ Some line → is_refuted_line line || is_undecided_line line ≡ true
+unconfirmed_shown : (k n : ℕ) (names : Signature) (as' : List Assertion) (ms : List Printed) (line : Line) → unconfirmed_line k n names as' ms ≡ Some line → is_refuted_line line || is_undecided_line line ≡ true
 unconfirmed_shown k n names as' [] line h = absurd (cc)
 unconfirmed_shown k n names as' (m ∷ ms) line h =
     first_shown k n m.command (judgement_of names as' m.parts) (line_of_judgement k n m.command (judgement_of names as' m.parts)) (unconfirmed_line k n names as' ms) line refl (unconfirmed_shown k n names as' ms line) h
@@ -190,18 +198,18 @@ both_false false true h a b = absurd (cc)
 both_false false false h a b = absurd (cc)
 
 -- a check without the line of a refuted or an undecided one has a model, and no model of it has a line
-sat_confirmed : (k n : ℕ) (names : List Entry) (as' : List Assertion) (ms : List Printed) (l : Option Line) → unconfirmed_line k n names as' ms ≡ l → list_any is_refuted_line (sat_lines k n l (not (is_empty ms)) true) ≡ false → list_any is_undecided_line (sat_lines k n l (not (is_empty ms)) true) ≡ false → (first : Printed) × (others : List Printed) × (ms ≡ first ∷ others) × (unconfirmed_line k n names as' ms ≡ None)
+sat_confirmed : (k n : ℕ) (names : Signature) (as' : List Assertion) (ms : List Printed) (l : Option Line) → unconfirmed_line k n names as' ms ≡ l → list_any is_refuted_line (sat_lines k n l (not (is_empty ms)) true) ≡ false → list_any is_undecided_line (sat_lines k n l (not (is_empty ms)) true) ≡ false → (first : Printed) × (others : List Printed) × (ms ≡ first ∷ others) × (unconfirmed_line k n names as' ms ≡ None)
 sat_confirmed k n names as' ms (Some line) is r u =
     both_false (is_refuted_line line) (is_undecided_line line) (unconfirmed_shown k n names as' ms line is) r u
 sat_confirmed k n names as' [] None is r u = absurd (cc)
 sat_confirmed k n names as' (m ∷ ms) None is r u = (m, ms, refl, is)
 
 -- where the lines of all pairs have neither, each check that was answered sat is confirmed
-pub confirmed_at : (pairs before after : List Pair) (p : Pair) → pairs ≡ before ++ p ∷ after → AreFaultless [] pairs → list_any is_refuted_line (lines_in true [] pairs []) ≡ false → list_any is_undecided_line (lines_in true [] pairs []) ≡ false → IsSatCheck p → IsConfirmed before after
-confirmed_at pairs before after p place faultless refuted undecided sat =
+pub confirmed_at : Laws → (pairs before after : List Pair) (p : Pair) → pairs ≡ before ++ p ∷ after → AreFaultless [] pairs → list_any is_refuted_line (lines_in true [] pairs []) ≡ false → list_any is_undecided_line (lines_in true [] pairs []) ≡ false → IsSatCheck p → IsConfirmed before after
+confirmed_at laws pairs before after p place faultless refuted undecided sat =
     let k = checks_in before + 1 in
     let n = length before + 1 in
-    let names = names_after before in
+    let names = signature_after before in
     let assertions = assertions_after before in
     let ms = models_from (n + 1) (window after) in
     let parts : lines_in true [] pairs [] ≡ lines_in true [] before ((p ∷ after) ++ []) ++ (lines_of_pair true before p after ++ lines_in true (before ++ p ∷ []) after []) = ap (λ (ps : List Pair). lines_in true [] ps []) place ∙ lines_at before p after in
@@ -213,5 +221,5 @@ confirmed_at pairs before after p place faultless refuted undecided sat =
       first = found.0;
       others = found.1;
       models = ap (λ (i : ℕ). models_from i (window after)) (omega arith) ∙ found.2;
-      true_models = all_weaker (λ (m : Printed). judgement_of names assertions m.parts ≡ judgements.Confirmed) (λ (m : Printed). IsTrueModel before m.parts) (found.0 ∷ found.1) (λ m h. true_model pairs before after p m.parts place faultless h) all;
+      true_models = all_weaker (λ (m : Printed). judgement_of names assertions m.parts ≡ judgements.Confirmed) (λ (m : Printed). IsTrueModel before m.parts) (found.0 ∷ found.1) (λ m h. true_model laws pairs before after p m.parts place faultless h) all;
     }

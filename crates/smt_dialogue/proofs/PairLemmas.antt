@@ -4,12 +4,13 @@ use Rattle.std.proofs.lemmas.List.{append-nil}
 use Rattle.std.proofs.lemmas.Grind.{flat_map-append}
 use Rattle.smt_text.specs.Sexp.{Sexp, Sexps, Atom, Reserved, Items, Nil, Cons, is_symbol}
 use Rattle.smt_text.specs.Sexp as sexp
-use Rattle.core_theory.proofs.NameLemmas.{same_name}
-use Rattle.core_terms.specs.Signature.{Entry}
-use Rattle.smt_script.specs.Command.{Command, DeclareConst, Assert, CheckSat, GetModel}
-use Rattle.smt_script.specs.Stack.{Assertion, Numbered, assertions_by, assertions_in_force, names_by, names_in_force}
+use Rattle.smt_terms.proofs.NameLemmas.{same_name}
+use Rattle.smt_terms.specs.Signature.{Entry, Signature}
+use Rattle.smt_script.specs.Command.{Command, SetLogic, DeclareConst, Assert, CheckSat, GetModel}
+use Rattle.smt_script.specs.Stack.{Assertion, Numbered, assertions_by, assertions_in_force, names_in_force, signature_in_force, theories_in_force}
+use Rattle.smt_script.proofs.InForceLemmas.{signature-push}
 use Rattle.smt_dialogue.specs.Answers.{fits, is_effective_with, is_model, is_refusal, takes}
-use Rattle.smt_dialogue.specs.InForce.{AreFaultless, assertions_after, effective_commands, effective_from, fault_of_pair, names_after}
+use Rattle.smt_dialogue.specs.InForce.{AreFaultless, assertions_after, effective_commands, effective_from, fault_of_pair, signature_after}
 use Rattle.smt_dialogue.specs.Lines.{checks_in, is_check, lines_in, lines_of_pair}
 use Rattle.smt_dialogue.specs.Pairing.{AllFit, Pair, answer_count, answered_by, answers_taken, answers_then, is_effective, with_answer}
 use Rattle.smt_dialogue.specs.declared.line.Line.{Line}
@@ -44,6 +45,7 @@ or_cases true b P f g h = f refl
 or_cases false b P f g h = g h
 
 pub taken_is_effective : (c : Command) (a : Sexp) → takes c a ≡ true → is_effective_with (Some a) ≡ true
+taken_is_effective (SetLogic name) a h = word_is_effective (codes "success") a refl h
 taken_is_effective (DeclareConst x sort) a h = word_is_effective (codes "success") a refl h
 taken_is_effective (Assert term) a h = word_is_effective (codes "success") a refl h
 taken_is_effective CheckSat a h =
@@ -65,9 +67,6 @@ effective_from-append n (x ∷ xs) ys =
 abbrev pub effective_behind : List Pair → List Pair → List Numbered
 effective_behind before pairs = effective_from (1 + length before) pairs
 
-pub names_after-append : (xs ys : List Pair) → names_after (xs ++ ys) ≡ names_after xs ++ names_in_force (effective_behind xs ys)
-names_after-append xs ys = ap names_in_force (effective_from-append 1 xs ys) ∙ flat_map-append (λ (c : Numbered). names_by c.number c.command) (effective_commands xs) (effective_behind xs ys)
-
 pub assertions_after-append : (xs ys : List Pair) → assertions_after (xs ++ ys) ≡ assertions_after xs ++ assertions_in_force (effective_behind xs ys)
 assertions_after-append xs ys = ap assertions_in_force (effective_from-append 1 xs ys) ∙ flat_map-append (λ (c : Numbered). assertions_by c.number c.command) (effective_commands xs) (effective_behind xs ys)
 
@@ -81,11 +80,16 @@ effective_commands-push pairs c a h =
     ∙ ap (λ (cs : List Numbered). effective_commands pairs ++ cs) (effective_here (is_effective (answered_by c a)) (record { number = 1 + length pairs; command = c }) (taken_is_effective c a h))
     ∙ ap (λ (n : ℕ). effective_commands pairs ++ record { number = n; command = c } ∷ []) (omega arith)
 
-pub names_after-push : (pairs : List Pair) (c : Command) (a : Sexp) → takes c a ≡ true → names_after (pairs ++ answered_by c a ∷ []) ≡ names_after pairs ++ names_by (length pairs + 1) c
-names_after-push pairs c a h =
-    ap names_in_force (effective_commands-push pairs c a h)
-    ∙ flat_map-append (λ (d : Numbered). names_by d.number d.command) (effective_commands pairs) (record { number = length pairs + 1; command = c } ∷ [])
-    ∙ ap (λ (es : List Entry). names_after pairs ++ es) (append-nil (names_by (length pairs + 1) c))
+-- a check and a model bring no names
+pub signature_after-check : (pairs : List Pair) (a : Sexp) → takes CheckSat a ≡ true → signature_after (pairs ++ answered_by CheckSat a ∷ []) ≡ signature_after pairs
+signature_after-check pairs a h =
+    ap signature_in_force (effective_commands-push pairs CheckSat a h) ∙ signature-push (effective_commands pairs) (record { number = length pairs + 1; command = CheckSat })
+    ∙ ap (λ (es : List Entry). record { theories = theories_in_force (effective_commands pairs); entries = es }) (append-nil (names_in_force (effective_commands pairs)))
+
+pub signature_after-model : (pairs : List Pair) (a : Sexp) → takes GetModel a ≡ true → signature_after (pairs ++ answered_by GetModel a ∷ []) ≡ signature_after pairs
+signature_after-model pairs a h =
+    ap signature_in_force (effective_commands-push pairs GetModel a h) ∙ signature-push (effective_commands pairs) (record { number = length pairs + 1; command = GetModel })
+    ∙ ap (λ (es : List Entry). record { theories = theories_in_force (effective_commands pairs); entries = es }) (append-nil (names_in_force (effective_commands pairs)))
 
 pub assertions_after-push : (pairs : List Pair) (c : Command) (a : Sexp) → takes c a ≡ true → assertions_after (pairs ++ answered_by c a ∷ []) ≡ assertions_after pairs ++ assertions_by (length pairs + 1) c
 assertions_after-push pairs c a h =

@@ -7,14 +7,13 @@ use Rattle.smt_text.specs.Grammar.{Forest, limit}
 use Rattle.smt_text.specs.Reading.{Reads}
 use Rattle.smt_text.specs.Sexp.{Sexp, Sexps, Nil, is_symbol}
 use Rattle.smt_text.specs.declared.fault.TextFault.{TextFault}
-use Rattle.smt_eval.proofs.CompleteModelLemmas.{complete}
 use Rattle.smt_dialogue.proofs.FirstFaultLemmas.{any-append, ends_clean, invalid_lines, none_of, valid_lines}
 use Rattle.smt_dialogue.proofs.PairingUnique.{all_commands, one_pairing}
-use Rattle.smt_dialogue.proofs.ConfirmedLemmas.{asserted_formula, closed_value, confirmed_at, faultless_at, is_false_value, lines_at, lines_of_sat_at}
-use Rattle.smt_script.specs.Command.{Command, DeclareConst, Assert, CheckSat, GetModel}
+use Rattle.smt_dialogue.proofs.ConfirmedLemmas.{Laws, asserted_formula, closed_value, confirmed_at, faultless_at, is_false_value, lines_at, lines_of_sat_at}
+use Rattle.smt_script.specs.Command.{Command, SetLogic, DeclareConst, Assert, CheckSat, GetModel}
 use Rattle.smt_dialogue.specs.Report.{lines_of_end}
 use Rattle.smt_dialogue.specs.Validity.{IsAsserted, IsFullyPaired, IsInvalid, IsSatCheck, IsTrueModel, IsValid}
-use Rattle.smt_dialogue.specs.InForce.{AreFaultless, assertions_after, effective_from, names_after}
+use Rattle.smt_dialogue.specs.InForce.{AreFaultless, assertions_after, effective_from, signature_after}
 use Rattle.smt_script.specs.Stack.{Assertion, Numbered, assertions_in_force}
 use Rattle.smt_dialogue.specs.Lines.{checks_in, is_empty, line_of_judgement, lines_in, lines_of_pair, lines_of_sat, sat_lines, unconfirmed_line}
 use Rattle.smt_dialogue.specs.Verdict.{is_fault_line, is_refuted_line, is_undecided_line, tally_of, verdict_of}
@@ -23,13 +22,13 @@ use Rattle.smt_dialogue.specs.Pairing.{IsPairing, Pair, is_effective}
 use Rattle.smt_dialogue.specs.Internal.Steps.{IsJudged}
 use Rattle.smt_dialogue.specs.Window.{Printed, models_from, structure_at, window}
 use Rattle.smt_dialogue.specs.Judgement.{first_assertion, is_false_over, is_open_over, judgement_of, judged_over, open_or_confirmed, refuted_or}
-use Rattle.core_values.specs.Element.{Element, Truth}
+use Rattle.smt_values.specs.Element.{Element, Truth}
+use Rattle.smt_values.specs.Operations.{DivisionByZero}
 use Rattle.smt_eval.specs.CompleteModel.{IsModelOf}
 use Rattle.smt_eval.specs.Meaning.{value_over}
 use Rattle.smt_eval.specs.Known.{known_over}
 use Rattle.smt_eval.specs.Model.{model_in}
-use Rattle.core_terms.specs.Signature.{Entry}
-use Rattle.core_values.specs.declared.value.Value.TheVariants.{Bool as Boolean}
+use Rattle.smt_terms.specs.Signature.{Signature}
 use Rattle.smt_dialogue.specs.declared.judgement.Judgement.{Judgement}
 use Rattle.smt_dialogue.specs.declared.judgement.Judgement.TheVariants as judgements
 use Rattle.smt_eval.specs.declared.interpretation.ModelFault.{ModelFault}
@@ -74,8 +73,8 @@ only_pairing one script answers pairs others trees answered rest whole f g p =
 
 -- ## Valid means valid
 
-pub valid_means : OneForest → (script answers : List ℕ) (st at' : Sexps) (sf af : Option TextFault) (ls : List Line) (v : Verdict) → Reads limit true script st sf → Reads limit true answers at' af → IsJudged st at' sf af ls v → v ≡ Valid → IsValid script answers
-valid_means one script answers st at' sf af ls v rs ra j h =
+pub valid_means : Laws → OneForest → (script answers : List ℕ) (st at' : Sexps) (sf af : Option TextFault) (ls : List Line) (v : Verdict) → Reads limit true script st sf → Reads limit true answers at' af → IsJudged st at' sf af ls v → v ≡ Valid → IsValid script answers
+valid_means laws one script answers st at' sf af ls v rs ra j h =
     let mine = lines_in true [] j.pairs [] in
     let tests = valid_lines (mine ++ lines_of_end j.fault) (sym j.verdict_is ∙ h) in
     let whole = (fully_paired script answers st at' sf af ls v rs ra j tests.0).0 in
@@ -83,7 +82,7 @@ valid_means one script answers st at' sf af ls v rs ra j h =
       pairs = j.pairs;
       paired = whole;
       only = λ others trees answered rest f g p. only_pairing one script answers j.pairs others trees answered rest whole f g p;
-      confirmed = λ before after p place sat. confirmed_at j.pairs before after p place j.faultless (none_of is_refuted_line mine (lines_of_end j.fault) tests.1).0 (none_of is_undecided_line mine (lines_of_end j.fault) tests.2).0 sat;
+      confirmed = λ before after p place sat. confirmed_at laws j.pairs before after p place j.faultless (none_of is_refuted_line mine (lines_of_end j.fault) tests.1).0 (none_of is_undecided_line mine (lines_of_end j.fault) tests.2).0 sat;
     }
 
 -- ## Invalid means invalid
@@ -128,15 +127,16 @@ answer_cases false false false k n ls h = absurd (cc)
 -- a pair that has the line of a refuted model is a check that was answered sat
 pub record IsRefutedCheck (before : List Pair) (p : Pair) (after : List Pair) : Type 0 where
   pub sat : IsSatCheck p
-  pub line : list_any is_refuted_line (lines_of_sat true (checks_in before + 1) (length before + 1) (names_after before) (assertions_after before) ((length before + 1) + 1) after) ≡ true
+  pub line : list_any is_refuted_line (lines_of_sat true (checks_in before + 1) (length before + 1) (signature_after before) (assertions_after before) ((length before + 1) + 1) after) ≡ true
 
 refuted_check : (before : List Pair) (c : Command) (o : Option Sexp) (after : List Pair) → list_any is_refuted_line (lines_of_pair true before (record { command = c; answer = o }) after) ≡ true → IsRefutedCheck before (record { command = c; answer = o }) after
+refuted_check before (SetLogic x) o after h = absurd (cc)
 refuted_check before (DeclareConst x s) o after h = absurd (cc)
 refuted_check before (Assert t) o after h = absurd (cc)
 refuted_check before GetModel o after h = absurd (cc)
 refuted_check before CheckSat None after h = absurd (cc)
 refuted_check before CheckSat (Some a) after h =
-    let cases = answer_cases (is_symbol (codes "unsat") a) (is_symbol (codes "unknown") a) (is_symbol (codes "sat") a) (checks_in before + 1) (length before + 1) (lines_of_sat true (checks_in before + 1) (length before + 1) (names_after before) (assertions_after before) ((length before + 1) + 1) after) h in
+    let cases = answer_cases (is_symbol (codes "unsat") a) (is_symbol (codes "unknown") a) (is_symbol (codes "sat") a) (checks_in before + 1) (length before + 1) (lines_of_sat true (checks_in before + 1) (length before + 1) (signature_after before) (assertions_after before) ((length before + 1) + 1) after) h in
     record {
       sat = record { check = refl; answer = a; answered = refl; sat = cases.0 };
       line = cases.1;
@@ -159,14 +159,14 @@ refuted_judgement k n g (judgements.NotDecided a) line h r = let e = ap is_refut
 refuted_judgement k n g judgements.Confirmed line h r = absurd (cc)
 
 -- the model that has the line
-pub record HasModel (k n : ℕ) (names : List Entry) (as' : List Assertion) (ms : List Printed) (line : Line) : Type 0 where
+pub record HasModel (k n : ℕ) (names : Signature) (as' : List Assertion) (ms : List Printed) (line : Line) : Type 0 where
   pub first : List Printed
   pub model : Printed
   pub last : List Printed
   pub place : ms ≡ first ++ model ∷ last
   pub refuted : IsRefutedLine k n model.command (judgement_of names as' model.parts) line
 
-first_model : (k n : ℕ) (names : List Entry) (as' : List Assertion) (m : Printed) (ms : List Printed) (line : Line) (l : Option Line) → line_of_judgement k n m.command (judgement_of names as' m.parts) ≡ l → is_refuted_line line ≡ true → (unconfirmed_line k n names as' ms ≡ Some line → HasModel k n names as' ms line) → option_or l (unconfirmed_line k n names as' ms) ≡ Some line → HasModel k n names as' (m ∷ ms) line
+first_model : (k n : ℕ) (names : Signature) (as' : List Assertion) (m : Printed) (ms : List Printed) (line : Line) (l : Option Line) → line_of_judgement k n m.command (judgement_of names as' m.parts) ≡ l → is_refuted_line line ≡ true → (unconfirmed_line k n names as' ms ≡ Some line → HasModel k n names as' ms line) → option_or l (unconfirmed_line k n names as' ms) ≡ Some line → HasModel k n names as' (m ∷ ms) line
 first_model k n names as' m ms line None is r later h = let g = later h in record {
   first = m ∷ g.first;
   model = g.model;
@@ -182,7 +182,7 @@ first_model k n names as' m ms line (Some other) is r later h = record {
   refuted = refuted_judgement k n m.command (judgement_of names as' m.parts) line (is ∙ h) r;
 }
 
-refuted_model : (k n : ℕ) (names : List Entry) (as' : List Assertion) (ms : List Printed) (line : Line) → is_refuted_line line ≡ true → unconfirmed_line k n names as' ms ≡ Some line → HasModel k n names as' ms line
+refuted_model : (k n : ℕ) (names : Signature) (as' : List Assertion) (ms : List Printed) (line : Line) → is_refuted_line line ≡ true → unconfirmed_line k n names as' ms ≡ Some line → HasModel k n names as' ms line
 refuted_model k n names as' [] line r h = absurd (cc)
 refuted_model k n names as' (m ∷ ms) line r h =
     first_model k n names as' m ms line (line_of_judgement k n m.command (judgement_of names as' m.parts)) refl r (refuted_model k n names as' ms line r) h
@@ -192,12 +192,12 @@ or_false_true true h = refl
 or_false_true false h = cc
 
 -- a check with the line of a refuted model
-pub record HasRefuted (k n : ℕ) (names : List Entry) (as' : List Assertion) (ms : List Printed) (ls : List Line) : Type 0 where
+pub record HasRefuted (k n : ℕ) (names : Signature) (as' : List Assertion) (ms : List Printed) (ls : List Line) : Type 0 where
   pub line : Line
   pub model : HasModel k n names as' ms line
   pub lines_are : ls ≡ line ∷ []
 
-sat_refuted : (k n : ℕ) (names : List Entry) (as' : List Assertion) (ms : List Printed) (some : Bool) (l : Option Line) → unconfirmed_line k n names as' ms ≡ l → list_any is_refuted_line (sat_lines k n l some true) ≡ true → HasRefuted k n names as' ms (sat_lines k n l some true)
+sat_refuted : (k n : ℕ) (names : Signature) (as' : List Assertion) (ms : List Printed) (some : Bool) (l : Option Line) → unconfirmed_line k n names as' ms ≡ l → list_any is_refuted_line (sat_lines k n l some true) ≡ true → HasRefuted k n names as' ms (sat_lines k n l some true)
 sat_refuted k n names as' ms some (Some line) is h = record {
   line = line;
   model = refuted_model k n names as' ms line (or_false_true (is_refuted_line line) h) is;
@@ -240,7 +240,7 @@ refuted_first (Some m) o n h = cc
 refuted_first None o n h = open_not_refuted o n h
 
 -- a model that is refuted has definitions over which the assertion is false
-refuted_over : (as' : List Assertion) (r : Result (List Entry) ModelFault) (n : ℕ) → judged_over as' r ≡ judgements.Refuted n → (d : List Entry) × (r ≡ Ok d) × HasFirst (is_false_over d) as' n
+refuted_over : (as' : List Assertion) (r : Result Signature ModelFault) (n : ℕ) → judged_over as' r ≡ judgements.Refuted n → (d : Signature) × (r ≡ Ok d) × HasFirst (is_false_over d) as' n
 refuted_over as' (Ok d) n h =
     (d, refl, first_some (is_false_over d) as' n (refuted_first (first_assertion (is_false_over d) as') (first_assertion (is_open_over d) as') n h))
 refuted_over as' (Err (faults.Item i f)) n h = absurd (cc)
@@ -291,6 +291,7 @@ comes_here n p ps t rest (x ∷ xs) a ys is e later h = comes_later n p ps a (la
 comes_by : (n : ℕ) (p : Pair) (ps : List Pair) (cs : List Numbered) (xs : List Assertion) (a : Assertion) (ys : List Assertion) (b : Bool) (c : Command) → is_effective p ≡ b → p.command ≡ c → ((zs : List Assertion) → assertions_in_force cs ≡ zs ++ a ∷ ys → ComesFrom (n + 1) ps a)
     → assertions_in_force (cond b (record { number = n; command = c } ∷ []) [] ++ cs) ≡ xs ++ a ∷ ys → ComesFrom n (p ∷ ps) a
 comes_by n p ps cs xs a ys false c e is later h = comes_later n p ps a (later xs h)
+comes_by n p ps cs xs a ys true (SetLogic x) e is later h = comes_later n p ps a (later xs h)
 comes_by n p ps cs xs a ys true (DeclareConst x s) e is later h = comes_later n p ps a (later xs h)
 comes_by n p ps cs xs a ys true (Assert t) e is later h = comes_here n p ps t (assertions_in_force cs) xs a ys is e later h
 comes_by n p ps cs xs a ys true CheckSat e is later h = comes_later n p ps a (later xs h)
@@ -308,8 +309,8 @@ comes_from n (p ∷ ps) xs a ys h =
 line_place : (l1 l2 end : List Line) (line : Line) → (l1 ++ (line ∷ [] ++ l2)) ++ end ≡ l1 ++ line ∷ (l2 ++ end)
 line_place l1 l2 end line = append_assoc l1 (line ∷ l2) end
 
-pub invalid_means : (script answers : List ℕ) (st at' : Sexps) (sf af : Option TextFault) (ls : List Line) (v : Verdict) → Reads limit true script st sf → Reads limit true answers at' af → IsJudged st at' sf af ls v → v ≡ Invalid → IsInvalid script answers ls
-invalid_means script answers st at' sf af ls v rs ra j h =
+pub invalid_means : Laws → (script answers : List ℕ) (st at' : Sexps) (sf af : Option TextFault) (ls : List Line) (v : Verdict) → Reads limit true script st sf → Reads limit true answers at' af → IsJudged st at' sf af ls v → v ≡ Invalid → IsInvalid script answers ls
+invalid_means laws script answers st at' sf af ls v rs ra j h =
     let mine = lines_in true [] j.pairs [] in
     let tests = invalid_lines (mine ++ lines_of_end j.fault) (sym j.verdict_is ∙ h) in
     let whole = fully_paired script answers st at' sf af ls v rs ra j tests.0 in
@@ -320,7 +321,7 @@ invalid_means script answers st at' sf af ls v rs ra j h =
     let check : IsRefutedCheck before p at_pair.last = refuted_check before p.command p.answer at_pair.last at_pair.line in
     let k = checks_in before + 1 in
     let n = length before + 1 in
-    let names = names_after before in
+    let names = signature_after before in
     let assertions = assertions_after before in
     let ms = models_from (n + 1) (window at_pair.last) in
     let found = sat_refuted k n names assertions ms (not (is_empty ms)) (unconfirmed_line k n names assertions ms) refl check.line in
@@ -347,7 +348,7 @@ invalid_means script answers st at' sf af ls v rs ra j h =
       models_after = found.model.last;
       models = ap (λ (i : ℕ). models_from i (window at_pair.last)) (omega arith) ∙ found.model.place;
       definitions = over.0;
-      model_of = complete names found.model.model.parts over.0 over.1;
+      model_of = laws.complete names found.model.model.parts over.0 over.1;
       earlier = source.earlier;
       term = over.2.assertion.term;
       asserted = record {
@@ -358,7 +359,7 @@ invalid_means script answers st at' sf af ls v rs ra j h =
         effective = source.effective;
       };
       sorted = asserted_formula source.earlier q over.2.assertion.term source.command source.effective (faultless_at [] source.earlier q (source.between ++ p ∷ at_pair.last) (subst (AreFaultless []) far j.faultless));
-      false_in = closed_value over.0 over.2.assertion.term (Boolean false) (is_false_value (known_over over.0 over.2.assertion.term) over.2.passes);
+      false_in = λ z. closed_value laws z over.0 over.2.assertion.term (Truth false) (is_false_value (known_over over.0 over.2.assertion.term) over.2.passes);
       lines_before = l1;
       lines_after = l2 ++ end;
       line = j.lines_are
@@ -385,22 +386,23 @@ all_at P (y ∷ xs) x ys h = all_at P xs x ys h.1
 not_both : (t : Element) → t ≡ Truth true → t ≡ Truth false → ⊥
 not_both t a b = let bad : Truth true ≡ Truth false = sym a ∙ b in let worse : true ≡ false = cc in cc
 
-pub with_false : (script answers : List ℕ) (pairs before after : List Pair) (p : Pair) (first last : List Printed) (m : Printed) (definitions : List Entry) (earlier : List Pair) (term : Sexp) → IsFullyPaired script answers pairs → pairs ≡ before ++ p ∷ after → IsSatCheck p
-    → models_from (length before + 2) (window after) ≡ first ++ m ∷ last → IsModelOf (names_after before) m.parts definitions → IsAsserted before earlier term → value_over (structure_at definitions before) [] term ≡ Truth false → IsValid script answers → ⊥
+pub with_false : (script answers : List ℕ) (pairs before after : List Pair) (p : Pair) (first last : List Printed) (m : Printed) (definitions : Signature) (earlier : List Pair) (term : Sexp) → IsFullyPaired script answers pairs → pairs ≡ before ++ p ∷ after → IsSatCheck p
+    → models_from (length before + 2) (window after) ≡ first ++ m ∷ last → IsModelOf (signature_after before) m.parts definitions → IsAsserted before earlier term → ((z : DivisionByZero) → value_over z (structure_at definitions before) [] term ≡ Truth false) → IsValid script answers → ⊥
 with_false script answers pairs before after p first last m definitions earlier term whole place sat models of asserted is_false v =
     let confirmed = v.confirmed before after p (valid_pairs script answers pairs v whole ∙ place) sat in
     let all = subst (AllByRecursion (λ (n : Printed). IsTrueModel before n.parts)) (sym confirmed.models ∙ models) confirmed.true_models in
     let one = all_at (λ (n : Printed). IsTrueModel before n.parts) first m last all in
-    let both : ◌≡◌ {A = Result (List Entry) ModelFault} (Ok one.definitions) (Ok definitions) = sym one.model.read ∙ of.read in
+    let both : ◌≡◌ {A = Result Signature ModelFault} (Ok one.definitions) (Ok definitions) = sym one.model.read ∙ of.read in
     let same : one.definitions ≡ definitions = cc in
-    not_both (value_over definitions [] term) (ap (λ (d : List Entry). value_over d [] term) (sym same) ∙ one.true_in earlier term asserted) is_false
+    let z : DivisionByZero = record { quotients = []; remainders = [] } in
+    not_both (value_over z definitions [] term) (ap (λ (d : Signature). value_over z d [] term) (sym same) ∙ one.true_in z earlier term asserted) (is_false z)
 
 -- ## What a call answered
 
-pub valid_answer : OneForest → (r : Result Report Memory) (script answers : List ℕ) (st at' : Sexps) (sf af : Option TextFault) → Reads limit true script st sf → Reads limit true answers at' af → IfOk r (λ x. IsJudged st at' sf af x.lines.items x.verdict) → IfOk r (λ x. x.verdict ≡ Valid → IsValid script answers)
-valid_answer one (Ok x) script answers st at' sf af rs ra j = valid_means one script answers st at' sf af x.lines.items x.verdict rs ra j
-valid_answer one (Err e) script answers st at' sf af rs ra j = tt
+pub valid_answer : Laws → OneForest → (r : Result Report Memory) (script answers : List ℕ) (st at' : Sexps) (sf af : Option TextFault) → Reads limit true script st sf → Reads limit true answers at' af → IfOk r (λ x. IsJudged st at' sf af x.lines.items x.verdict) → IfOk r (λ x. x.verdict ≡ Valid → IsValid script answers)
+valid_answer laws one (Ok x) script answers st at' sf af rs ra j = valid_means laws one script answers st at' sf af x.lines.items x.verdict rs ra j
+valid_answer laws one (Err e) script answers st at' sf af rs ra j = tt
 
-pub invalid_answer : (r : Result Report Memory) (script answers : List ℕ) (st at' : Sexps) (sf af : Option TextFault) → Reads limit true script st sf → Reads limit true answers at' af → IfOk r (λ x. IsJudged st at' sf af x.lines.items x.verdict) → IfOk r (λ x. x.verdict ≡ Invalid → IsInvalid script answers x.lines.items)
-invalid_answer (Ok x) script answers st at' sf af rs ra j = invalid_means script answers st at' sf af x.lines.items x.verdict rs ra j
-invalid_answer (Err e) script answers st at' sf af rs ra j = tt
+pub invalid_answer : Laws → (r : Result Report Memory) (script answers : List ℕ) (st at' : Sexps) (sf af : Option TextFault) → Reads limit true script st sf → Reads limit true answers at' af → IfOk r (λ x. IsJudged st at' sf af x.lines.items x.verdict) → IfOk r (λ x. x.verdict ≡ Invalid → IsInvalid script answers x.lines.items)
+invalid_answer laws (Ok x) script answers st at' sf af rs ra j = invalid_means laws script answers st at' sf af x.lines.items x.verdict rs ra j
+invalid_answer laws (Err e) script answers st at' sf af rs ra j = tt

@@ -1,8 +1,8 @@
 -- SMT-LIB 2.6, sections 4.1 and 4.2: what is in force after pairs of commands and answers, and the faults of pairs. A command that was
 -- answered by `unsupported` or an error took no effect. Commands count from 1.
 use Rattle.std.specs.Prelude.{◌≡◌, ℕ, ◌+◌, List, [], ◌∷◌, ◌++◌, length, Option, None, if◌then◌else◌}
-use Rattle.core_terms.specs.Signature.{Entry}
-use Rattle.smt_script.specs.Stack.{Assertion, Numbered, assertions_in_force, fault_of_effect, names_in_force}
+use Rattle.smt_terms.specs.Signature.{Signature}
+use Rattle.smt_script.specs.Stack.{Assertion, Numbered, assertions_in_force, fault_of_effect, signature_in_force}
 use Rattle.smt_script.specs.declared.fault.CommandFault.{CommandFault}
 use Rattle.smt_dialogue.specs.Pairing.{Pair, is_effective}
 
@@ -15,9 +15,9 @@ effective_from n (pair ∷ pairs) =
 abbrev pub effective_commands : List Pair → List Numbered
 effective_commands pairs = effective_from 1 pairs
 
--- the names in force after pairs
-abbrev pub names_after : List Pair → List Entry
-names_after pairs = names_in_force (effective_commands pairs)
+-- the theories and names in force after pairs
+abbrev pub signature_after : List Pair → Signature
+signature_after pairs = signature_in_force (effective_commands pairs)
 
 -- the assertions in force after pairs
 abbrev pub assertions_after : List Pair → List Assertion
@@ -26,7 +26,7 @@ assertions_after pairs = assertions_in_force (effective_commands pairs)
 -- the fault of a pair behind others: a command that took no effect has none
 abbrev pub fault_of_pair : List Pair → Pair → Option CommandFault
 fault_of_pair before pair =
-    if is_effective pair then fault_of_effect (names_after before) (length before + 1) pair.command else None
+    if is_effective pair then fault_of_effect (effective_commands before) (length before + 1) pair.command else None
 
 -- no pair has a fault, behind those that come before
 abbrev pub AreFaultless : List Pair → List Pair → Type 0

@@ -1,9 +1,9 @@
 -- What is found of a model. These are this project's rules.
-use Rattle.std.specs.Prelude.{ℕ, List, [], ◌∷◌, Bool, false, not, Option, Some, None, is_some, Result, Ok, Err, if◌then◌else◌}
+use Rattle.std.specs.Prelude.{ℕ, List, [], ◌∷◌, Bool, true, false, not, Option, Some, None, Result, Ok, Err, if◌then◌else◌}
 use Rattle.smt_text.specs.Sexp.{Sexp, Sexps}
-use Rattle.core_values.specs.KnownOperations.{is_known}
-use Rattle.core_terms.specs.Signature.{Entry}
-use Rattle.core_terms.specs.declared.fault.TermFault.TheVariants as terms
+use Rattle.smt_values.specs.KnownOperations.{is_known}
+use Rattle.smt_terms.specs.Signature.{Signature}
+use Rattle.smt_terms.specs.declared.fault.TermFault.TheVariants as terms
 use Rattle.smt_eval.specs.Known.{known_over}
 use Rattle.smt_eval.specs.Model.{model_in}
 use Rattle.smt_eval.specs.declared.interpretation.ModelFault.{ModelFault}
@@ -17,12 +17,12 @@ abbrev pub first_assertion : (Sexp → Bool) → List Assertion → Option ℕ
 first_assertion test [] = None
 first_assertion test (a ∷ as') = if test a.term then Some a.command else first_assertion test as'
 
--- whether a formula is known to be false, or open, over definitions
-abbrev pub is_false_over : List Entry → Sexp → Bool
+-- whether a formula is known to be false over definitions, or not known to be true: then it is open where it is not false
+abbrev pub is_false_over : Signature → Sexp → Bool
 is_false_over definitions term = is_known false (known_over definitions term)
 
-abbrev pub is_open_over : List Entry → Sexp → Bool
-is_open_over definitions term = not (is_some (known_over definitions term))
+abbrev pub is_open_over : Signature → Sexp → Bool
+is_open_over definitions term = not (is_known true (known_over definitions term))
 
 abbrev pub open_or_confirmed : Option ℕ → Judgement
 open_or_confirmed (Some command) = NotDecided command
@@ -33,13 +33,13 @@ refuted_or (Some command) open' = Refuted command
 refuted_or None open' = open_or_confirmed open'
 
 -- what is found of the definitions of a model: the first assertion that is false, else the first that is open
-abbrev pub judged_over : List Assertion → Result (List Entry) ModelFault → Judgement
+abbrev pub judged_over : List Assertion → Result Signature ModelFault → Judgement
 judged_over assertions (Ok definitions) =
     refuted_or (first_assertion (is_false_over definitions) assertions) (first_assertion (is_open_over definitions) assertions)
 judged_over assertions (Err (faults.Item number fault)) = ItemFault number fault
 judged_over assertions (Err (faults.Lacks command)) = Lacks command
 judged_over assertions (Err faults.Memory) = ItemFault 0 terms.Memory
 
--- what is found of a model under names and assertions in force
-abbrev pub judgement_of : List Entry → List Assertion → Sexps → Judgement
+-- what is found of a model under the signature and assertions in force
+abbrev pub judgement_of : Signature → List Assertion → Sexps → Judgement
 judgement_of names assertions parts = judged_over assertions (model_in names parts)

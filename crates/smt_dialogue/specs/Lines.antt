@@ -3,13 +3,13 @@ use Rattle.std.specs.Prelude.{ℕ, ◌+◌, List, [], ◌∷◌, ◌++◌, lengt
 use Rattle.std.specs.List.{list_any}
 use Rattle.std.specs.Option.{option_or}
 use Rattle.smt_text.specs.Sexp.{Sexp, is_symbol}
-use Rattle.smt_script.specs.Command.{Command, DeclareConst, Assert, CheckSat, GetModel}
+use Rattle.smt_script.specs.Command.{Command, SetLogic, DeclareConst, Assert, CheckSat, GetModel}
 use Rattle.smt_script.specs.Stack.{Assertion}
-use Rattle.smt_dialogue.specs.InForce.{names_after, assertions_after}
+use Rattle.smt_dialogue.specs.InForce.{signature_after, assertions_after}
 use Rattle.smt_dialogue.specs.Pairing.{Pair}
 use Rattle.smt_dialogue.specs.Window.{Printed, closes, models_from, window}
 use Rattle.smt_dialogue.specs.Judgement.{judgement_of}
-use Rattle.core_terms.specs.Signature.{Entry}
+use Rattle.smt_terms.specs.Signature.{Signature}
 use Rattle.smt_dialogue.specs.declared.judgement.Judgement.{Judgement}
 use Rattle.smt_dialogue.specs.declared.judgement.Judgement.TheVariants as judgements
 use Rattle.smt_dialogue.specs.declared.line.CheckAnswer.TheVariants.{Unsat, Unknown}
@@ -25,7 +25,7 @@ line_of_judgement k n g (judgements.NotDecided assertion) = Some (lines.NotDecid
 line_of_judgement k n g judgements.Confirmed = None
 
 -- the line of the first model that isn't confirmed
-abbrev pub unconfirmed_line : ℕ → ℕ → List Entry → List Assertion → List Printed → Option Line
+abbrev pub unconfirmed_line : ℕ → ℕ → Signature → List Assertion → List Printed → Option Line
 unconfirmed_line k n names assertions [] = None
 unconfirmed_line k n names assertions (m ∷ ms) =
     option_or (line_of_judgement k n m.command (judgement_of names assertions m.parts)) (unconfirmed_line k n names assertions ms)
@@ -45,7 +45,7 @@ sat_lines k n (Some line) some_model closed = line ∷ []
 sat_lines k n None some_model closed = if closed then confirmed_line k n some_model ∷ [] else []
 
 -- the lines of a check that was answered `sat`, the pairs `after` it beginning with command m. `ended` says that no command follows them
-abbrev pub lines_of_sat : Bool → ℕ → ℕ → List Entry → List Assertion → ℕ → List Pair → List Line
+abbrev pub lines_of_sat : Bool → ℕ → ℕ → Signature → List Assertion → ℕ → List Pair → List Line
 lines_of_sat ended k n names assertions m after =
     let models = models_from m (window after) in
     sat_lines k n (unconfirmed_line k n names assertions models) (not (is_empty models)) (ended || list_any closes after)
@@ -55,9 +55,10 @@ abbrev pub lines_of_answer : Bool → List Pair → ℕ → Option Sexp → List
 lines_of_answer ended before k None after = []
 lines_of_answer ended before k (Some answer) after =
     let n = length before + 1 in
-    if is_symbol (codes "unsat") answer then lines.Unchecked k n Unsat ∷ [] else if is_symbol (codes "unknown") answer then lines.Unchecked k n Unknown ∷ [] else if is_symbol (codes "sat") answer then lines_of_sat ended k n (names_after before) (assertions_after before) (n + 1) after else []
+    if is_symbol (codes "unsat") answer then lines.Unchecked k n Unsat ∷ [] else if is_symbol (codes "unknown") answer then lines.Unchecked k n Unknown ∷ [] else if is_symbol (codes "sat") answer then lines_of_sat ended k n (signature_after before) (assertions_after before) (n + 1) after else []
 
 abbrev pub is_check : Command → Bool
+is_check (SetLogic name) = false
 is_check (DeclareConst x sort) = false
 is_check (Assert term) = false
 is_check CheckSat = true

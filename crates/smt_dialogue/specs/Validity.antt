@@ -3,14 +3,15 @@ use Rattle.std.specs.Prelude.{◌≡◌, ℕ, ◌+◌, List, [], ◌∷◌, ◌+
 use Rattle.std.specs.List.{AllByRecursion}
 use Rattle.smt_text.specs.Grammar.{Forest, limit}
 use Rattle.smt_text.specs.Sexp.{Sexp, Sexps, Nil, is_symbol}
-use Rattle.core_theory.specs.declared.sort.Sort.TheVariants.{Bool as Boolean}
-use Rattle.core_values.specs.Element.{Truth}
-use Rattle.core_terms.specs.Checking.{sort_in}
-use Rattle.core_terms.specs.Signature.{Entry}
+use Rattle.smt_theory.specs.declared.sort.Sort.TheVariants.{Bool as Boolean}
+use Rattle.smt_values.specs.Element.{Truth}
+use Rattle.smt_values.specs.Operations.{DivisionByZero}
+use Rattle.smt_terms.specs.Checking.{sort_in}
+use Rattle.smt_terms.specs.Signature.{Signature, names_of}
 use Rattle.smt_eval.specs.CompleteModel.{IsModelOf}
 use Rattle.smt_eval.specs.Meaning.{value_over}
 use Rattle.smt_script.specs.Command.{Assert}
-use Rattle.smt_dialogue.specs.InForce.{names_after}
+use Rattle.smt_dialogue.specs.InForce.{signature_after}
 use Rattle.smt_dialogue.specs.Lines.{checks_in, is_check}
 use Rattle.smt_dialogue.specs.Pairing.{IsPairing, Pair, is_effective}
 use Rattle.smt_dialogue.specs.Window.{Printed, models_from, structure_at, window}
@@ -41,12 +42,12 @@ pub record IsAsserted (before : List Pair) (earlier : List Pair) (term : Sexp) :
   pub effective : is_effective pair ≡ true
 
 -- the parts are those of a model of the names in force. And every assertion in force is well sorted under the names in force before
--- its command, and true
+-- its command, and true whatever division by zero gives
 pub record IsTrueModel (before : List Pair) (parts : Sexps) : Type 0 where
-  pub definitions : List Entry
-  pub model : IsModelOf (names_after before) parts definitions
-  pub sorted : (earlier : List Pair) (term : Sexp) → IsAsserted before earlier term → sort_in (names_after earlier) [] term ≡ Ok Boolean
-  pub true_in : (earlier : List Pair) (term : Sexp) → IsAsserted before earlier term → value_over (structure_at definitions before) [] term ≡ Truth true
+  pub definitions : Signature
+  pub model : IsModelOf (signature_after before) parts definitions
+  pub sorted : (earlier : List Pair) (term : Sexp) → IsAsserted before earlier term → sort_in (names_of (signature_after earlier)) [] term ≡ Ok Boolean
+  pub true_in : (z : DivisionByZero) (earlier : List Pair) (term : Sexp) → IsAsserted before earlier term → value_over z (structure_at definitions before) [] term ≡ Truth true
 
 -- a check that was answered `sat`, behind the pairs before it, has a model in its window, and each model there is a true one
 pub record IsConfirmed (before after : List Pair) : Type 0 where
@@ -64,7 +65,7 @@ pub record IsValid (script answers : List ℕ) : Type 0 where
   pub confirmed : (before after : List Pair) (pair : Pair) → pairs ≡ before ++ pair ∷ after → IsSatCheck pair → IsConfirmed before after
 
 -- what an invalid verdict means: in the window of a check that was answered `sat` stands a model of the names in force that makes a
--- well-sorted assertion in force false, and the report has the line that says so
+-- well-sorted assertion in force false, whatever division by zero gives, and the report has the line that says so
 pub record IsInvalid (script answers : List ℕ) (ls : List Line) : Type 0 where
   pub pairs : List Pair
   pub paired : IsFullyPaired script answers pairs
@@ -77,13 +78,13 @@ pub record IsInvalid (script answers : List ℕ) (ls : List Line) : Type 0 where
   pub model : Printed
   pub models_after : List Printed
   pub models : models_from (length before + 2) (window after) ≡ models_before ++ model ∷ models_after
-  pub definitions : List Entry
-  pub model_of : IsModelOf (names_after before) model.parts definitions
+  pub definitions : Signature
+  pub model_of : IsModelOf (signature_after before) model.parts definitions
   pub earlier : List Pair
   pub term : Sexp
   pub asserted : IsAsserted before earlier term
-  pub sorted : sort_in (names_after earlier) [] term ≡ Ok Boolean
-  pub false_in : value_over (structure_at definitions before) [] term ≡ Truth false
+  pub sorted : sort_in (names_of (signature_after earlier)) [] term ≡ Ok Boolean
+  pub false_in : (z : DivisionByZero) → value_over z (structure_at definitions before) [] term ≡ Truth false
   pub lines_before : List Line
   pub lines_after : List Line
   pub line : ls ≡ lines_before ++ Refuted (checks_in before + 1) (length before + 1) model.command (length earlier + 1) ∷ lines_after

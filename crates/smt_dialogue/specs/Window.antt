@@ -1,12 +1,14 @@
 -- The window of a check, and the models printed in it. These are this project's rules.
 use Rattle.std.specs.Prelude.{ℕ, ◌+◌, List, [], ◌∷◌, ◌++◌, Bool, true, false, Option, Some, if◌then◌else◌}
 use Rattle.smt_text.specs.Sexp.{Sexp, Sexps, Items}
-use Rattle.core_terms.specs.Signature.{Entry}
-use Rattle.smt_script.specs.Command.{Command, DeclareConst, Assert, CheckSat, GetModel}
+use Rattle.smt_terms.specs.Signature.{Signature}
+use Rattle.smt_script.specs.Command.{Command, SetLogic, DeclareConst, Assert, CheckSat, GetModel}
 use Rattle.smt_dialogue.specs.Pairing.{Pair, is_effective}
 
--- whether a command ends the window of an earlier check: a check does, and what changes something where it took effect
+-- whether a command ends the window of an earlier check: a check does, and what changes something where it took effect. (A logic is
+-- set before every check, so that in a dialogue without a fault it ends none.)
 abbrev pub closes_by : Bool → Command → Bool
+closes_by effective (SetLogic name) = effective
 closes_by effective (DeclareConst x sort) = effective
 closes_by effective (Assert term) = effective
 closes_by effective CheckSat = true
@@ -17,7 +19,7 @@ closes pair = closes_by (is_effective pair) pair.command
 
 -- the structure of a check behind these pairs, over the definitions of a model: those, and then the script's definitions in force, of
 -- which there are none yet
-abbrev pub structure_at : List Entry → List Pair → List Entry
+abbrev pub structure_at : Signature → List Pair → Signature
 structure_at definitions before = definitions
 
 -- the pairs up to the first that ends the window

@@ -29,7 +29,9 @@ pub(crate) fn takes(command: &Command, answer: &Tree) -> bool
     ensures { result ≡ answering.takes (command_view command.now) (sexp_of answer.now) }
 {
     match command {
-        Command::DeclareConst { .. } | Command::Assert { .. } => answer.is_symbol(b"success"),
+        Command::SetLogic { .. } | Command::DeclareConst { .. } | Command::Assert { .. } => {
+            answer.is_symbol(b"success")
+        }
         Command::CheckSat => {
             answer.is_symbol(b"sat") || answer.is_symbol(b"unsat") || answer.is_symbol(b"unknown")
         }

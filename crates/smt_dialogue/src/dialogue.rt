@@ -50,6 +50,7 @@ impl Dialogue {
         requires answers { self.old.answers + 1 < 2 ^ 64 }
         requires checks { self.old.checks.count + 1 < 2 ^ 64 }
         requires last { last_of self.old.stack ≤ self.old.commands }
+        requires stands { (pairs : List Pair) × StandsFor (state_of self.old) pairs }
         requires taken { answering.takes (command_view command.now) (sexp_of answer.now) ≡ true }
         ensures accepted { OnOk result ((pairs : List Pair) → StandsFor (state_of self.old) pairs
             → (fault_of_pair pairs (answered_by (command_view command.now) (sexp_of answer.now)) ≡ None)

@@ -1,17 +1,18 @@
 //! What is found of a model.
 
-ghost use Rattle.std.specs.Prelude.{◌≡◌, IfOk, Ok};
-ghost use Rattle.core_terms.specs.Library.{entries_of};
-ghost use Rattle.smt_script.specs.CommandView.{assertions_view};
-ghost use Rattle.smt_script.specs.StackView.{assertions_of, names_of};
+ghost use Rattle.std.specs.Prelude.{◌≡◌, List, IfOk, Ok};
+ghost use Rattle.smt_terms.specs.Signature.{Signature};
+ghost use Rattle.smt_eval.specs.Interpretation.{IsInterpretation};
+ghost use Rattle.smt_script.specs.Stack as stacks;
+ghost use Rattle.smt_script.specs.Stack.{Numbered, assertions_in_force, signature_in_force};
+ghost use Rattle.smt_script.specs.StackView.{AreAssertions, StandsFor};
 ghost use Rattle.smt_dialogue.specs.Judgement.{judged_over, judgement_of};
 
-use core_terms::{Library, TermFault};
-use core_values::Value;
-use smt_eval::plain::Closed;
-use smt_eval::{Checked, Interpretation, Memory, ModelFault, Structure};
+use smt_eval::{Interpretation, Memory, ModelFault, eval};
 use smt_script::{Assertion, Stack};
+use smt_terms::{Library, TermFault};
 use smt_text::Trees;
+use smt_values::Value;
 
 /// What is found of a model. Commands, and items of a model, count from 1.
 #[derive(Clone, Copy, Debug, PartialEq, Eq)]
@@ -30,10 +31,12 @@ pub enum Judgement {
 
 /// Judges a model under what is in force.
 pub(crate) fn judge(stack: &Stack, model: &Trees) -> Result<Judgement, Memory>
-    ensures { IfOk result (λ j. j ≡ judgement_of (names_of stack.now) (assertions_of stack.now) model.now) }
+    requires { (commands : List Numbered) × StandsFor stack.now commands }
+    ensures { (commands : List Numbered) → StandsFor stack.now commands → IfOk result (λ j. j ≡ judgement_of (signature_in_force commands) (assertions_in_force commands) model.now) }
 {
-    match Interpretation::read(stack.library(), model) {
-        Ok(interpretation) => judge_assertions(&interpretation.definitions, stack.assertions()),
+    let library = stack.library();
+    match Interpretation::read(library, model) {
+        Ok(interpretation) => judge_assertions(library, &interpretation, stack.assertions()),
         Err(ModelFault::Item { number, fault }) => Ok(Judgement::ItemFault {
             item: number,
             fault,
@@ -45,28 +48,32 @@ pub(crate) fn judge(stack: &Stack, model: &Trees) -> Result<Judgement, Memory>
     }
 }
 
-// The first assertion that is false over the definitions, else the first that is open.
-fn judge_assertions(definitions: &Library, assertions: &[Assertion]) -> Result<Judgement, Memory>
-    ensures { IfOk result (λ j. j ≡ judged_over (assertions_view assertions.now) (Ok (entries_of definitions.now))) }
+// The first assertion that is false over the definitions of a model, else the first that is open.
+fn judge_assertions(
+    library: &Library,
+    interpretation: &Interpretation,
+    assertions: &[Assertion],
+) -> Result<Judgement, Memory>
+    requires { (all : List stacks.Assertion) × AreAssertions library.now assertions.now all }
+    ensures { (definitions : Signature) (all : List stacks.Assertion) → IsInterpretation interpretation.now definitions → AreAssertions library.now assertions.now all
+        → IfOk result (λ j. j ≡ judged_over all (Ok definitions)) }
 {
-    let structure = Structure::new(definitions)?;
-    let structure = &structure;
     let mut first_open = None;
-    for assertion in assertions {
-        let tree = &assertion.term;
-        let formula = Closed { structure, tree };
-        match formula.known()? {
+    let mut left = assertions;
+    while let Some((assertion, rest)) = left.split_first() {
+        match eval(library, interpretation, assertion.term)? {
             Some(Value::Bool(true)) => {}
             Some(Value::Bool(false)) => {
                 let assertion = assertion.command;
                 return Ok(Judgement::Refuted { assertion });
             }
-            None => {
+            None | Some(Value::Int(_)) => {
                 if first_open.is_none() {
                     first_open = Some(assertion.command);
                 }
             }
         }
+        left = rest;
     }
     Ok(match first_open {
         Some(assertion) => Judgement::NotDecided { assertion },

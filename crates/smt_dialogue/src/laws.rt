@@ -2,11 +2,12 @@
 
 ghost use Rattle.std.specs.Prelude.{◌≡◌, ℕ, ◌+◌, List, [], ◌∷◌, ◌++◌, length, false};
 ghost use Rattle.smt_text.specs.Sexp.{Sexp, Sexps};
-ghost use Rattle.core_values.specs.Element.{Truth};
-ghost use Rattle.core_terms.specs.Signature.{Entry};
+ghost use Rattle.smt_values.specs.Element.{Truth};
+ghost use Rattle.smt_values.specs.Operations.{DivisionByZero};
+ghost use Rattle.smt_terms.specs.Signature.{Signature};
 ghost use Rattle.smt_eval.specs.CompleteModel.{IsModelOf};
 ghost use Rattle.smt_eval.specs.Meaning.{value_over};
-ghost use Rattle.smt_dialogue.specs.InForce.{names_after};
+ghost use Rattle.smt_dialogue.specs.InForce.{signature_after};
 ghost use Rattle.smt_dialogue.specs.Validity.{IsAsserted, IsFullyPaired, IsInvalid, IsSatCheck, IsValid};
 ghost use Rattle.smt_dialogue.specs.Window.{Printed, models_from, structure_at, window};
 ghost use Rattle.smt_dialogue.specs.Report.{IsReport};
@@ -47,8 +48,8 @@ pub fn sat_without_model_is_not_valid()
 
 /// A dialogue in which a model of a check that was answered `sat` makes an assertion in force false is not valid.
 pub fn false_assertion_is_not_valid()
-    ensures { (script answers : List ℕ) (pairs before after : List Pair) (pair : Pair) (first last : List Printed) (model : Printed) (definitions : List Entry) (earlier : List Pair) (term : Sexp)
+    ensures { (script answers : List ℕ) (pairs before after : List Pair) (pair : Pair) (first last : List Printed) (model : Printed) (definitions : Signature) (earlier : List Pair) (term : Sexp)
         → IsFullyPaired script answers pairs → pairs ≡ before ++ pair ∷ after → IsSatCheck pair → models_from (length before + 2) (window after) ≡ first ++ model ∷ last
-        → IsModelOf (names_after before) model.parts definitions → IsAsserted before earlier term → value_over (structure_at definitions before) [] term ≡ Truth false
+        → IsModelOf (signature_after before) model.parts definitions → IsAsserted before earlier term → ((z : DivisionByZero) → value_over z (structure_at definitions before) [] term ≡ Truth false)
         → IsValid script answers → ⊥ }
 {}

@@ -51,6 +51,7 @@ fn take_step(
     requires answers { dialogue.old.answers + 1 < 2 ^ 64 }
     requires checks { dialogue.old.checks.count + 1 < 2 ^ 64 }
     requires last { last_of dialogue.old.stack ≤ dialogue.old.commands }
+    requires stands { (pairs : List Pair) × StandsFor (state_of dialogue.old) pairs }
     ensures step { IfOk result (λ line. (pairs : List Pair) → StandsFor (state_of dialogue.old) pairs → IsStep line pairs (sexp_of tree) (sexps_of answers.old.trees.items) answers.old.fault (sexps_of answers.new.trees.items) (state_of dialogue.new)) }
     ensures fault { answers.new.fault ≡ answers.old.fault }
 {
@@ -81,6 +82,7 @@ fn accept(dialogue: &mut Dialogue, command: &Command, answer: &Tree) -> Result<O
     requires answers { dialogue.old.answers + 1 < 2 ^ 64 }
     requires checks { dialogue.old.checks.count + 1 < 2 ^ 64 }
     requires last { last_of dialogue.old.stack ≤ dialogue.old.commands }
+    requires stands { (pairs : List Pair) × StandsFor (state_of dialogue.old) pairs }
     requires taken { answering.takes (command_view command.now) (sexp_of answer.now) ≡ true }
     ensures { IfOk result (λ line. (pairs : List Pair) → StandsFor (state_of dialogue.old) pairs
         → IsAccepted line pairs (command_view command.now) (sexp_of answer.now) (state_of dialogue.new)) }

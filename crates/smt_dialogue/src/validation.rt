@@ -11,6 +11,7 @@ use crate::read_text::read_whole;
 use crate::report::Report;
 use crate::verdict::Verdict;
 use smt_eval::Memory;
+use smt_eval::laws::{known_values_are_true, models_are_complete};
 use smt_text::laws::one_forest;
 use std::alloc::Global;
 
@@ -25,8 +26,10 @@ pub fn validate(alloc: Global, script: &[u8], answers: &[u8], start: bool) -> Re
     ensures invalid { IfOk result (λ r. r.verdict ≡ Verdict.Invalid → IsInvalid script.now answers.now r.lines.items) }
 {
     let _ = start;
-    // A law: the texts have no other trees.
+    // Laws: the texts have no other trees, models that are read are complete, and what is known of a term is its value.
     one_forest();
+    models_are_complete();
+    known_values_are_true();
     let script = read_whole(alloc, script)?;
     let answers = read_whole(alloc, answers)?;
     judge_all(Dialogue::new(alloc), script, answers)

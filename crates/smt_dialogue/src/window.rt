@@ -1,9 +1,10 @@
 //! The window of a check: the models printed behind it, and its line.
 
-ghost use Rattle.std.specs.Prelude.{◌≡◌, ◌<◌, ◌+◌, ◌^◌, [], None, OnOk};
+ghost use Rattle.std.specs.Prelude.{◌≡◌, ◌<◌, ◌+◌, ◌^◌, List, [], None, OnOk};
 ghost use Rattle.smt_text.specs.Tree.{sexp_of};
 ghost use Rattle.smt_script.specs.CommandView.{command_view};
-ghost use Rattle.smt_script.specs.StackView.{assertions_of, names_of};
+ghost use Rattle.smt_script.specs.Stack.{Numbered, assertions_in_force, signature_in_force};
+ghost use Rattle.smt_script.specs.StackView.{StandsFor};
 ghost use Rattle.smt_dialogue.specs.Lines as check_lines;
 ghost use Rattle.smt_dialogue.specs.Internal.ChecksState.{checks_after, checks_state, with_check, with_model, with_window_ended};
 
@@ -53,12 +54,15 @@ impl Checks {
         answer: &Tree,
         stack: &Stack,
     ) -> Result<(), Memory>
-        requires { self.old.count + 1 < 2 ^ 64 }
-        ensures { OnOk result (checks_state self.new
-            ≡ checks_after (checks_state self.old) (names_of stack.now) (assertions_of stack.now) number (command_view command.now) (sexp_of answer.now)) }
+        requires count { self.old.count + 1 < 2 ^ 64 }
+        requires stands { (commands : List Numbered) × StandsFor stack.now commands }
+        ensures { OnOk result ((commands : List Numbered) → StandsFor stack.now commands → checks_state self.new
+            ≡ checks_after (checks_state self.old) (signature_in_force commands) (assertions_in_force commands) number (command_view command.now) (sexp_of answer.now)) }
     {
         match command {
-            Command::DeclareConst { .. } | Command::Assert { .. } => self.end_window(),
+            Command::SetLogic { .. } | Command::DeclareConst { .. } | Command::Assert { .. } => {
+                self.end_window()
+            }
             Command::CheckSat => self.begin_window(number, answer),
             Command::GetModel => self.judge_model(number, answer, stack),
         }
@@ -100,7 +104,9 @@ impl Checks {
 
     // A model printed outside every window is not looked at.
     fn judge_model(&mut self, number: u64, answer: &Tree, stack: &Stack) -> Result<(), Memory>
-        ensures { OnOk result (checks_state self.new ≡ with_model (checks_state self.old) self.old.pending (names_of stack.now) (assertions_of stack.now) number (sexp_of answer.now)) }
+        requires { (commands : List Numbered) × StandsFor stack.now commands }
+        ensures { OnOk result ((commands : List Numbered) → StandsFor stack.now commands
+            → checks_state self.new ≡ with_model (checks_state self.old) self.old.pending (signature_in_force commands) (assertions_in_force commands) number (sexp_of answer.now)) }
     {
         let (Some(pending), Tree::List(model)) = (self.pending, answer) else {
             return Ok(());

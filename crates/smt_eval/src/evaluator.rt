@@ -139,7 +139,9 @@ fn definition_of(definitions: &Library, count: usize, name: &[u8]) -> Option<usi
 {
     match definitions.find(name) {
         Some(Found::Defined(place)) if place < count => Some(place),
-        _ => None,
+        Some(Found::Defined(_)) => None,
+        Some(Found::Declared(_)) => None,
+        None => None,
     }
 }
 

@@ -32,6 +32,17 @@ pub enum ModelFault {
     Memory,
 }
 
+impl From<Memory> for ModelFault {
+    ghost use Rattle.std.specs.Prelude.{◌≡◌};
+    ghost use Rattle.smt_eval.specs.declared.interpretation.ModelFault.TheVariants.{Memory as OutOfMemory};
+
+    ghost from_gives = { λ _ fault. fault ≡ OutOfMemory };
+
+    fn from(_memory: Memory) -> ModelFault {
+        ModelFault::Memory
+    }
+}
+
 /// The definitions of a model, in order, and what is known of the value of each.
 #[derive(Drop)]
 pub struct Interpretation {

@@ -2,8 +2,8 @@
 use Rattle.std.specs.Prelude.{ℕ, ◌+◌, List, [], ◌∷◌, ◌++◌, Bool, false, true, not, ◌||◌, Option, Some, None, codes, if◌then◌else◌}
 use Rattle.std.specs.List.{list_any}
 use Rattle.smt_text.specs.Sexp.{Sexp, Atom, Reserved, Items, is_symbol}
-use Rattle.core_terms.specs.Signature.{Entry}
-use Rattle.smt_script.specs.Command.{Command, DeclareConst, Assert, CheckSat, GetModel}
+use Rattle.smt_terms.specs.Signature.{Signature}
+use Rattle.smt_script.specs.Command.{Command, SetLogic, DeclareConst, Assert, CheckSat, GetModel}
 use Rattle.smt_script.specs.Stack.{Assertion}
 use Rattle.smt_dialogue.specs.Judgement.{judgement_of}
 use Rattle.smt_dialogue.specs.Lines.{confirmed_line, is_empty, line_of_judgement, sat_lines, unconfirmed_line}
@@ -25,7 +25,7 @@ abbrev pub checks_state : Checks → ChecksState
 checks_state c = record { count = c.count; pending = c.pending; lines = c.lines.items }
 
 -- the lines of the check whose window has not ended, for the pairs after, which begin with command m
-abbrev pub pending_lines : Bool → Option PendingCheck → List Entry → List Assertion → ℕ → List Pair → List Line
+abbrev pub pending_lines : Bool → Option PendingCheck → Signature → List Assertion → ℕ → List Pair → List Line
 pending_lines ended None names assertions m after = []
 pending_lines ended (Some c) names assertions m after =
     let models = models_from m (window after) in
@@ -53,14 +53,15 @@ with_line s c (Some line) = record s { pending = None; lines = s.lines ++ line �
 with_line s c None = record s { pending = Some (record c { some_model = true }) }
 
 -- an answer to `get-model` at command n
-abbrev pub with_model : ChecksState → Option PendingCheck → List Entry → List Assertion → ℕ → Sexp → ChecksState
+abbrev pub with_model : ChecksState → Option PendingCheck → Signature → List Assertion → ℕ → Sexp → ChecksState
 with_model s None names assertions n answer = s
 with_model s (Some c) names assertions n (Items parts) = with_line s c (line_of_judgement c.check c.command n (judgement_of names assertions parts))
 with_model s (Some c) names assertions n (Atom kind bytes) = s
 with_model s (Some c) names assertions n (Reserved word) = s
 
 -- a command n that took effect, with its answer
-abbrev pub checks_after : ChecksState → List Entry → List Assertion → ℕ → Command → Sexp → ChecksState
+abbrev pub checks_after : ChecksState → Signature → List Assertion → ℕ → Command → Sexp → ChecksState
+checks_after s names assertions n (SetLogic name) answer = with_window_ended s
 checks_after s names assertions n (DeclareConst x sort) answer = with_window_ended s
 checks_after s names assertions n (Assert term) answer = with_window_ended s
 checks_after s names assertions n CheckSat answer = with_check s n answer

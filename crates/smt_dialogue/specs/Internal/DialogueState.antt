@@ -3,7 +3,7 @@ use Rattle.std.specs.Prelude.{◌≡◌, ◌≤◌, ℕ, ◌+◌, List, [], ◌+
 use Rattle.smt_script.specs.StackView as stacks
 use Rattle.smt_script.specs.StackView.{last_of}
 use Rattle.smt_script.specs.declared.stack.Stack.{Stack}
-use Rattle.smt_dialogue.specs.InForce.{assertions_after, effective_commands, names_after}
+use Rattle.smt_dialogue.specs.InForce.{assertions_after, effective_commands, signature_after}
 use Rattle.smt_dialogue.specs.Lines.{checks_in, lines_in}
 use Rattle.smt_dialogue.specs.Pairing.{Pair, answers_taken}
 use Rattle.smt_dialogue.specs.Internal.ChecksState.{ChecksState, checks_state, pending_lines}
@@ -28,4 +28,4 @@ pub record StandsFor (s : State) (pairs : List Pair) : Type 0 where
   pub answers : s.answers ≡ answers_taken pairs
   pub checks : s.checks.count ≡ checks_in pairs
   pub lines : (ended : Bool) (after : List Pair)
-      → lines_in ended [] pairs after ≡ s.checks.lines ++ pending_lines ended s.checks.pending (names_after pairs) (assertions_after pairs) (length pairs + 1) after
+      → lines_in ended [] pairs after ≡ s.checks.lines ++ pending_lines ended s.checks.pending (signature_after pairs) (assertions_after pairs) (length pairs + 1) after

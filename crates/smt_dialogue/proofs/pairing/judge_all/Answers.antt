@@ -20,6 +20,9 @@ take_step-requires-clause-checks c =
     let popped = ap length c.in-Some.ensures.items in
     omega (arith, le, popped, c.loop-tree.invariant.counted, c.args.script.trees.ok.0, c.args.script.trees.small.0, c.args.script.trees.small.1)
 
+pub take_step-requires-clause-stands : goal.take_step-requires-clause-stands
+take_step-requires-clause-stands c = (c.loop-tree.invariant.so_far.pairs, c.loop-tree.invariant.so_far.stands)
+
 pub end_without_fault-fault-requires : goal.end_without_fault-fault-requires
 end_without_fault-fault-requires c =
     let le = answers-le _ _ _ _ _ c.loop-tree.invariant.so_far in
