@@ -4,7 +4,6 @@ use Rattle.std.specs.Str.{bytes_eq}
 use Rattle.smt_text.specs.Sexp.{Sexp, Sexps, Atom, Reserved, Items, Nil, Cons, Symbol, Numeral, Decimal, Hexadecimal, Binary, Text, Keyword}
 use Rattle.smt_text.specs.declared.reserved.Word.{Word}
 use Rattle.smt_text.specs.declared.reserved.Word.TheVariants.{Let, Bang, Underscore, Forall, Exists, Match, As}
-use Rattle.smt_theory.specs.Index.{IndexView}
 use Rattle.smt_theory.specs.Operators.{op_by}
 use Rattle.smt_theory.specs.Ranks.{are_exactly, rank_of}
 use Rattle.smt_theory.specs.Words.{look_up, result_and_then}
@@ -13,7 +12,7 @@ use Rattle.smt_theory.specs.declared.op.OpFault.{OpFault}
 use Rattle.smt_theory.specs.declared.op.OpFault.TheVariants as ops
 use Rattle.smt_theory.specs.declared.sort.Sort.{Sort}
 use Rattle.smt_theory.specs.declared.theories.Theories.{Theories}
-use Rattle.smt_terms.specs.Checking.{sort_of_rank, sort_of_operator, sort_of_name, sort_of_plain, sort_applied, sort_of_symbol, sort_unless_variable, sort_of_call, sort_in, sorts_in}
+use Rattle.smt_terms.specs.Checking.{sort_of_rank, sort_of_operator, sort_of_plain, sort_applied, sort_of_symbol, sort_unless_variable, sort_of_call, sort_in, sorts_in}
 use Rattle.smt_terms.specs.Identifier.{Identifier, Plain, Indexed, all_indexes, applied, indexed, word_fault}
 use Rattle.smt_terms.specs.Signature.{Names, Rank, declaration, declared_in, is_taken, rank_named}
 use Rattle.smt_terms.specs.SortTrees.{indexed_fault, integers, is_one_numeral, is_some_tree, list_fault, sort_named, sorts_named}
