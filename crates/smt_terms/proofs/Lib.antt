@@ -9,4 +9,5 @@ pub mod DeclarationLemmas
 pub mod PlaceLemmas
 pub mod StandsLemmas
 pub mod ItemLemmas
+pub mod ItemSortLemmas
 pub mod NoMemoryLemmas
