@@ -1,16 +1,15 @@
 -- Sorts of lists, one step at a time.
-use Rattle.std.proofs.Common.{◌≡◌, ◌⊎◌, ℕ, Bool, true, false, cond, List, [], ◌∷◌, ◌++◌, Option, Some, None, option_map, Result, Ok, Err, refl, ap, sym, ◌∙◌, inl, inr, MatchResult}
+use Rattle.std.proofs.Common.{◌≡◌, ◌⊎◌, ℕ, Bool, true, false, cond, List, [], ◌∷◌, ◌++◌, Some, option_map, Result, Ok, Err, refl, ap, ◌∙◌, inl, inr, MatchResult}
 use Rattle.std.specs.Str.{bytes_eq}
-use Rattle.smt_text.specs.Sexp.{Sexp, Sexps, Atom, Reserved, Items, Nil, Cons}
-use Rattle.smt_text.specs.declared.reserved.Word.{Word}
+use Rattle.smt_text.specs.Sexp.{Sexp, Sexps, Reserved, Items, Cons}
 use Rattle.smt_text.specs.declared.reserved.Word.TheVariants.{Underscore}
 use Rattle.smt_theory.specs.Words.{look_up, result_and_then}
 use Rattle.smt_theory.specs.declared.sort.Sort.{Sort}
 use Rattle.smt_theory.specs.declared.theories.Theories.{Theories}
 use Rattle.smt_terms.specs.Checking.{is_underscore_tree, sort_in, sorts_in, sort_applied, sort_of_call}
 use Rattle.smt_terms.specs.Identifier.{Identifier, Plain, Indexed, applied, indexed}
-use Rattle.smt_terms.specs.Signature.{Entry, Names, Rank, entry_named, rank_of_entry, ranks_of}
-use Rattle.smt_terms.specs.SortTrees.{sort_named, sorts_named}
+use Rattle.smt_terms.specs.Signature.{Entry, Names, entry_named, rank_of_entry, ranks_of}
+use Rattle.smt_terms.specs.SortTrees.{sorts_named}
 use Rattle.smt_terms.specs.declared.fault.TermFault.{TermFault}
 use Rattle.smt_terms.specs.declared.fault.TermFault.TheVariants.{Memory}
 

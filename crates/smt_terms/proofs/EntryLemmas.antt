@@ -1,8 +1,8 @@
 -- Entries by name and by place. Proofs of the crates above cite these too.
-use Rattle.std.proofs.Common.{◌≡◌, ℕ, zero, suc, ◌≤◌, true, false, cond, List, [], ◌∷◌, take, slice_get, Some, None, refl, ap, sym, ◌∙◌, arith}
+use Rattle.std.proofs.Common.{◌≡◌, ℕ, zero, suc, ◌≤◌, true, false, cond, List, [], ◌∷◌, take, slice_get, Option, Some, None, refl, ap, sym, ◌∙◌, arith}
 use Rattle.std.specs.Str.{bytes_eq}
 use Rattle.smt_terms.proofs.NameLemmas.{none_step, same_flip}
-use Rattle.smt_terms.specs.Signature.{Entry, entry_named, AreDistinct}
+use Rattle.smt_terms.specs.Signature.{Entry, Rank, entry_named, ranks_of, AreDistinct}
 
 -- an entry of another name is passed over
 pub entry_named-skip : (e : Entry) (es : List Entry) (x : List ℕ) → bytes_eq x e.name ≡ false → entry_named (e ∷ es) x ≡ entry_named es x
@@ -35,3 +35,13 @@ none_before (c ∷ es) p e zero d at h = refl
 none_before (c ∷ es) zero e (suc n) d at h = absurd (omega arith)
 none_before (c ∷ es) (suc p) e (suc n) d at h =
     entry_named-skip c (take n es) e.name (same_flip c.name e.name (other_at es c.name p e d.0 at)) ∙ none_before es p e n d.1 at (omega arith)
+
+abbrev name_or : Option (List ℕ × Rank) → List ℕ
+name_or None = []
+name_or (Some p) = p.0
+
+-- where a rank stands, an entry of this name does
+pub ranked_at : (es : List Entry) (i : ℕ) (x : List ℕ) (r : Rank) → slice_get (ranks_of es) i ≡ Some (x, r) → (e : Entry) × (slice_get es i ≡ Some e) × (x ≡ e.name)
+ranked_at [] i x r h = cc
+ranked_at (e ∷ es) zero x r h = (e, refl, sym (ap name_or h))
+ranked_at (e ∷ es) (suc i) x r h = ranked_at es i x r h

@@ -1,9 +1,7 @@
 -- Indexes, one at a time.
-use Rattle.std.proofs.Common.{◌≡◌, Bool, true, false, List, [], ◌∷◌, ◌++◌, Option, Some, None, is_some, option_map, map, refl, ap, sym, ◌∙◌, append_assoc}
-use Rattle.std.proofs.lemmas.List.{map-append}
+use Rattle.std.proofs.Common.{◌≡◌, List, [], ◌∷◌, ◌++◌, Option, Some, None, is_some, option_map, refl, ap, sym, ◌∙◌, append_assoc}
 use Rattle.smt_text.specs.Sexp.{Sexp, Sexps, Cons}
-use Rattle.smt_theory.specs.Index.{IndexView, index_view}
-use Rattle.smt_theory.specs.declared.index.Index.{Index}
+use Rattle.smt_theory.specs.Index.{IndexView}
 use Rattle.smt_terms.specs.Identifier.{all_indexes, index_of_tree}
 
 -- the indexes of all are those that are done, and then those of the trees that are left

@@ -6,4 +6,8 @@ pub mod CheckerLemmas
 pub mod NameLookUps
 pub mod TermLemmas
 pub mod DeclarationLemmas
+pub mod PlaceLemmas
+pub mod StandsLemmas
+pub mod ItemLemmas
+pub mod ItemSortLemmas
 pub mod NoMemoryLemmas

@@ -1,15 +1,13 @@
--- The entries of a library, and what its map says of them.
+-- What the map of a library says of its names.
 use Rattle.std.proofs.Common.{◌≡◌, ℕ, Bool, true, false, cond, List, [], ◌∷◌, ◌++◌, map, slice_get, Option, Some, None, option_map, option_copied, refl, ap, sym, ◌∙◌, Bor}
 use Rattle.std.specs.Global.{Vec}
 use Rattle.std.proofs.lemmas.Option.{slice_get-map}
 use Rattle.std.proofs.lemmas.Map.Made.{lookup_key_passes}
-use Rattle.std.specs.List.{IsDistinct, AllByRecursion}
-use Rattle.std.specs.Map.{keys_of, lookup, lookup_key}
+use Rattle.std.specs.Map.{lookup, lookup_key}
 use Rattle.indexmap.specs.IndexMap.{insert_entry}
 use Rattle.std.specs.Prelude.{bytes_eq}
-use Rattle.smt_terms.specs.Signature as signature
-use Rattle.smt_terms.specs.Signature.{entry_named, AreDistinct}
-use Rattle.smt_terms.specs.Internal.LibraryView.{entry_of}
+use Rattle.smt_theory.specs.Words.{look_up}
+use Rattle.smt_terms.specs.Internal.LibraryView.{rank_of}
 use Rattle.smt_terms.specs.declared.library.Entry.{Entry}
 use Rattle.smt_terms.proofs.NameLemmas.{none_step, same_name}
 
@@ -17,9 +15,9 @@ use Rattle.smt_terms.proofs.NameLemmas.{none_step, same_name}
 abbrev pub Pairs : Type 0
 Pairs = List (Vec ℕ × Entry)
 
--- what a contract sees of them
-abbrev pub viewed : Pairs → List signature.Entry
-viewed es = map (λ p. entry_of p.0.items p.1) es
+-- what is seen of them, under their names
+abbrev pub viewed : {A : Type 0} → (Entry → A) → Pairs → List (List ℕ × A)
+viewed view es = map (λ p. (p.0.items, view p.1)) es
 
 -- whether two keys are the same name
 abbrev pub same_key : Vec ℕ → Vec ℕ → Bool
@@ -29,44 +27,40 @@ same_key a b = bytes_eq a.items b.items
 abbrev pub test_of : List ℕ → Vec ℕ → Bool
 test_of x k = bytes_eq x k.items
 
--- what the map finds is the entry of the name
-pub found : (es : Pairs) (x : List ℕ) → option_map (λ e. entry_of x e) (lookup (test_of x) es) ≡ entry_named (viewed es) x
-found [] x = refl
-found (p ∷ es) x = by (bytes_eq x p.0.items) refl (found es x)
+-- what the map finds is what the name stands for
+pub found : {A : Type 0} (view : Entry → A) (es : Pairs) (x : List ℕ) → option_map view (lookup (test_of x) es) ≡ look_up (viewed view es) x
+found view [] x = refl
+found view (p ∷ es) x = by (bytes_eq x p.0.items) (found view es x)
   where
-    by : (b : Bool) → bytes_eq x p.0.items ≡ b → option_map (λ e. entry_of x e) (lookup (test_of x) es) ≡ entry_named (viewed es) x
-        → option_map (λ e. entry_of x e) (cond b (Some p.1) (lookup (test_of x) es)) ≡ cond b (Some (entry_of p.0.items p.1)) (entry_named (viewed es) x)
-    by true e rest = ap (λ n. Some (entry_of n p.1)) (same_name x p.0.items e)
-    by false e rest = rest
+    by : (b : Bool) → option_map view (lookup (test_of x) es) ≡ look_up (viewed view es) x → option_map view (cond b (Some p.1) (lookup (test_of x) es)) ≡ cond b (Some (view p.1)) (look_up (viewed view es) x)
+    by true rest = refl
+    by false rest = rest
 
 -- the same, of the reference that the map gives
-pub found_by : (es : Pairs) (x : List ℕ) (r : Option (Bor Entry)) → option_copied r ≡ lookup (test_of x) es → option_map (λ e. entry_of x e.now) r ≡ entry_named (viewed es) x
-found_by es x None h = ap (option_map (λ e. entry_of x e)) h ∙ found es x
-found_by es x (Some b) h = ap (option_map (λ e. entry_of x e)) h ∙ found es x
+pub found_by : {A : Type 0} (view : Entry → A) (es : Pairs) (x : List ℕ) (r : Option (Bor Entry)) → option_copied r ≡ lookup (test_of x) es → option_map (λ e. view e.now) r ≡ look_up (viewed view es) x
+found_by view es x None h = ap (option_map view) h ∙ found view es x
+found_by view es x (Some b) h = ap (option_map view) h ∙ found view es x
 
--- a name that the map does not find has no entry
-pub absent : (es : Pairs) (x : List ℕ) → lookup (test_of x) es ≡ None → entry_named (viewed es) x ≡ None
-absent es x h = sym (found es x) ∙ ap (option_map (λ e. entry_of x e)) h
+-- what the map finds at a place is what stands there
+pub placed : {A : Type 0} (view : Entry → A) (es : Pairs) (x : List ℕ) (i : ℕ) (k : Vec ℕ) (e : Entry) → lookup_key (test_of x) es ≡ Some k → slice_get es i ≡ Some (k, e) → slice_get (viewed view es) i ≡ Some (x, view e)
+placed view es x i k e is_key at =
+    slice_get-map (λ p. (p.0.items, view p.1)) es i ∙ ap (option_map (λ p. (p.0.items, view p.1))) at ∙ ap (λ n. Some (n, view e)) (sym (same_name x k.items (lookup_key_passes (test_of x) es k is_key)))
 
--- what the map finds at a place is the entry there
-pub placed : (es : Pairs) (x : List ℕ) (i : ℕ) (k : Vec ℕ) (e : Entry) → lookup_key (test_of x) es ≡ Some k → slice_get es i ≡ Some (k, e) → slice_get (viewed es) i ≡ Some (entry_of x e)
-placed es x i k e is_key at =
-    slice_get-map (λ p. entry_of p.0.items p.1) es i ∙ ap (option_map (λ p. entry_of p.0.items p.1)) at ∙ ap (λ n. Some (entry_of n e)) (sym (same_name x k.items (lookup_key_passes (test_of x) es k is_key)))
-
--- a key that differs from all has no entry
-none_of : (es : Pairs) (k : Vec ℕ) → AllByRecursion (λ y. same_key k y ≡ false) (keys_of es) → entry_named (viewed es) k.items ≡ None
-none_of [] k h = refl
-none_of (p ∷ es) k h = ap (λ b. cond b (Some (entry_of p.0.items p.1)) (entry_named (viewed es) k.items)) h.0 ∙ none_of es k h.1
-
--- keys that differ make names that do
-pub distinct_entries : (es : Pairs) → IsDistinct same_key (keys_of es) → AreDistinct (viewed es)
-unfolding IsDistinct
-distinct_entries [] h = tt
-distinct_entries (p ∷ es) h = (none_of es p.0 h.0, distinct_entries es h.1)
+-- a name that one view does not have, another has not either
+pub absent_too : {A B : Type 0} (f : Entry → A) (g : Entry → B) (es : Pairs) (x : List ℕ) → look_up (viewed f es) x ≡ None → look_up (viewed g es) x ≡ None
+absent_too f g [] x h = refl
+absent_too f g (p ∷ es) x h =
+    let n = none_step (bytes_eq x p.0.items) (f p.1) (look_up (viewed f es) x) h in
+    ap (λ b. cond b (Some (g p.1)) (look_up (viewed g es) x)) n.0 ∙ absent_too f g es x n.1
 
 -- a new name goes last
-pub inserted : (es : Pairs) (k : Vec ℕ) (v : Entry) → entry_named (viewed es) k.items ≡ None → viewed (insert_entry same_key es k v) ≡ viewed es ++ entry_of k.items v ∷ []
-inserted [] k v h = refl
-inserted (p ∷ es) k v h =
-    let n = none_step (bytes_eq k.items p.0.items) (entry_of p.0.items p.1) (entry_named (viewed es) k.items) h in
-    ap (λ b. viewed (cond b ((p.0, v) ∷ es) (p ∷ insert_entry same_key es k v))) n.0 ∙ ap (λ ys. entry_of p.0.items p.1 ∷ ys) (inserted es k v n.1)
+pub inserted : {A : Type 0} (view : Entry → A) (es : Pairs) (k : Vec ℕ) (v : Entry) → look_up (viewed view es) k.items ≡ None → viewed view (insert_entry same_key es k v) ≡ viewed view es ++ (k.items, view v) ∷ []
+inserted view [] k v h = refl
+inserted view (p ∷ es) k v h =
+    let n = none_step (bytes_eq k.items p.0.items) (view p.1) (look_up (viewed view es) k.items) h in
+    ap (λ b. viewed view (cond b ((p.0, v) ∷ es) (p ∷ insert_entry same_key es k v))) n.0 ∙ ap (λ ys. (p.0.items, view p.1) ∷ ys) (inserted view es k v n.1)
+
+-- so it does under the name that the key has
+pub goes_last : {A : Type 0} (view : Entry → A) (es new : Pairs) (k : Vec ℕ) (x : List ℕ) (v : Entry) → look_up (viewed rank_of es) x ≡ None → k.items ≡ x → new ≡ insert_entry same_key es k v → viewed view new ≡ viewed view es ++ (x, view v) ∷ []
+goes_last view es new k x v absent same is =
+    ap (viewed view) is ∙ inserted view es k v (ap (look_up (viewed view es)) same ∙ absent_too rank_of view es x absent) ∙ ap (λ n. viewed view es ++ (n, view v) ∷ []) same

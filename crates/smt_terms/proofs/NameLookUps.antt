@@ -1,31 +1,31 @@
 -- Whether a name is known.
-use Rattle.std.proofs.Common.{◌≡◌, ℕ, Bool, true, false, ◌||◌, List, Option, Some, None, is_some, option_map, ok_or, refl, ap, sym, ◌∙◌}
+use Rattle.std.proofs.Common.{◌≡◌, Bool, true, false, ◌&&◌, ◌||◌, Option, Some, None, is_some, option_map, ok_or, refl, ap, sym, ◌∙◌}
 use Rattle.std.specs.Result.{is_ok}
-use Rattle.smt_theory.specs.Words.{look_up}
-use Rattle.smt_terms.specs.Signature.{Entry, Rank, entry_named, rank_of_entry, ranks_of}
-use Rattle.smt_terms.proofs.CheckerLemmas.{look_up-ranks}
 
-some_map : {A B : Type 0} (f : A → B) (o : Option A) → is_some (option_map f o) ≡ is_some o
+-- whether something is found does not hang on what is seen of it
+pub some_map : {A B : Type 0} (f : A → B) (o : Option A) → is_some (option_map f o) ≡ is_some o
 some_map f None = refl
 some_map f (Some a) = refl
-
--- a name is known where something is found for it
-pub is_known : {A : Type 0} (es : List Entry) (x : List ℕ) (f : A → Entry) (r : Option A) → option_map f r ≡ entry_named es x → is_some r ≡ is_some (look_up (ranks_of es) x)
-is_known es x f r h =
-    sym (some_map f r) ∙ ap is_some h ∙ sym (some_map rank_of_entry (entry_named es x)) ∙ ap is_some (sym (look_up-ranks es x))
 
 pub is_ok_or : {A E : Type 0} (o : Option A) (e : E) → is_ok (ok_or o e) ≡ is_some o
 is_ok_or None e = refl
 is_ok_or (Some a) e = refl
 
-none_of : {A : Type 0} (o : Option A) (b : Bool) → is_some o || b ≡ false → o ≡ None
-none_of None b h = refl
-none_of (Some a) b h = cc
+-- a name that is not taken stands for nothing
+pub not_taken : {A : Type 0} (o : Option A) (b : Bool) → is_some o || b ≡ false → o ≡ None
+not_taken None b h = refl
+not_taken (Some a) b h = cc
 
-map_none : {A B : Type 0} (f : A → B) (o : Option A) → option_map f o ≡ None → o ≡ None
-map_none f None h = refl
-map_none f (Some a) h = cc
+-- something is found for the one where it is for the other
+pub same_some : {A B C : Type 0} (f : A → C) (g : B → C) (o : Option A) (r : Option B) → option_map f o ≡ option_map g r → is_some o ≡ is_some r
+same_some f g o r h = sym (some_map f o) ∙ ap is_some h ∙ some_map g r
 
--- a name that is not taken has no entry
-pub not_taken : (es : List Entry) (x : List ℕ) (b : Bool) → is_some (look_up (ranks_of es) x) || b ≡ false → entry_named es x ≡ None
-not_taken es x b h = map_none rank_of_entry (entry_named es x) (sym (look_up-ranks es x) ∙ none_of (look_up (ranks_of es) x) b h)
+-- a conjunction that goes on is its second part
+pub and_then : (a b c d : Bool) → a ≡ true → a ≡ b → c ≡ d → c ≡ (b && d)
+and_then a true c d h i j = j
+and_then a false c d h i j = cc
+
+-- and one that ends is false
+pub and_else : (a b d : Bool) → a ≡ false → a ≡ b → a ≡ (b && d)
+and_else a true d h i = cc
+and_else a false d h i = i

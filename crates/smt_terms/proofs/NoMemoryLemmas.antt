@@ -3,23 +3,24 @@ use Rattle.std.proofs.Common.{◌≡◌, ℕ, Bool, true, false, cond, not, ◌&
 use Rattle.std.specs.Str.{bytes_eq}
 use Rattle.smt_text.specs.Sexp.{Sexp, Sexps, Atom, Reserved, Items, Nil, Cons, Symbol, Numeral, Decimal, Hexadecimal, Binary, Text, Keyword}
 use Rattle.smt_text.specs.declared.reserved.Word.{Word}
-use Rattle.smt_text.specs.declared.reserved.Word.TheVariants.{Let, Bang, Underscore, Forall, Exists, Match, As}
-use Rattle.smt_theory.specs.Index.{IndexView}
+use Rattle.smt_text.specs.declared.reserved.Word.TheVariants.{Let, Bang, Underscore, Forall, Exists, Match, As, DefineFun, DefineFunRec, DefineFunsRec}
 use Rattle.smt_theory.specs.Operators.{op_by}
 use Rattle.smt_theory.specs.Ranks.{are_exactly, rank_of}
+use Rattle.smt_theory.specs.Sort.{is_same_sort}
 use Rattle.smt_theory.specs.Words.{look_up, result_and_then}
 use Rattle.smt_theory.specs.declared.op.Op.{Op}
 use Rattle.smt_theory.specs.declared.op.OpFault.{OpFault}
 use Rattle.smt_theory.specs.declared.op.OpFault.TheVariants as ops
 use Rattle.smt_theory.specs.declared.sort.Sort.{Sort}
 use Rattle.smt_theory.specs.declared.theories.Theories.{Theories}
-use Rattle.smt_terms.specs.Checking.{sort_of_rank, sort_of_operator, sort_of_name, sort_of_plain, sort_applied, sort_of_symbol, sort_unless_variable, sort_of_call, sort_in, sorts_in}
+use Rattle.smt_terms.specs.Checking.{sort_of_rank, sort_of_operator, sort_of_plain, sort_applied, sort_of_symbol, sort_unless_variable, sort_of_call, sort_in, sorts_in}
 use Rattle.smt_terms.specs.Identifier.{Identifier, Plain, Indexed, all_indexes, applied, indexed, word_fault}
-use Rattle.smt_terms.specs.Signature.{Names, Rank, declaration, declared_in, is_taken, rank_named}
+use Rattle.smt_terms.specs.Items.{ItemForm, are_parameters, declared_named, defined_as, definition, form_in, has_rank_of, item_form, item_in, items_before, name_fault, unless, without_parameters}
+use Rattle.smt_terms.specs.Signature.{Entry, Names, Rank, Signature, declaration, declared_in, entry_named, is_taken, names_of, rank_named}
 use Rattle.smt_terms.specs.SortTrees.{indexed_fault, integers, is_one_numeral, is_some_tree, list_fault, sort_named, sorts_named}
 use Rattle.smt_terms.specs.SortTrees as sorts
 use Rattle.smt_terms.specs.declared.fault.TermFault.{TermFault}
-use Rattle.smt_terms.specs.declared.fault.TermFault.TheVariants.{Form, Unsupported, Unknown, IllSorted, NotFresh, Memory}
+use Rattle.smt_terms.specs.declared.fault.TermFault.TheVariants.{Form, Unsupported, Unknown, IllSorted, BoundTwice, NotFresh, Memory}
 
 -- an answer that is not want of memory
 abbrev pub IsOther : {A : Type 0} → Result A TermFault → Type 0
@@ -171,3 +172,45 @@ pub IsOther-declared : (names : Names) (command : ℕ) (x : List ℕ) (ps : Sexp
 IsOther-declared names command x ps t =
     IsOther-test (is_taken names x) (Err NotFresh) (result_and_then (rank_named names ps t) (λ rank. Ok (declaration x command rank))) (λ e. cc)
     (IsOther-and_then (rank_named names ps t) (λ rank. Ok (declaration x command rank)) (IsOther-rank_named names ps t) (λ rank e. cc))
+
+-- ## Items
+
+-- the form of an item
+IsOther-form : (t : Sexp) → IsOther (item_form t)
+IsOther-form (Items (Cons (Reserved DefineFunRec) rest)) h = cc
+IsOther-form (Items (Cons (Reserved DefineFunsRec) rest)) h = cc
+IsOther-form (Items (Cons (Reserved DefineFun) (Cons (Atom Symbol x) (Cons (Items parameters) (Cons sort (Cons body Nil)))))) h =
+    IsOther-test (are_parameters parameters) (Ok (record { name = x; parameters = parameters; sort = sort; body = body })) (Err Form) (λ e. cc) (λ e. cc) h
+IsOther-form _ h = cc
+
+-- parameters
+IsOther-without : (ps : Sexps) (r : Result Sort TermFault) → IsOther r → IsOther (without_parameters ps r)
+IsOther-without Nil r h = h
+IsOther-without (Cons x xs) r h = λ e. cc
+
+-- names of items
+IsOther-free : {A : Type 0} (script : Signature) (earlier : List Entry) (x : List ℕ) (r : Result A TermFault) → IsOther r → IsOther (unless (name_fault script earlier x) r)
+IsOther-free script earlier x r h = by (is_some (entry_named earlier x)) (not (is_some (declared_named script.entries x)) && is_taken (names_of script) x)
+  where
+    by : (b c : Bool) → IsOther (unless (cond b (Some BoundTwice) (cond c (Some NotFresh) None)) r)
+    by true c e = cc
+    by false true e = cc
+    by false false e = h e
+
+-- items
+pub IsOther-item : (script : Signature) (earlier : List Entry) (t : Sexp) → IsOther (item_in script earlier t)
+IsOther-item script earlier t =
+    IsOther-and_then (item_form t) (λ form. form_in script earlier form) (IsOther-form t)
+    (λ form. IsOther-free script earlier form.name (result_and_then (without_parameters form.parameters (sort_named script.theories form.sort)) (λ sort. defined_as script earlier form sort))
+    (IsOther-and_then (without_parameters form.parameters (sort_named script.theories form.sort)) (λ sort. defined_as script earlier form sort)
+    (IsOther-without form.parameters (sort_named script.theories form.sort) (IsOther-named script.theories form.sort)) (λ sort. defined form sort)))
+  where
+    body : (form : ItemForm) (sort found : Sort) → IsOther (cond (is_same_sort found sort) (Ok (definition form.name sort form.body)) (Err IllSorted))
+    body form sort found = IsOther-test (is_same_sort found sort) (Ok (definition form.name sort form.body)) (Err IllSorted) (λ e. cc) (λ e. cc)
+
+    defined : (form : ItemForm) (sort : Sort) → IsOther (defined_as script earlier form sort)
+    defined form sort =
+        IsOther-test (not (has_rank_of (declared_named script.entries form.name) [] sort)) (Err IllSorted)
+        (result_and_then (sort_in (names_of (items_before script earlier)) [] form.body) (λ found. cond (is_same_sort found sort) (Ok (definition form.name sort form.body)) (Err IllSorted))) (λ e. cc)
+        (IsOther-and_then (sort_in (names_of (items_before script earlier)) [] form.body) (λ found. cond (is_same_sort found sort) (Ok (definition form.name sort form.body)) (Err IllSorted))
+        (IsOther-sort (names_of (items_before script earlier)) [] form.body) (λ found. body form sort found))

@@ -11,7 +11,7 @@ use Rattle.smt_theory.specs.declared.op.Op.{Op}
 use Rattle.smt_theory.specs.declared.op.OpFault.{OpFault}
 use Rattle.smt_theory.specs.declared.op.OpFault.TheVariants as ops
 use Rattle.smt_theory.specs.declared.sort.Sort.{Sort}
-use Rattle.smt_terms.specs.Identifier.{Identifier, Plain, Indexed, applied, indexed, operator_of}
+use Rattle.smt_terms.specs.Identifier.{Identifier, Plain, Indexed, applied, indexed}
 use Rattle.smt_terms.specs.Signature.{Names, Rank}
 use Rattle.smt_terms.specs.SortTrees.{integers}
 use Rattle.smt_terms.specs.declared.fault.TermFault.{TermFault}

@@ -1,1 +1,2 @@
 pub mod LibraryView
+pub mod ItemView

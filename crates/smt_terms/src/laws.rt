@@ -1,14 +1,28 @@
 //! What holds of the definitions that the contracts name. Nothing here does anything: each contract is a law.
 
-ghost use Rattle.std.specs.Prelude.{◌≡◌, ℕ, List, Err};
+ghost use Rattle.std.specs.Prelude.{◌≡◌, ℕ, List, Some, None, false, Ok, Err};
 ghost use Rattle.smt_text.specs.Sexp.{Sexp, Sexps};
 ghost use Rattle.smt_theory.specs.declared.sort.Sort.{Sort};
 ghost use Rattle.smt_terms.specs.Checking.{sort_in};
-ghost use Rattle.smt_terms.specs.Signature.{Names, declared_in};
+ghost use Rattle.smt_terms.specs.Items.{declared_named, item_in};
+ghost use Rattle.smt_terms.specs.Signature.{Entry, KeepsRank, Names, Signature, declared_in, entry_named, is_taken, names_of};
+ghost use Rattle.smt_terms.specs.WellSorted.{IsWellSorted};
 ghost use Rattle.smt_terms.specs.declared.fault.TermFault.TheVariants.{Memory};
 
 /// No definition answers that memory was refused.
 pub fn faults_are_no_memory()
     ensures sorts { (names : Names) (scope : List (List ℕ × Sort)) (term : Sexp) → sort_in names scope term ≡ Err Memory → ⊥ }
     ensures declarations { (names : Names) (command : ℕ) (x : List ℕ) (parameters : Sexps) (sort : Sexp) → declared_in names command x parameters sort ≡ Err Memory → ⊥ }
+    ensures items { (script : Signature) (earlier : List Entry) (tree : Sexp) → item_in script earlier tree ≡ Err Memory → ⊥ }
+{}
+
+/// What an item of a model defines is well sorted over the earlier items (SMT-LIB 2.6, sections 4.2.6 and 5.2), and its name is new
+/// among them. Where the script declares the name, the item has the rank of that declaration; elsewhere the name is free in the script.
+pub fn items_are_well_sorted()
+    ensures sorted { (script : Signature) (earlier : List Entry) (tree : Sexp) (e : Entry) → item_in script earlier tree ≡ Ok e → IsWellSorted script.theories earlier e }
+    ensures fresh { (script : Signature) (earlier : List Entry) (tree : Sexp) (e : Entry) → item_in script earlier tree ≡ Ok e → entry_named earlier e.name ≡ None }
+    ensures ranked { (script : Signature) (earlier : List Entry) (tree : Sexp) (e d : Entry) → item_in script earlier tree ≡ Ok e
+        → declared_named script.entries e.name ≡ Some d → KeepsRank d (Some e) }
+    ensures free { (script : Signature) (earlier : List Entry) (tree : Sexp) (e : Entry) → item_in script earlier tree ≡ Ok e
+        → declared_named script.entries e.name ≡ None → is_taken (names_of script) e.name ≡ false }
 {}

@@ -7,6 +7,7 @@
 
 mod fault;
 mod identifier;
+mod item_form;
 pub mod laws;
 mod library;
 mod sorts;
@@ -15,5 +16,5 @@ mod tests;
 
 pub use fault::TermFault;
 pub use identifier::{Identifier, applied_identifier, indexed_identifier};
-pub use library::{Declared, Library, TermId};
+pub use library::{Declared, Definition, Found, Library, TermId};
 pub use sorts::sort_of_tree;

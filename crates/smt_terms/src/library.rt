@@ -6,6 +6,7 @@ ghost use Rattle.std.proofs.Props.{props};
 ghost use Rattle.indexmap.specs.IndexMap.{keys};
 
 mod checker;
+mod items;
 
 ghost use Rattle.std.specs.Prelude.{◌≡◌};
 ghost use Rattle.smt_theory.specs.Operators.{is_plain_operator};
@@ -17,12 +18,21 @@ use smt_text::Tree;
 use smt_theory::{Sort, Theories, op_of};
 use std::alloc::Global;
 
-/// What a name stands for: a function of a rank, which a command declared.
+/// What a name stands for: a function of a rank.
 #[derive(Drop)]
 struct Entry {
     parameters: Vec<Sort>,
     sort: Sort,
-    command: u64,
+    place: Found,
+}
+
+/// Where a name stands.
+#[derive(Clone, Copy, Debug, PartialEq, Eq)]
+pub enum Found {
+    /// At this place among the declared names, from 0: that in `Library::declared`.
+    Declared(usize),
+    /// At this place among the definitions, from 0: that in `Library::definitions`.
+    Defined(usize),
 }
 
 /// A declared name.
@@ -30,10 +40,25 @@ struct Entry {
 pub struct Declared {
     /// Its place among all names, from 0: that of `Library::name`.
     pub name: usize,
+    /// The sorts of its parameters; a constant has none.
     pub params: Vec<Sort>,
+    /// The sort of its result.
     pub result: Sort,
     /// The number of its command, from 1.
     pub command: u64,
+}
+
+/// A name that is defined (SMT-LIB 2.6, section 4.2.3).
+#[derive(Drop)]
+pub struct Definition {
+    /// The bytes of its name, without bars.
+    pub name: Vec<u8>,
+    /// Its parameters by name, with their sorts. There are none yet: definitions with parameters are not supported.
+    pub params: Vec<(Vec<u8>, Sort)>,
+    /// The sort of its result, and of its body.
+    pub result: Sort,
+    /// Its body, over the earlier names and the parameters.
+    pub body: TermId,
 }
 
 /// The number of a term that a library has checked. It means something in that library alone.
@@ -49,21 +74,22 @@ pub struct Library {
     theories: Theories,
     names: IndexMap<Vec<u8>, Entry>,
     declared: Vec<Declared>,
+    definitions: Vec<Definition>,
     terms: Vec<Tree>,
     ghost distinct: { IsDistinct (λ a b. bytes_eq a.items b.items) (keys names) } by { Prim.hlevel props },
 }
 
 impl Library {
-    ghost use Rattle.std.specs.Prelude.{◌≡◌, ◌<◌, ◌∷◌, ◌++◌, ◌⊎◌, ◌||◌, [], map, is_some, length, slice_get, option_map, Some, None, Ok, Err, MatchResult, OnOk, OnErr, IfOk, IfErr};
+    ghost use Rattle.std.specs.Prelude.{◌≡◌, ◌<◌, ◌∷◌, ◌++◌, ◌⊎◌, ◌||◌, [], map, is_some, length, slice_get, option_map, Some, None, Ok, Err, MatchOption, MatchResult, OnOk, OnErr, IfOk, IfErr};
     ghost use Rattle.smt_text.specs.Sexp.{Sexp};
     ghost use Rattle.smt_text.specs.Tree.{sexp_of, sexps_of};
     ghost use Rattle.smt_theory.specs.Operators.{is_plain_operator};
     ghost use Rattle.smt_theory.specs.Words.{look_up};
     ghost use Rattle.smt_terms.specs.Checking.{sort_in};
-    ghost use Rattle.smt_terms.specs.Internal.LibraryView.{entries_of, entry_of, names_of_library};
-    ghost use Rattle.smt_terms.specs.Library.{IsTerm, StandsFor, declaration_view, declarations_from, name_count};
+    ghost use Rattle.smt_terms.specs.Internal.LibraryView.{names_of_library, places_of_library, rank_of, ranks_of_library};
+    ghost use Rattle.smt_terms.specs.Library.{AreDefinitions, HasTheoriesOf, IsFound, IsTerm, StandsFor, declaration_view, declarations_from, defined_among, name_count};
     ghost use Rattle.smt_terms.specs.Signature as signature;
-    ghost use Rattle.smt_terms.specs.Signature.{Rank, Signature, declared_in, entry_named, is_taken, names_of, no_names, rank_named, with_entry};
+    ghost use Rattle.smt_terms.specs.Signature.{Rank, Signature, declaration, declared_in, entry_named, is_taken, names_of, no_names, rank_named, with_entry};
     ghost use Rattle.smt_terms.specs.declared.fault.TermFault.TheVariants.{Memory};
     ghost use Rattle.smt_terms.specs.declared.library.TermId as id;
 
@@ -76,8 +102,21 @@ impl Library {
             theories,
             names: IndexMap::new(alloc),
             declared: Vec::new(alloc),
+            definitions: Vec::new(alloc),
             terms: Vec::new(alloc),
         }
+    }
+
+    /// Where the library gets its memory.
+    pub fn alloc(&self) -> Global {
+        self.alloc
+    }
+
+    /// The theories of the signature.
+    pub fn theories(&self) -> Theories
+        ensures { (s : Signature) → StandsFor self.now s → result ≡ s.theories }
+    {
+        self.theories
     }
 
     /// The declared names, in order.
@@ -87,12 +126,27 @@ impl Library {
         self.declared.as_slice()
     }
 
+    /// The definitions, in order.
+    pub fn definitions(&self) -> &[Definition]
+        ensures { (s : Signature) → StandsFor self.now s → AreDefinitions self.now result.now (defined_among s.entries) }
+    {
+        self.definitions.as_slice()
+    }
+
     /// The name at a place among all names; places count from 0.
     pub fn name(&self, place: usize) -> &[u8]
         requires { place < name_count self.now }
         ensures { (s : Signature) → StandsFor self.now s → (e : signature.Entry) × (slice_get s.entries place ≡ Some e) × (result.now ≡ e.name) }
     {
         self.get_index(place).0
+    }
+
+    /// Where a name stands, if it is in force.
+    pub fn find(&self, name: &[u8]) -> Option<Found>
+        ensures { (s : Signature) → StandsFor self.now s → MatchOption result (entry_named s.entries name.now ≡ None)
+            (λ found. (e : signature.Entry) × (entry_named s.entries name.now ≡ Some e) × IsFound found s.entries e) }
+    {
+        self.place_of(name)
     }
 
     /// Declares a name by the command of this number (SMT-LIB 2.6, section 4.2.3), with the sorts of its parameters and of its result.
@@ -114,8 +168,8 @@ impl Library {
         if self.is_taken(name) {
             return Err(TermFault::NotFresh);
         }
-        let entry = self.declaration(command, params, sort)?;
-        self.insert(name, entry)
+        let declared = self.declaration(command, params, sort)?;
+        self.add_declared(name, declared)
     }
 
     /// Checks a term without labels over the names: its number and its sort, or its first fault (SMT-LIB 2.6, sections 3.6 and 5.2).
@@ -127,10 +181,7 @@ impl Library {
         ensures terms { (i : id.TermId) (t : Sexp) → IsTerm self.old i t → IsTerm self.new i t }
     {
         let sort = self.sort_of(term)?;
-        let copy = term.copy(self.alloc)?;
-        let number = self.terms.len();
-        self.terms.push(copy)?;
-        Ok((TermId { number }, sort))
+        Ok((self.add_term(term)?, sort))
     }
 
     /// The term of this number, which is one of this library.
@@ -141,17 +192,42 @@ impl Library {
         &self.terms.as_slice()[term.number]
     }
 
+    // Adds a term.
+    fn add_term(&mut self, term: &Tree) -> Result<TermId, TermFault>
+        ensures term { IfOk result (λ i. IsTerm self.new i (sexp_of term.now)) }
+        ensures refused { IfErr result (λ fault. fault ≡ Memory) }
+        ensures kept { (s : Signature) → StandsFor self.old s → StandsFor self.new s }
+        ensures names { names_of_library self.new ≡ names_of_library self.old }
+        ensures terms { (i : id.TermId) (t : Sexp) → IsTerm self.old i t → IsTerm self.new i t }
+    {
+        let copy = term.copy(self.alloc)?;
+        let number = self.terms.len();
+        self.terms.push(copy)?;
+        Ok(TermId { number })
+    }
+
     // What a name stands for.
     fn get(&self, name: &[u8]) -> Option<&Entry>
-        ensures { option_map (λ e. entry_of name.now e.now) result ≡ entry_named (entries_of self.now) name.now }
+        ensures ranked { option_map (λ e. rank_of e.now) result ≡ look_up (names_of_library self.now).ranks name.now }
+        ensures placed { option_map (λ e. e.now.place) result ≡ look_up (places_of_library self.now) name.now }
     {
         self.names.get(name)
     }
 
+    // Where a name stands.
+    fn place_of(&self, name: &[u8]) -> Option<Found>
+        ensures { result ≡ look_up (places_of_library self.now) name.now }
+    {
+        match self.get(name) {
+            Some(entry) => Some(entry.place),
+            None => None,
+        }
+    }
+
     // The name at a place, and what it stands for.
     fn get_index(&self, place: usize) -> (&[u8], &Entry)
-        requires { place < length (entries_of self.now) }
-        ensures { slice_get (entries_of self.now) place ≡ Some (entry_of result.0.now result.1.now) }
+        requires { place < name_count self.now }
+        ensures { slice_get (ranks_of_library self.now) place ≡ Some (result.0.now, rank_of result.1.now) }
     {
         let (name, entry) = self.names.get_index(place).unwrap();
         (name.as_slice(), entry)
@@ -170,43 +246,62 @@ impl Library {
         self.get(name).is_some()
     }
 
-    // What a name that the command declares stands for.
-    fn declaration(&self, command: u64, params: &[Tree], sort: &Tree) -> Result<Entry, TermFault>
-        ensures { MatchResult result (λ e. (rank_named (names_of_library self.now) (sexps_of params.now) (sexp_of sort.now) ≡ Ok (record { parameters = e.parameters.items; sort = e.sort })) × (e.command ≡ command))
+    // A declaration by the command, as the next name.
+    fn declaration(&self, command: u64, params: &[Tree], sort: &Tree) -> Result<Declared, TermFault>
+        ensures rank { MatchResult result (λ d. rank_named (names_of_library self.now) (sexps_of params.now) (sexp_of sort.now) ≡ Ok (record { parameters = d.params.items; sort = d.result }))
             (λ fault. (fault ≡ Memory) ⊎ (rank_named (names_of_library self.now) (sexps_of params.now) (sexp_of sort.now) ≡ Err fault)) }
+        ensures next { IfOk result (λ d. (d.command ≡ command) × (d.name ≡ name_count self.now)) }
     {
-        let parameters = sorts_of_trees(self.alloc, self.theories, params)?;
-        let sort = sort_of_tree(self.theories, sort)?;
-        Ok(Entry {
-            parameters,
-            sort,
+        let params = sorts_of_trees(self.alloc, self.theories, params)?;
+        let result = sort_of_tree(self.theories, sort)?;
+        Ok(Declared {
+            name: self.names.len(),
+            params,
+            result,
             command,
         })
     }
 
-    // Adds a name at the end, or changes nothing.
-    fn insert(&mut self, name: &[u8], entry: Entry) -> Result<(), TermFault>
-        requires { entry_named (entries_of self.old) name.now ≡ None }
-        ensures added { OnOk result ((s : Signature) → StandsFor self.old s → StandsFor self.new (with_entry s (entry_of name.now entry))) }
+    // Adds a declared name at the end, or changes nothing.
+    fn add_declared(&mut self, name: &[u8], declared: Declared) -> Result<(), TermFault>
+        requires absent { look_up (names_of_library self.old).ranks name.now ≡ None }
+        requires next { declared.name ≡ name_count self.old }
+        ensures added { OnOk result ((s : Signature) → StandsFor self.old s
+            → StandsFor self.new (with_entry s (declaration name.now declared.command (record { parameters = declared.params.items; sort = declared.result })))) }
         ensures refused { IfErr result (λ fault. fault ≡ Memory) }
         ensures unchanged { OnErr result ((s : Signature) → StandsFor self.old s → StandsFor self.new s) }
-        ensures terms { self.new.terms ≡ self.old.terms }
+        ensures terms { (i : id.TermId) (t : Sexp) → IsTerm self.old i t → IsTerm self.new i t }
     {
-        let key = Vec::from_slice(self.alloc, name)?;
-        let declared = Declared {
-            name: self.names.len(),
-            params: Vec::from_slice(self.alloc, entry.parameters.as_slice())?,
-            result: entry.sort,
-            command: entry.command,
+        let entry = Entry {
+            parameters: Vec::from_slice(self.alloc, declared.params.as_slice())?,
+            sort: declared.result,
+            place: Found::Declared(self.declared.len()),
         };
         self.declared.push(declared)?;
-        match self.names.insert(key, entry) {
-            Ok(_) => Ok(()),
-            Err(_) => {
+        match self.insert(name, entry) {
+            Ok(()) => Ok(()),
+            Err(fault) => {
                 let _ = self.declared.pop();
-                Err(TermFault::Memory)
+                Err(fault)
             }
         }
+    }
+
+    // Adds a name alone at the end, or changes nothing.
+    fn insert(&mut self, name: &[u8], entry: Entry) -> Result<(), TermFault>
+        requires { look_up (names_of_library self.old).ranks name.now ≡ None }
+        ensures ranks { OnOk result (ranks_of_library self.new ≡ ranks_of_library self.old ++ (name.now, rank_of entry) ∷ []) }
+        ensures places { OnOk result (places_of_library self.new ≡ places_of_library self.old ++ (name.now, entry.place) ∷ []) }
+        ensures refused { IfErr result (λ fault. fault ≡ Memory) }
+        ensures unchanged { OnErr result ((ranks_of_library self.new ≡ ranks_of_library self.old) × (places_of_library self.new ≡ places_of_library self.old)) }
+        ensures theories { self.new.theories ≡ self.old.theories }
+        ensures declared { self.new.declared.items ≡ self.old.declared.items }
+        ensures definitions { self.new.definitions.items ≡ self.old.definitions.items }
+        ensures terms { (i : id.TermId) (t : Sexp) → IsTerm self.old i t → IsTerm self.new i t }
+    {
+        let key = Vec::from_slice(self.alloc, name)?;
+        self.names.insert(key, entry)?;
+        Ok(())
     }
 }
 

@@ -1,6 +1,9 @@
-//! What is answered to terms and to declarations, worked out by hand from sections 3.3, 3.5, 3.6 and 5.2 and the theory files.
+//! What is answered to terms, to declarations and to items of models, worked out by hand from sections 3.3, 3.5, 3.6, 4.2.6 and 5.2
+//! and the theory files.
 
-use crate::{Library, TermFault};
+ghost use Rattle.smt_terms.specs.Library.{HasTheoriesOf};
+
+use crate::{Found, Library, TermFault};
 use smt_text::{Tree, Trees, split_first};
 use smt_theory::{Sort, Theories};
 use std::alloc::Global;
@@ -144,6 +147,86 @@ const TERMS_WITHOUT_INTEGERS: &str = "
     Bool mod
 ";
 
+// What is answered, and an item, one behind the other, of a model of `x`, `z` and `v` of sort Int, `p` of sort Bool, and `f` from Int
+// and Bool to Int.
+const ITEMS: &str = r#"
+    done (define-fun x () Int 1)
+    done (define-fun p () Bool (= x 1))
+    done (define-fun helper () Int (+ x (ite p x 0)))
+    done (define-fun |define-fun| () Bool (not p))
+    done (define-fun divisible () Bool ((_ divisible 2) helper))
+    done (define-fun U () Int |helper|)
+    F1   x
+    F1   ()
+    F1   (y)
+    F1   (declare-const y Int)
+    F1   (define-sort y () Int)
+    F1   (|define-fun| y () Int 1)
+    F1   ((define-fun y () Int 1))
+    F1   (define-fun)
+    F1   (define-fun y () Int)
+    F1   (define-fun y () Int 1 2)
+    F1   (define-fun y Int 1)
+    F1   (define-fun 1 () Int 1)
+    F1   (define-fun let () Int 1)
+    F1   (define-fun y (a) Int 1)
+    F1   (define-fun y (a Int) Int 1)
+    F1   (define-fun y ((a)) Int 1)
+    F1   (define-fun y ((a Int Int)) Int 1)
+    F1   (define-fun y ((1 Int)) Int 1)
+    F1   (define-fun y ((a Int) b) Int 1)
+    F2   (define-fun-rec)
+    F2   (define-fun-rec y () Int 1)
+    F2   (define-funs-rec ((y () Int)) (1))
+    F6   (define-fun x () Int 1)
+    F6   (define-fun |x| () Int 2)
+    F6   (define-fun helper () Int 1)
+    F7   (define-fun and () Bool true)
+    F7   (define-fun |+| () Int 1)
+    F7   (define-fun mod () Int 1)
+    F2   (define-fun y ((a Int)) Int 1)
+    F2   (define-fun f ((a Int) (b Bool)) Int a)
+    F2   (define-fun y () Real 1.0)
+    F3   (define-fun y () W 1)
+    F3   (define-fun y () (_ BitVec 8) #x00)
+    F1   (define-fun y () 1 1)
+    F4   (define-fun z () Bool true)
+    F4   (define-fun f () Int 1)
+    F1   (define-fun y () Int ())
+    F2   (define-fun y () Int 1.0)
+    F3   (define-fun y () Int g)
+    F3   (define-fun y () Int y)
+    F3   (define-fun y () Int z)
+    F3   (define-fun y () Int (f x p))
+    F5   (define-fun y () Bool ((_ divisible 0) x))
+    F4   (define-fun y () Int (+ x))
+    F4   (define-fun y () Int p)
+    F4   (define-fun y () Bool x)
+    done (define-fun z () Int x)
+    done (define-fun y () Int z)
+"#;
+
+// Items with two faults or more: first the form, then the name, the parameters, the sort, the rank, the body and the body's sort.
+const ITEMS_WITH_MORE_FAULTS: &str = "
+    F1   (define-fun x ((a)) W g)
+    F2   (define-fun-rec and)
+    F6   (define-fun x ((a Int)) W g)
+    F7   (define-fun and ((a Int)) W g)
+    F2   (define-fun w ((a W)) 1 g)
+    F3   (define-fun v () W g)
+    F4   (define-fun v () Bool g)
+    F3   (define-fun w () Bool (+ (g x) p))
+";
+
+const ITEMS_WITHOUT_INTEGERS: &str = "
+    F3   (define-fun mod () Int 1)
+    done (define-fun mod () Bool true)
+    done (define-fun + () Bool mod)
+    F3   (define-fun y () Bool (= 1 1))
+    F3   (define-fun y () Bool (mod 1 1))
+    F7   (define-fun not () Bool mod)
+";
+
 fn trees(alloc: Global, text: &str) -> Result<Trees, Fail> {
     match Trees::read(alloc, text.as_bytes()) {
         Ok(trees) => Ok(trees),
@@ -158,6 +241,7 @@ fn word_of_fault(fault: TermFault) -> &'static [u8] {
         TermFault::Unknown => b"F3",
         TermFault::IllSorted => b"F4",
         TermFault::Index => b"F5",
+        TermFault::BoundTwice => b"F6",
         TermFault::NotFresh => b"F7",
         _ => b"another fault",
     }
@@ -226,6 +310,60 @@ fn declare_all(
     Err("there are more than 1,000 rows".into())
 }
 
+// Defines each item of a text of answers and items. A refused one adds no definition.
+fn define_all(
+    rt: &impl Abort,
+    alloc: Global,
+    script: &Library,
+    model: &mut Library,
+    text: &str,
+) -> Result<(), Fail>
+    requires { HasTheoriesOf model.old script.now }
+    ensures { HasTheoriesOf model.new script.now }
+{
+    let rows = trees(alloc, text)?;
+    let mut left = rows.as_slice();
+    for _ in 0..1000 {
+        let Some((answer, rest)) = split_first(left) else {
+            return Ok(());
+        };
+        let Some((item, rest)) = split_first(rest) else {
+            return Err("an answer has no item".into());
+        };
+        let before = model.definitions().len();
+        let found = match model.define_item(script, item) {
+            Ok(()) => b"done".as_slice(),
+            Err(fault) => word_of_fault(fault),
+        };
+        assert!(rt; answer.is_symbol(found), "answered {found:?}");
+        let added = model.definitions().len() != before;
+        assert_eq!(rt; added, found == b"done".as_slice());
+        left = rest;
+    }
+    Err("there are more than 1,000 rows".into())
+}
+
+// Looks names up.
+fn check_places(rt: &impl Abort, library: &Library, rows: &[(&[u8], Option<Found>)]) {
+    for (name, place) in rows {
+        assert!(rt; library.find(name) == *place);
+    }
+}
+
+// The library of the items has definitions alone, and that of the script declarations.
+fn check_definitions(rt: &impl Abort, script: &Library, model: &Library) -> Result<(), Fail> {
+    assert_eq!(rt; script.definitions().len(), 0);
+    assert_eq!(rt; model.declared().len(), 0);
+    assert_eq!(rt; model.definitions().len(), 8);
+    let Some(negation) = model.definitions().get(3) else {
+        return Err("there are four definitions".into());
+    };
+    assert_eq!(rt; negation.name.as_slice(), b"define-fun".as_slice());
+    assert_eq!(rt; negation.params.len(), 0);
+    assert_eq!(rt; negation.result, Sort::Bool);
+    Ok(())
+}
+
 #[test]
 fn terms(rt: HostRuntime) -> Result<(), Fail> {
     let alloc = rt.alloc();
@@ -258,4 +396,54 @@ fn without_integers(rt: HostRuntime) -> Result<(), Fail> {
     let mut library = Library::new(alloc, CORE);
     declare_all(&rt, alloc, &mut library, "F3 x Int done mod Bool")?;
     check_all(&rt, alloc, &mut library, TERMS_WITHOUT_INTEGERS)
+}
+
+#[test]
+fn items(rt: HostRuntime) -> Result<(), Fail> {
+    let alloc = rt.alloc();
+    let mut script = Library::new(alloc, INTEGERS);
+    declare_all(&rt, alloc, &mut script, "done x Int done z Int done v Int")?;
+    declare_all(&rt, alloc, &mut script, "done p Bool")?;
+    let sorts = trees(alloc, "Int Bool Int")?;
+    let [int, truth, result] = sorts.as_slice() else {
+        return Err("these are no three sorts".into());
+    };
+    let parameters = [int.copy(alloc)?, truth.copy(alloc)?];
+    assert_eq!(rt; script.declare(5, b"f", &parameters, result).err(), None);
+    let mut model = script.for_model();
+    define_all(&rt, alloc, &script, &mut model, ITEMS)?;
+    define_all(&rt, alloc, &script, &mut model, ITEMS_WITH_MORE_FAULTS)?;
+    check_places(
+        &rt,
+        &model,
+        &[
+            (b"x", Some(Found::Defined(0))),
+            (b"U", Some(Found::Defined(5))),
+            (b"y", Some(Found::Defined(7))),
+            (b"f", None),
+            (b"and", None),
+        ],
+    );
+    check_places(
+        &rt,
+        &script,
+        &[
+            (b"z", Some(Found::Declared(1))),
+            (b"f", Some(Found::Declared(4))),
+            (b"y", None),
+        ],
+    );
+    check_definitions(&rt, &script, &model)
+}
+
+#[test]
+fn items_without_integers(rt: HostRuntime) -> Result<(), Fail> {
+    let alloc = rt.alloc();
+    let mut script = Library::new(alloc, CORE);
+    declare_all(&rt, alloc, &mut script, "done mod Bool")?;
+    let mut model = script.for_model();
+    assert_eq!(rt; model.theories(), CORE);
+    define_all(&rt, alloc, &script, &mut model, ITEMS_WITHOUT_INTEGERS)?;
+    assert_eq!(rt; model.find(b"+"), Some(Found::Defined(1)));
+    Ok(())
 }

@@ -1,18 +1,22 @@
 -- The names that a library's fields hold.
-use Rattle.std.specs.Prelude.{ℕ, List, [], map}
-use Rattle.smt_terms.specs.Signature as signature
-use Rattle.smt_terms.specs.Signature.{Names}
-use Rattle.smt_terms.specs.declared.library.Library.{Library}
+use Rattle.std.specs.Prelude.{ℕ, List, map}
+use Rattle.smt_terms.specs.Signature.{Names, Rank}
 use Rattle.smt_terms.specs.declared.library.Entry.{Entry}
+use Rattle.smt_terms.specs.declared.library.Found.{Found}
+use Rattle.smt_terms.specs.declared.library.Library.{Library}
 
--- an entry under its name
-abbrev pub entry_of : List ℕ → Entry → signature.Entry
-entry_of x e = record { name = x; parameters = e.parameters.items; sort = e.sort; origin = signature.Declared e.command }
+-- the rank of a name
+abbrev pub rank_of : Entry → Rank
+rank_of e = record { parameters = e.parameters.items; sort = e.sort }
 
--- the names in order, with what they stand for
-abbrev pub entries_of : Library → List signature.Entry
-entries_of library = map (λ p. entry_of p.0.items p.1) library.names.entries
+-- the names in order, with their ranks
+abbrev pub ranks_of_library : Library → List (List ℕ × Rank)
+ranks_of_library library = map (λ p. (p.0.items, rank_of p.1)) library.names.entries
 
--- the names with their ranks
+-- the names in order, with where they stand
+abbrev pub places_of_library : Library → List (List ℕ × Found)
+places_of_library library = map (λ p. (p.0.items, p.1.place)) library.names.entries
+
+-- what the sort checker needs
 abbrev pub names_of_library : Library → Names
-names_of_library library = record { theories = library.theories; ranks = signature.ranks_of (entries_of library) }
+names_of_library library = record { theories = library.theories; ranks = ranks_of_library library }

@@ -124,7 +124,7 @@ fn sort_of_operator(op: Result<Op, OpFault>, args: &[Sort]) -> Result<Sort, Term
 }
 
 // Whether the sorts of the arguments are those of the parameters.
-fn are_same(parameters: &[Sort], args: &[Sort]) -> bool
+pub(super) fn are_same(parameters: &[Sort], args: &[Sort]) -> bool
     ensures { result ≡ are_exactly parameters.now args.now }
 {
     args == parameters

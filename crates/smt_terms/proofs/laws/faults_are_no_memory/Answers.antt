@@ -1,8 +1,9 @@
-use Rattle.smt_terms.proofs.NoMemoryLemmas.{IsOther-sort, IsOther-declared}
+use Rattle.smt_terms.proofs.NoMemoryLemmas.{IsOther-sort, IsOther-declared, IsOther-item}
 use Rattle.smt_terms.proofs.laws.faults_are_no_memory.Goals as goal
 
 pub returns : goal.returns
 returns c = record {
   sorts = IsOther-sort;
   declarations = IsOther-declared;
+  items = IsOther-item;
 }

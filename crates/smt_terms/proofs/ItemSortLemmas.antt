@@ -1,0 +1,85 @@
+-- What an item defines is well sorted, new among the items, and of the rank with which its name is declared.
+use Rattle.std.proofs.Common.{◌≡◌, ℕ, Bool, true, false, cond, not, ◌&&◌, List, [], Option, Some, None, is_some, Result, Ok, Err, refl, ap, sym, ◌∙◌, subst}
+use Rattle.std.proofs.lemmas.Slice.Eq.{slice_eq-Decides}
+use Rattle.smt_text.specs.Sexp.{Sexp}
+use Rattle.smt_theory.specs.Ranks.{are_exactly}
+use Rattle.smt_theory.specs.Sort.{is_same_sort}
+use Rattle.smt_theory.specs.Words.{result_and_then}
+use Rattle.smt_theory.specs.declared.sort.Sort.{Sort}
+use Rattle.smt_theory.proofs.RankLemmas.{is_same_sort-Decides}
+use Rattle.smt_terms.specs.Checking.{sort_in}
+use Rattle.smt_terms.specs.Items.{ItemForm, declared_named, defined_as, definition, form_in, has_rank_of, item_form, item_in, items_before, name_fault, unless, without_parameters}
+use Rattle.smt_terms.specs.Signature.{Entry, KeepsRank, Signature, entry_named, is_taken, names_of}
+use Rattle.smt_terms.specs.SortTrees.{sort_named}
+use Rattle.smt_terms.specs.WellSorted.{IsWellSorted}
+use Rattle.smt_terms.specs.declared.fault.TermFault.{TermFault}
+use Rattle.smt_terms.specs.declared.fault.TermFault.TheVariants.{BoundTwice, IllSorted, NotFresh}
+
+-- whether no new thing may have the name, and it is not declared
+abbrev pub is_unfit : Signature → List ℕ → Bool
+is_unfit script x = not (is_some (declared_named script.entries x)) && is_taken (names_of script) x
+
+-- what an item that is taken defines
+pub record IsItem (script : Signature) (earlier : List Entry) (e : Entry) : Type 0 where
+  pub fresh : entry_named earlier e.name ≡ None
+  pub fit : is_unfit script e.name ≡ false
+  pub sorted : IsWellSorted script.theories earlier e
+  pub ranked : has_rank_of (declared_named script.entries e.name) e.parameters e.sort ≡ true
+
+-- a name without a fault is new among the items, and fit
+no_fault : (script : Signature) (earlier : List Entry) (x : List ℕ) → name_fault script earlier x ≡ None → (entry_named earlier x ≡ None) × (is_unfit script x ≡ false)
+no_fault script earlier x h = by (entry_named earlier x) (is_unfit script x) h
+  where
+    by : (o : Option Entry) (b : Bool) → cond (is_some o) (Some BoundTwice) (cond b (Some NotFresh) None) ≡ None → (o ≡ None) × (b ≡ false)
+    by None false h = (refl, refl)
+    by None true h = cc
+    by (Some e) b h = cc
+
+-- what is defined as an item is one
+IsItem-definition : (script : Signature) (earlier : List Entry) (form : ItemForm) (sort : Sort) (e : Entry) → entry_named earlier form.name ≡ None → is_unfit script form.name ≡ false → defined_as script earlier form sort ≡ Ok e
+    → IsItem script earlier e
+IsItem-definition script earlier form sort e fresh fit h =
+    by (has_rank_of (declared_named script.entries form.name) [] sort) refl (sort_in (names_of (items_before script earlier)) [] form.body) refl h
+  where
+    made : definition form.name sort form.body ≡ e → has_rank_of (declared_named script.entries form.name) [] sort ≡ true → sort_in (names_of (items_before script earlier)) [] form.body ≡ Ok sort → IsItem script earlier e
+    made is ranked sorted = subst (IsItem script earlier) is (record { fresh = fresh; fit = fit; sorted = record { counted = refl; different = tt; sorted = sorted }; ranked = ranked })
+
+    found_by : (found : Sort) (b : Bool) → is_same_sort found sort ≡ b → has_rank_of (declared_named script.entries form.name) [] sort ≡ true → sort_in (names_of (items_before script earlier)) [] form.body ≡ Ok found
+        → cond b (Ok (definition form.name sort form.body)) (Err IllSorted) ≡ Ok e → IsItem script earlier e
+    found_by found true same ranked sorted h = made (cc) ranked (sorted ∙ ap (λ (s : Sort). Ok s) ((is_same_sort-Decides found sort).0 same))
+    found_by found false same ranked sorted h = cc
+
+    by : (b : Bool) → has_rank_of (declared_named script.entries form.name) [] sort ≡ b → (r : Result Sort TermFault) → sort_in (names_of (items_before script earlier)) [] form.body ≡ r
+        → cond (not b) (Err IllSorted) (result_and_then r (λ found. cond (is_same_sort found sort) (Ok (definition form.name sort form.body)) (Err IllSorted))) ≡ Ok e → IsItem script earlier e
+    by false ranked r sorted h = cc
+    by true ranked (Err f) sorted h = cc
+    by true ranked (Ok found) sorted h = found_by found (is_same_sort found sort) refl ranked sorted h
+
+-- so is what parts of the right form define
+IsItem-form : (script : Signature) (earlier : List Entry) (form : ItemForm) (e : Entry) → form_in script earlier form ≡ Ok e → IsItem script earlier e
+IsItem-form script earlier form e h = by (name_fault script earlier form.name) refl (without_parameters form.parameters (sort_named script.theories form.sort)) h
+  where
+    by : (o : Option TermFault) → name_fault script earlier form.name ≡ o → (r : Result Sort TermFault) → unless o (result_and_then r (λ sort. defined_as script earlier form sort)) ≡ Ok e → IsItem script earlier e
+    by (Some f) none r h = cc
+    by None none (Err f) h = cc
+    by None none (Ok sort) h = let free = no_fault script earlier form.name none in IsItem-definition script earlier form sort e free.0 free.1 h
+
+-- so is what an item defines
+pub IsItem-taken : (script : Signature) (earlier : List Entry) (tree : Sexp) (e : Entry) → item_in script earlier tree ≡ Ok e → IsItem script earlier e
+IsItem-taken script earlier tree e h = by (item_form tree) h
+  where
+    by : (r : Result ItemForm TermFault) → result_and_then r (λ form. form_in script earlier form) ≡ Ok e → IsItem script earlier e
+    by (Err f) h = cc
+    by (Ok form) h = IsItem-form script earlier form e h
+
+-- a rank that is tested is kept
+pub KeepsRank-tested : (o : Option Entry) (d e : Entry) → o ≡ Some d → has_rank_of o e.parameters e.sort ≡ true → KeepsRank d (Some e)
+KeepsRank-tested o d e is h = by (are_exactly d.parameters e.parameters) refl (sym (ap (λ p. has_rank_of p e.parameters e.sort) is) ∙ h)
+  where
+    by : (b : Bool) → are_exactly d.parameters e.parameters ≡ b → (b && is_same_sort d.sort e.sort) ≡ true → KeepsRank d (Some e)
+    by false same g = cc
+    by true same g = ((slice_eq-Decides is_same_sort-Decides e.parameters d.parameters (are_exactly d.parameters e.parameters) refl).0 same, sym ((is_same_sort-Decides d.sort e.sort).0 g))
+
+-- a name that is fit and not declared is not taken
+pub fit_is_free : (script : Signature) (x : List ℕ) → is_unfit script x ≡ false → declared_named script.entries x ≡ None → is_taken (names_of script) x ≡ false
+fit_is_free script x h none = sym (ap (λ o. not (is_some o) && is_taken (names_of script) x) none) ∙ h

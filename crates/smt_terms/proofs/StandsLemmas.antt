@@ -1,0 +1,135 @@
+-- What a library stands for, as terms, declarations and definitions are added.
+use Rattle.std.proofs.Common.{◌≡◌, ℕ, suc, ◌+◌, cond, List, [], ◌∷◌, ◌++◌, length, map, refl, ap, sym, ◌∙◌, arith, subst, Result, Ok, Err, OnErr}
+use Rattle.std.specs.Vec.{vec_len}
+use Rattle.std.specs.Global.{Vec}
+use Rattle.std.proofs.lemmas.List.{append-nil, length-map, map-append}
+use Rattle.std.proofs.lemmas.List.Elements.{filter-append}
+use Rattle.smt_text.specs.Sexp.{Sexp}
+use Rattle.smt_theory.specs.declared.sort.Sort.{Sort}
+use Rattle.smt_terms.specs.Internal.LibraryView.{places_of_library, ranks_of_library}
+use Rattle.smt_terms.specs.Items.{definition}
+use Rattle.smt_terms.specs.Library.{AreDefinitions, Declaration, IsDefinitionOf, IsTerm, StandsFor, declaration_at, declaration_view, declarations_from, declared_among, defined_among, is_declared, name_count, places_from}
+use Rattle.smt_terms.specs.Signature as signature
+use Rattle.smt_terms.specs.Signature.{Entry, Origin, Rank, Signature, declaration, rank_of_entry, ranks_of, with_entry}
+use Rattle.smt_terms.specs.declared.library.Declared.{Declared}
+use Rattle.smt_terms.specs.declared.library.Definition.{Definition}
+use Rattle.smt_terms.specs.declared.library.Found.{Found}
+use Rattle.smt_terms.specs.declared.library.Found.TheVariants as place
+use Rattle.smt_terms.specs.declared.library.Library.{Library}
+use Rattle.smt_terms.specs.declared.library.TermId.{TermId}
+use Rattle.smt_terms.proofs.DeclarationLemmas.{declarations-push, declared-push}
+use Rattle.smt_terms.proofs.PlaceLemmas.{places-push}
+
+-- a fact that holds holds of a refusal
+pub on_err : {A E P : Type 0} (r : Result A E) → P → OnErr r P
+on_err (Ok a) p = tt
+on_err (Err e) p = p
+
+-- a vector's length is that of its list
+pub counted : {A : Type 0} (v : Vec A) (n : ℕ) → n ≡ vec_len v → n ≡ length v.items
+counted v n h = omega (arith, v.ok)
+
+-- each term of the one is a term of the other, under its number
+abbrev pub HasTermsOf : Library → Library → Type 0
+HasTermsOf new old = (i : TermId) (t : Sexp) → IsTerm old i t → IsTerm new i t
+
+-- definitions stay as terms are added
+definition_stays : (old new : Library) (d : Definition) (e : Entry) → HasTermsOf new old → IsDefinitionOf old d e → IsDefinitionOf new d e
+definition_stays old new d e terms is =
+    record { name = is.name; parameters = is.parameters; sort = is.sort; body = (is.body.0, terms d.body is.body.0 is.body.1, is.body.2) }
+
+definitions_stay : (old new : Library) (ds : List Definition) (es : List Entry) → HasTermsOf new old → AreDefinitions old ds es → AreDefinitions new ds es
+definitions_stay old new [] [] terms h = tt
+definitions_stay old new [] (e ∷ es) terms h = absurd h
+definitions_stay old new (d ∷ ds) [] terms h = absurd h
+definitions_stay old new (d ∷ ds) (e ∷ es) terms h = (definition_stays old new d e terms h.0, definitions_stay old new ds es terms h.1)
+
+-- one more definition
+definitions-push : (library : Library) (ds : List Definition) (es : List Entry) (d : Definition) (e : Entry) → AreDefinitions library ds es → IsDefinitionOf library d e → AreDefinitions library (ds ++ d ∷ []) (es ++ e ∷ [])
+definitions-push library [] [] d e h is = (is, tt)
+definitions-push library [] (y ∷ es) d e h is = absurd h
+definitions-push library (x ∷ ds) [] d e h is = absurd h
+definitions-push library (x ∷ ds) (y ∷ es) d e h is = (h.0, definitions-push library ds es d e h.1 is)
+
+-- there is a definition for each defined entry
+length-definitions : (library : Library) (ds : List Definition) (es : List Entry) → AreDefinitions library ds es → length ds ≡ length es
+length-definitions library [] [] h = refl
+length-definitions library [] (e ∷ es) h = absurd h
+length-definitions library (d ∷ ds) [] h = absurd h
+length-definitions library (d ∷ ds) (e ∷ es) h = ap suc (length-definitions library ds es h.1)
+
+-- and a declaration for each declared one
+length-declarations : (n : ℕ) (es : List Entry) → length (declarations_from n es) ≡ length (declared_among es)
+length-declarations n [] = refl
+length-declarations n (e ∷ es) = by e.origin (length-declarations (n + 1) es)
+  where
+    by : (o : Origin) → length (declarations_from (n + 1) es) ≡ length (declared_among es) → length (declaration_at n e o ++ declarations_from (n + 1) es) ≡ length (cond (is_declared o) (e ∷ declared_among es) (declared_among es))
+    by (signature.Declared command) rest = ap suc rest
+    by (signature.Defined ps body) rest = rest
+
+-- nothing but terms has come
+pub stands_still : (old new : Library) (s : Signature) → new.theories ≡ old.theories → ranks_of_library new ≡ ranks_of_library old → places_of_library new ≡ places_of_library old
+    → new.declared.items ≡ old.declared.items → new.definitions.items ≡ old.definitions.items → HasTermsOf new old → StandsFor old s → StandsFor new s
+stands_still old new s theories ranks places declared definitions terms stands = record {
+  theories = theories ∙ stands.theories;
+  ranks = ranks ∙ stands.ranks;
+  places = places ∙ stands.places;
+  declared = ap (map declaration_view) declared ∙ stands.declared;
+  definitions = subst (λ ds. AreDefinitions new ds (defined_among s.entries)) (sym definitions) (definitions_stay old new old.definitions.items (defined_among s.entries) terms stands.definitions);
+}
+
+-- the ranks with one more
+ranks-push : (es : List Entry) (e : Entry) (ranks : List (List ℕ × Rank)) → ranks ≡ ranks_of es → ranks ++ (e.name, rank_of_entry e) ∷ [] ≡ ranks_of (es ++ e ∷ [])
+ranks-push es e ranks is = ap (λ (rs : List (List ℕ × Rank)). rs ++ (e.name, rank_of_entry e) ∷ []) is ∙ sym (map-append (λ d. (d.name, rank_of_entry d)) es (e ∷ []))
+
+-- a declared name has come
+pub stands_declared : (old new : Library) (s : Signature) (x : List ℕ) (d : Declared) → d.name ≡ name_count old → new.theories ≡ old.theories
+    → ranks_of_library new ≡ ranks_of_library old ++ (x, record { parameters = d.params.items; sort = d.result }) ∷ [] → places_of_library new ≡ places_of_library old ++ (x, place.Declared (length old.declared.items)) ∷ []
+    → new.declared.items ≡ old.declared.items ++ d ∷ [] → new.definitions.items ≡ old.definitions.items → HasTermsOf new old → StandsFor old s
+    → StandsFor new (with_entry s (declaration x d.command (record { parameters = d.params.items; sort = d.result })))
+stands_declared old new s x d next theories ranks places declared definitions terms stands =
+    let e : Entry = declaration x d.command (record { parameters = d.params.items; sort = d.result }) in
+    let counted : length old.declared.items ≡ length (declared_among s.entries) = sym (length-map old.declared.items declaration_view) ∙ ap (λ (ds : List Declaration). length ds) stands.declared ∙ length-declarations 0 s.entries in
+    let named : name_count old ≡ length s.entries = ap (λ (rs : List (List ℕ × Rank)). length rs) stands.ranks ∙ length-map s.entries (λ d. (d.name, rank_of_entry d)) in
+    let same : defined_among (s.entries ++ e ∷ []) ≡ defined_among s.entries = filter-append _ s.entries (e ∷ []) ∙ append-nil (defined_among s.entries) in
+    record {
+      theories = theories ∙ stands.theories;
+      ranks = ranks ∙ ranks-push s.entries e (ranks_of_library old) stands.ranks;
+      places =
+          places ∙ ap (λ (n : ℕ). places_of_library old ++ (x, place.Declared n) ∷ []) counted ∙ ap (λ (ps : List (List ℕ × Found)). ps ++ (x, place.Declared (length (declared_among s.entries))) ∷ []) stands.places
+          ∙ sym (places-push 0 0 s.entries e ∙ ap (λ (n : ℕ). places_from 0 0 s.entries ++ (x, place.Declared n) ∷ []) (omega arith));
+      declared =
+          declared-push old.declared.items new.declared.items d s.entries e declared stands.declared (ap (λ (n : ℕ). record { name = n; parameters = d.params.items; sort = d.result; command = d.command } ∷ []) (sym named ∙ sym next));
+      definitions =
+          subst (λ es. AreDefinitions new new.definitions.items es) (sym same) (subst (λ ds. AreDefinitions new ds (defined_among s.entries)) (sym definitions) (definitions_stay old new old.definitions.items (defined_among s.entries) terms stands.definitions));
+    }
+
+-- a definition without parameters has come
+pub stands_defined : (old new : Library) (s : Signature) (x : List ℕ) (d : Definition) (t : Sexp) → d.name.items ≡ x → d.params.items ≡ [] → IsTerm old d.body t → new.theories ≡ old.theories
+    → ranks_of_library new ≡ ranks_of_library old ++ (x, record { parameters = []; sort = d.result }) ∷ [] → places_of_library new ≡ places_of_library old ++ (x, place.Defined (length old.definitions.items)) ∷ []
+    → new.declared.items ≡ old.declared.items → new.definitions.items ≡ old.definitions.items ++ d ∷ [] → HasTermsOf new old → StandsFor old s → StandsFor new (with_entry s (definition x d.result t))
+stands_defined old new s x d t named constant body theories ranks places declared definitions terms stands =
+    let e : Entry = definition x d.result t in
+    let counted : length old.definitions.items ≡ length (defined_among s.entries) = length-definitions old old.definitions.items (defined_among s.entries) stands.definitions in
+    let more : defined_among (s.entries ++ e ∷ []) ≡ defined_among s.entries ++ e ∷ [] = filter-append _ s.entries (e ∷ []) in
+    let is : IsDefinitionOf new d e = record {
+      name = named;
+      parameters = ap (λ (ps : List (Vec ℕ × Sort)). map (λ p. p.1) ps) constant;
+      sort = refl;
+      body = (t, terms d.body t body, ap (λ (ps : List (Vec ℕ × Sort)). signature.Defined (map (λ p. p.0.items) ps) t) (sym constant));
+    } in
+    record {
+      theories = theories ∙ stands.theories;
+      ranks = ranks ∙ ranks-push s.entries e (ranks_of_library old) stands.ranks;
+      places =
+          places ∙ ap (λ (n : ℕ). places_of_library old ++ (x, place.Defined n) ∷ []) counted ∙ ap (λ (ps : List (List ℕ × Found)). ps ++ (x, place.Defined (length (defined_among s.entries))) ∷ []) stands.places
+          ∙ sym (places-push 0 0 s.entries e ∙ ap (λ (n : ℕ). places_from 0 0 s.entries ++ (x, place.Defined n) ∷ []) (omega arith));
+      declared = ap (map declaration_view) declared ∙ stands.declared ∙ sym (declarations_with s.entries x d.result t);
+      definitions =
+          subst (λ es. AreDefinitions new new.definitions.items es) (sym more)
+          (subst (λ ds. AreDefinitions new ds (defined_among s.entries ++ e ∷ [])) (sym definitions)
+          (definitions-push new old.definitions.items (defined_among s.entries) d e (definitions_stay old new old.definitions.items (defined_among s.entries) terms stands.definitions) is));
+    }
+  where
+    declarations_with : (es : List Entry) (x : List ℕ) (sort : Sort) (t : Sexp) → declarations_from 0 (es ++ definition x sort t ∷ []) ≡ declarations_from 0 es
+    declarations_with es x sort t = declarations-push 0 es (definition x sort t) ∙ append-nil (declarations_from 0 es)

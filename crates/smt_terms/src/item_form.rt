@@ -1,0 +1,98 @@
+//! The parts of an item of a model.
+
+ghost use Rattle.std.specs.Prelude.{◌≡◌, MatchOption, MatchResult};
+ghost use Rattle.smt_text.specs.Sexp.{Cons, Items, Nil, Reserved};
+ghost use Rattle.smt_text.specs.Tree.{sexp_of, sexps_of};
+ghost use Rattle.smt_text.specs.declared.reserved.Word.TheVariants.{DefineFun};
+ghost use Rattle.smt_terms.specs.Internal.ItemView.{form_of};
+ghost use Rattle.smt_terms.specs.Items as items;
+ghost use Rattle.smt_terms.specs.declared.fault.TermFault.TheVariants.{Form};
+
+use crate::fault::TermFault;
+use smt_text::{Tree, Word, split_first};
+
+// The parts of an item.
+#[derive(Clone, Copy)]
+pub(crate) struct ItemForm<'a> {
+    pub(crate) name: &'a [u8],
+    pub(crate) parameters: &'a [Tree],
+    pub(crate) sort: &'a Tree,
+    pub(crate) body: &'a Tree,
+}
+
+// The parts of an item, or what is wrong with its form.
+pub(crate) fn item_form(item: &Tree) -> Result<ItemForm<'_>, TermFault>
+    ensures { MatchResult result (λ form. items.item_form (sexp_of item.now) ≡ Ok (form_of form)) (λ fault. items.item_form (sexp_of item.now) ≡ Err fault) }
+{
+    let Tree::List(parts) = item else {
+        return Err(TermFault::Form);
+    };
+    let Some((Tree::Reserved(word), rest)) = split_first(parts.as_slice()) else {
+        return Err(TermFault::Form);
+    };
+    match word {
+        Word::DefineFunRec | Word::DefineFunsRec => Err(TermFault::Unsupported),
+        Word::DefineFun => match definition_form(rest) {
+            Some(form) => Ok(form),
+            None => Err(TermFault::Form),
+        },
+        _ => Err(TermFault::Form),
+    }
+}
+
+// The parts of a definition, behind its first word.
+fn definition_form(parts: &[Tree]) -> Option<ItemForm<'_>>
+    ensures { MatchOption result (items.item_form (Items (Cons (Reserved DefineFun) (sexps_of parts.now))) ≡ Err Form)
+        (λ form. items.item_form (Items (Cons (Reserved DefineFun) (sexps_of parts.now))) ≡ Ok (form_of form)) }
+{
+    let Some((Tree::Symbol(name), rest)) = split_first(parts) else {
+        return None;
+    };
+    let Some((Tree::List(parameters), rest)) = split_first(rest) else {
+        return None;
+    };
+    let Some((sort, rest)) = split_first(rest) else {
+        return None;
+    };
+    let Some((body, rest)) = split_first(rest) else {
+        return None;
+    };
+    if split_first(rest).is_some() || !are_parameters(parameters.as_slice()) {
+        return None;
+    }
+    Some(ItemForm {
+        name: name.as_slice(),
+        parameters: parameters.as_slice(),
+        sort,
+        body,
+    })
+}
+
+// Whether each is a symbol and a tree, in a list.
+fn are_parameters(trees: &[Tree]) -> bool
+    ensures { result ≡ items.are_parameters (sexps_of trees.now) }
+{
+    let mut left = trees;
+    while let Some((tree, rest)) = split_first(left) {
+        if !is_parameter(tree) {
+            return false;
+        }
+        left = rest;
+    }
+    true
+}
+
+fn is_parameter(tree: &Tree) -> bool
+    ensures { result ≡ items.are_parameters (Cons (sexp_of tree.now) Nil) }
+{
+    let Tree::List(parts) = tree else {
+        return false;
+    };
+    let Some((Tree::Symbol(_), rest)) = split_first(parts.as_slice()) else {
+        return false;
+    };
+    match split_first(rest) {
+        Some((_, rest)) => split_first(rest).is_none(),
+        None => false,
+    }
+}

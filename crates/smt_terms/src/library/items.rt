@@ -1,0 +1,166 @@
+//! Items of models.
+
+ghost use Rattle.std.specs.Prelude.{◌≡◌, ◌⊎◌, ◌&&◌, [], not, is_some, option_map, None, Some, Ok, Err, MatchResult, OnOk, OnErr, IfErr, IfOk};
+ghost use Rattle.smt_text.specs.Sexp.{Sexp};
+ghost use Rattle.smt_text.specs.Tree.{sexp_of, sexps_of};
+ghost use Rattle.smt_theory.specs.Ranks.{are_exactly};
+ghost use Rattle.smt_theory.specs.Sort.{is_same_sort};
+ghost use Rattle.smt_theory.specs.Words.{look_up};
+ghost use Rattle.smt_terms.specs.Internal.LibraryView.{names_of_library, rank_of};
+ghost use Rattle.smt_terms.specs.Items.{declared_named, definition, has_rank_of, item_in, name_fault, without_parameters};
+ghost use Rattle.smt_terms.specs.Library.{HasTheoriesOf, IsTerm, StandsFor};
+ghost use Rattle.smt_terms.specs.Signature as signature;
+ghost use Rattle.smt_terms.specs.Signature.{Signature, is_taken, names_of, no_names, rank_of_entry, with_entry};
+ghost use Rattle.smt_terms.specs.SortTrees.{sort_named};
+ghost use Rattle.smt_terms.specs.declared.fault.TermFault.TheVariants.{Memory};
+ghost use Rattle.smt_terms.specs.declared.library.TermId as id;
+
+use crate::fault::TermFault;
+use crate::item_form::{ItemForm, item_form};
+use crate::library::checker::are_same;
+use crate::library::{Definition, Entry, Found, Library, TermId};
+use crate::sorts::sort_of_tree;
+use smt_text::{Tree, split_first};
+use smt_theory::{Sort, Theories};
+
+impl Library {
+    /// A library for the definitions of a model of these names: of the same theories, and without names.
+    pub fn for_model(&self) -> Library
+        ensures names { (s : Signature) → StandsFor self.now s → StandsFor result (no_names s.theories) }
+        ensures theories { HasTheoriesOf result self.now }
+    {
+        Library::new(self.alloc, self.theories)
+    }
+
+    /// Adds what an item of a model of the script's names defines (SMT-LIB 2.6, section 4.2.6), behind the items that were added
+    /// before: its body sees these and the theories, and no other name of the script. Refused are, in this order: an item out of form,
+    /// or of a form that is not supported; a name that an earlier item has, or that the script does not declare and that is in use or
+    /// a plain operator's; parameters, and a tree that names no sort; a rank that is not the declared one; the first fault of the
+    /// body; a body of another sort. Then no name is added.
+    pub fn define_item(&mut self, script: &Library, item: &Tree) -> Result<(), TermFault>
+        requires { HasTheoriesOf self.old script.now }
+        ensures defined { OnOk result ((s m : Signature) → StandsFor script.now s → StandsFor self.old m
+            → (e : signature.Entry) × (item_in s m.entries (sexp_of item.now) ≡ Ok e) × StandsFor self.new (with_entry m e)) }
+        ensures refused { IfErr result (λ fault. (s m : Signature) → StandsFor script.now s → StandsFor self.old m
+            → (fault ≡ Memory) ⊎ (item_in s m.entries (sexp_of item.now) ≡ Err fault)) }
+        ensures unchanged { OnErr result ((m : Signature) → StandsFor self.old m → StandsFor self.new m) }
+        ensures terms { (i : id.TermId) (t : Sexp) → IsTerm self.old i t → IsTerm self.new i t }
+        ensures theories { HasTheoriesOf self.new script.now }
+    {
+        let form = item_form(item)?;
+        self.check_name(script, form.name)?;
+        let sort = sort_of_item(script.theories, form)?;
+        if !script.keeps_rank(form.name, sort) {
+            return Err(TermFault::IllSorted);
+        }
+        if !are_equal(self.sort_of(form.body)?, sort) {
+            return Err(TermFault::IllSorted);
+        }
+        let body = self.add_term(form.body)?;
+        self.add_constant(form.name, sort, body)
+    }
+
+    // Refuses a name that an earlier item has, and one that the script does not declare and that is taken.
+    fn check_name(&self, script: &Library, name: &[u8]) -> Result<(), TermFault>
+        ensures fault { (s m : Signature) → StandsFor script.now s → StandsFor self.now m
+            → MatchResult result (λ _. name_fault s m.entries name.now ≡ None) (λ fault. name_fault s m.entries name.now ≡ Some fault) }
+        ensures absent { OnOk result (look_up (names_of_library self.now).ranks name.now ≡ None) }
+    {
+        if self.is_in_force(name) {
+            return Err(TermFault::BoundTwice);
+        }
+        if script.is_unfit(name) {
+            return Err(TermFault::NotFresh);
+        }
+        Ok(())
+    }
+
+    // Whether no item may have this name: it is taken, and not declared.
+    fn is_unfit(&self, name: &[u8]) -> bool
+        ensures { (s : Signature) → StandsFor self.now s → result ≡ not (is_some (declared_named s.entries name.now)) && is_taken (names_of s) name.now }
+    {
+        !self.is_declared(name) && self.is_taken(name)
+    }
+
+    fn is_declared(&self, name: &[u8]) -> bool
+        ensures { (s : Signature) → StandsFor self.now s → result ≡ is_some (declared_named s.entries name.now) }
+    {
+        self.get_declared(name).is_some()
+    }
+
+    // What a name stands for, if a command declared it.
+    fn get_declared(&self, name: &[u8]) -> Option<&Entry>
+        ensures { (s : Signature) → StandsFor self.now s → option_map (λ e. rank_of e.now) result ≡ option_map rank_of_entry (declared_named s.entries name.now) }
+    {
+        let Some(entry) = self.get(name) else {
+            return None;
+        };
+        match entry.place {
+            Found::Declared(_) => Some(entry),
+            Found::Defined(_) => None,
+        }
+    }
+
+    // Whether the name is declared as a constant of this sort, if it is declared.
+    fn keeps_rank(&self, name: &[u8], sort: Sort) -> bool
+        ensures { (s : Signature) → StandsFor self.now s → result ≡ has_rank_of (declared_named s.entries name.now) [] sort }
+    {
+        match self.get_declared(name) {
+            Some(entry) => is_constant(entry, sort),
+            None => true,
+        }
+    }
+
+    // Adds the definition of a constant at the end, or changes no name.
+    fn add_constant(&mut self, name: &[u8], sort: Sort, body: TermId) -> Result<(), TermFault>
+        requires { look_up (names_of_library self.old).ranks name.now ≡ None }
+        ensures added { OnOk result ((s : Signature) (t : Sexp) → StandsFor self.old s → IsTerm self.old body t → StandsFor self.new (with_entry s (definition name.now sort t))) }
+        ensures refused { IfErr result (λ fault. fault ≡ Memory) }
+        ensures unchanged { OnErr result ((s : Signature) → StandsFor self.old s → StandsFor self.new s) }
+        ensures terms { (i : id.TermId) (t : Sexp) → IsTerm self.old i t → IsTerm self.new i t }
+        ensures theories { self.new.theories ≡ self.old.theories }
+    {
+        let definition = Definition {
+            name: Vec::from_slice(self.alloc, name)?,
+            params: Vec::new(self.alloc),
+            result: sort,
+            body,
+        };
+        let entry = Entry {
+            parameters: Vec::new(self.alloc),
+            sort,
+            place: Found::Defined(self.definitions.len()),
+        };
+        self.definitions.push(definition)?;
+        match self.insert(name, entry) {
+            Ok(()) => Ok(()),
+            Err(fault) => {
+                let _ = self.definitions.pop();
+                Err(fault)
+            }
+        }
+    }
+}
+
+// Whether a name stands for a constant of this sort.
+fn is_constant(entry: &Entry, sort: Sort) -> bool
+    ensures { result ≡ are_exactly entry.now.parameters.items [] && is_same_sort entry.now.sort sort }
+{
+    are_same(entry.parameters.as_slice(), &[]) && are_equal(entry.sort, sort)
+}
+
+fn are_equal(found: Sort, sort: Sort) -> bool
+    ensures { result ≡ is_same_sort found sort }
+{
+    found == sort
+}
+
+// The sort that an item says. Items with parameters are not supported.
+fn sort_of_item(theories: Theories, form: ItemForm<'_>) -> Result<Sort, TermFault>
+    ensures { result ≡ without_parameters (sexps_of form.entry.parameters.now) (sort_named theories (sexp_of form.entry.sort.now)) }
+{
+    if split_first(form.parameters).is_some() {
+        return Err(TermFault::Unsupported);
+    }
+    sort_of_tree(theories, form.sort)
+}
