@@ -26,7 +26,7 @@ pub record Assertion : Type 0 where
   pub command : ℕ
   pub term : Sexp
 
--- the theories before a logic is set
+-- the theories before a logic is set: all that there are, since bit vectors are none yet
 abbrev pub all_theories : Theories
 all_theories = record { ints = true; bits = false }
 

@@ -16,7 +16,7 @@ library_of stack = stack.library
 abbrev pub last_of : Stack → ℕ
 last_of stack = stack.last
 
--- one by one, of the same command, and the term of the first is the library's number of the second's
+-- one by one they are of the same command, and the library has the second's term under the first's number
 abbrev pub AreAssertions : Library → List Assertion → List spec.Assertion → Type 0
 AreAssertions terms [] [] = Unit {0}
 AreAssertions terms (a ∷ as') (b ∷ bs) = (a.command ≡ b.command) × IsTerm terms a.term b.term × AreAssertions terms as' bs

@@ -11,8 +11,8 @@ use crate::command::Command;
 use crate::fault::CommandFault;
 use smt_text::{Tree, Trees, Word, split_first};
 
-/// The command that a tree is (SMT-LIB 2.6, section 4.2). A tree that is none is refused: as unsupported where it is a list that begins with the name of
-/// another command, whatever follows, else for its form.
+/// The command that a tree is (SMT-LIB 2.6, section 4.2). A tree that is none is refused: as `Unsupported` where it is a list that
+/// begins with the name of another command, whatever follows, else for its `Form`.
 pub fn read_command(tree: Tree) -> Result<Command, CommandFault>
     ensures { MatchResult result (λ command. commands.command_of (sexp_of tree) ≡ Ok (command_view command))
         (λ fault. commands.command_of (sexp_of tree) ≡ Err fault) }

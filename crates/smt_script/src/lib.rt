@@ -12,6 +12,8 @@ mod command;
 mod fault;
 mod forms;
 mod stack;
+#[cfg(test)]
+mod tests;
 
 pub use command::Command;
 pub use fault::CommandFault;

@@ -39,7 +39,7 @@ pub struct Stack {
     last: u64,
 }
 
-/// The theories before a logic is set: all that there are.
+/// The theories before a logic is set: all that there are, since bit vectors are none yet.
 pub fn all_theories() -> Theories
     ensures { result ≡ stack.all_theories }
 {
