@@ -6,3 +6,5 @@ pub mod EvaluatorLemmas
 pub mod PlaceLemmas
 pub mod DefinitionLemmas
 pub mod FoundLemmas
+pub mod ConstantLemmas
+pub mod ReadLemmas

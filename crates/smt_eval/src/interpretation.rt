@@ -17,6 +17,7 @@ ghost use Rattle.smt_eval.specs.declared.interpretation.ModelFault.TheVariants.{
 use crate::evaluator::known_value;
 use crate::laws::models_are_complete;
 use crate::memory::Memory;
+use smt_terms::laws::faults_are_no_memory;
 use smt_terms::{Library, TermFault};
 use smt_text::{Tree, Trees, split_first};
 use smt_values::Value;
@@ -77,6 +78,7 @@ fn read_items(declared: &Library, items: &[Tree]) -> Result<Library, ModelFault>
         → MatchResult result (λ library. (es : List Entry) × (items_from s [] 1 (sexps_of items.now) ≡ Ok es) × StandsFor library (items_before s es))
         (λ fault. (fault ≡ OutOfMemory) ⊎ (items_from s [] 1 (sexps_of items.now) ≡ Err fault)) }
 {
+    faults_are_no_memory();
     let mut definitions = declared.for_model();
     for (index, item) in items.iter().enumerate() {
         if let Err(fault) = definitions.define_item(declared, item) {

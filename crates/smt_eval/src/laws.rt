@@ -17,6 +17,8 @@ ghost use Rattle.smt_eval.specs.Meaning.{value_over};
 ghost use Rattle.smt_eval.specs.Model.{AreDefined, AreItems, items_of, model_in};
 ghost use Rattle.smt_eval.specs.declared.interpretation.ModelFault.TheVariants.{Item, Memory as OutOfMemory};
 
+use smt_terms::laws as terms;
+use smt_terms::laws::items_are_well_sorted;
 use smt_theory::laws::{ranks_are_the_table, sorts_are_compared};
 use smt_values::laws::{known_results_are_true, results_are_of_their_sorts};
 
@@ -41,9 +43,21 @@ pub fn well_sorted_terms_have_values()
     sorts_are_compared();
 }
 
-/// x
+/// The definitions of a model are over the script's theories and well sorted, none stands twice, and there is one of each declared name,
+/// with the rank that it was declared with (SMT-LIB 2.6, section 4.2.6).
 pub fn models_are_complete()
-{}
+    ensures { (script : Signature) (parts : Sexps) (definitions : Signature) → model_in script parts ≡ Ok definitions → IsModelOf script parts definitions }
+{
+    items_are_well_sorted();
+}
+
+/// No definition answers that memory was refused.
+pub fn faults_are_no_memory()
+    ensures models { (script : Signature) (parts : Sexps) → model_in script parts ≡ Err OutOfMemory → ⊥ }
+    ensures items { (script : Signature) (parts : Sexps) (number : ℕ) → model_in script parts ≡ Err (Item number Memory) → ⊥ }
+{
+    terms::faults_are_no_memory();
+}
 
 /// A model of the script's names is its items: they are definitions in order, each over the earlier ones, and every declared name is
 /// among them (SMT-LIB 2.6, section 4.2.6).

@@ -32,7 +32,11 @@ impl Checked for Closed<'_> {
 
     fn known(&self) -> Result<Option<Value>, Memory> {
         let interpretation = self.interpretation;
-        known_value(&interpretation.definitions, interpretation.values.as_slice(), self.tree)
+        known_value(
+            &interpretation.definitions,
+            interpretation.values.as_slice(),
+            self.tree,
+        )
     }
 }
 
@@ -51,5 +55,6 @@ pub fn eval(
     Closed {
         interpretation,
         tree,
-    }.known()
+    }
+    .known()
 }

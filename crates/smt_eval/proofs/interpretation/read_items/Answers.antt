@@ -1,25 +1,36 @@
-use Rattle.std.proofs.Common.{rules, ◌≡◌, ◌⊎◌, [], length, Ok, Err, MatchResult, IfOk, List, ℕ, ◌+◌, ◌-◌, ◌*◌, ◌<◌, ◌≤◌, ◌/◌, ◌%◌, Bool, true, false, nat_eq, nat_lt, ◌∷◌, ◌++◌, slice_index_or, slice_set, bit_and, bit_or, Fits, w8, w32, w64, Bor, MutBor}
-use Rattle.smt_text.specs.Tree.{sexps_of}
-use Rattle.smt_values.specs.Element.{known_elements}
+use Rattle.std.proofs.Common.{◌≡◌, ◌⊎◌, ◌+◌, [], ◌∷◌, ◌++◌, List, drop, Result, Ok, Err, ap, sym, ◌∙◌, subst}
+use Rattle.smt_text.specs.Tree.{sexp_of, sexps_of}
 use Rattle.smt_terms.specs.Items.{items_before}
-use Rattle.smt_terms.specs.Library.{StandsFor}
-use Rattle.smt_terms.specs.Signature.{AreDistinct, Entry, Signature}
-use Rattle.smt_eval.specs.Internal.DefinitionValues.{AreConstants, Evaluates, definition_values}
+use Rattle.smt_terms.specs.Signature.{Entry}
 use Rattle.smt_eval.specs.Internal.ItemFault.{fault_of_item}
-use Rattle.smt_eval.specs.Interpretation.{IsInterpretation}
-use Rattle.smt_eval.specs.Model as model
-use Rattle.smt_eval.specs.Model.{model_in, items_from, items_of}
+use Rattle.smt_eval.specs.Model.{items_from}
+use Rattle.smt_eval.specs.declared.interpretation.ModelFault.{ModelFault}
 use Rattle.smt_eval.specs.declared.interpretation.ModelFault.TheVariants.{Memory as OutOfMemory}
+use Rattle.smt_eval.proofs.ReadLemmas.{all_dropped, item_refused, item_taken, items_at}
 use Rattle.smt_eval.proofs.interpretation.read_items.Goals as goal
 
--- src/interpretation.rt:83:13
 pub returns-in-Err : goal.returns-in-Err
-returns-in-Err c = ?
+returns-in-Err c = λ s stands.
+    let i = c.loop-index.invariant.items s stands in
+    let n = c.loop-index.index in
+    let at = items_at c.args.items.now n c.index-items-index.result c.loop-index-test.true c.index-items-index.is in
+    let refused = item_refused s i.0 (n + 1) (sexp_of c.index-items-index.result) (sexps_of (drop (n + 1) c.args.items.now)) (sexps_of (drop n c.args.items.now)) c.in-Err.fault at (c.faults_are_no_memory.ensures.items s i.0 (sexp_of c.index-items-index.result)) (c.in-Err.ensures.refused s (items_before s i.0) stands i.1) in
+    let all : Result (List Entry) ModelFault = items_from s [] 1 (sexps_of c.args.items.now) in
+    subst (λ (f : ModelFault). (f ≡ OutOfMemory) ⊎ (all ≡ Err f)) (sym c.item_fault.ensures)
+    (subst (λ (r : Result (List Entry) ModelFault). (fault_of_item (n + 1) c.in-Err.fault ≡ OutOfMemory) ⊎ (r ≡ Err (fault_of_item (n + 1) c.in-Err.fault))) (sym i.2) refused)
 
--- src/interpretation.rt:81:5
 pub loop-index-preserved : goal.loop-index-preserved
-loop-index-preserved c = ?
+loop-index-preserved c = record {
+  theories = c.in_default.ensures.theories;
+  items = λ s stands.
+      let i = c.loop-index.invariant.items s stands in
+      let n = c.loop-index.index in
+      let at = items_at c.args.items.now n c.index-items-index.result c.loop-index-test.true c.index-items-index.is in
+      let made = c.in_default.ensures.defined s (items_before s i.0) stands i.1 in
+      (i.0 ++ made.0 ∷ [], made.2, i.2 ∙ item_taken s i.0 (n + 1) (sexp_of c.index-items-index.result) (sexps_of (drop (n + 1) c.args.items.now)) (sexps_of (drop n c.args.items.now)) made.0 at made.1);
+}
 
--- src/interpretation.rt:75:1
 pub returns : goal.returns
-returns c = ?
+returns c = λ s stands.
+    let i = c.loop-index.invariant.items s stands in
+    (i.0, i.2 ∙ ap (items_from s i.0 (c.loop-index.index + 1)) (all_dropped c.args.items.now c.loop-index.index c.loop-index-test.false), i.1)

@@ -1,21 +1,40 @@
-use Rattle.std.proofs.Common.{rules, ◌≡◌, ◌⊎◌, [], length, Ok, Err, MatchResult, IfOk, List, ℕ, ◌+◌, ◌-◌, ◌*◌, ◌<◌, ◌≤◌, ◌/◌, ◌%◌, Bool, true, false, nat_eq, nat_lt, ◌∷◌, ◌++◌, slice_index_or, slice_set, bit_and, bit_or, Fits, w8, w32, w64, Bor, MutBor}
+use Rattle.std.proofs.Common.{◌≡◌, ℕ, inr, List, [], Ok, Err, Option, None, Some, ap, sym, ◌∙◌, subst}
 use Rattle.smt_text.specs.Tree.{sexps_of}
 use Rattle.smt_values.specs.Element.{known_elements}
 use Rattle.smt_terms.specs.Items.{items_before}
-use Rattle.smt_terms.specs.Library.{StandsFor}
-use Rattle.smt_terms.specs.Signature.{AreDistinct, Entry, Signature}
-use Rattle.smt_eval.specs.Internal.DefinitionValues.{AreConstants, Evaluates, definition_values}
-use Rattle.smt_eval.specs.Internal.ItemFault.{fault_of_item}
-use Rattle.smt_eval.specs.Interpretation.{IsInterpretation}
-use Rattle.smt_eval.specs.Model as model
-use Rattle.smt_eval.specs.Model.{model_in, items_from, items_of}
-use Rattle.smt_eval.specs.declared.interpretation.ModelFault.TheVariants.{Memory as OutOfMemory}
+use Rattle.smt_terms.specs.Signature.{Signature}
+use Rattle.smt_eval.specs.Internal.DefinitionValues.{definition_values, first}
+use Rattle.smt_eval.specs.Model.{complete_or, items_from, items_of}
+use Rattle.smt_eval.proofs.ConstantLemmas.{constants-from}
+use Rattle.smt_eval.proofs.EvaluatorLemmas.{all_first}
+use Rattle.smt_eval.proofs.ReadLemmas.{all_valued, model_whole}
 use Rattle.smt_eval.proofs.interpretation.Interpretation.read.Goals as goal
 
--- src/interpretation.rt:63:13
 pub returns-in-Some : goal.returns-in-Some
-returns-in-Some c = ?
+returns-in-Some c = λ s stands.
+    let read = c.in_ok-definitions.ensures s stands in
+    inr (model_whole s c.args.model.now (sexps_of c.items.result.now) read.0 (c.items.ensures ∙ ap items_of c.as_slice.ensures) read.1
+    ∙ ap (λ (o : Option ℕ). complete_or o (items_before s read.0)) (sym (c.in-Some.ensures s (items_before s read.0) stands read.2)))
 
--- src/interpretation.rt:56:5
 pub returns : goal.returns
-returns c = ?
+returns c = λ s stands.
+    let read = c.in_ok-definitions.ensures s stands in
+    let d = items_before s read.0 in
+    let whole = model_whole s c.args.model.now (sexps_of c.items.result.now) read.0 (c.items.ensures ∙ ap items_of c.as_slice.ensures) read.1
+    ∙ ap (λ (o : Option ℕ). complete_or o d) (sym (c.in_default.ensures s d stands read.2)) in
+    let constants = constants-from s [] 1 (sexps_of c.items.result.now) read.0 tt read.1 in
+    let distinct = (c.models_are_complete.ensures s c.args.model.now d whole).distinct in
+    let valued = c.in_ok-values.ensures d read.2 constants distinct in
+    let length = all_valued d c.in_ok-values.values.items valued in (
+      d,
+      whole,
+      record {
+        evaluated = record {
+          stands = read.2;
+          constants = constants;
+          distinct = distinct;
+          valued = valued ∙ ap definition_values (sym (all_first d _ length));
+        };
+        whole = length;
+      },
+    )
