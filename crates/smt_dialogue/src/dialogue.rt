@@ -60,7 +60,9 @@ impl Dialogue {
             × StandsFor (state_of self.new) pairs)) }
     {
         let number = self.commands + 1;
-        self.stack.apply(number, command)?;
+        if let Err(fault) = self.stack.apply(number, command) {
+            return Err(fault);
+        }
         let Ok(()) = self.checks.take(number, command, answer, &self.stack) else {
             return Err(CommandFault::Memory);
         };

@@ -5,8 +5,8 @@ ghost use Rattle.smt_dialogue.specs.FirstFault as first_fault;
 ghost use Rattle.smt_dialogue.specs.Verdict as verdicts;
 
 use crate::verdict::{Tally, Verdict};
-use smt_terms::TermFault;
 use smt_script::CommandFault;
+use smt_terms::TermFault;
 use smt_text::TextFault;
 use std::fmt;
 

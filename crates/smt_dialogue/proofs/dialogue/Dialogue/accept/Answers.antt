@@ -13,6 +13,6 @@ returns-clause-accepted c = λ pairs stands.
     let command = command_view c.args.command.now in
     let answer = sexp_of c.args.answer.now in
     let taken = effective_commands pairs in (
-      fault_of_taken s pairs command answer c.requires.taken stands ∙ c.in_ok-apply.ensures.faultless taken stands.stack,
-      accepted_stands s _ pairs command answer c.requires.taken stands (c.in_ok-apply.ensures.applied taken stands.stack) c.in_ok-apply.ensures.last c.in-Ok.ensures refl refl,
+      fault_of_taken s pairs command answer c.requires.taken stands ∙ c.in_default.ensures.faultless taken stands.stack,
+      accepted_stands s _ pairs command answer c.requires.taken stands (c.in_default.ensures.applied taken stands.stack) c.in_default.ensures.last c.in-Ok.ensures refl refl,
     )
