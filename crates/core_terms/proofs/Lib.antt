@@ -1,4 +1,0 @@
-pub mod EntryLemmas
-pub mod LibraryLemmas
-pub mod CheckerLemmas
-pub mod NoMemoryLemmas

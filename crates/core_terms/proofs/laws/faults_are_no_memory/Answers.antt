@@ -1,8 +1,0 @@
-use Rattle.core_terms.proofs.NoMemoryLemmas.{IsOther-sort, IsOther-declared}
-use Rattle.core_terms.proofs.laws.faults_are_no_memory.Goals as goal
-
-pub returns : goal.returns
-returns c = record {
-  sorts = IsOther-sort;
-  declarations = IsOther-declared;
-}

@@ -1,3 +1,0 @@
-pub mod Element
-pub mod Operations
-pub mod KnownOperations
