@@ -1,5 +1,5 @@
 -- The items of a model define constants.
-use Rattle.std.proofs.Common.{◌≡◌, ℕ, ◌+◌, Bool, true, false, cond, not, List, [], ◌∷◌, ◌++◌, Option, Some, None, Result, Ok, Err, refl, ap, sym, ◌∙◌, subst}
+use Rattle.std.proofs.Common.{◌≡◌, ℕ, ◌+◌, Bool, true, false, cond, not, List, [], ◌∷◌, ◌++◌, Option, Some, None, Result, Ok, Err, refl, subst}
 use Rattle.smt_text.specs.Sexp.{Sexp, Sexps, Nil, Cons}
 use Rattle.smt_theory.specs.Sort.{is_same_sort}
 use Rattle.smt_theory.specs.Words.{result_and_then}
@@ -12,7 +12,6 @@ use Rattle.smt_terms.specs.declared.fault.TermFault.{TermFault}
 use Rattle.smt_terms.specs.declared.fault.TermFault.TheVariants.{IllSorted}
 use Rattle.smt_eval.specs.Internal.DefinitionValues.{AreConstants, IsConstant}
 use Rattle.smt_eval.specs.Model.{items_from, or_item}
-use Rattle.smt_eval.specs.declared.interpretation.ModelFault.{ModelFault}
 
 constant_as : (script : Signature) (earlier : List Entry) (form : ItemForm) (sort : Sort) (e : Entry) → defined_as script earlier form sort ≡ Ok e → IsConstant e.origin
 constant_as script earlier form sort e h = by (not (has_rank_of (declared_named script.entries form.name) [] sort)) (sort_in (names_of (items_before script earlier)) [] form.body) h

@@ -1,9 +1,8 @@
 -- What is known over definitions, one step at a time.
-use Rattle.std.proofs.Common.{◌≡◌, ℕ, zero, suc, ◌+◌, ◌<◌, true, false, cond, List, [], ◌∷◌, ◌++◌, length, map, take, get_or, slice_get, Option, Some, None, Result, Ok, Err, refl, ap, sym, ◌∙◌, arith, add-one}
+use Rattle.std.proofs.Common.{◌≡◌, ℕ, zero, suc, ◌+◌, ◌<◌, true, false, cond, List, [], ◌∷◌, ◌++◌, length, take, get_or, slice_get, Option, Some, None, Ok, Err, refl, ap, sym, ◌∙◌, arith, add-one}
 use Rattle.std.proofs.Math.Seq.{take-length}
-use Rattle.std.proofs.lemmas.List.{length-map}
 use Rattle.std.specs.Prelude.{bytes_eq}
-use Rattle.smt_text.specs.Sexp.{Sexp, Sexps, Reserved, Items, Nil, Cons}
+use Rattle.smt_text.specs.Sexp.{Sexp, Sexps, Reserved, Items, Cons}
 use Rattle.smt_text.specs.declared.reserved.Word.TheVariants.{Underscore}
 use Rattle.smt_theory.specs.Index.{IndexView}
 use Rattle.smt_values.specs.Element.{Element, known_element, known_elements}

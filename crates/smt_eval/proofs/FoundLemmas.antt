@@ -1,5 +1,5 @@
 -- What a look-up says.
-use Rattle.std.proofs.Common.{◌≡◌, ℕ, Bool, true, false, List, [], ◌∷◌, length, slice_get, Option, Some, None, is_some, ap, sym, ◌∙◌}
+use Rattle.std.proofs.Common.{◌≡◌, ℕ, true, false, List, [], ◌∷◌, length, slice_get, Option, Some, None, is_some, sym, ◌∙◌}
 use Rattle.std.specs.Option.{MatchOption}
 use Rattle.smt_terms.specs.Library.{IsFound}
 use Rattle.smt_terms.specs.Signature.{Entry}

@@ -1,6 +1,5 @@
 -- Where constants stand.
-use Rattle.std.proofs.Common.{◌≡◌, ◌≤◌, ℕ, true, false, cond, not, Bool, List, [], ◌∷◌, take, slice_get, Option, Some, None, refl, ap, sym, ◌∙◌}
-use Rattle.std.specs.List.{filter}
+use Rattle.std.proofs.Common.{◌≡◌, ◌≤◌, ℕ, true, false, cond, not, Bool, List, [], ◌∷◌, take, slice_get, Some, None, refl, ap, sym, ◌∙◌}
 use Rattle.std.specs.Prelude.{bytes_eq}
 use Rattle.smt_terms.specs.Library.{declared_among, defined_among, is_declared}
 use Rattle.smt_terms.specs.Signature.{AreDistinct, Entry, Origin, Declared, Defined, entry_named}

@@ -1,5 +1,5 @@
 -- Models, one item at a time, and as a whole.
-use Rattle.std.proofs.Common.{◌≡◌, ◌⊎◌, inl, inr, ◌<◌, ◌≤◌, ℕ, zero, suc, ◌+◌, List, [], ◌∷◌, ◌++◌, drop, length, slice_index_or, Option, Some, None, Result, Ok, Err, refl, ap, sym, ◌∙◌, subst, arith, add-one}
+use Rattle.std.proofs.Common.{◌≡◌, ◌⊎◌, inl, inr, ◌<◌, ◌≤◌, ℕ, zero, suc, ◌+◌, List, [], ◌∷◌, ◌++◌, drop, length, slice_index_or, Option, Result, Ok, Err, refl, ap, sym, ◌∙◌, arith, add-one}
 use Rattle.std.proofs.Math.Seq.{drop-cons}
 use Rattle.smt_text.specs.Sexp.{Sexp, Sexps, Nil, Cons}
 use Rattle.smt_text.specs.Tree.{sexp_of, sexps_of}
@@ -11,12 +11,12 @@ use Rattle.smt_terms.specs.Items.{item_in, items_before}
 use Rattle.smt_terms.specs.Signature.{Entry, Signature}
 use Rattle.smt_terms.specs.declared.fault.TermFault.{TermFault}
 use Rattle.smt_terms.specs.declared.fault.TermFault.TheVariants.{Memory}
-use Rattle.smt_eval.specs.Internal.DefinitionValues.{definition_values, first, values_after}
+use Rattle.smt_eval.specs.Internal.DefinitionValues.{definition_values, values_after}
 use Rattle.smt_eval.specs.Internal.ItemFault.{fault_of_item}
 use Rattle.smt_eval.specs.Known.{KnownMeaning, with_known}
 use Rattle.smt_eval.specs.Model.{complete_or, first_lacking, items_from, items_of, model_in, or_item}
 use Rattle.smt_eval.specs.declared.interpretation.ModelFault.{ModelFault}
-use Rattle.smt_eval.specs.declared.interpretation.ModelFault.TheVariants.{Item, Lacks, Memory as OutOfMemory}
+use Rattle.smt_eval.specs.declared.interpretation.ModelFault.TheVariants.{Item, Memory as OutOfMemory}
 
 -- the item at a place comes first of those from there on
 pub items_at : (items : List Tree) (i : ℕ) (x : Tree) → i < length items → x ≡ slice_index_or items i x → sexps_of (drop i items) ≡ Cons (sexp_of x) (sexps_of (drop (i + 1) items))

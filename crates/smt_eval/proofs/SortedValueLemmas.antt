@@ -12,9 +12,9 @@ use Rattle.smt_theory.specs.declared.op.Op.{Op}
 use Rattle.smt_theory.specs.declared.op.OpFault.{OpFault}
 use Rattle.smt_theory.specs.declared.op.OpFault.TheVariants as ops
 use Rattle.smt_theory.specs.declared.sort.Sort.{Sort}
-use Rattle.smt_theory.specs.declared.sort.Sort.TheVariants.{Bool as Boolean, Int}
+use Rattle.smt_theory.specs.declared.sort.Sort.TheVariants.{Int}
 use Rattle.smt_theory.specs.declared.theories.Theories.{Theories}
-use Rattle.smt_values.specs.Element.{Element, Truth, Integer, IsOfSort, AreOfSorts}
+use Rattle.smt_values.specs.Element.{Element, IsOfSort, AreOfSorts}
 use Rattle.smt_values.specs.Operations.{DivisionByZero, operate}
 use Rattle.smt_terms.specs.Checking.{is_underscore_tree, sort_applied, sort_in, sorts_in, sort_of_call, sort_of_name, sort_of_operator, sort_of_plain, sort_of_rank, sort_of_symbol, sort_unless_variable}
 use Rattle.smt_terms.specs.Identifier.{Identifier, Plain, Indexed, applied, indexed, operator_of}

@@ -1,6 +1,6 @@
 -- What is known of the value of a term: which element it is, or nothing; then the term is open. Which terms are open is this
 -- project's rule; where the value is known, it is the standard's.
-use Rattle.std.specs.Prelude.{ℕ, List, [], ◌∷◌, Option, Some, None, Result, Ok, Err, if◌then◌else◌, unwrap_or, bytes_eq}
+use Rattle.std.specs.Prelude.{ℕ, List, [], ◌∷◌, Option, None, Result, Ok, Err, if◌then◌else◌, unwrap_or, bytes_eq}
 use Rattle.std.specs.List.{zip}
 use Rattle.smt_text.specs.Sexp.{Sexp, Sexps, Atom, Reserved, Items, Nil, Cons, Symbol, Numeral}
 use Rattle.smt_text.specs.declared.reserved.Word.TheVariants.{Underscore}

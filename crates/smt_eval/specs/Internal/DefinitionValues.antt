@@ -3,7 +3,7 @@ use Rattle.std.specs.Prelude.{◌≡◌, ℕ, List, [], ◌∷◌, Option, lengt
 use Rattle.smt_values.specs.Element.{Element, known_elements}
 use Rattle.smt_values.specs.declared.value.Value.{Value}
 use Rattle.smt_terms.specs.Library.{StandsFor}
-use Rattle.smt_terms.specs.Signature.{AreDistinct, Entry, Origin, Declared, Defined, Signature}
+use Rattle.smt_terms.specs.Signature.{AreDistinct, Entry, Origin, Defined, Signature}
 use Rattle.smt_terms.specs.declared.library.Library.{Library}
 use Rattle.smt_eval.specs.Known.{KnownMeaning, known_defined, known_operators, with_known}
 

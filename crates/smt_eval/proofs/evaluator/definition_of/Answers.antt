@@ -1,7 +1,6 @@
-use Rattle.std.proofs.Common.{◌≡◌, [], Some, slice_get, ap, sym, ◌∙◌, subst}
+use Rattle.std.proofs.Common.{slice_get, ap, sym, ◌∙◌, subst}
 use Rattle.smt_terms.specs.Library.{IsFound}
 use Rattle.smt_terms.specs.declared.library.Found.TheVariants as place
-use Rattle.smt_terms.specs.Signature.{Entry}
 use Rattle.smt_terms.proofs.EntryLemmas.{entry_named-take}
 use Rattle.smt_eval.proofs.PlaceLemmas.{all_defined, name_of_found, none_declared, not_before}
 use Rattle.smt_eval.proofs.evaluator.definition_of.Goals as goal

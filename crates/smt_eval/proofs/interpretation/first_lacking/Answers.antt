@@ -1,9 +1,9 @@
-use Rattle.std.proofs.Common.{◌≡◌, ◌<◌, ◌+◌, ◌≤◌, ℕ, true, false, not, List, [], ◌∷◌, length, map, slice_get, Option, Some, None, is_some, refl, ap, sym, ◌∙◌, subst, arith}
+use Rattle.std.proofs.Common.{◌≡◌, ℕ, length, map, Option, ap, sym, ◌∙◌, arith}
 use Rattle.std.proofs.lemmas.List.{length-map}
-use Rattle.std.specs.Option.{MatchOption, option_or}
-use Rattle.smt_terms.specs.Library.{Declaration, declaration_view, name_count}
-use Rattle.smt_terms.specs.Signature.{Entry, Signature, entry_named, rank_of_entry}
-use Rattle.smt_eval.proofs.DefinitionLemmas.{IsNext, absent_is_lacking, found_is_not_lacking, next_declared, none_declared_left, within}
+use Rattle.std.specs.Option.{option_or}
+use Rattle.smt_terms.specs.Library.{declaration_view, name_count}
+use Rattle.smt_terms.specs.Signature.{Entry, entry_named, rank_of_entry}
+use Rattle.smt_eval.proofs.DefinitionLemmas.{absent_is_lacking, found_is_not_lacking, next_declared, none_declared_left, within}
 use Rattle.smt_eval.specs.Model as model
 use Rattle.smt_eval.specs.Model.{lacking_at}
 use Rattle.smt_eval.proofs.FoundLemmas.{empty_of, found_some, found_none, same_entry}

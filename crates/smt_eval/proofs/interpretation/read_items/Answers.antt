@@ -1,4 +1,4 @@
-use Rattle.std.proofs.Common.{◌≡◌, ◌⊎◌, ◌+◌, [], ◌∷◌, ◌++◌, List, drop, Result, Ok, Err, ap, sym, ◌∙◌, subst}
+use Rattle.std.proofs.Common.{◌≡◌, ◌⊎◌, ◌+◌, [], ◌∷◌, ◌++◌, List, drop, Result, Err, ap, sym, ◌∙◌, subst}
 use Rattle.smt_text.specs.Tree.{sexp_of, sexps_of}
 use Rattle.smt_terms.specs.Items.{items_before}
 use Rattle.smt_terms.specs.Signature.{Entry}

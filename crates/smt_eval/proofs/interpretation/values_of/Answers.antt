@@ -1,8 +1,7 @@
-use Rattle.std.proofs.Common.{◌≡◌, ◌+◌, ◌≤◌, ℕ, List, [], ◌∷◌, ◌++◌, drop, length, map, refl, ap, sym, ◌∙◌, subst, arith}
+use Rattle.std.proofs.Common.{◌≡◌, [], drop, length, refl, ap, sym, ◌∙◌, subst, arith}
 use Rattle.smt_text.specs.Tree.{sexp_of}
 use Rattle.smt_values.specs.Element.{known_elements}
 use Rattle.smt_terms.specs.Library.{AreDefinitions, defined_among}
-use Rattle.smt_terms.specs.Signature.{Entry, Signature}
 use Rattle.smt_eval.specs.Internal.DefinitionValues.{Evaluates, definition_values, first}
 use Rattle.smt_eval.specs.Known.{known_in, known_of}
 use Rattle.smt_eval.proofs.DefinitionLemmas.{from_none, next_definition, no_more, values_go_on}

@@ -1,4 +1,3 @@
-use Rattle.std.proofs.Common.{refl}
 use Rattle.smt_eval.proofs.SortedValueLemmas.{sorted-value}
 use Rattle.smt_eval.proofs.laws.well_sorted_terms_have_values.Goals as goal
 

@@ -1,10 +1,8 @@
-use Rattle.std.proofs.Common.{◌≡◌, ℕ, inr, List, [], Ok, Err, Option, None, Some, ap, sym, ◌∙◌, subst}
+use Rattle.std.proofs.Common.{ℕ, inr, [], Option, ap, sym, ◌∙◌}
 use Rattle.smt_text.specs.Tree.{sexps_of}
-use Rattle.smt_values.specs.Element.{known_elements}
 use Rattle.smt_terms.specs.Items.{items_before}
-use Rattle.smt_terms.specs.Signature.{Signature}
-use Rattle.smt_eval.specs.Internal.DefinitionValues.{definition_values, first}
-use Rattle.smt_eval.specs.Model.{complete_or, items_from, items_of}
+use Rattle.smt_eval.specs.Internal.DefinitionValues.{definition_values}
+use Rattle.smt_eval.specs.Model.{complete_or, items_of}
 use Rattle.smt_eval.proofs.ConstantLemmas.{constants-from}
 use Rattle.smt_eval.proofs.EvaluatorLemmas.{all_first}
 use Rattle.smt_eval.proofs.ReadLemmas.{all_valued, model_whole}
