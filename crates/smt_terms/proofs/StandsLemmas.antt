@@ -1,5 +1,5 @@
 -- What a library stands for, as terms, declarations and definitions are added.
-use Rattle.std.proofs.Common.{◌≡◌, ℕ, suc, ◌+◌, cond, List, [], ◌∷◌, ◌++◌, length, map, refl, ap, sym, ◌∙◌, arith, subst, Result, Ok, Err, OnErr}
+use Rattle.std.proofs.Common.{◌≡◌, ℕ, zero, suc, ◌+◌, cond, List, [], ◌∷◌, ◌++◌, length, map, slice_get, Some, refl, ap, sym, ◌∙◌, arith, subst, Result, Ok, Err, OnErr}
 use Rattle.std.specs.Vec.{vec_len}
 use Rattle.std.specs.Global.{Vec}
 use Rattle.std.proofs.lemmas.List.{append-nil, length-map, map-append}
@@ -133,3 +133,29 @@ stands_defined old new s x d t named constant body theories ranks places declare
   where
     declarations_with : (es : List Entry) (x : List ℕ) (sort : Sort) (t : Sexp) → declarations_from 0 (es ++ definition x sort t ∷ []) ≡ declarations_from 0 es
     declarations_with es x sort t = declarations-push 0 es (definition x sort t) ∙ append-nil (declarations_from 0 es)
+
+-- at the place of a defined entry stands its definition
+pub definition_at : (library : Library) (ds : List Definition) (es : List Entry) (n : ℕ) (e : Entry) → AreDefinitions library ds es → slice_get es n ≡ Some e → (d : Definition) × (slice_get ds n ≡ Some d) × IsDefinitionOf library d e
+definition_at library [] [] n e h at = cc
+definition_at library [] (y ∷ es) n e h at = absurd h
+definition_at library (d ∷ ds) [] n e h at = absurd h
+definition_at library (d ∷ ds) (y ∷ es) zero e h at = let same : y ≡ e = cc in (d, refl, subst (IsDefinitionOf library d) same h.0)
+definition_at library (d ∷ ds) (y ∷ es) (suc n) e h at = definition_at library ds es n e h.1 at
+
+-- what stands at this place is the declaration of the entry
+abbrev pub IsDeclarationAt : List Declaration → ℕ → Entry → Type 0
+IsDeclarationAt ds n e =
+    (d : Declaration) × (slice_get ds n ≡ Some d) × (d.parameters ≡ e.parameters) × (d.sort ≡ e.sort) × (e.origin ≡ signature.Declared d.command)
+
+-- and at that of a declared one its declaration
+pub declaration_found : (k : ℕ) (es : List Entry) (n : ℕ) (e : Entry) → slice_get (declared_among es) n ≡ Some e → IsDeclarationAt (declarations_from k es) n e
+declaration_found k [] n e at = cc
+declaration_found k (y ∷ es) n e at = by y.origin refl n at (λ m later. declaration_found (k + 1) es m e later)
+  where
+    by : (o : Origin) → y.origin ≡ o → (m : ℕ) → slice_get (cond (is_declared o) (y ∷ declared_among es) (declared_among es)) m ≡ Some e
+        → ((i : ℕ) → slice_get (declared_among es) i ≡ Some e → IsDeclarationAt (declarations_from (k + 1) es) i e) → IsDeclarationAt (declaration_at k y o ++ declarations_from (k + 1) es) m e
+    by (signature.Declared command) is zero here next =
+        let same : y ≡ e = cc in
+        (record { name = k; parameters = y.parameters; sort = y.sort; command = command }, refl, ap (λ (z : Entry). z.parameters) same, ap (λ (z : Entry). z.sort) same, ap (λ (z : Entry). z.origin) (sym same) ∙ is)
+    by (signature.Declared command) is (suc m) here next = next m here
+    by (signature.Defined ps body) is m here next = next m here

@@ -1,4 +1,4 @@
-//! The names in force, in the order in which they came, and the terms that were checked over them.
+//! The names in force, in the order in which they came, where each stands, and the terms that were checked over them.
 
 ghost use Rattle.std.specs.Prelude.{bytes_eq};
 ghost use Rattle.std.specs.List.{IsDistinct};

@@ -24,7 +24,8 @@ use smt_text::{Tree, split_first};
 use smt_theory::{Sort, Theories};
 
 impl Library {
-    /// A library for the definitions of a model of these names: of the same theories, and without names.
+    /// A library for the items of a model of these names (SMT-LIB 2.6, section 4.2.6): of the same theories, and without names. It takes
+    /// no memory.
     pub fn for_model(&self) -> Library
         ensures names { (s : Signature) → StandsFor self.now s → StandsFor result (no_names s.theories) }
         ensures theories { HasTheoriesOf result self.now }
@@ -33,10 +34,13 @@ impl Library {
     }
 
     /// Adds what an item of a model of the script's names defines (SMT-LIB 2.6, section 4.2.6), behind the items that were added
-    /// before: its body sees these and the theories, and no other name of the script. Refused are, in this order: an item out of form,
-    /// or of a form that is not supported; a name that an earlier item has, or that the script does not declare and that is in use or
-    /// a plain operator's; parameters, and a tree that names no sort; a rank that is not the declared one; the first fault of the
-    /// body; a body of another sort. Then no name is added.
+    /// before. Its body sees these and the theories, and no name of the script.
+    ///
+    /// Refused are, in this order: an item out of form (`Form`), or a recursive one (`Unsupported`); a name that an earlier item has
+    /// (`BoundTwice`); one that the script does not declare and that is in use or a plain operator's (`NotFresh`); parameters
+    /// (`Unsupported`); a tree that names no sort, with its fault; another rank than the declared one (`IllSorted`); a body with a
+    /// fault, with the first; a body of another sort (`IllSorted`). Then, and where memory is refused (`Memory`), no name is added; a
+    /// term that nothing names may be.
     pub fn define_item(&mut self, script: &Library, item: &Tree) -> Result<(), TermFault>
         requires { HasTheoriesOf self.old script.now }
         ensures defined { OnOk result ((s m : Signature) → StandsFor script.now s → StandsFor self.old m
