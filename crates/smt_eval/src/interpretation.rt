@@ -79,7 +79,9 @@ fn read_items(declared: &Library, items: &[Tree]) -> Result<Library, ModelFault>
         (λ fault. (fault ≡ OutOfMemory) ⊎ (items_from s [] 1 (sexps_of items.now) ≡ Err fault)) }
 {
     faults_are_no_memory();
-    let mut definitions = declared.for_model();
+    let Ok(mut definitions) = declared.for_model() else {
+        return Err(ModelFault::Memory);
+    };
     for (index, item) in items.iter().enumerate() {
         if let Err(fault) = definitions.define_item(declared, item) {
             return Err(item_fault(index as u64 + 1, fault));

@@ -410,7 +410,9 @@ fn items(rt: HostRuntime) -> Result<(), Fail> {
     };
     let parameters = [int.copy(alloc)?, truth.copy(alloc)?];
     assert_eq!(rt; script.declare(5, b"f", &parameters, result).err(), None);
-    let mut model = script.for_model();
+    let Ok(mut model) = script.for_model() else {
+        return Err("memory was refused".into());
+    };
     define_all(&rt, alloc, &script, &mut model, ITEMS)?;
     define_all(&rt, alloc, &script, &mut model, ITEMS_WITH_MORE_FAULTS)?;
     check_places(
@@ -441,7 +443,9 @@ fn items_without_integers(rt: HostRuntime) -> Result<(), Fail> {
     let alloc = rt.alloc();
     let mut script = Library::new(alloc, CORE);
     declare_all(&rt, alloc, &mut script, "done mod Bool")?;
-    let mut model = script.for_model();
+    let Ok(mut model) = script.for_model() else {
+        return Err("memory was refused".into());
+    };
     assert_eq!(rt; model.theories(), CORE);
     define_all(&rt, alloc, &script, &mut model, ITEMS_WITHOUT_INTEGERS)?;
     assert_eq!(rt; model.find(b"+"), Some(Found::Defined(1)));

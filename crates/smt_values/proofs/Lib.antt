@@ -1,4 +1,3 @@
-pub mod DigitLemmas
 pub mod DivisionLemmas
 pub mod KnownLemmas
 pub mod MeaningLemmas

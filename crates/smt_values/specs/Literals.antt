@@ -1,5 +1,5 @@
 -- SMT-LIB 2.6, theory Ints: the values of constants.
-use Rattle.std.specs.Prelude.{ℕ, ◌^◌, pos, List, Option, Some, None, option_map, nat_lt, if◌then◌else◌}
+use Rattle.std.specs.Prelude.{ℕ, pos, List, Option, option_map}
 use Rattle.std.specs.Str.Parse.{digits_value}
 use Rattle.smt_values.specs.Element.{Element, Integer}
 use Rattle.smt_values.specs.KnownOperations.{within}
@@ -7,7 +7,3 @@ use Rattle.smt_values.specs.KnownOperations.{within}
 -- what is known of the integer that decimal digits spell
 abbrev pub numeral_element : List ℕ → Option Element
 numeral_element digits = option_map Integer (within (pos (digits_value 10 digits)))
-
--- a number that fits a word of 128 bits
-abbrev pub below_word : ℕ → Option ℕ
-below_word n = if nat_lt n (2 ^ 128) then Some n else None

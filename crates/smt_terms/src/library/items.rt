@@ -24,13 +24,14 @@ use smt_text::{Tree, split_first};
 use smt_theory::{Sort, Theories};
 
 impl Library {
-    /// A library for the items of a model of these names (SMT-LIB 2.6, section 4.2.6): of the same theories, and without names. It takes
-    /// no memory.
-    pub fn for_model(&self) -> Library
-        ensures names { (s : Signature) → StandsFor self.now s → StandsFor result (no_names s.theories) }
-        ensures theories { HasTheoriesOf result self.now }
+    /// A library for the items of a model of these names (SMT-LIB 2.6, section 4.2.6): of the same theories, and without names. Only
+    /// want of memory is refused.
+    pub fn for_model(&self) -> Result<Library, TermFault>
+        ensures names { IfOk result (λ library. (s : Signature) → StandsFor self.now s → StandsFor library (no_names s.theories)) }
+        ensures theories { IfOk result (λ library. HasTheoriesOf library self.now) }
+        ensures refused { IfErr result (λ fault. fault ≡ Memory) }
     {
-        Library::new(self.alloc, self.theories)
+        Ok(Library::new(self.alloc, self.theories))
     }
 
     /// Adds what an item of a model of the script's names defines (SMT-LIB 2.6, section 4.2.6), behind the items that were added

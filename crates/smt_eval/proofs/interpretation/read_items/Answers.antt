@@ -21,12 +21,12 @@ returns-in-Err c = λ s stands.
 
 pub loop-index-preserved : goal.loop-index-preserved
 loop-index-preserved c = record {
-  theories = c.in_default.ensures.theories;
+  theories = c.in_default-define_item.ensures.theories;
   items = λ s stands.
       let i = c.loop-index.invariant.items s stands in
       let n = c.loop-index.index in
       let at = items_at c.args.items.now n c.index-items-index.result c.loop-index-test.true c.index-items-index.is in
-      let made = c.in_default.ensures.defined s (items_before s i.0) stands i.1 in
+      let made = c.in_default-define_item.ensures.defined s (items_before s i.0) stands i.1 in
       (i.0 ++ made.0 ∷ [], made.2, i.2 ∙ item_taken s i.0 (n + 1) (sexp_of c.index-items-index.result) (sexps_of (drop (n + 1) c.args.items.now)) (sexps_of (drop n c.args.items.now)) made.0 at made.1);
 }
 
