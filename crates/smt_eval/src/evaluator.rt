@@ -1,13 +1,13 @@
 //! Evaluation.
 
-ghost use Rattle.std.specs.Prelude.{◌≡◌, ◌<◌, [], Some, None, Ok, Err, length, take, slice_get, IfOk, MatchOption, MatchResult};
+ghost use Rattle.std.specs.Prelude.{◌≡◌, ◌<◌, [], Some, None, Ok, Err, length, take, slice_get, IfOk, MatchOption};
 ghost use Rattle.smt_text.specs.Sexp.{Items};
 ghost use Rattle.smt_text.specs.Tree.{sexp_of, sexps_of};
 ghost use Rattle.smt_values.specs.Element.{known_element, known_elements};
 ghost use Rattle.smt_terms.specs.Checking.{is_underscore_tree};
 ghost use Rattle.smt_terms.specs.Identifier.{Plain, applied, indexed};
-ghost use Rattle.smt_terms.specs.Library.{StandsFor};
 ghost use Rattle.smt_terms.specs.IdentifierView.{identifier_view};
+ghost use Rattle.smt_terms.specs.Library.{StandsFor};
 ghost use Rattle.smt_terms.specs.Signature.{AreDistinct, Entry, Signature, entry_named};
 ghost use Rattle.smt_eval.specs.Known.{known_in, known_of, known_by, known_of_op, knowns_of};
 ghost use Rattle.smt_eval.specs.Internal.DefinitionValues.{AreConstants, Evaluates, first};

@@ -1,13 +1,12 @@
 //! Models, as solvers print them.
 
-ghost use Rattle.std.specs.Prelude.{◌≡◌, ◌⊎◌, [], length, Ok, Err, MatchResult, IfOk};
+ghost use Rattle.std.specs.Prelude.{◌≡◌, ◌⊎◌, List, [], Ok, Err, MatchResult, IfOk};
 ghost use Rattle.smt_text.specs.Tree.{sexps_of};
 ghost use Rattle.smt_values.specs.Element.{known_elements};
 ghost use Rattle.smt_terms.specs.Items.{items_before};
 ghost use Rattle.smt_terms.specs.Library.{StandsFor};
 ghost use Rattle.smt_terms.specs.Signature.{AreDistinct, Entry, Signature};
-ghost use Rattle.std.specs.Prelude.{List};
-ghost use Rattle.smt_eval.specs.Internal.DefinitionValues.{AreConstants, Evaluates, definition_values};
+ghost use Rattle.smt_eval.specs.Internal.DefinitionValues.{AreConstants, definition_values};
 ghost use Rattle.smt_eval.specs.Internal.ItemFault.{fault_of_item};
 ghost use Rattle.smt_eval.specs.Interpretation.{IsInterpretation};
 ghost use Rattle.smt_eval.specs.Model as model;
@@ -52,8 +51,9 @@ pub struct Interpretation {
 }
 
 impl Interpretation {
-    /// Reads a model of the names of a library (SMT-LIB 2.6, section 4.2.6). Refused are the first item with a fault, before a
-    /// declared name that is lacking, and want of memory.
+    /// Reads a model of the names of a library (SMT-LIB 2.6, section 4.2.6), and evaluates each definition over those before it.
+    /// Refused are the first item with a fault, before the first declared name that is lacking, and want of memory. The library
+    /// stands for a signature, as every one does that `Library::new` and the calls after it made.
     pub fn read(declared: &Library, model: &Trees) -> Result<Interpretation, ModelFault>
         requires { (s : Signature) × StandsFor declared.now s }
         ensures { (s : Signature) → StandsFor declared.now s → MatchResult result (λ i. (d : Signature) × (model_in s model.now ≡ Ok d) × IsInterpretation i d)
@@ -63,6 +63,7 @@ impl Interpretation {
         if let Some(command) = first_lacking(declared, &definitions) {
             return Err(ModelFault::Lacks { command });
         }
+        // A law: no two definitions have one name.
         models_are_complete();
         let values = values_of(&definitions)?;
         Ok(Interpretation {
@@ -78,6 +79,7 @@ fn read_items(declared: &Library, items: &[Tree]) -> Result<Library, ModelFault>
         → MatchResult result (λ library. (es : List Entry) × (items_from s [] 1 (sexps_of items.now) ≡ Ok es) × StandsFor library (items_before s es))
         (λ fault. (fault ≡ OutOfMemory) ⊎ (items_from s [] 1 (sexps_of items.now) ≡ Err fault)) }
 {
+    // A law: a fault of an item is not want of memory.
     faults_are_no_memory();
     let Ok(mut definitions) = declared.for_model() else {
         return Err(ModelFault::Memory);
