@@ -1,6 +1,6 @@
 //! Bytes, by what they may stand for (SMT-LIB 2.6, section 3.1).
 
-ghost use Rattle.std.specs.Prelude.{◌≡◌};
+ghost use Rattle.std.specs.Prelude.{◌≡◌, ◌&&◌, nat_le};
 ghost use Rattle.smt_text.specs.Lexical as lexical;
 
 /// Tab, line feed, carriage return and space.
@@ -38,12 +38,23 @@ pub fn is_binary_digit(byte: u8) -> bool
     matches!(byte, b'0' | b'1')
 }
 
+// `a` to `z`, most bytes of most names, so that these take one test.
+#[inline]
+fn is_small_letter(byte: u8) -> bool
+    ensures { result ≡ (nat_le 97 byte && nat_le byte 122) }
+{
+    matches!(byte, b'a'..=b'z')
+}
+
 /// The bytes of simple symbols, digits aside.
 pub fn is_letter(byte: u8) -> bool
     ensures { result ≡ lexical.is_letter byte }
 {
+    if is_small_letter(byte) {
+        return true;
+    }
     match byte {
-        b'a'..=b'z' | b'A'..=b'Z' => true,
+        b'A'..=b'Z' => true,
         b'~' | b'!' | b'@' | b'$' | b'%' | b'^' | b'&' | b'*' | b'_' => true,
         b'-' | b'+' | b'=' | b'<' | b'>' | b'.' | b'?' | b'/' => true,
         _ => false,

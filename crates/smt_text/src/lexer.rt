@@ -326,6 +326,7 @@ fn name_of(alloc: Global, bytes: &mut Vec<u8>) -> Result<Tree, AllocError>
 }
 
 /// The reserved word or the simple symbol at the beginning of a text, of so many bytes.
+#[inline(always)]
 pub fn name_at(alloc: Global, text: &[u8], count: usize) -> Result<Tree, AllocError>
     requires { count ≤ length text.now }
     ensures { IfOk result (λ tree. let name = take count text.now in sexp_of tree ≡ machine.name_or_word (machine.word_named name) name) }
