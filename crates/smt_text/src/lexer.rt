@@ -18,7 +18,7 @@ use memchr::memchr2;
 use std::alloc::{AllocError, Global};
 
 /// Where in a token (SMT-LIB 2.6, section 3.1) or in a comment a text is.
-#[derive(Clone, Copy, Debug, PartialEq, Eq)]
+#[derive(Clone, Copy)]
 pub enum AtomState {
     /// No token has begun.
     Nothing,
@@ -55,7 +55,7 @@ pub enum AtomState {
 }
 
 /// What a byte does to the token that has begun.
-#[derive(Clone, Copy, Debug, PartialEq, Eq)]
+#[derive(Clone, Copy)]
 pub enum LexerStep {
     /// The byte is kept, and the token goes on.
     Push(AtomState),
