@@ -12,3 +12,4 @@ pub mod RunLemmas
 pub mod NestingLemmas
 pub mod ExampleLemmas
 pub mod BytesLemmas
+mod KindLemmas

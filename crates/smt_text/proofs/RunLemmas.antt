@@ -4,11 +4,10 @@ use Rattle.std.proofs.Math.Seq.{take-add}
 use Rattle.std.proofs.lemmas.List.{append-nil, append_assoc, take_more, take_all, get_or-drop, length-drop}
 use Rattle.smt_text.proofs.BuilderLemmas.{end_taken}
 use Rattle.smt_text.proofs.ByteLemmas.{lex_ended, letter_begins, white_ends, white_separates}
-use Rattle.smt_text.proofs.ReaderCompleteness.{step-at, run-push, run-cons, run-append, depth_of-add}
+use Rattle.smt_text.proofs.ReaderCompleteness.{step-at, run-push, run-cons, run-append}
 use Rattle.smt_text.specs.Lexical.{is_letter, is_white}
 use Rattle.smt_text.specs.Internal.Machine.{Levels, State, At, add, word_named, name_or_word, ended, lex, token_in, step, run, depth_of, blame, refusal_of, fault_at}
 use Rattle.smt_text.specs.Internal.ReaderState.{GoesOver, GoesThrough}
-use Rattle.smt_text.specs.Sexp.{Sexp}
 use Rattle.smt_text.specs.declared.lexer.AtomState.{AtomState}
 use Rattle.smt_text.specs.declared.lexer.AtomState.TheVariants.{Nothing, Name, InComment}
 use Rattle.smt_text.specs.declared.lexer.LexerStep.{LexerStep}
@@ -68,17 +67,15 @@ close_step limit levels next name b e h k =
 at_nothing : (token : AtomState) (bytes : List ℕ) (levels : Levels) → token ≡ Nothing → bytes ≡ [] → At Nothing [] levels ≡ At token bytes levels
 at_nothing token bytes levels e f = ap (λ t. At t [] levels) (sym e) ∙ ap (λ x. At token x levels) (sym f)
 
-pub name_white : (limit : ℕ) (levels next : Levels) (token : AtomState) (bytes text : List ℕ) (n : ℕ) (tree : Sexp) → token ≡ Nothing → bytes ≡ [] → 0 < n → n < length text → is_letter (get_or text 0 0) ≡ true → ((k : ℕ) → k < n → lex Name (get_or text k 0) ≡ Push Name) → is_white (get_or text n 0) ≡ true → tree ≡ name_or_word (word_named (take n text)) (take n text) → next ≡ add tree levels → Over limit (At token bytes levels) text (n + 1) (At token bytes next)
-name_white limit levels next token bytes text n tree e f some lt letter h white is adds =
-    let runs = name_run limit levels token bytes text n e f some (omega arith) letter h in
-    let trees : add (name_or_word (word_named (take n text)) (take n text)) levels ≡ next = ap (λ x. add x levels) (sym is) ∙ sym adds in
-    (omega arith, omega arith, one_more limit (At token bytes levels) (At Name (take n text) levels) (At token bytes next) text n lt runs (white_step limit levels (take n text) (get_or text n 0) white ∙ ap (λ x. Some (At Nothing [] x)) trees ∙ ap Some (at_nothing token bytes next e f)))
+pub name_white : (limit : ℕ) (levels next : Levels) (token new : AtomState) (bytes left text : List ℕ) (n : ℕ) → token ≡ Nothing → bytes ≡ [] → new ≡ token → left ≡ bytes → 0 < n → n < length text → is_letter (get_or text 0 0) ≡ true → ((k : ℕ) → k < n → lex Name (get_or text k 0) ≡ Push Name) → is_white (get_or text n 0) ≡ true → next ≡ add (name_or_word (word_named (take n text)) (take n text)) levels → Over limit (At token bytes levels) text (n + 1) (At new left next)
+name_white limit levels next token new bytes left text n e f g h some lt letter run white adds =
+    let runs = name_run limit levels token bytes text n e f some (omega arith) letter run in
+    (omega arith, omega arith, one_more limit (At token bytes levels) (At Name (take n text) levels) (At new left next) text n lt runs (white_step limit levels (take n text) (get_or text n 0) white ∙ ap (λ x. Some (At Nothing [] x)) (sym adds) ∙ ap Some (at_nothing new left next (g ∙ e) (h ∙ f))))
 
-pub name_close : (limit : ℕ) (levels mid next : Levels) (token : AtomState) (bytes text : List ℕ) (n : ℕ) (tree : Sexp) → token ≡ Nothing → bytes ≡ [] → 0 < n → n < length text → is_letter (get_or text 0 0) ≡ true → ((k : ℕ) → k < n → lex Name (get_or text k 0) ≡ Push Name) → get_or text n 0 ≡ 41 → 0 < depth_of levels → tree ≡ name_or_word (word_named (take n text)) (take n text) → mid ≡ add tree levels → ended mid ≡ next → Over limit (At token bytes levels) text (n + 1) (At token bytes next)
-name_close limit levels mid next token bytes text n tree e f some lt letter h close deep is adds ends =
-    let runs = name_run limit levels token bytes text n e f some (omega arith) letter h in
-    let trees : add (name_or_word (word_named (take n text)) (take n text)) levels ≡ mid = ap (λ x. add x levels) (sym is) ∙ sym adds in
-    (omega arith, omega arith, one_more limit (At token bytes levels) (At Name (take n text) levels) (At token bytes next) text n lt runs (close_step limit levels next (take n text) (get_or text n 0) close deep (ap ended trees ∙ ends) ∙ ap Some (at_nothing token bytes next e f)))
+pub name_close : (limit : ℕ) (levels mid next : Levels) (token new : AtomState) (bytes left text : List ℕ) (n : ℕ) → token ≡ Nothing → bytes ≡ [] → new ≡ token → left ≡ bytes → 0 < n → n < length text → is_letter (get_or text 0 0) ≡ true → ((k : ℕ) → k < n → lex Name (get_or text k 0) ≡ Push Name) → get_or text n 0 ≡ 41 → 0 < depth_of levels → mid ≡ add (name_or_word (word_named (take n text)) (take n text)) levels → ended mid ≡ next → Over limit (At token bytes levels) text (n + 1) (At new left next)
+name_close limit levels mid next token new bytes left text n e f g h some lt letter run close deep adds ends =
+    let runs = name_run limit levels token bytes text n e f some (omega arith) letter run in
+    (omega arith, omega arith, one_more limit (At token bytes levels) (At Name (take n text) levels) (At new left next) text n lt runs (close_step limit levels next (take n text) (get_or text n 0) close deep (ap ended (sym adds) ∙ ends) ∙ ap Some (at_nothing new left next (g ∙ e) (h ∙ f))))
 
 pub name_kept : (limit : ℕ) (levels : Levels) (token : AtomState) (bytes longer text : List ℕ) (n : ℕ) → token ≡ Nothing → bytes ≡ [] → 0 < n → n ≤ length text → is_letter (get_or text 0 0) ≡ true → ((k : ℕ) → k < n → lex Name (get_or text k 0) ≡ Push Name) → longer ≡ bytes ++ take n text → Over limit (At token bytes levels) text n (At Name longer levels)
 name_kept limit levels token bytes longer text n e f some le letter h is =
@@ -88,9 +85,6 @@ name_kept limit levels token bytes longer text n e f some le letter h is =
 pub run_kept : (limit : ℕ) (levels : Levels) (token : AtomState) (bytes longer text : List ℕ) (n : ℕ) → 0 < n → n ≤ length text → ((k : ℕ) → k < n → lex token (get_or text k 0) ≡ Push token) → longer ≡ bytes ++ take n text → Over limit (At token bytes levels) text n (At token longer levels)
 run_kept limit levels token bytes longer text n some le h is =
     (some, le, kept_run limit levels token bytes text n le h ∙ ap (λ x. Some (At token x levels)) (sym is))
-
-pub deep_after_add : (levels mid : Levels) (tree : Sexp) → mid ≡ add tree levels → 0 < depth_of levels → 0 < depth_of mid
-deep_after_add levels mid tree e h = let d = ap depth_of e in omega (arith, d, depth_of-add tree levels, h)
 
 -- what is left of a piece
 abbrev pub rest_of : List ℕ → ℕ → List ℕ

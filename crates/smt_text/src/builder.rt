@@ -44,6 +44,7 @@ impl Builder {
     }
 
     /// Adds a tree to the innermost list that is not closed, or at the top.
+    #[inline(always)]
     pub(crate) fn add(&mut self, tree: Tree) -> Result<(), Refusal>
         ensures { MatchResult result (λ _. levels_of self.new ≡ add (sexp_of tree) (levels_of self.old)) (λ e. e ≡ NoMemory) }
     {
@@ -55,6 +56,7 @@ impl Builder {
     }
 
     /// Begins a list.
+    #[inline(always)]
     pub(crate) fn begin_list(&mut self) -> Result<(), Refusal>
         ensures { MatchResult result (λ _. levels_of self.new ≡ begun (levels_of self.old)) (λ e. e ≡ NoMemory) }
     {

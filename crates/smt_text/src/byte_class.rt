@@ -1,6 +1,7 @@
 //! Bytes, by what they may stand for (SMT-LIB 2.6, section 3.1).
 
 ghost use Rattle.std.specs.Prelude.{◌≡◌};
+ghost use Rattle.smt_text.specs.Internal.ByteKinds.{kinds};
 ghost use Rattle.smt_text.specs.Lexical as lexical;
 
 /// Tab, line feed, carriage return and space.
@@ -38,23 +39,28 @@ pub fn is_binary_digit(byte: u8) -> bool
     matches!(byte, b'0' | b'1')
 }
 
+// What each byte is in simple symbols: `a` for a letter, `0` for a digit and a space for any other byte.
+#[inline(always)]
+fn kinds() -> &'static [u8]
+    ensures { result.now ≡ kinds }
+{
+    b"                                 a  aaa   aa aaa0000000000  aaaaaaaaaaaaaaaaaaaaaaaaaaaaaaa   aa aaaaaaaaaaaaaaaaaaaaaaaaaa   a                                                                                                                                 "
+}
+
 /// The bytes of simple symbols, digits aside.
+#[inline(always)]
 pub fn is_letter(byte: u8) -> bool
     ensures { result ≡ lexical.is_letter byte }
 {
-    match byte {
-        b'a'..=b'z' | b'A'..=b'Z' => true,
-        b'~' | b'!' | b'@' | b'$' | b'%' | b'^' | b'&' | b'*' | b'_' => true,
-        b'-' | b'+' | b'=' | b'<' | b'>' | b'.' | b'?' | b'/' => true,
-        _ => false,
-    }
+    kinds()[byte as usize] == b'a'
 }
 
 /// The bytes of simple symbols.
+#[inline(always)]
 pub fn is_symbol_byte(byte: u8) -> bool
     ensures { result ≡ lexical.is_symbol_byte byte }
 {
-    is_letter(byte) || is_digit(byte)
+    kinds()[byte as usize] != b' '
 }
 
 /// The bytes between the quotes of a string literal: white space, and bytes that can be printed.

@@ -41,6 +41,7 @@ impl Bytes {
     }
 
     /// A copy of the first `count` bytes of a text.
+    #[inline(always)]
     pub fn first_of(alloc: Global, text: &[u8], count: usize) -> Result<Self, AllocError>
         requires { count ≤ length text.now }
         ensures { IfOk result (λ b. b ≡ take count text.now) }

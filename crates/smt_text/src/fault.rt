@@ -41,7 +41,7 @@ impl<T: Drop> From<AllocFailed<T>> for TextFault {
 }
 
 /// Why a byte was refused, wherever it stands.
-#[derive(Clone, Copy, Debug, PartialEq, Eq)]
+#[derive(Clone, Copy)]
 pub(crate) enum Refusal {
     /// No text goes on with the byte.
     Unfit,

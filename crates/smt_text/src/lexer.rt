@@ -18,7 +18,7 @@ use memchr::memchr2;
 use std::alloc::{AllocError, Global};
 
 /// Where in a token (SMT-LIB 2.6, section 3.1) or in a comment a text is.
-#[derive(Clone, Copy, Debug, PartialEq, Eq)]
+#[derive(Clone, Copy)]
 pub enum AtomState {
     /// No token has begun.
     Nothing,
@@ -55,7 +55,7 @@ pub enum AtomState {
 }
 
 /// What a byte does to the token that has begun.
-#[derive(Clone, Copy, Debug, PartialEq, Eq)]
+#[derive(Clone, Copy)]
 pub enum LexerStep {
     /// The byte is kept, and the token goes on.
     Push(AtomState),
@@ -326,6 +326,7 @@ fn name_of(alloc: Global, bytes: &mut Vec<u8>) -> Result<Tree, AllocError>
 }
 
 /// The reserved word or the simple symbol at the beginning of a text, of so many bytes.
+#[inline(always)]
 pub fn name_at(alloc: Global, text: &[u8], count: usize) -> Result<Tree, AllocError>
     requires { count ≤ length text.now }
     ensures { IfOk result (λ tree. let name = take count text.now in sexp_of tree ≡ machine.name_or_word (machine.word_named name) name) }

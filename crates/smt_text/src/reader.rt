@@ -1,10 +1,10 @@
 //! The reader: bytes in, S-expressions out.
 
-ghost use Rattle.std.specs.Prelude.{◌≡◌, ◌≢◌, ℕ, ◌+◌, ◌<◌, ◌^◌, List, [], ◌∷◌, ◌++◌, ◌⊎◌, length, slice_index, true, false, None, Some, MatchBool, MatchResult};
+ghost use Rattle.std.specs.Prelude.{◌≡◌, ◌≢◌, ℕ, ◌+◌, ◌<◌, ◌≤◌, ◌^◌, List, [], ◌∷◌, ◌++◌, ◌⊎◌, length, slice_index, take, true, false, None, Some, MatchBool, MatchResult};
 ghost use Rattle.smt_text.specs.Grammar.{limit, OpenParenthesis, CloseParenthesis};
 ghost use Rattle.smt_text.specs.Reader.{is_finished, bytes_fed, fault_of, trees_waiting, StandsFor, Answers, FewerWait, IsFound, with_answer};
-ghost use Rattle.smt_text.specs.Internal.Machine.{act, finished, flush, lex, refusal_of, settle, step};
-ghost use Rattle.smt_text.specs.Internal.ReaderState.{state_of, Ends, Goes, GoesOver, GoesThrough, IsBeside};
+ghost use Rattle.smt_text.specs.Internal.Machine.{act, add, finished, flush, lex, name_or_word, refusal_of, settle, step, word_named};
+ghost use Rattle.smt_text.specs.Internal.ReaderState.{levels_of, state_of, Ends, Goes, GoesOver, GoesThrough, IsBeside};
 ghost use Rattle.smt_text.specs.Reading.{Reads};
 ghost use Rattle.smt_text.specs.Sexp.{Sexps, Nil};
 ghost use Rattle.smt_text.specs.declared.fault.TextFault.{TextFault as Fault};
@@ -175,6 +175,8 @@ impl Reader {
         ensures goes { GoesOver (state_of self.old) text.now result (state_of self.new) }
     {
         match text[0] {
+            first if is_letter(first) => self.read_name(text),
+            b' ' | b'\n' => Ok(1),
             b'(' if self.builder.depth() < MAX_DEPTH => {
                 self.builder.begin_list()?;
                 Ok(1)
@@ -183,8 +185,6 @@ impl Reader {
                 self.builder.end_list()?;
                 Ok(1)
             }
-            b' ' | b'\n' => Ok(1),
-            first if is_letter(first) => self.read_name(text),
             _ => self.read_byte(text),
         }
     }
@@ -203,19 +203,30 @@ impl Reader {
             return self.read_byte(text);
         }
         if count < text.len() {
-            if is_white(text[count]) {
-                self.builder.add(name_at(self.alloc, text, count)?)?;
-                return Ok(count + 1);
-            }
-            if text[count] == b')' && self.builder.depth() > 0 {
-                self.builder.add(name_at(self.alloc, text, count)?)?;
-                self.builder.end_list()?;
+            let closes = text[count] == b')' && self.builder.depth() > 0;
+            if closes || is_white(text[count]) {
+                self.add_name(text, count)?;
+                if closes {
+                    self.builder.end_list()?;
+                }
                 return Ok(count + 1);
             }
         }
         self.bytes.extend_from_slice(&text[..count])?;
         self.token = AtomState::Name;
         Ok(count)
+    }
+
+    // Adds the name at the beginning of a text, of so many bytes.
+    #[inline(always)]
+    fn add_name(&mut self, text: &[u8], count: usize) -> Result<(), Refusal>
+        requires { count ≤ length text.now }
+        ensures beside { IsBeside self.old self.new }
+        ensures token { self.new.token ≡ self.old.token }
+        ensures bytes { self.new.bytes ≡ self.old.bytes }
+        ensures added { MatchResult result (λ _. let name = take count text.now in levels_of self.new.builder ≡ add (name_or_word (word_named name) name) (levels_of self.old.builder)) (λ e. e ≡ NoMemory) }
+    {
+        self.builder.add(name_at(self.alloc, text, count)?)
     }
 
     // Reads on in a comment.

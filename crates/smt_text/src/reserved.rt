@@ -149,6 +149,7 @@ pub fn spelling(word: Word) -> &'static [u8]
 }
 
 // The reserved words that are written with so many bytes and begin with this one.
+#[inline(always)]
 fn words_like(length: usize, first: u8) -> &'static [Word]
     ensures { result.now ≡ machine.words_like length first }
 {
@@ -194,6 +195,7 @@ fn words_like(length: usize, first: u8) -> &'static [Word]
 }
 
 /// The reserved word that is written so, if there is one.
+#[inline(always)]
 pub fn word_of(bytes: &[u8]) -> Option<Word>
     ensures named { result ≡ word_named bytes.now }
     ensures written { MatchOption result ((word : Word) → bytes.now ≢ spelling_of word) (λ word. bytes.now ≡ spelling_of word) }
