@@ -33,12 +33,9 @@ fn print_term<W: Write>(
         bail!("line {}: this is no term", field.line);
     };
     match library.check(term) {
-        Ok((_, sort)) if sort == Sort::Bool => writeln!(out, "{} => Bool", field.text)?,
-        Ok((_, sort)) if sort == Sort::Int => writeln!(out, "{} => Int", field.text)?,
-        Ok(_) => bail!(
-            "line {}: no sort but Bool and Int has a name yet",
-            field.line
-        ),
+        Ok((_, Sort::Bool)) => writeln!(out, "{} => Bool", field.text)?,
+        Ok((_, Sort::Int)) => writeln!(out, "{} => Int", field.text)?,
+        Ok((_, Sort::Bits(_))) => bail!("line {}: there are no bit vectors yet", field.line),
         Err(fault) => writeln!(out, "{} => {fault}", field.text)?,
     }
     Ok(())
