@@ -1,16 +1,21 @@
 //! Rows of models: each with the names that it defines, or its first fault.
 
+ghost use Rattle.smt_terms.specs.Library.{StandsFor};
+ghost use Rattle.smt_terms.specs.Signature.{Signature};
+
 use crate::rows::Field;
-use crate::trees::{declare, parts_of, refuse};
-use anyhow::Result;
-use core_terms::Library;
+use crate::trees::{declare, parts_of, refuse, split_logic};
+use anyhow::{Result, bail};
 use smt_eval::{Interpretation, ModelFault};
+use smt_terms::Library;
+use smt_text::Trees;
 use std::alloc::Global;
 use std::io::Write;
 
-/// Prints what is answered to declarations and models, in order. Each declaration is the command of its place in the row.
+/// Prints what is answered to declarations and models, in order. Each declaration is the command of its place behind the logic.
 pub fn print<W: Write>(alloc: Global, out: &mut W, fields: &[Field]) -> Result<()> {
-    let mut library = Library::new(alloc);
+    let (theories, fields) = split_logic(alloc, fields)?;
+    let mut library = Library::new(alloc, theories);
     for (command, field) in (1..u64::MAX).zip(fields) {
         match field.key {
             "declare" => declare(alloc, out, &mut library, command, field)?,
@@ -23,18 +28,21 @@ pub fn print<W: Write>(alloc: Global, out: &mut W, fields: &[Field]) -> Result<(
     Ok(())
 }
 
-/// Prints what is answered to a model of the declared names, and answers its definitions, if it has no fault.
+/// Prints what is answered to a model of the declared names, and answers its interpretation, if it has no fault.
 pub fn print_model<W: Write>(
     alloc: Global,
     out: &mut W,
     declared: &Library,
     field: &Field,
-) -> Result<Option<Interpretation>> {
+) -> Result<Option<Interpretation>>
+    requires { (s : Signature) × StandsFor declared.now s }
+{
     let text = &field.text;
-    match Interpretation::read(declared, &parts_of(alloc, field)?) {
+    let parts = parts_of(alloc, field)?;
+    match Interpretation::read(declared, &parts) {
         Ok(model) => {
             write!(out, "{text} => defines")?;
-            print_names(out, &model.definitions)?;
+            print_names(out, declared, &parts)?;
             return Ok(Some(model));
         }
         Err(ModelFault::Item { number, fault }) => writeln!(
@@ -50,12 +58,20 @@ pub fn print_model<W: Write>(
     Ok(None)
 }
 
-// Prints the names in order, each behind a space, and ends the line.
-fn print_names<W: Write>(out: &mut W, names: &Library) -> Result<()> {
-    for place in 0..names.len() {
-        let (name, _) = names.get_index(place);
+// Prints the names that a model without a fault defines, in order, each behind a space, and ends the line.
+fn print_names<W: Write>(out: &mut W, declared: &Library, model: &Trees) -> Result<()> {
+    let mut definitions = declared.for_model();
+    for item in model.as_slice() {
+        if item.is_symbol(b"model") {
+            continue;
+        }
+        if let Err(fault) = definitions.define_item(declared, item) {
+            bail!("an item of a model without a fault is refused: {fault}");
+        }
+    }
+    for definition in definitions.definitions() {
         write!(out, " ")?;
-        out.write_all(name)?;
+        out.write_all(definition.name.as_slice())?;
     }
     writeln!(out)?;
     Ok(())

@@ -1,20 +1,21 @@
 //! Rows of terms: each with its sort, or the first fault that is told of it.
 
 use crate::rows::Field;
-use crate::trees::{declare, refuse, trees_of};
+use crate::trees::{declare, refuse, split_logic, trees_of};
 use anyhow::{Result, bail};
-use core_terms::Library;
-use core_theory::Sort;
+use smt_terms::Library;
+use smt_theory::Sort;
 use std::alloc::Global;
 use std::io::Write;
 
-/// Prints what is answered to declarations and terms, in order. Each declaration is the command of its place in the row.
+/// Prints what is answered to declarations and terms, in order. Each declaration is the command of its place behind the logic.
 pub fn print<W: Write>(alloc: Global, out: &mut W, fields: &[Field]) -> Result<()> {
-    let mut library = Library::new(alloc);
+    let (theories, fields) = split_logic(alloc, fields)?;
+    let mut library = Library::new(alloc, theories);
     for (command, field) in (1..u64::MAX).zip(fields) {
         match field.key {
             "declare" => declare(alloc, out, &mut library, command, field)?,
-            "term" => print_term(alloc, out, &library, field)?,
+            "term" => print_term(alloc, out, &mut library, field)?,
             _ => return refuse(field),
         }
     }
@@ -24,7 +25,7 @@ pub fn print<W: Write>(alloc: Global, out: &mut W, fields: &[Field]) -> Result<(
 fn print_term<W: Write>(
     alloc: Global,
     out: &mut W,
-    library: &Library,
+    library: &mut Library,
     field: &Field,
 ) -> Result<()> {
     let trees = trees_of(alloc, field)?;
@@ -32,7 +33,9 @@ fn print_term<W: Write>(
         bail!("line {}: this is no term", field.line);
     };
     match library.check(term) {
-        Ok(Sort::Bool) => writeln!(out, "{} => Bool", field.text)?,
+        Ok((_, Sort::Bool)) => writeln!(out, "{} => Bool", field.text)?,
+        Ok((_, Sort::Int)) => writeln!(out, "{} => Int", field.text)?,
+        Ok((_, Sort::Bits(_))) => bail!("line {}: there are no bit vectors yet", field.line),
         Err(fault) => writeln!(out, "{} => {fault}", field.text)?,
     }
     Ok(())

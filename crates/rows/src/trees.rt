@@ -1,9 +1,14 @@
-//! The trees that fields hold, and declarations.
+//! The trees that fields hold, logics and declarations.
+
+ghost use Rattle.smt_terms.specs.Library.{StandsFor};
+ghost use Rattle.smt_terms.specs.Signature.{Signature};
 
 use crate::rows::Field;
 use anyhow::{Result, bail};
-use core_terms::Library;
+use smt_script::all_theories;
+use smt_terms::Library;
 use smt_text::{Tree, Trees};
+use smt_theory::{Theories, theories_of};
 use std::alloc::Global;
 use std::io::Write;
 
@@ -24,20 +29,47 @@ pub fn parts_of(alloc: Global, field: &Field) -> Result<Trees> {
     }
 }
 
-/// Declares the name and the sort that a field holds, by the command of this number, and prints the answer.
+/// The theories of the logic that the first field names, and the fields behind it. Where none is named there are all theories.
+pub fn split_logic<'a, 'b>(
+    alloc: Global,
+    fields: &'b [Field<'a>],
+) -> Result<(Theories, &'b [Field<'a>])> {
+    match fields.split_first() {
+        Some((first, rest)) if first.key == "logic" => {
+            match theories_of(first.bytes(alloc)?.as_slice()) {
+                Some(theories) => Ok((theories, rest)),
+                None => bail!("line {}: this is no logic", first.line),
+            }
+        }
+        _ => Ok((all_theories(), fields)),
+    }
+}
+
+/// Declares the name that a field holds, by the command of this number, and prints the answer. Behind the name stand the sort, or the
+/// list of the parameters' sorts and the result's.
 pub fn declare<W: Write>(
     alloc: Global,
     out: &mut W,
     library: &mut Library,
     command: u64,
     field: &Field,
-) -> Result<()> {
-    match trees_of(alloc, field)?.as_slice() {
-        [Tree::Symbol(name), sort] => match library.declare(command, name.as_slice(), sort) {
-            Ok(()) => writeln!(out, "{} => declared", field.text)?,
-            Err(fault) => writeln!(out, "{} => {fault}", field.text)?,
-        },
-        _ => bail!("line {}: a declaration is a symbol and a sort", field.line),
+) -> Result<()>
+    ensures { (s : Signature) → StandsFor library.old s → (later : Signature) × StandsFor library.new later }
+{
+    let trees = trees_of(alloc, field)?;
+    let (name, params, sort): (&[u8], &[Tree], &Tree) = match trees.as_slice() {
+        [Tree::Symbol(name), sort] => (name.as_slice(), &[], sort),
+        [Tree::Symbol(name), Tree::List(params), sort] => {
+            (name.as_slice(), params.as_slice(), sort)
+        }
+        _ => bail!(
+            "line {}: a declaration is a symbol, sorts in a list and a sort",
+            field.line
+        ),
+    };
+    match library.declare(command, name, params, sort) {
+        Ok(()) => writeln!(out, "{} => declared", field.text)?,
+        Err(fault) => writeln!(out, "{} => {fault}", field.text)?,
     }
     Ok(())
 }
