@@ -1,4 +1,4 @@
--- What one more command brings into force, and what there is while nothing fixed the logic.
+-- What one more command brings into force, and what there is while nothing fixed the logic. Proofs of crates above cite these too.
 use Rattle.std.proofs.Common.{◌≡◌, ℕ, List, [], ◌∷◌, ◌++◌, Bool, false, ◌||◌, refl, ap, sym, ◌∙◌, append_assoc}
 use Rattle.std.proofs.Math.Bool.{or-false}
 use Rattle.std.proofs.lemmas.List.{append-nil, flat_map_more}

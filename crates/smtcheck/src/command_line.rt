@@ -19,7 +19,7 @@ const VERDICTS: &str =
     "The last line of the report is the verdict, and the exit status says the same:
   0  valid: every `sat` is confirmed by the models printed for it
   1  invalid: some model makes an assertion false
-  2  not decided: some `sat` has no model that could be used
+  2  not decided: no model refutes a `sat`, and some `sat` is not confirmed
   3  refused: the script or the answers have a fault
   4  a file could not be opened, read or written, or memory was refused
   5  the command line was refused, or help was asked for";
