@@ -97,7 +97,7 @@ none_lacking (d ∷ ds) items h zero e at is =
 none_lacking (d ∷ ds) items h (suc place) e at is = none_lacking ds items (none_of_both (lacking_at items d) (first_lacking ds items) h).1 place e at is
 
 -- and the other way round
-not_lacking : (b : Bool) (o : Origin) → (IsDeclared o → b ≡ true) → cond b None (command_of_origin o) ≡ None
+pub not_lacking : (b : Bool) (o : Origin) → (IsDeclared o → b ≡ true) → cond b None (command_of_origin o) ≡ None
 not_lacking true o h = refl
 not_lacking false (Declared command) h = let no : false ≡ true = h tt in cc
 not_lacking false (Defined ps body) h = refl
@@ -161,7 +161,7 @@ complete law script parts definitions whole = by (items_from script [] 1 (items_
 -- ---- the items are the definitions
 
 -- what is read behind earlier items
-items_read : (script : Signature) (earlier : List Entry) (number : ℕ) (trees : Sexps) (items : List Entry) → items_from script earlier number trees ≡ Ok items → (es : List Entry) × AreItems script earlier trees es × (items ≡ earlier ++ es)
+pub items_read : (script : Signature) (earlier : List Entry) (number : ℕ) (trees : Sexps) (items : List Entry) → items_from script earlier number trees ≡ Ok items → (es : List Entry) × AreItems script earlier trees es × (items ≡ earlier ++ es)
 items_read script earlier number Nil items h = let is : earlier ≡ items = cc in ([], tt, sym is ∙ sym (append-nil earlier))
 items_read script earlier number (Cons x xs) items h = by (item_in script earlier x) refl h (λ e g. items_read script (earlier ++ e ∷ []) (number + 1) xs items g)
   where
@@ -172,7 +172,7 @@ items_read script earlier number (Cons x xs) items h = by (item_in script earlie
     by (Ok e) is h next = let p = next e h in (e ∷ p.0, (is, p.1), p.2 ∙ append_assoc earlier (e ∷ []) p.0)
 
 -- and what items are is read
-items_back : (script : Signature) (earlier : List Entry) (number : ℕ) (trees : Sexps) (es : List Entry) → AreItems script earlier trees es → items_from script earlier number trees ≡ Ok (earlier ++ es)
+pub items_back : (script : Signature) (earlier : List Entry) (number : ℕ) (trees : Sexps) (es : List Entry) → AreItems script earlier trees es → items_from script earlier number trees ≡ Ok (earlier ++ es)
 items_back script earlier number Nil [] h = ap (λ (xs : List Entry). Ok xs) (sym (append-nil earlier))
 items_back script earlier number Nil (e ∷ es) h = absurd h
 items_back script earlier number (Cons x xs) [] h = absurd h

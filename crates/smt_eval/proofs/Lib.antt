@@ -8,3 +8,4 @@ pub mod DefinitionLemmas
 pub mod FoundLemmas
 pub mod ConstantLemmas
 pub mod ReadLemmas
+pub mod ModelFaultLemmas

@@ -1,6 +1,6 @@
 -- SMT-LIB 2.6, section 4.2.6: the model that an answer to `get-model` prints. The order of the faults, and that a model may begin
 -- with the symbol `model`, are this project's rules.
-use Rattle.std.specs.Prelude.{◌≡◌, ℕ, ◌+◌, List, [], ◌∷◌, ◌++◌, true, slice_get, Option, Some, None, is_some, Result, Ok, Err, codes, if◌then◌else◌}
+use Rattle.std.specs.Prelude.{◌≡◌, ℕ, zero, suc, ◌+◌, List, [], ◌∷◌, ◌++◌, true, slice_get, take, Option, Some, None, is_some, Result, Ok, Err, codes, if◌then◌else◌}
 use Rattle.std.specs.Option.{option_or}
 use Rattle.smt_text.specs.Sexp.{Sexps, Nil, Cons, is_symbol}
 use Rattle.smt_theory.specs.Words.{result_and_then}
@@ -62,3 +62,18 @@ AreItems script earlier _ _ = ⊥
 -- each entry that a command declared is defined by an item
 abbrev pub AreDefined : List Entry → List Entry → Type 0
 AreDefined entries items = (place : ℕ) (e : Entry) → slice_get entries place ≡ Some e → IsDeclared e.origin → is_some (entry_named items e.name) ≡ true
+
+-- the tree behind so many others that are items has this fault, and is the first that has one
+abbrev pub HasFirstFault : Signature → List Entry → Sexps → ℕ → TermFault → Type 0
+HasFirstFault script earlier Nil n fault = ⊥
+HasFirstFault script earlier (Cons x xs) zero fault = item_in script earlier x ≡ Err fault
+HasFirstFault script earlier (Cons x xs) (suc n) fault = (e : Entry) × (item_in script earlier x ≡ Ok e) × HasFirstFault script (earlier ++ e ∷ []) xs n fault
+
+-- the first entry that a command declared and no item defines is of this command
+pub record IsFirstLacking (entries items : List Entry) (command : ℕ) : Type 0 where
+  pub place : ℕ
+  pub entry : Entry
+  pub at : slice_get entries place ≡ Some entry
+  pub origin : entry.origin ≡ Declared command
+  pub lacking : entry_named items entry.name ≡ None
+  pub first : AreDefined (take place entries) items

@@ -1,6 +1,6 @@
 //! What holds of the definitions that the contracts name. Nothing here does anything: each contract is a law.
 
-ghost use Rattle.std.specs.Prelude.{◌≡◌, ◌↔◌, ℕ, List, [], Ok, Err, Option};
+ghost use Rattle.std.specs.Prelude.{◌≡◌, ◌↔◌, ℕ, ◌+◌, List, [], Ok, Err, Option};
 ghost use Rattle.smt_text.specs.Sexp.{Sexp, Sexps};
 ghost use Rattle.smt_theory.specs.declared.sort.Sort.{Sort};
 ghost use Rattle.smt_values.specs.Element.{Agrees, Element, IsOfSort};
@@ -10,12 +10,13 @@ ghost use Rattle.smt_terms.specs.Items.{items_before};
 ghost use Rattle.smt_terms.specs.Signature.{AreDistinct, Entry, Signature, names_of};
 ghost use Rattle.smt_terms.specs.WellSorted.{AreWellSorted};
 ghost use Rattle.smt_eval.specs.Agreement.{AgreesWith, FitsScope};
+ghost use Rattle.smt_terms.specs.declared.fault.TermFault.{TermFault};
 ghost use Rattle.smt_terms.specs.declared.fault.TermFault.TheVariants.{Memory};
 ghost use Rattle.smt_eval.specs.CompleteModel.{IsModelOf};
 ghost use Rattle.smt_eval.specs.Known.{known_in, known_of};
 ghost use Rattle.smt_eval.specs.Meaning.{value_over};
-ghost use Rattle.smt_eval.specs.Model.{AreDefined, AreItems, items_of, model_in};
-ghost use Rattle.smt_eval.specs.declared.interpretation.ModelFault.TheVariants.{Item, Memory as OutOfMemory};
+ghost use Rattle.smt_eval.specs.Model.{AreDefined, AreItems, HasFirstFault, IsFirstLacking, items_of, model_in};
+ghost use Rattle.smt_eval.specs.declared.interpretation.ModelFault.TheVariants.{Item, Lacks, Memory as OutOfMemory};
 
 use smt_terms::laws as terms;
 use smt_terms::laws::items_are_well_sorted;
@@ -64,4 +65,13 @@ pub fn faults_are_no_memory()
 pub fn models_are_their_items()
     ensures { (script : Signature) (parts : Sexps) (items : List Entry)
         → (model_in script parts ≡ Ok (items_before script items)) ↔ (AreItems script [] (items_of parts) items × AreDefined script.entries items) }
+{}
+
+/// The fault of a model is its first: the items before the one that is told are definitions, and that one has the fault; a lacking name
+/// is told where all items are definitions, and is the first declared name that none of them defines.
+pub fn the_first_fault_of_a_model_is_told()
+    ensures item { (script : Signature) (parts : Sexps) (n : ℕ) (fault : TermFault)
+        → (model_in script parts ≡ Err (Item (n + 1) fault)) ↔ HasFirstFault script [] (items_of parts) n fault }
+    ensures lacking { (script : Signature) (parts : Sexps) (command : ℕ) → (model_in script parts ≡ Err (Lacks command))
+        ↔ ((items : List Entry) × AreItems script [] (items_of parts) items × IsFirstLacking script.entries items command) }
 {}
