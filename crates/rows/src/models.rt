@@ -60,7 +60,9 @@ pub fn print_model<W: Write>(
 
 // Prints the names that a model without a fault defines, in order, each behind a space, and ends the line.
 fn print_names<W: Write>(out: &mut W, declared: &Library, model: &Trees) -> Result<()> {
-    let mut definitions = declared.for_model();
+    let Ok(mut definitions) = declared.for_model() else {
+        bail!("memory was refused");
+    };
     for item in model.as_slice() {
         if item.is_symbol(b"model") {
             continue;
