@@ -8,7 +8,12 @@ use std::alloc::Global;
 use std::io::Write;
 
 /// Prints the report on a dialogue, and the status.
-pub fn print<W: Write>(alloc: Global, out: &mut W, title: &Field, fields: &[Field]) -> Result<()> {
+pub(crate) fn print<W: Write>(
+    alloc: Global,
+    out: &mut W,
+    title: &Field,
+    fields: &[Field],
+) -> Result<()> {
     let [script, answers, start] = fields else {
         bail!(
             "line {}: a dialogue has a script, answers and a start",

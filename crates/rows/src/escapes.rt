@@ -63,7 +63,7 @@ struct Reader {
 }
 
 /// The bytes that a text stands for.
-pub fn unescape(alloc: Global, text: &str) -> Result<Vec<u8>> {
+pub(crate) fn unescape(alloc: Global, text: &str) -> Result<Vec<u8>> {
     let mut reader = Reader {
         alloc,
         state: State::Outside,

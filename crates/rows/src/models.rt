@@ -13,7 +13,7 @@ use std::alloc::Global;
 use std::io::Write;
 
 /// Prints what is answered to declarations and models, in order. Each declaration is the command of its place behind the logic.
-pub fn print<W: Write>(alloc: Global, out: &mut W, fields: &[Field]) -> Result<()> {
+pub(crate) fn print<W: Write>(alloc: Global, out: &mut W, fields: &[Field]) -> Result<()> {
     let (theories, fields) = split_logic(alloc, fields)?;
     let mut library = Library::new(alloc, theories);
     for (command, field) in (1..u64::MAX).zip(fields) {
@@ -29,7 +29,7 @@ pub fn print<W: Write>(alloc: Global, out: &mut W, fields: &[Field]) -> Result<(
 }
 
 /// Prints what is answered to a model of the declared names, and answers its interpretation, if it has no fault.
-pub fn print_model<W: Write>(
+pub(crate) fn print_model<W: Write>(
     alloc: Global,
     out: &mut W,
     declared: &Library,

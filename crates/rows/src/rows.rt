@@ -11,7 +11,7 @@ use std::mem;
 
 /// A field of a row.
 #[derive(Drop)]
-pub struct Field<'a> {
+pub(crate) struct Field<'a> {
     /// The line on which the field begins; lines count from 1.
     pub line: u64,
     pub key: &'a str,
@@ -21,14 +21,14 @@ pub struct Field<'a> {
 
 impl Field<'_> {
     /// The bytes that the text stands for.
-    pub fn bytes(&self, alloc: Global) -> Result<Vec<u8>> {
+    pub(crate) fn bytes(&self, alloc: Global) -> Result<Vec<u8>> {
         let line = self.line;
         unescape(alloc, self.text.as_str()).context(format_args!("line {line}"))
     }
 }
 
 /// The rows of a file, none of them empty.
-pub fn read<'a>(alloc: Global, text: &'a str) -> Result<Vec<Vec<Field<'a>>>> {
+pub(crate) fn read<'a>(alloc: Global, text: &'a str) -> Result<Vec<Vec<Field<'a>>>> {
     let mut rows = Vec::new(alloc);
     let mut row: Vec<Field<'a>> = Vec::new(alloc);
     for (number, line) in (1..u64::MAX).zip(text.lines()) {

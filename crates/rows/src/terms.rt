@@ -9,7 +9,7 @@ use std::alloc::Global;
 use std::io::Write;
 
 /// Prints what is answered to declarations and terms, in order. Each declaration is the command of its place behind the logic.
-pub fn print<W: Write>(alloc: Global, out: &mut W, fields: &[Field]) -> Result<()> {
+pub(crate) fn print<W: Write>(alloc: Global, out: &mut W, fields: &[Field]) -> Result<()> {
     let (theories, fields) = split_logic(alloc, fields)?;
     let mut library = Library::new(alloc, theories);
     for (command, field) in (1..u64::MAX).zip(fields) {

@@ -13,7 +13,7 @@ use std::alloc::Global;
 use std::io::Write;
 
 /// The trees of a field.
-pub fn trees_of(alloc: Global, field: &Field) -> Result<Trees> {
+pub(crate) fn trees_of(alloc: Global, field: &Field) -> Result<Trees> {
     let bytes = field.bytes(alloc)?;
     match Trees::read(alloc, bytes.as_slice()) {
         Ok(trees) => Ok(trees),
@@ -22,7 +22,7 @@ pub fn trees_of(alloc: Global, field: &Field) -> Result<Trees> {
 }
 
 /// The parts of the list that a field is.
-pub fn parts_of(alloc: Global, field: &Field) -> Result<Trees> {
+pub(crate) fn parts_of(alloc: Global, field: &Field) -> Result<Trees> {
     match trees_of(alloc, field)?.as_slice() {
         [Tree::List(parts)] => Ok(parts.copy(alloc)?),
         _ => bail!("line {}: this is no list", field.line),
@@ -30,7 +30,7 @@ pub fn parts_of(alloc: Global, field: &Field) -> Result<Trees> {
 }
 
 /// The theories of the logic that the first field names, and the fields behind it. Where none is named there are all theories.
-pub fn split_logic<'a, 'b>(
+pub(crate) fn split_logic<'a, 'b>(
     alloc: Global,
     fields: &'b [Field<'a>],
 ) -> Result<(Theories, &'b [Field<'a>])> {
@@ -47,7 +47,7 @@ pub fn split_logic<'a, 'b>(
 
 /// Declares the name that a field holds, by the command of this number, and prints the answer. Behind the name stand the sort, or the
 /// list of the parameters' sorts and the result's.
-pub fn declare<W: Write>(
+pub(crate) fn declare<W: Write>(
     alloc: Global,
     out: &mut W,
     library: &mut Library,
@@ -75,6 +75,6 @@ pub fn declare<W: Write>(
 }
 
 /// Says that a row has a field of another key than it may.
-pub fn refuse<T>(field: &Field) -> Result<T> {
+pub(crate) fn refuse<T>(field: &Field) -> Result<T> {
     bail!("line {}: `{}` can't stand here", field.line, field.key)
 }

@@ -12,7 +12,12 @@ use std::alloc::Global;
 use std::io::Write;
 
 /// Prints what is answered to a model and to terms over it, in order.
-pub fn print<W: Write>(alloc: Global, out: &mut W, title: &Field, fields: &[Field]) -> Result<()> {
+pub(crate) fn print<W: Write>(
+    alloc: Global,
+    out: &mut W,
+    title: &Field,
+    fields: &[Field],
+) -> Result<()> {
     let (theories, fields) = split_logic(alloc, fields)?;
     let Some((first, terms)) = fields.split_first() else {
         bail!("line {}: a row of values has a model", title.line);

@@ -8,7 +8,7 @@ use smt_text::{Next, Reader, TextFault, Tree, Trees};
 use std::alloc::{AllocError, Global};
 
 /// What is read of a whole text by one call.
-pub fn read_whole(alloc: Global, text: &[u8]) -> Result<Vec<u8>, AllocError> {
+pub(crate) fn read_whole(alloc: Global, text: &[u8]) -> Result<Vec<u8>, AllocError> {
     let mut out = Vec::new(alloc);
     match Trees::read(alloc, text) {
         Ok(trees) => {
@@ -22,7 +22,7 @@ pub fn read_whole(alloc: Global, text: &[u8]) -> Result<Vec<u8>, AllocError> {
 }
 
 /// What is read of a text in three pieces, some of which may be empty. The trees are taken after each piece.
-pub fn read_in_pieces(
+pub(crate) fn read_in_pieces(
     alloc: Global,
     first: &[u8],
     second: &[u8],

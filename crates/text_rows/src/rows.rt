@@ -6,7 +6,7 @@ use std::alloc::{AllocError, Global};
 
 /// A text, and what is to be read of it.
 #[derive(Drop)]
-pub struct Row {
+pub(crate) struct Row {
     pub text: Vec<u8>,
     pub read: Vec<u8>,
 }
@@ -14,7 +14,7 @@ pub struct Row {
 const ARROW: &[u8] = b" ==> ";
 
 /// The row that a line is, if it has an arrow.
-pub fn row_of(alloc: Global, line: &[u8]) -> Result<Option<Row>, AllocError> {
+pub(crate) fn row_of(alloc: Global, line: &[u8]) -> Result<Option<Row>, AllocError> {
     let Some(place) = arrow_in(line) else {
         return Ok(None);
     };

@@ -6,7 +6,7 @@ use smt_text::{Bytes, TextFault, Tree, Word, spelling, split_first};
 use std::alloc::{AllocError, Global};
 
 /// Writes trees, with a space behind each.
-pub fn write_trees(out: &mut Vec<u8>, trees: &[Tree]) -> Result<(), AllocError> {
+pub(crate) fn write_trees(out: &mut Vec<u8>, trees: &[Tree]) -> Result<(), AllocError> {
     let Some((tree, rest)) = split_first(trees) else {
         return Ok(());
     };
@@ -29,7 +29,7 @@ pub fn write_trees(out: &mut Vec<u8>, trees: &[Tree]) -> Result<(), AllocError> 
 }
 
 /// Writes the fault with its place, or that there is none.
-pub fn write_end(
+pub(crate) fn write_end(
     alloc: Global,
     out: &mut Vec<u8>,
     fault: Option<TextFault>,
