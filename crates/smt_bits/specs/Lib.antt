@@ -1,0 +1,3 @@
+pub mod BitVector
+pub mod Operators
+pub mod Literals

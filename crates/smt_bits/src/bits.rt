@@ -1,0 +1,61 @@
+//! Bit vectors.
+
+ghost use Rattle.std.specs.Prelude.{◌≡◌, ◌-◌, ◌<◌, ◌%◌, ◌^◌};
+ghost use Rattle.smt_bits.specs.BitVector.{vector};
+
+use smt_theory::Width;
+use std::marker::Model;
+
+/// A bit vector of 1 to 128 bits (SMT-LIB 2.6, theory FixedSizeBitVectors). Contracts see it as its width and its number.
+#[derive(Clone, Copy, Debug, PartialEq, Eq)]
+pub struct Bits {
+    width: Width,
+    bits: u128,
+}
+
+impl Model for Bits {
+    ghost use Rattle.std.specs.Prelude.{◌<◌, ◌^◌};
+    ghost use Rattle.smt_bits.specs.BitVector.{BitVector};
+
+    ghost Value = { BitVector };
+
+    ghost view = { λ b. record { width = b.width; number = b.bits } };
+
+    ghost invariant = { λ b. b.bits < 2 ^ b.width };
+
+    ghost inverse = { λ v. record { width = v.width; bits = v.number } };
+}
+
+impl Bits {
+    /// The bit vector of this width whose number is n modulo 2^width.
+    pub fn new(width: Width, n: u128) -> Bits
+        ensures { result ≡ vector width (n % 2 ^ width) }
+    {
+        Bits {
+            width,
+            bits: n & mask(width),
+        }
+    }
+
+    /// How many bits it has.
+    pub fn width(self) -> Width
+        ensures { result ≡ self.width }
+    {
+        self.width
+    }
+
+    /// The number that its bits are, below 2^width; the first bit is the highest.
+    pub fn number(self) -> u128
+        ensures value { result ≡ self.number }
+        ensures below { result < 2 ^ self.width }
+    {
+        self.bits
+    }
+}
+
+// The number whose bits are all set up to the width.
+fn mask(width: Width) -> u128
+    ensures { result ≡ 2 ^ width - 1 }
+{
+    u128::MAX >> (128 - width.bits())
+}

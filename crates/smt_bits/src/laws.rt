@@ -1,0 +1,6 @@
+//! What holds of the definitions that the contracts name. Nothing here does anything: each contract is a law.
+
+pub mod arithmetic;
+pub mod bitwise;
+pub mod parts;
+pub mod signed;

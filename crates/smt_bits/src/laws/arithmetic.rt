@@ -1,0 +1,1 @@
+//! Laws of the arithmetic modulo powers of two.

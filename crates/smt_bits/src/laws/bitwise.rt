@@ -1,0 +1,1 @@
+//! Laws of the operators that go bit by bit.

@@ -1,0 +1,1 @@
+//! Bit vectors as constants are spelled.

@@ -1,0 +1,1 @@
+//! Parts of bit vectors, put together and taken apart.
