@@ -1,1 +1,56 @@
 //! Bit vectors as constants are spelled.
+
+ghost use Rattle.std.specs.Prelude.{◌≡◌, ◌+◌, ◌*◌, ◌%◌, ◌^◌, ◌≤◌};
+ghost use Rattle.std.specs.Char.{digit_value};
+ghost use Rattle.std.specs.Str.Parse.{digits_value};
+ghost use Rattle.smt_bits.specs.Literals.{bin_vector, hex_vector, known_constant};
+
+use crate::bits::Bits;
+use smt_theory::{Width, digit};
+
+/// The bit vector that hexadecimal digits of either case spell, four bits a digit (SMT-LIB 2.6, section 3.1 and theory
+/// FixedSizeBitVectors); `None` where there is none or more than 32. What comes of other bytes than digits is of no interest.
+pub fn hex(digits: &[u8]) -> Option<Bits>
+    ensures { result ≡ known_constant 16 4 digits.now }
+{
+    constant(16, 4, digits)
+}
+
+/// The bit vector that binary digits spell, one bit a digit (SMT-LIB 2.6, section 3.1 and theory FixedSizeBitVectors); `None` where
+/// there is none or more than 128. What comes of other bytes than digits is of no interest.
+pub fn bin(digits: &[u8]) -> Option<Bits>
+    ensures { result ≡ known_constant 2 1 digits.now }
+{
+    constant(2, 1, digits)
+}
+
+// The digits in a base, each of so many bits.
+fn constant(base: u8, bits: u8, digits: &[u8]) -> Option<Bits>
+    requires some { 1 ≤ bits }
+    requires within { bits ≤ 4 }
+    ensures { result ≡ known_constant base bits digits.now }
+{
+    if digits.len() > 128 {
+        return None;
+    }
+    let width = Width::new(u64::from(bits) * digits.len() as u64)?;
+    Some(Bits::new(width, value(base, digits)))
+}
+
+fn value(base: u8, digits: &[u8]) -> u128
+    ensures { result ≡ digits_value base digits.now % 2 ^ 128 }
+{
+    let mut value = 0;
+    for byte in digits {
+        value = with_digit(base, value, *byte);
+    }
+    value
+}
+
+fn with_digit(base: u8, value: u128, byte: u8) -> u128
+    ensures { result ≡ (value * base + digit_value byte) % 2 ^ 128 }
+{
+    value
+        .wrapping_mul(u128::from(base))
+        .wrapping_add(u128::from(digit(byte)))
+}

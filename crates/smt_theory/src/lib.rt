@@ -27,7 +27,7 @@ mod theories;
 mod width;
 
 pub use index::Index;
-pub use numbers::number;
+pub use numbers::{digit, number};
 pub use op::names::op_of;
 pub use op::{Arithmetic, Comparison, CoreOp, IntsOp, Op, OpFault};
 pub use ranks::rank;

@@ -26,8 +26,8 @@ fn with_digit(base: u8, value: u128, byte: u8) -> Option<u128>
         .checked_add(u128::from(digit(byte)))
 }
 
-// The value of a digit, or of a letter, from 10 on; 36 of other bytes.
-fn digit(byte: u8) -> u8
+/// The value of a digit, or of a letter, from 10 on; 36 of other bytes.
+pub fn digit(byte: u8) -> u8
     ensures { result ≡ digit_value byte }
 {
     match byte {
