@@ -1,7 +1,7 @@
 //! Bit vectors.
 
 ghost use Rattle.std.specs.Prelude.{◌≡◌, ◌-◌, ◌<◌, ◌%◌, ◌^◌};
-ghost use Rattle.smt_bits.specs.BitVector.{vector};
+ghost use Rattle.smt_bits.specs.BitVector.{modulo, signed, vector};
 
 use smt_theory::Width;
 use std::marker::Model;
@@ -50,6 +50,21 @@ impl Bits {
         ensures below { result < 2 ^ self.width }
     {
         self.bits
+    }
+
+    /// The integer that its bits are, read as signed: -2^127 to 2^127 - 1.
+    pub fn signed(self) -> i128
+        ensures { result ≡ signed self.width self.number }
+    {
+        let unused = 128 - self.width.bits();
+        (self.bits << unused).cast_signed() >> unused
+    }
+
+    // The bit vector of this width for an integer modulo 2^width.
+    pub(crate) fn from_signed(width: Width, z: i128) -> Bits
+        ensures { result ≡ vector width (modulo width z) }
+    {
+        Bits::new(width, z.cast_unsigned())
     }
 }
 
