@@ -1,2 +1,3 @@
 pub mod LiteralLemmas
+mod PartLemmas
 pub mod SignedLemmas

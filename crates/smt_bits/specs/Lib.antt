@@ -1,3 +1,4 @@
 pub mod BitVector
 pub mod Operators
+pub mod Parts
 pub mod Literals
