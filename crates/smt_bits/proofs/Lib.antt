@@ -1,1 +1,3 @@
+pub mod ArithmeticLemmas
+pub mod BitwiseLemmas
 pub mod SignedLemmas
