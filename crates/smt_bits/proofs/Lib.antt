@@ -1,3 +1,5 @@
+pub mod ArithmeticLemmas
+pub mod BitwiseLemmas
 pub mod LiteralLemmas
-mod PartLemmas
+pub mod PartLemmas
 pub mod SignedLemmas

@@ -1,0 +1,9 @@
+use Rattle.std.proofs.Common.{rules, ◌≡◌, ℕ, ◌+◌, ◌≤◌}
+use Rattle.smt_bits.proofs.ArithmeticLemmas.{shorter}
+use Rattle.smt_bits.proofs.arithmetic.bvadd.Goals as goal
+
+pub returns : goal.returns
+returns c =
+    let within : c.width.result ≤ 128 = search rules in
+    let number = shorter c.width.result (c.number.result + c.number-2.result) within in
+    cc

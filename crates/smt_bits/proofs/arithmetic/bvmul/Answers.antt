@@ -1,0 +1,9 @@
+use Rattle.std.proofs.Common.{rules, ◌≡◌, ℕ, ◌+◌, ◌-◌, ◌*◌, ◌/◌, ◌%◌, ◌^◌, ◌<◌, ◌≤◌, ap, subst, sym, arith, ◌∙◌, le_of_lt, lt_of_le_of_lt}
+use Rattle.smt_bits.proofs.ArithmeticLemmas.{shorter}
+use Rattle.smt_bits.proofs.arithmetic.bvmul.Goals as goal
+
+pub returns : goal.returns
+returns c =
+    let within : c.width.result ≤ 128 = search rules in
+    let number = shorter c.width.result (c.number.result * c.number-2.result) within in
+    cc
