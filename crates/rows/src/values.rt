@@ -55,6 +55,13 @@ fn print_value<W: Write>(
     match term.known() {
         Ok(Some(Value::Bool(value))) => writeln!(out, "{} => {value}", field.text)?,
         Ok(Some(Value::Int(value))) => writeln!(out, "{} => {value}", field.text)?,
+        Ok(Some(Value::Bits(value))) => writeln!(
+            out,
+            "{} => (_ bv{} {})",
+            field.text,
+            value.number(),
+            value.width().bits()
+        )?,
         Ok(None) => writeln!(out, "{} => open", field.text)?,
         Err(_) => bail!("out of memory"),
     }

@@ -16,7 +16,7 @@ use Rattle.std.specs.Option.{option_or}
 use Rattle.smt_dialogue.specs.Pairing.{Pair, is_effective}
 use Rattle.smt_dialogue.specs.Window.{Printed, models_from, window}
 use Rattle.smt_dialogue.specs.Judgement.{first_assertion, is_false_over, is_open_over, judgement_of, judged_over, refuted_or}
-use Rattle.smt_values.specs.Element.{Agrees, Element, Truth, Integer}
+use Rattle.smt_values.specs.Element.{Agrees, Element, Truth, Integer, Vector}
 use Rattle.smt_values.specs.Operations.{DivisionByZero}
 use Rattle.smt_values.specs.KnownOperations.{is_known}
 use Rattle.smt_eval.specs.Agreement.{AgreesWith}
@@ -87,12 +87,14 @@ is_true_value None h = absurd (cc)
 is_true_value (Some (Truth true)) h = refl
 is_true_value (Some (Truth false)) h = absurd (cc)
 is_true_value (Some (Integer z)) h = absurd (cc)
+is_true_value (Some (Vector v)) h = absurd (cc)
 
 pub is_false_value : (v : Option Element) → is_known false v ≡ true → v ≡ Some (Truth false)
 is_false_value None h = absurd (cc)
 is_false_value (Some (Truth true)) h = absurd (cc)
 is_false_value (Some (Truth false)) h = refl
 is_false_value (Some (Integer z)) h = absurd (cc)
+is_false_value (Some (Vector v)) h = absurd (cc)
 
 -- the laws of models and of what is known over them
 pub record Laws : Type 0 where

@@ -67,7 +67,7 @@ fn judge_assertions(
                 let assertion = assertion.command;
                 return Ok(Judgement::Refuted { assertion });
             }
-            None | Some(Value::Int(_)) => {
+            None | Some(Value::Int(_) | Value::Bits(_)) => {
                 if first_open.is_none() {
                     first_open = Some(assertion.command);
                 }

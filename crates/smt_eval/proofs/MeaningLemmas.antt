@@ -1,15 +1,17 @@
 -- What is known of a term is true of its value.
 use Rattle.std.proofs.Common.{◌≡◌, ℕ, Bool, true, false, cond, List, [], ◌∷◌, Option, Some, None, Result, Ok, Err, refl, sym, subst}
 use Rattle.std.specs.List.{zip}
-use Rattle.std.specs.Prelude.{unwrap_or, bytes_eq, pos, nat_lt, ◌^◌}
+use Rattle.std.specs.Prelude.{unwrap_or, bytes_eq, is_some, length, option_map, pos, nat_lt, ◌*◌, ◌^◌}
 use Rattle.std.specs.Str.Parse.{digits_value}
 use Rattle.smt_text.specs.Sexp.{Sexp, Sexps, Atom, Reserved, Items, Nil, Cons, Symbol, Numeral, Decimal, Hexadecimal, Binary, Text, Keyword}
 use Rattle.smt_text.specs.declared.reserved.Word.TheVariants.{Underscore}
+use Rattle.smt_bits.specs.Literals.{constant, known_constant}
+use Rattle.smt_theory.specs.Width.{width_of}
 use Rattle.smt_theory.specs.Words.{look_up}
 use Rattle.smt_theory.specs.declared.op.Op.{Op}
 use Rattle.smt_theory.specs.declared.op.OpFault.{OpFault}
 use Rattle.smt_theory.specs.declared.theories.Theories.{Theories}
-use Rattle.smt_values.specs.Element.{Element, Integer, Agrees, AllAgree}
+use Rattle.smt_values.specs.Element.{Element, Integer, Vector, Agrees, AllAgree}
 use Rattle.smt_values.specs.KnownOperations.{known_step}
 use Rattle.smt_values.specs.Literals.{numeral_element}
 use Rattle.smt_values.specs.Operations.{DivisionByZero, operate}
@@ -68,6 +70,14 @@ numeral_true digits = by (nat_lt (digits_value 10 digits) (2 ^ 127)) refl
     by true h = rw h refl
     by false h = rw h tt
 
+-- so is a bit vector
+constant_true : (base bits : ℕ) (digits : List ℕ) → Agrees (option_map Vector (known_constant base bits digits)) (Vector (constant base bits digits))
+constant_true base bits digits = by (is_some (width_of (bits * length digits)))
+  where
+    by : (b : Bool) → Agrees (option_map Vector (cond b (Some (constant base bits digits)) None)) (Vector (constant base bits digits))
+    by true = refl
+    by false = tt
+
 -- what is known of a term is true of its value
 module _ (k : KnownMeaning) (m : Meaning) (means : Means k m) (known : List (List ℕ × Option Element)) (r : List (List ℕ × Element)) (agrees : AgreesWith known r) where
   list_true : (head : Sexp) (args : Sexps) → AllAgree (knowns_of k known args) (values_of m r args) → (b : Bool) → is_underscore_tree head ≡ b
@@ -84,8 +94,8 @@ module _ (k : KnownMeaning) (m : Meaning) (means : Means k m) (known : List (Lis
     term_true (Atom Symbol x) = unwrap_or_true (look_up known x) (look_up r x) (k (Plain x) []) (m (Plain x) []) (agrees x) (means (Plain x) [] [] tt)
     term_true (Atom Numeral x) = numeral_true x
     term_true (Atom Decimal x) = tt
-    term_true (Atom Hexadecimal x) = tt
-    term_true (Atom Binary x) = tt
+    term_true (Atom Hexadecimal x) = constant_true 16 4 x
+    term_true (Atom Binary x) = constant_true 2 1 x
     term_true (Atom Text x) = tt
     term_true (Atom Keyword x) = tt
     term_true (Reserved word) = tt

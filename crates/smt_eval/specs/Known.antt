@@ -2,7 +2,7 @@
 -- project's rule; where the value is known, it is the standard's.
 use Rattle.std.specs.Prelude.{ℕ, List, [], ◌∷◌, Option, None, Result, Ok, Err, if◌then◌else◌, unwrap_or, bytes_eq}
 use Rattle.std.specs.List.{zip}
-use Rattle.smt_text.specs.Sexp.{Sexp, Sexps, Atom, Reserved, Items, Nil, Cons, Symbol, Numeral}
+use Rattle.smt_text.specs.Sexp.{Sexp, Sexps, Atom, Reserved, Items, Nil, Cons, Symbol, Numeral, Hexadecimal, Binary}
 use Rattle.smt_text.specs.declared.reserved.Word.TheVariants.{Underscore}
 use Rattle.smt_theory.specs.Words.{look_up}
 use Rattle.smt_theory.specs.declared.op.Op.{Op}
@@ -10,7 +10,7 @@ use Rattle.smt_theory.specs.declared.op.OpFault.{OpFault}
 use Rattle.smt_theory.specs.declared.theories.Theories.{Theories}
 use Rattle.smt_values.specs.Element.{Element}
 use Rattle.smt_values.specs.KnownOperations.{known_step}
-use Rattle.smt_values.specs.Literals.{numeral_element}
+use Rattle.smt_values.specs.Literals.{bin_element, hex_element, numeral_element}
 use Rattle.smt_terms.specs.Identifier.{Identifier, Plain, Indexed, applied, indexed, operator_of}
 use Rattle.smt_terms.specs.Signature.{Entry, Origin, Declared, Defined, Signature}
 use Rattle.smt_terms.specs.declared.fault.TermFault.{TermFault}
@@ -28,6 +28,8 @@ abbrev mutual
   pub known_of : KnownMeaning → List (List ℕ × Option Element) → Sexp → Option Element
   known_of m r (Atom Symbol x) = unwrap_or (look_up r x) (m (Plain x) [])
   known_of m r (Atom Numeral digits) = numeral_element digits
+  known_of m r (Atom Hexadecimal digits) = hex_element digits
+  known_of m r (Atom Binary digits) = bin_element digits
   known_of m r (Items (Cons (Reserved Underscore) parts)) = known_by (indexed parts) (λ f. m f [])
   known_of m r (Items (Cons head args)) = known_by (applied head args) (λ f. m f (knowns_of m r args))
   known_of m r _ = None

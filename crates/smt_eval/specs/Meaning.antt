@@ -2,13 +2,14 @@
 use Rattle.std.specs.Prelude.{ℕ, pos, List, [], ◌∷◌, false, Result, Ok, Err, if◌then◌else◌, bytes_eq, unwrap_or}
 use Rattle.std.specs.List.{zip}
 use Rattle.std.specs.Str.Parse.{digits_value}
-use Rattle.smt_text.specs.Sexp.{Sexp, Sexps, Atom, Reserved, Items, Nil, Cons, Symbol, Numeral}
+use Rattle.smt_bits.specs.Literals.{bin_vector, hex_vector}
+use Rattle.smt_text.specs.Sexp.{Sexp, Sexps, Atom, Reserved, Items, Nil, Cons, Symbol, Numeral, Hexadecimal, Binary}
 use Rattle.smt_text.specs.declared.reserved.Word.TheVariants.{Underscore}
 use Rattle.smt_theory.specs.Words.{look_up}
 use Rattle.smt_theory.specs.declared.op.Op.{Op}
 use Rattle.smt_theory.specs.declared.op.OpFault.{OpFault}
 use Rattle.smt_theory.specs.declared.theories.Theories.{Theories}
-use Rattle.smt_values.specs.Element.{Element, Truth, Integer}
+use Rattle.smt_values.specs.Element.{Element, Truth, Integer, Vector}
 use Rattle.smt_values.specs.Operations.{DivisionByZero, operate}
 use Rattle.smt_terms.specs.Identifier.{Identifier, Plain, Indexed, applied, indexed, operator_of}
 use Rattle.smt_terms.specs.Signature.{Entry, Origin, Declared, Defined, Signature}
@@ -28,6 +29,8 @@ abbrev mutual
   pub value_of : Meaning → List (List ℕ × Element) → Sexp → Element
   value_of m r (Atom Symbol x) = unwrap_or (look_up r x) (m (Plain x) [])
   value_of m r (Atom Numeral digits) = Integer (pos (digits_value 10 digits))
+  value_of m r (Atom Hexadecimal digits) = Vector (hex_vector digits)
+  value_of m r (Atom Binary digits) = Vector (bin_vector digits)
   value_of m r (Items (Cons (Reserved Underscore) parts)) = element_by (indexed parts) (λ f. m f [])
   value_of m r (Items (Cons head args)) = element_by (applied head args) (λ f. m f (values_of m r args))
   value_of m r _ = Truth false

@@ -16,7 +16,7 @@ use crate::memory::Memory;
 use smt_terms::{Found, Identifier, Library, TermFault, applied_identifier, indexed_identifier};
 use smt_text::{Tree, Trees, Word, split_first};
 use smt_theory::{Op, OpFault, op_of};
-use smt_values::{Value, apply, numeral};
+use smt_values::{Value, apply, bin, hex, numeral};
 
 /// What is known of a term over the first definitions, as many as there are values here.
 #[cycle(known)]
@@ -30,8 +30,10 @@ pub(crate) fn known_value(
     match term {
         Tree::Symbol(name) => Ok(known_plain(definitions, values, name.as_slice(), &[])),
         Tree::Numeral(digits) => Ok(numeral(digits.as_slice())),
+        Tree::Hex(digits) => Ok(hex(digits.as_slice())),
+        Tree::Bin(digits) => Ok(bin(digits.as_slice())),
         Tree::List(parts) => known_list(definitions, values, parts),
-        Tree::Decimal(_) | Tree::Hex(_) | Tree::Bin(_) | Tree::Text(_) => Ok(None),
+        Tree::Decimal(_) | Tree::Text(_) => Ok(None),
         Tree::Keyword(_) | Tree::Reserved(_) => Ok(None),
     }
 }

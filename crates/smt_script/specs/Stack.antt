@@ -26,9 +26,9 @@ pub record Assertion : Type 0 where
   pub command : ℕ
   pub term : Sexp
 
--- the theories before a logic is set: all that there are, since bit vectors are none yet
+-- the theories before a logic is set: all that there are
 abbrev pub all_theories : Theories
-all_theories = record { ints = true; bits = false }
+all_theories = record { ints = true; bits = true }
 
 -- those of a logic, or else the ones before it
 abbrev pub theories_or : Theories → Option Theories → Theories

@@ -39,13 +39,13 @@ pub struct Stack {
     last: u64,
 }
 
-/// The theories before a logic is set: all that there are, since bit vectors are none yet.
+/// The theories before a logic is set: all that there are.
 pub fn all_theories() -> Theories
     ensures { result ≡ stack.all_theories }
 {
     Theories {
         ints: true,
-        bits: false,
+        bits: true,
     }
 }
 

@@ -9,7 +9,7 @@ use Rattle.smt_values.specs.Internal.Same.{is_same_known}
 use Rattle.std.specs.Prelude.{if◌then◌else◌, map, fold, option_map, option_and_then}
 use Rattle.std.specs.List.{list_all, list_any}
 use Rattle.smt_values.specs.declared.value.Value.{Value}
-use Rattle.smt_values.specs.Element.{Element, Truth, Integer, element_of, known_element, known_elements}
+use Rattle.smt_values.specs.Element.{Element, Truth, Integer, Vector, element_of, known_element, known_elements}
 use Rattle.smt_values.specs.KnownOperations.{as_disjunction, decided, is_known, known_abs, known_arithmetic, known_divisible, known_from_left, known_integer, known_integers, known_mod, known_truth}
 use Rattle.smt_values.specs.Operations.{is_same, exclusive_or}
 use Rattle.smt_values.specs.Lists.{all_known, are_chained, are_distinct, steps_from}
@@ -182,6 +182,7 @@ not_known true (Some (Truth false)) = refl
 not_known false (Some (Truth true)) = refl
 not_known false (Some (Truth false)) = refl
 not_known b (Some (Integer z)) = refl
+not_known b (Some (Vector v)) = refl
 
 or_false : (b : Bool) → (b || false) ≡ b
 or_false true = refl

@@ -1,4 +1,5 @@
 pub mod DivisionLemmas
 pub mod KnownLemmas
+pub mod BitMeaningLemmas
 pub mod MeaningLemmas
 pub mod SortLemmas

@@ -4,6 +4,7 @@ use Rattle.std.specs.Prelude.{map, fold, option_map, option_and_then, unsigned_a
 use Rattle.std.specs.Int.{int_div_euclid, int_rem_euclid}
 use Rattle.std.specs.List.{list_all, list_any}
 use Rattle.std.specs.Ordering.{int_eq}
+use Rattle.smt_bits.specs.BitVector.{BitVector}
 use Rattle.smt_theory.specs.declared.op.Arithmetic.{Arithmetic}
 use Rattle.smt_theory.specs.declared.op.Arithmetic.TheVariants.{Minus, Plus, Times, Div}
 use Rattle.smt_theory.specs.declared.op.CoreOp.{CoreOp}
@@ -11,11 +12,14 @@ use Rattle.smt_theory.specs.declared.op.CoreOp.TheVariants.{True, False, Not, Im
 use Rattle.smt_theory.specs.declared.op.IntsOp.{IntsOp}
 use Rattle.smt_theory.specs.declared.op.IntsOp.TheVariants.{Arithmetic as Left, Comparison as Chain, Mod, Abs, Divisible}
 use Rattle.smt_theory.specs.declared.op.Op.{Op}
-use Rattle.smt_theory.specs.declared.op.Op.TheVariants.{Core, Ints}
-use Rattle.smt_values.specs.Element.{Element, Truth, Integer, Agrees, AllAgree}
-use Rattle.smt_values.specs.KnownOperations.{known_truth, known_integers, is_known, decided, as_disjunction, known_negation, known_choice, known_core, is_within, within, known_quotient, known_remainder, known_arithmetic, known_divisible, known_ints, known_step}
+use Rattle.smt_theory.specs.declared.op.Op.TheVariants.{Core, Ints, Bits}
+use Rattle.smt_values.specs.BitOperations.{operate_bits}
+use Rattle.smt_values.specs.KnownBitOperations.{known_bits}
+use Rattle.smt_values.proofs.BitMeaningLemmas.{bits_true}
+use Rattle.smt_values.specs.Element.{Element, Truth, Integer, Vector, Agrees, AllAgree}
+use Rattle.smt_values.specs.KnownOperations.{known_truth, known_integers, known_vectors, is_known, decided, as_disjunction, known_negation, known_choice, known_core, is_within, within, known_quotient, known_remainder, known_arithmetic, known_divisible, known_ints, known_step}
 use Rattle.smt_values.specs.Lists.{all_known, are_chained, are_distinct, steps_from}
-use Rattle.smt_values.specs.Operations.{DivisionByZero, truth_of, integer_of, is_same, is_implied, chosen, negated, exclusive_or, operate_core, quotient, remainder, arithmetic, divides, operate_ints, operate}
+use Rattle.smt_values.specs.Operations.{DivisionByZero, truth_of, integer_of, vector_of, is_same, is_implied, chosen, negated, exclusive_or, operate_core, quotient, remainder, arithmetic, divides, operate_ints, operate}
 
 -- ---- arguments that are all known
 
@@ -37,6 +41,7 @@ integers_true [] (x ∷ es) zs h e = absurd h
 integers_true (k ∷ ks) [] zs h e = absurd h
 integers_true (None ∷ ks) (x ∷ es) zs h e = cc
 integers_true (Some (Truth b) ∷ ks) (x ∷ es) zs h e = cc
+integers_true (Some (Vector v) ∷ ks) (x ∷ es) zs h e = cc
 integers_true (Some (Integer z) ∷ ks) (x ∷ es) zs h e = by (known_integers ks) (λ ys. integers_true ks es ys h.1) e
   where
     by : (o : _) → ((ys : _) → o ≡ Some ys → map integer_of es ≡ ys) → option_map (λ ys. z ∷ ys) o ≡ Some zs → integer_of x ∷ map integer_of es ≡ zs
@@ -49,11 +54,25 @@ truths_true [] (x ∷ es) bs h e = absurd h
 truths_true (k ∷ ks) [] bs h e = absurd h
 truths_true (None ∷ ks) (x ∷ es) bs h e = cc
 truths_true (Some (Integer z) ∷ ks) (x ∷ es) bs h e = cc
+truths_true (Some (Vector v) ∷ ks) (x ∷ es) bs h e = cc
 truths_true (Some (Truth b) ∷ ks) (x ∷ es) bs h e = by (all_known (map known_truth ks)) (λ cs. truths_true ks es cs h.1) e
   where
     by : (o : _) → ((cs : _) → o ≡ Some cs → map truth_of es ≡ cs) → option_map (λ cs. b ∷ cs) o ≡ Some bs → truth_of x ∷ map truth_of es ≡ bs
     by None f e = cc
     by (Some cs) f e = let n : b ∷ cs ≡ bs = cc in (λ i. truth_of (h.0 i) ∷ f cs refl i) ∙ n
+
+vectors_true : (ks : List (Option Element)) (es : List Element) (vs : List BitVector) → AllAgree ks es → known_vectors ks ≡ Some vs → map vector_of es ≡ vs
+vectors_true [] [] vs h e = cc
+vectors_true [] (x ∷ es) vs h e = absurd h
+vectors_true (k ∷ ks) [] vs h e = absurd h
+vectors_true (None ∷ ks) (x ∷ es) vs h e = cc
+vectors_true (Some (Truth b) ∷ ks) (x ∷ es) vs h e = cc
+vectors_true (Some (Integer z) ∷ ks) (x ∷ es) vs h e = cc
+vectors_true (Some (Vector v) ∷ ks) (x ∷ es) vs h e = by (known_vectors ks) (λ ws. vectors_true ks es ws h.1) e
+  where
+    by : (o : _) → ((ws : _) → o ≡ Some ws → map vector_of es ≡ ws) → option_map (λ ws. v ∷ ws) o ≡ Some vs → vector_of x ∷ map vector_of es ≡ vs
+    by None f e = cc
+    by (Some ws) f e = let n : v ∷ ws ≡ vs = cc in (λ i. vector_of (h.0 i) ∷ f ws refl i) ∙ n
 
 -- what is known where all are is true
 strict_true : {A : Type 0} (o : Option A) (f : A → Option Element) (e : Element) → ((x : A) → o ≡ Some x → Agrees (f x) e) → Agrees (option_and_then f o) e
@@ -80,6 +99,7 @@ some_false [] es h a = cc
 some_false (k ∷ ks) [] h a = absurd h
 some_false (None ∷ ks) (e ∷ es) h a = ap (λ b. truth_of e && b) (some_false ks es h.1 a) ∙ and_false (truth_of e)
 some_false (Some (Integer z) ∷ ks) (e ∷ es) h a = ap (λ b. truth_of e && b) (some_false ks es h.1 a) ∙ and_false (truth_of e)
+some_false (Some (Vector v) ∷ ks) (e ∷ es) h a = ap (λ b. truth_of e && b) (some_false ks es h.1 a) ∙ and_false (truth_of e)
 some_false (Some (Truth true) ∷ ks) (e ∷ es) h a = ap (λ b. truth_of e && b) (some_false ks es h.1 a) ∙ and_false (truth_of e)
 some_false (Some (Truth false) ∷ ks) (e ∷ es) h a = ap (λ x. truth_of x && list_all truth_of es) h.0
 
@@ -90,6 +110,7 @@ all_true [] (e ∷ es) h a = absurd h
 all_true (k ∷ ks) [] h a = absurd h
 all_true (None ∷ ks) (e ∷ es) h a = cc
 all_true (Some (Integer z) ∷ ks) (e ∷ es) h a = cc
+all_true (Some (Vector v) ∷ ks) (e ∷ es) h a = cc
 all_true (Some (Truth false) ∷ ks) (e ∷ es) h a = cc
 all_true (Some (Truth true) ∷ ks) (e ∷ es) h a = ap (λ x. truth_of x && list_all truth_of es) h.0 ∙ all_true ks es h.1 a
 
@@ -99,6 +120,7 @@ some_true [] es h a = cc
 some_true (k ∷ ks) [] h a = absurd h
 some_true (None ∷ ks) (e ∷ es) h a = ap (λ b. truth_of e || b) (some_true ks es h.1 a) ∙ or_true (truth_of e)
 some_true (Some (Integer z) ∷ ks) (e ∷ es) h a = ap (λ b. truth_of e || b) (some_true ks es h.1 a) ∙ or_true (truth_of e)
+some_true (Some (Vector v) ∷ ks) (e ∷ es) h a = ap (λ b. truth_of e || b) (some_true ks es h.1 a) ∙ or_true (truth_of e)
 some_true (Some (Truth false) ∷ ks) (e ∷ es) h a = ap (λ b. truth_of e || b) (some_true ks es h.1 a) ∙ or_true (truth_of e)
 some_true (Some (Truth true) ∷ ks) (e ∷ es) h a = ap (λ x. truth_of x || list_any truth_of es) h.0
 
@@ -109,6 +131,7 @@ all_false [] (e ∷ es) h a = absurd h
 all_false (k ∷ ks) [] h a = absurd h
 all_false (None ∷ ks) (e ∷ es) h a = cc
 all_false (Some (Integer z) ∷ ks) (e ∷ es) h a = cc
+all_false (Some (Vector v) ∷ ks) (e ∷ es) h a = cc
 all_false (Some (Truth true) ∷ ks) (e ∷ es) h a = cc
 all_false (Some (Truth false) ∷ ks) (e ∷ es) h a = ap (λ x. truth_of x || list_any truth_of es) h.0 ∙ all_false ks es h.1 a
 
@@ -143,6 +166,7 @@ not_true : (k : Option Element) (e : Element) → Agrees k e → Agrees (option_
 not_true None e h = tt
 not_true (Some (Truth b)) e h = ap (λ x. Truth (not (truth_of x))) h
 not_true (Some (Integer z)) e h = tt
+not_true (Some (Vector v)) e h = tt
 
 negated_agree : (ks : List (Option Element)) (es : List Element) → AllAgree ks es → AllAgree (as_disjunction ks) (premises_negated es)
 negated_agree [] [] h = tt
@@ -173,6 +197,7 @@ choice_true (c ∷ a ∷ b ∷ []) (x ∷ y ∷ []) h = absurd h.1.1
 choice_true (c ∷ a ∷ b ∷ []) (x ∷ y ∷ w ∷ v ∷ es) h = absurd h.1.1.1
 choice_true (None ∷ a ∷ b ∷ []) (x ∷ y ∷ w ∷ []) h = tt
 choice_true (Some (Integer z) ∷ a ∷ b ∷ []) (x ∷ y ∷ w ∷ []) h = tt
+choice_true (Some (Vector v) ∷ a ∷ b ∷ []) (x ∷ y ∷ w ∷ []) h = tt
 choice_true (Some (Truth true) ∷ a ∷ b ∷ []) (x ∷ y ∷ w ∷ []) h = subst (λ e. Agrees a (cond (truth_of e) y w)) (sym h.0) h.1.0
 choice_true (Some (Truth false) ∷ a ∷ b ∷ []) (x ∷ y ∷ w ∷ []) h = subst (λ e. Agrees b (cond (truth_of e) y w)) (sym h.0) h.1.1.0
 
@@ -273,3 +298,6 @@ known_step_true t (Core op) ks es h = core_true op ks es h
 known_step_true t (Ints op) ks es h =
     strict_true (known_integers ks) (known_ints op) (operate_ints t op (map integer_of es))
     (λ zs e. subst (λ ys. Agrees (known_ints op zs) (operate_ints t op ys)) (sym (integers_true ks es zs h e)) (ints_true t op zs))
+known_step_true t (Bits op) ks es h =
+    strict_true (known_vectors ks) (known_bits op) (operate_bits op (map vector_of es))
+    (λ vs e. subst (λ ys. Agrees (known_bits op vs) (operate_bits op ys)) (sym (vectors_true ks es vs h e)) (bits_true op vs))

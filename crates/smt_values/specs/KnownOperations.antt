@@ -5,6 +5,7 @@ use Rattle.std.specs.Bool.{beq}
 use Rattle.std.specs.Int.{int_div_euclid, int_rem_euclid}
 use Rattle.std.specs.List.{list_all, list_any}
 use Rattle.std.specs.Ordering.{int_eq}
+use Rattle.smt_bits.specs.BitVector.{BitVector}
 use Rattle.smt_theory.specs.declared.op.Arithmetic.{Arithmetic}
 use Rattle.smt_theory.specs.declared.op.Arithmetic.TheVariants.{Minus, Plus, Times, Div}
 use Rattle.smt_theory.specs.declared.op.CoreOp.{CoreOp}
@@ -12,8 +13,9 @@ use Rattle.smt_theory.specs.declared.op.CoreOp.TheVariants.{True, False, Not, Im
 use Rattle.smt_theory.specs.declared.op.IntsOp.{IntsOp}
 use Rattle.smt_theory.specs.declared.op.IntsOp.TheVariants.{Arithmetic as Left, Comparison as Chain, Mod, Abs, Divisible}
 use Rattle.smt_theory.specs.declared.op.Op.{Op}
-use Rattle.smt_theory.specs.declared.op.Op.TheVariants.{Core, Ints}
-use Rattle.smt_values.specs.Element.{Element, Truth, Integer}
+use Rattle.smt_theory.specs.declared.op.Op.TheVariants.{Core, Ints, Bits}
+use Rattle.smt_values.specs.Element.{Element, Truth, Integer, Vector}
+use Rattle.smt_values.specs.KnownBitOperations.{known_bits}
 use Rattle.smt_values.specs.Lists.{all_known, are_chained, are_distinct, steps_from}
 use Rattle.smt_values.specs.Operations.{is_same, exclusive_or, compares, divides}
 
@@ -24,6 +26,10 @@ known_truth _ = None
 abbrev pub known_integer : Option Element → Option ℤ
 known_integer (Some (Integer z)) = Some z
 known_integer _ = None
+
+abbrev pub known_vector : Option Element → Option BitVector
+known_vector (Some (Vector v)) = Some v
+known_vector _ = None
 
 -- whether it is known to be this truth value
 abbrev pub is_known : Bool → Option Element → Bool
@@ -120,9 +126,16 @@ known_ints (Divisible n) args = option_map Truth (known_divisible n args)
 abbrev pub known_integers : List (Option Element) → Option (List ℤ)
 known_integers args = all_known (map known_integer args)
 
+-- ---- theory FixedSizeBitVectors
+
+-- the bit vectors that the arguments are known to be, where each is
+abbrev pub known_vectors : List (Option Element) → Option (List BitVector)
+known_vectors args = all_known (map known_vector args)
+
 -- ---- all
 
 -- what is known of the result of an operator for arguments of which this much is known
 abbrev pub known_step : Op → List (Option Element) → Option Element
 known_step (Core op) args = known_core op args
 known_step (Ints op) args = option_and_then (known_ints op) (known_integers args)
+known_step (Bits op) args = option_and_then (known_bits op) (known_vectors args)

@@ -1,9 +1,17 @@
--- SMT-LIB 2.6, theory Ints: the values of constants.
+-- SMT-LIB 2.6, theories Ints and FixedSizeBitVectors: the values of constants.
 use Rattle.std.specs.Prelude.{ℕ, pos, List, Option, option_map}
 use Rattle.std.specs.Str.Parse.{digits_value}
-use Rattle.smt_values.specs.Element.{Element, Integer}
+use Rattle.smt_bits.specs.Literals.{known_constant}
+use Rattle.smt_values.specs.Element.{Element, Integer, Vector}
 use Rattle.smt_values.specs.KnownOperations.{within}
 
 -- what is known of the integer that decimal digits spell
 abbrev pub numeral_element : List ℕ → Option Element
 numeral_element digits = option_map Integer (within (pos (digits_value 10 digits)))
+
+-- the bit vectors that hexadecimal and binary digits spell
+abbrev pub hex_element : List ℕ → Option Element
+hex_element digits = option_map Vector (known_constant 16 4 digits)
+
+abbrev pub bin_element : List ℕ → Option Element
+bin_element digits = option_map Vector (known_constant 2 1 digits)

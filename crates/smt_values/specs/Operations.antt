@@ -1,10 +1,11 @@
--- SMT-LIB 2.6, theories Core and Ints: the meaning of the operators on elements. Integers have no bounds here. What an operator
+-- SMT-LIB 2.6, theories Core, Ints and FixedSizeBitVectors: the meaning of the operators on elements. Integers have no bounds here. What an operator
 -- gives for arguments that it has no rank for is of no interest.
-use Rattle.std.specs.Prelude.{ℕ, ◌%◌, ℤ, pos, ◌+ℤ◌, ◌-ℤ◌, ◌*ℤ◌, neg_ℤ, unsigned_abs, int_le, int_lt, List, [], ◌∷◌, Bool, true, false, not, ◌||◌, ◌==◌, map, fold, if◌then◌else◌}
+use Rattle.std.specs.Prelude.{ℕ, ◌%◌, ℤ, pos, ◌+ℤ◌, ◌-ℤ◌, ◌*ℤ◌, neg_ℤ, unsigned_abs, int_le, int_lt, List, [], ◌∷◌, Bool, true, false, not, ◌&&◌, ◌||◌, ◌==◌, map, fold, if◌then◌else◌}
 use Rattle.std.specs.Bool.{beq}
 use Rattle.std.specs.Int.{int_div_euclid, int_rem_euclid}
 use Rattle.std.specs.List.{list_all, list_any}
 use Rattle.std.specs.Ordering.{int_eq}
+use Rattle.smt_bits.specs.BitVector.{BitVector, vector}
 use Rattle.smt_theory.specs.declared.op.Arithmetic.{Arithmetic}
 use Rattle.smt_theory.specs.declared.op.Arithmetic.TheVariants.{Minus, Plus, Times, Div}
 use Rattle.smt_theory.specs.declared.op.Comparison.{Comparison}
@@ -14,11 +15,12 @@ use Rattle.smt_theory.specs.declared.op.CoreOp.TheVariants.{True, False, Not, Im
 use Rattle.smt_theory.specs.declared.op.IntsOp.{IntsOp}
 use Rattle.smt_theory.specs.declared.op.IntsOp.TheVariants.{Arithmetic as Left, Comparison as Chain, Mod, Abs, Divisible}
 use Rattle.smt_theory.specs.declared.op.Op.{Op}
-use Rattle.smt_theory.specs.declared.op.Op.TheVariants.{Core, Ints}
-use Rattle.smt_values.specs.Element.{Element, Truth, Integer}
+use Rattle.smt_theory.specs.declared.op.Op.TheVariants.{Core, Ints, Bits}
+use Rattle.smt_values.specs.BitOperations.{operate_bits}
+use Rattle.smt_values.specs.Element.{Element, Truth, Integer, Vector}
 use Rattle.smt_values.specs.Lists.{are_chained, are_distinct}
 
--- the truth value or the integer that an element is; of another element this is of no interest
+-- the truth value, the integer or the bit vector that an element is; of another element this is of no interest
 abbrev pub truth_of : Element → Bool
 truth_of (Truth b) = b
 truth_of _ = false
@@ -27,10 +29,15 @@ abbrev pub integer_of : Element → ℤ
 integer_of (Integer z) = z
 integer_of _ = pos 0
 
+abbrev pub vector_of : Element → BitVector
+vector_of (Vector v) = v
+vector_of _ = vector 0 0
+
 -- whether two elements are the same
 abbrev pub is_same : Element → Element → Bool
 is_same (Truth a) (Truth b) = beq a b
 is_same (Integer a) (Integer b) = int_eq a b
+is_same (Vector s) (Vector t) = s.width == t.width && s.number == t.number
 is_same _ _ = false
 
 -- ---- theory Core
@@ -113,3 +120,4 @@ operate_ints z _ _ = Truth false
 abbrev pub operate : DivisionByZero → Op → List Element → Element
 operate z (Core op) args = operate_core op args
 operate z (Ints op) args = operate_ints z op (map integer_of args)
+operate z (Bits op) args = operate_bits op (map vector_of args)

@@ -1,5 +1,6 @@
 //! Operators on values of which some may be open.
 
+mod bits;
 mod bools;
 mod ints;
 
@@ -21,5 +22,6 @@ pub fn apply(op: Op, args: &[Option<Value>]) -> Option<Value>
     match op {
         Op::Core(op) => bools::apply_core(op, args),
         Op::Ints(op) => ints::apply_ints(op, args),
+        Op::Bits(op) => bits::apply_bits(op, args),
     }
 }

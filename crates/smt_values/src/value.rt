@@ -1,9 +1,12 @@
 //! Values.
 
-/// A value of a sort's domain (SMT-LIB 2.6, theories Core and Ints).
+use smt_bits::Bits;
+
+/// A value of a sort's domain (SMT-LIB 2.6, theories Core, Ints and FixedSizeBitVectors).
 #[derive(Clone, Copy, Debug, PartialEq, Eq)]
 pub enum Value {
     Bool(bool),
     /// From -2^127 to 2^127 - 1: an integer outside has no value here.
     Int(i128),
+    Bits(Bits),
 }

@@ -191,7 +191,7 @@ fn is(arg: Option<Value>, truth: bool) -> bool
 {
     match arg {
         Some(Value::Bool(b)) => b == truth,
-        Some(Value::Int(_)) | None => false,
+        Some(Value::Int(_) | Value::Bits(_)) | None => false,
     }
 }
 
@@ -207,6 +207,6 @@ fn truth(arg: Option<Value>) -> Option<bool>
 {
     match arg {
         Some(Value::Bool(b)) => Some(b),
-        Some(Value::Int(_)) | None => None,
+        Some(Value::Int(_) | Value::Bits(_)) | None => None,
     }
 }

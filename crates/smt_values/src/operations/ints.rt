@@ -129,6 +129,6 @@ fn integer(arg: Option<Value>) -> Option<i128>
 {
     match arg {
         Some(Value::Int(z)) => Some(z),
-        Some(Value::Bool(_)) | None => None,
+        Some(Value::Bool(_) | Value::Bits(_)) | None => None,
     }
 }

@@ -1,0 +1,94 @@
+-- SMT-LIB 2.6, theory FixedSizeBitVectors and logic QF_BV: the meaning of the operators on bit vectors. There is no limit to widths
+-- here. What an operator gives for arguments that it has no rank for is of no interest.
+use Rattle.std.specs.Prelude.{ℕ, ◌+◌, ◌-◌, ◌*◌, ◌%◌, ◌^◌, int_le, int_lt, nat_le, nat_lt, List, [], ◌∷◌, Bool, false, fold}
+use Rattle.smt_bits.specs.BitVector.{BitVector, signed, vector}
+use Rattle.smt_bits.specs.Operators.{bvneg, bvadd, bvsub, bvmul, bvudiv, bvurem, bvnot, bvand, bvor, bvxor, bvnand, bvnor, bvxnor, bvsdiv, bvsrem, bvsmod, bvshl, bvlshr, bvashr, bvcomp, concat, extract, repeat, sign_extend, rotate_left, rotate_right}
+use Rattle.smt_theory.specs.declared.op.BitsBinary.{BitsBinary}
+use Rattle.smt_theory.specs.declared.op.BitsBinary.TheVariants.{Nand, Nor, Xnor, Subtract, DivideUnsigned, RemainderUnsigned, DivideSigned, RemainderSigned, ModuloSigned, ShiftLeft, ShiftRight, ShiftRightSigned}
+use Rattle.smt_theory.specs.declared.op.BitsComparison.{BitsComparison}
+use Rattle.smt_theory.specs.declared.op.BitsComparison.TheVariants.{UnsignedLess, UnsignedAtMost, UnsignedGreater, UnsignedAtLeast, SignedLess, SignedAtMost, SignedGreater, SignedAtLeast}
+use Rattle.smt_theory.specs.declared.op.BitsFolded.{BitsFolded}
+use Rattle.smt_theory.specs.declared.op.BitsFolded.TheVariants.{And, Or, Xor, Add, Multiply}
+use Rattle.smt_theory.specs.declared.op.BitsOp.{BitsOp}
+use Rattle.smt_theory.specs.declared.op.BitsOp.TheVariants.{Constant, Concat, Extract, Unary, Folded, Binary, Comparison, Comp, Repeat, ZeroExtend, SignExtend, RotateLeft, RotateRight}
+use Rattle.smt_theory.specs.declared.op.BitsUnary.{BitsUnary}
+use Rattle.smt_theory.specs.declared.op.BitsUnary.TheVariants.{Not, Negate}
+use Rattle.smt_values.specs.Element.{Element, Truth, Vector}
+
+-- ---- on numbers of m bits
+
+abbrev pub unary : BitsUnary → ℕ → ℕ → ℕ
+unary Not m s = bvnot m s
+unary Negate m s = bvneg m s
+
+abbrev pub folded : BitsFolded → ℕ → ℕ → ℕ → ℕ
+folded And m s t = bvand m s t
+folded Or m s t = bvor m s t
+folded Xor m s t = bvxor m s t
+folded Add m s t = bvadd m s t
+folded Multiply m s t = bvmul m s t
+
+abbrev pub binary : BitsBinary → ℕ → ℕ → ℕ → ℕ
+binary Nand m s t = bvnand m s t
+binary Nor m s t = bvnor m s t
+binary Xnor m s t = bvxnor m s t
+binary Subtract m s t = bvsub m s t
+binary DivideUnsigned m s t = bvudiv m s t
+binary RemainderUnsigned m s t = bvurem m s t
+binary DivideSigned m s t = bvsdiv m s t
+binary RemainderSigned m s t = bvsrem m s t
+binary ModuloSigned m s t = bvsmod m s t
+binary ShiftLeft m s t = bvshl m s t
+binary ShiftRight m s t = bvlshr m s t
+binary ShiftRightSigned m s t = bvashr m s t
+
+abbrev pub compares_bits : BitsComparison → ℕ → ℕ → ℕ → Bool
+compares_bits UnsignedLess m s t = nat_lt s t
+compares_bits UnsignedAtMost m s t = nat_le s t
+compares_bits UnsignedGreater m s t = nat_lt t s
+compares_bits UnsignedAtLeast m s t = nat_le t s
+compares_bits SignedLess m s t = int_lt (signed m s) (signed m t)
+compares_bits SignedAtMost m s t = int_le (signed m s) (signed m t)
+compares_bits SignedGreater m s t = int_lt (signed m t) (signed m s)
+compares_bits SignedAtLeast m s t = int_le (signed m t) (signed m s)
+
+-- ---- on vectors; where there are two, they are of one width
+
+abbrev pub unary_vector : BitsUnary → BitVector → BitVector
+unary_vector op s = vector s.width (unary op s.width s.number)
+
+abbrev pub folded_vector : BitsFolded → BitVector → BitVector → BitVector
+folded_vector op s t = vector s.width (folded op s.width s.number t.number)
+
+abbrev pub binary_vector : BitsBinary → BitVector → BitVector → BitVector
+binary_vector op s t = vector s.width (binary op s.width s.number t.number)
+
+abbrev pub are_compared : BitsComparison → BitVector → BitVector → Bool
+are_compared op s t = compares_bits op s.width s.number t.number
+
+-- s above t
+abbrev pub concatenated : BitVector → BitVector → BitVector
+concatenated s t = vector (s.width + t.width) (concat t.width s.number t.number)
+
+abbrev pub rotated_left : ℕ → BitVector → BitVector
+rotated_left i s = vector s.width (rotate_left i s.width s.number)
+
+abbrev pub rotated_right : ℕ → BitVector → BitVector
+rotated_right i s = vector s.width (rotate_right i s.width s.number)
+
+-- what an operator makes of its arguments. A constant's number is below 2 ^ n where it has a rank
+abbrev pub operate_bits : BitsOp → List BitVector → Element
+operate_bits (Constant x n) args = Vector (vector n (x % 2 ^ n))
+operate_bits Concat (s ∷ rest) = Vector (fold concatenated s rest)
+operate_bits (Extract i j) (s ∷ []) = Vector (vector (i - j + 1) (extract i j s.number))
+operate_bits (Unary op) (s ∷ []) = Vector (unary_vector op s)
+operate_bits (Folded op) (s ∷ rest) = Vector (fold (folded_vector op) s rest)
+operate_bits (Binary op) (s ∷ t ∷ []) = Vector (binary_vector op s t)
+operate_bits (Comparison op) (s ∷ t ∷ []) = Truth (are_compared op s t)
+operate_bits Comp (s ∷ t ∷ []) = Vector (vector 1 (bvcomp s.number t.number))
+operate_bits (Repeat i) (s ∷ []) = Vector (vector (i * s.width) (repeat i s.width s.number))
+operate_bits (ZeroExtend i) (s ∷ []) = Vector (vector (s.width + i) s.number)
+operate_bits (SignExtend i) (s ∷ []) = Vector (vector (s.width + i) (sign_extend i s.width s.number))
+operate_bits (RotateLeft i) (s ∷ []) = Vector (rotated_left i s)
+operate_bits (RotateRight i) (s ∷ []) = Vector (rotated_right i s)
+operate_bits _ _ = Truth false

@@ -1,0 +1,167 @@
+//! The operators of the theory FixedSizeBitVectors, and those that the logic QF_BV adds.
+
+ghost use Rattle.std.specs.Prelude.{◌≡◌, ◌×◌, option_and_then, option_map};
+ghost use Rattle.smt_bits.specs.BitVector.{vector};
+ghost use Rattle.smt_bits.specs.Parts.{concatenation};
+ghost use Rattle.smt_values.specs.BitOperations as meaning;
+ghost use Rattle.smt_values.specs.Element.{known_element, known_elements};
+ghost use Rattle.smt_values.specs.KnownBitOperations.{known_bits, known_folded, known_from_left, none_given, the_only, two_of_one_width};
+ghost use Rattle.smt_values.specs.KnownOperations.{known_vector, known_vectors};
+ghost use Rattle.smt_values.specs.Lists.{steps_from};
+
+use crate::value::Value;
+use smt_bits::{Bits, arithmetic, bitwise, parts, shifts, signed};
+use smt_theory::{BitsBinary, BitsComparison, BitsFolded, BitsOp, BitsUnary, Width};
+
+pub fn apply_bits(op: BitsOp, args: &[Option<Value>]) -> Option<Value>
+    ensures { known_element result ≡ option_and_then (known_bits op) (known_vectors (known_elements args.now)) }
+{
+    match op {
+        BitsOp::Constant(number, width) => constant(number, width, args).map(Value::Bits),
+        BitsOp::Concat => concatenated(args).map(Value::Bits),
+        BitsOp::Extract(i, j) => parts::extract(i, j, only(args)?).map(Value::Bits),
+        BitsOp::Unary(op) => Some(Value::Bits(unary(op, only(args)?))),
+        BitsOp::Folded(op) => folded(op, args).map(Value::Bits),
+        BitsOp::Binary(op) => of_two(args).map(|(s, t)| Value::Bits(binary(op, s, t))),
+        BitsOp::Comparison(op) => of_two(args).map(|(s, t)| Value::Bool(is_related(op, s, t))),
+        BitsOp::Comp => of_two(args).map(|(s, t)| Value::Bits(signed::bvcomp(s, t))),
+        BitsOp::Repeat(i) => parts::repeat(i, only(args)?).map(Value::Bits),
+        BitsOp::ZeroExtend(i) => parts::zero_extend(i, only(args)?).map(Value::Bits),
+        BitsOp::SignExtend(i) => parts::sign_extend(i, only(args)?).map(Value::Bits),
+        BitsOp::RotateLeft(i) => Some(Value::Bits(parts::rotate_left(i, only(args)?))),
+        BitsOp::RotateRight(i) => Some(Value::Bits(parts::rotate_right(i, only(args)?))),
+    }
+}
+
+fn constant(number: u128, width: Width, args: &[Option<Value>]) -> Option<Bits>
+    ensures { result ≡ option_and_then (λ vs. option_map (λ _. vector width (number % 2 ^ width)) (none_given vs)) (known_vectors (known_elements args.now)) }
+{
+    if args.is_empty() {
+        Some(Bits::new(width, number))
+    } else {
+        None
+    }
+}
+
+// What the parts are together, the first the highest.
+fn concatenated(args: &[Option<Value>]) -> Option<Bits>
+    ensures { result ≡ option_and_then (known_from_left concatenation) (known_vectors (known_elements args.now)) }
+{
+    let (first, rest) = args.split_first()?;
+    let mut whole = bits(*first)?;
+    for arg in rest {
+        whole = parts::concat(whole, bits(*arg)?)?;
+    }
+    Some(whole)
+}
+
+// What an operator gives that is applied from the left.
+fn folded(op: BitsFolded, args: &[Option<Value>]) -> Option<Bits>
+    ensures { result ≡ option_and_then (known_from_left (known_folded op)) (known_vectors (known_elements args.now)) }
+{
+    let (first, rest) = args.split_first()?;
+    let mut total = bits(*first)?;
+    for arg in rest {
+        total = combined(op, total, bits(*arg)?)?;
+    }
+    Some(total)
+}
+
+fn combined(op: BitsFolded, s: Bits, t: Bits) -> Option<Bits>
+    ensures { result ≡ known_folded op s t }
+{
+    if s.width() != t.width() {
+        return None;
+    }
+    Some(match op {
+        BitsFolded::And => bitwise::bvand(s, t),
+        BitsFolded::Or => bitwise::bvor(s, t),
+        BitsFolded::Xor => bitwise::bvxor(s, t),
+        BitsFolded::Add => arithmetic::bvadd(s, t),
+        BitsFolded::Multiply => arithmetic::bvmul(s, t),
+    })
+}
+
+fn unary(op: BitsUnary, s: Bits) -> Bits
+    ensures { result ≡ meaning.unary_vector op s }
+{
+    match op {
+        BitsUnary::Not => bitwise::bvnot(s),
+        BitsUnary::Negate => arithmetic::bvneg(s),
+    }
+}
+
+fn binary(op: BitsBinary, s: Bits, t: Bits) -> Bits
+    requires { s.width ≡ t.width }
+    ensures { result ≡ meaning.binary_vector op s t }
+{
+    match op {
+        BitsBinary::Nand => bitwise::bvnand(s, t),
+        BitsBinary::Nor => bitwise::bvnor(s, t),
+        BitsBinary::Xnor => bitwise::bvxnor(s, t),
+        BitsBinary::Subtract => arithmetic::bvsub(s, t),
+        BitsBinary::DivideUnsigned => arithmetic::bvudiv(s, t),
+        BitsBinary::RemainderUnsigned => arithmetic::bvurem(s, t),
+        BitsBinary::DivideSigned => signed::bvsdiv(s, t),
+        BitsBinary::RemainderSigned => signed::bvsrem(s, t),
+        BitsBinary::ModuloSigned => signed::bvsmod(s, t),
+        BitsBinary::ShiftLeft => shifts::bvshl(s, t),
+        BitsBinary::ShiftRight => shifts::bvlshr(s, t),
+        BitsBinary::ShiftRightSigned => shifts::bvashr(s, t),
+    }
+}
+
+fn is_related(op: BitsComparison, s: Bits, t: Bits) -> bool
+    ensures { result ≡ meaning.are_compared op s t }
+{
+    match op {
+        BitsComparison::UnsignedLess => s.number() < t.number(),
+        BitsComparison::UnsignedAtMost => s.number() <= t.number(),
+        BitsComparison::UnsignedGreater => s.number() > t.number(),
+        BitsComparison::UnsignedAtLeast => s.number() >= t.number(),
+        BitsComparison::SignedLess => s.signed() < t.signed(),
+        BitsComparison::SignedAtMost => s.signed() <= t.signed(),
+        BitsComparison::SignedGreater => s.signed() > t.signed(),
+        BitsComparison::SignedAtLeast => s.signed() >= t.signed(),
+    }
+}
+
+// The bit vector that the only argument is known to be.
+fn only(args: &[Option<Value>]) -> Option<Bits>
+    ensures { result ≡ option_and_then the_only (known_vectors (known_elements args.now)) }
+{
+    match args {
+        [arg] => bits(*arg),
+        _ => None,
+    }
+}
+
+// The bit vectors that two arguments of one width are known to be.
+fn of_two(args: &[Option<Value>]) -> Option<(Bits, Bits)>
+    ensures { result ≡ option_and_then two_of_one_width (known_vectors (known_elements args.now)) }
+{
+    match args {
+        [first, second] => of_one_width(bits(*first)?, bits(*second)?),
+        _ => None,
+    }
+}
+
+fn of_one_width(s: Bits, t: Bits) -> Option<(Bits, Bits)>
+    ensures { result ≡ two_of_one_width (s ∷ t ∷ []) }
+{
+    if s.width() == t.width() {
+        Some((s, t))
+    } else {
+        None
+    }
+}
+
+// The bit vector that the argument is known to be.
+fn bits(arg: Option<Value>) -> Option<Bits>
+    ensures { result ≡ known_vector (known_element arg) }
+{
+    match arg {
+        Some(Value::Bits(bits)) => Some(bits),
+        Some(Value::Bool(_) | Value::Int(_)) | None => None,
+    }
+}
