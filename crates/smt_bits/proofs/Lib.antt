@@ -1,2 +1,3 @@
 mod PartLemmas
+mod SignedDivisionLemmas
 pub mod SignedLemmas
