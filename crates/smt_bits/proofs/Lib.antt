@@ -2,4 +2,5 @@ pub mod ArithmeticLemmas
 pub mod BitwiseLemmas
 pub mod LiteralLemmas
 pub mod PartLemmas
+pub mod SignedDivisionLemmas
 pub mod SignedLemmas

@@ -5,7 +5,7 @@ ghost use Rattle.std.specs.Prelude.{◌≡◌, ◌+◌, ◌≤◌};
 ghost use Rattle.smt_theory.specs.Width.{width_of};
 ghost use Rattle.smt_bits.specs.BitVector.{vector};
 ghost use Rattle.smt_bits.specs.Operators as meaning;
-ghost use Rattle.smt_bits.specs.Parts.{concatenation, extraction, repetition, zero_extension};
+ghost use Rattle.smt_bits.specs.Parts.{concatenation, extraction, repetition, sign_extension, zero_extension};
 
 use crate::bits::Bits;
 use smt_theory::Width;
@@ -49,6 +49,13 @@ pub fn zero_extend(i: u64, s: Bits) -> Option<Bits>
     ensures { result ≡ zero_extension i s }
 {
     Some(Bits::new(extended(s.width(), i)?, s.number()))
+}
+
+/// `(_ sign_extend i)`: the bits of s after i copies of the highest. `None` where they pass 128 bits together.
+pub fn sign_extend(i: u64, s: Bits) -> Option<Bits>
+    ensures { result ≡ sign_extension i s }
+{
+    Some(Bits::from_signed(extended(s.width(), i)?, s.signed()))
 }
 
 /// `(_ rotate_left i)`: the bits of s, of which the highest i % m stand last.
