@@ -1,3 +1,4 @@
 pub mod ArithmeticLemmas
 pub mod BitwiseLemmas
+pub mod ShiftLemmas
 pub mod SignedLemmas
