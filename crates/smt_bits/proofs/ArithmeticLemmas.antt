@@ -1,5 +1,5 @@
 -- What the lowest m of the machine's 128 bits are.
-use Rattle.std.proofs.Common.{◌≡◌, ℕ, ◌+◌, ◌-◌, ◌*◌, ◌/◌, ◌%◌, ◌^◌, ◌<◌, ◌≤◌, sym, ap, ◌∙◌, arith, ne_eqb, div-le_self, mod-lt, lt_of_le_of_lt, lt_trans, pow_pos, pow-add, add-mul, one-mul, div-add-mod'}
+use Rattle.std.proofs.Common.{◌≡◌, ℕ, ◌+◌, ◌-◌, ◌*◌, ◌/◌, ◌%◌, ◌^◌, ◌<◌, ◌≤◌, sym, ap, ◌∙◌, arith, ne_eqb, div-le_self, lt_of_le_of_lt, pow_pos, pow-add, add-mul, one-mul, div-add-mod'}
 use Rattle.std.proofs.Math.Nat.{add-mod_right, add-mul-mod_self_right, mod-eq_of_lt, mod-le}
 use Rattle.std.proofs.Math.Pow.{mod-mod-pow}
 use Rattle.smt_bits.specs.Operators.{bvudiv, bvurem}

@@ -1,5 +1,5 @@
 -- Numbers by their bits.
-use Rattle.std.proofs.Common.{◌≡◌, ℕ, zero, suc, ◌+◌, ◌-◌, ◌*◌, ◌/◌, ◌%◌, ◌^◌, ◌<◌, ◌≤◌, min, max, bit_and, bit_or, bit_xor, refl, sym, ap, ap₂, ◌∙◌, arith, add_comm, lt_trans, lt_of_le_of_lt, lt_of_lt_of_le}
+use Rattle.std.proofs.Common.{◌≡◌, ℕ, zero, suc, ◌+◌, ◌-◌, ◌*◌, ◌%◌, ◌^◌, ◌<◌, ◌≤◌, min, max, bit_and, bit_or, bit_xor, refl, ap, ap₂, ◌∙◌, arith, add_comm, lt_of_le_of_lt, lt_of_lt_of_le}
 use Rattle.std.proofs.Math.Nat.{mod-one}
 use Rattle.std.proofs.lemmas.Nat.{and_le_l, mod-pow-add, or_lt, xor_lt}
 use Rattle.std.proofs.lemmas.Nat.Bits.{bit_at-lt, bit_at_and, bit_at_not, bit_at_or, bit_at_xor}
@@ -62,17 +62,17 @@ pub nand_is : (m s t : ℕ) → m ≤ 128 → s < 2 ^ 128 → bit_not w128 (bit_
 nand_is m s t within fits =
     let all : bit_and s t < 2 ^ 128 = lt_of_le_of_lt (and_le_l s t) fits in
     same_bits (λ i. 1 - bit_at s i * bit_at t i) (bit_not w128 (bit_and s t)) m
-        (λ i h. bit_at_not w128 (bit_and s t) i all (lt_of_lt_of_le h within) ∙ ap (λ b. 1 - b) (and_at s t i))
+    (λ i h. bit_at_not w128 (bit_and s t) i all (lt_of_lt_of_le h within) ∙ ap (λ b. 1 - b) (and_at s t i))
 
 pub nor_is : (m s t : ℕ) → m ≤ 128 → s < 2 ^ 128 → t < 2 ^ 128 → bit_not w128 (bit_or s t) % 2 ^ m ≡ bvnor m s t
 nor_is m s t within s_fits t_fits =
     let all = or_lt 128 s t s_fits t_fits in
     same_bits (λ i. (1 - bit_at s i) * (1 - bit_at t i)) (bit_not w128 (bit_or s t)) m
-        (λ i h. bit_at_not w128 (bit_or s t) i all (lt_of_lt_of_le h within) ∙ ap (λ b. 1 - b) (bit_at_or s t i)
-            ∙ neither (bit_at s i) (bit_at t i) (bit_at-lt s i) (bit_at-lt t i))
+    (λ i h. bit_at_not w128 (bit_or s t) i all (lt_of_lt_of_le h within) ∙ ap (λ b. 1 - b) (bit_at_or s t i)
+    ∙ neither (bit_at s i) (bit_at t i) (bit_at-lt s i) (bit_at-lt t i))
 
 pub xnor_is : (m s t : ℕ) → m ≤ 128 → s < 2 ^ 128 → t < 2 ^ 128 → bit_not w128 (bit_xor s t) % 2 ^ m ≡ bvxnor m s t
 xnor_is m s t within s_fits t_fits =
     let all = xor_lt 128 s t s_fits t_fits in
     same_bits (λ i. 1 - (bit_at s i + bit_at t i) % 2) (bit_not w128 (bit_xor s t)) m
-        (λ i h. bit_at_not w128 (bit_xor s t) i all (lt_of_lt_of_le h within) ∙ ap (λ b. 1 - b) (bit_at_xor s t i))
+    (λ i h. bit_at_not w128 (bit_xor s t) i all (lt_of_lt_of_le h within) ∙ ap (λ b. 1 - b) (bit_at_xor s t i))

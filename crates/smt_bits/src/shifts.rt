@@ -36,7 +36,6 @@ pub fn bvashr(s: Bits, t: Bits) -> Bits
     ensures { result ≡ vector s.width (meaning.bvashr s.width s.number t.number) }
 {
     // From m - 1 on each bit is a copy of the highest.
-    let highest = s.width().bits() - 1;
-    let amount = if t.number() < u128::from(highest) { t.number() } else { u128::from(highest) };
+    let amount = t.number().min(u128::from(s.width().bits() - 1));
     Bits::from_signed(s.width(), s.signed() >> amount)
 }

@@ -1,4 +1,4 @@
-use Rattle.std.proofs.Common.{rules, ◌≡◌, ℕ, ◌+◌, ◌≤◌}
+use Rattle.std.proofs.Common.{rules, ◌+◌, ◌≤◌}
 use Rattle.smt_bits.proofs.ArithmeticLemmas.{shorter}
 use Rattle.smt_bits.proofs.arithmetic.bvadd.Goals as goal
 

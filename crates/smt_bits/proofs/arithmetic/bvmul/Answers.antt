@@ -1,4 +1,4 @@
-use Rattle.std.proofs.Common.{rules, ◌≡◌, ℕ, ◌+◌, ◌-◌, ◌*◌, ◌/◌, ◌%◌, ◌^◌, ◌<◌, ◌≤◌, ap, subst, sym, arith, ◌∙◌, le_of_lt, lt_of_le_of_lt}
+use Rattle.std.proofs.Common.{rules, ◌*◌, ◌≤◌}
 use Rattle.smt_bits.proofs.ArithmeticLemmas.{shorter}
 use Rattle.smt_bits.proofs.arithmetic.bvmul.Goals as goal
 

@@ -1,4 +1,4 @@
-use Rattle.std.proofs.Common.{rules, ◌≡◌, ℕ, ◌+◌, ◌-◌, ◌*◌, ◌/◌, ◌%◌, ◌^◌, ◌<◌, ◌≤◌, ap, subst, sym, arith, ◌∙◌, le_of_lt, lt_of_le_of_lt}
+use Rattle.std.proofs.Common.{rules, ◌^◌, ◌<◌, ◌≤◌, subst, sym}
 use Rattle.smt_bits.proofs.ArithmeticLemmas.{negation}
 use Rattle.smt_bits.proofs.arithmetic.bvneg.Goals as goal
 

@@ -1,4 +1,4 @@
-use Rattle.std.proofs.Common.{rules, ◌≡◌, ◌<◌, ◌≤◌, ◌^◌, subst, sym}
+use Rattle.std.proofs.Common.{rules, ◌≡◌, ◌<◌, ◌≤◌, ◌^◌, subst}
 use Rattle.smt_bits.proofs.ArithmeticLemmas.{all_set, quotient, quotient_at_zero}
 use Rattle.smt_bits.proofs.arithmetic.bvudiv.Goals as goal
 

@@ -1,4 +1,3 @@
-use Rattle.std.proofs.Common.{◌≡◌}
 use Rattle.smt_bits.proofs.BitwiseLemmas.{and_is}
 use Rattle.smt_bits.proofs.bitwise.bvand.Goals as goal
 

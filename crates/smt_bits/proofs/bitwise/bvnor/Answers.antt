@@ -1,4 +1,4 @@
-use Rattle.std.proofs.Common.{rules, ◌≡◌, ◌<◌, ◌≤◌, ◌^◌}
+use Rattle.std.proofs.Common.{rules, ◌≤◌}
 use Rattle.smt_bits.proofs.BitwiseLemmas.{nor_is}
 use Rattle.smt_bits.proofs.bitwise.bvnor.Goals as goal
 

@@ -1,4 +1,3 @@
-use Rattle.std.proofs.Common.{◌≡◌}
 use Rattle.smt_bits.proofs.BitwiseLemmas.{or_is}
 use Rattle.smt_bits.proofs.bitwise.bvor.Goals as goal
 

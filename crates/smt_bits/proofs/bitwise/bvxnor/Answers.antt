@@ -1,4 +1,4 @@
-use Rattle.std.proofs.Common.{rules, ◌≡◌, ◌<◌, ◌≤◌, ◌^◌}
+use Rattle.std.proofs.Common.{rules, ◌≤◌}
 use Rattle.smt_bits.proofs.BitwiseLemmas.{xnor_is}
 use Rattle.smt_bits.proofs.bitwise.bvxnor.Goals as goal
 

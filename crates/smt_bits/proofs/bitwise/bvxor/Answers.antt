@@ -1,4 +1,3 @@
-use Rattle.std.proofs.Common.{◌≡◌}
 use Rattle.smt_bits.proofs.BitwiseLemmas.{xor_is}
 use Rattle.smt_bits.proofs.bitwise.bvxor.Goals as goal
 
