@@ -52,61 +52,51 @@ then_none (Some x) = refl
 
 -- ---- the argument at a place
 
-drop_at : (xs : List (Option Value)) (i : ℕ) → i < length xs → drop i xs ≡ get_or xs i None ∷ drop (i + 1) xs
-drop_at xs i below = drop-cons xs i None below ∙ ap (λ n. get_or xs i None ∷ drop n xs) (sym (add-one i))
+pub drop_at : (xs : List (Option Value)) (i : ℕ) (x : Option Value) → i < length xs → x ≡ get_or xs i x → drop i xs ≡ x ∷ drop (i + 1) xs
+drop_at xs i x below is = drop-cons xs i x below ∙ ap (λ n. get_or xs i x ∷ drop n xs) (sym (add-one i)) ∙ ap (λ y. y ∷ drop (i + 1) xs) (sym is)
 
 -- where g makes what is known of one argument, and of each
 module _ {A : Type 0} (one : Option Value → Option A) (g : List (Option Value) → List (Option A)) (each : (x : Option Value) (xs : List (Option Value)) → g (x ∷ xs) ≡ one x ∷ g xs) where
-  pub map_at : {B : Type 0} (f : List A → B) (xs : List (Option Value)) (i : ℕ) (y : A) → i < length xs → one (get_or xs i None) ≡ Some y
+  pub map_at : {B : Type 0} (f : List A → B) (xs : List (Option Value)) (i : ℕ) (x : Option Value) (y : A) → i < length xs → x ≡ get_or xs i x → one x ≡ Some y
       → option_map f (all_known (g (drop i xs))) ≡ option_map (λ ys. f (y ∷ ys)) (all_known (g (drop (i + 1) xs)))
-  map_at f xs i y below e =
-      ap (λ zs. option_map f (all_known (g zs))) (drop_at xs i below) ∙ ap (λ zs. option_map f (all_known zs)) (each (get_or xs i None) (drop (i + 1) xs))
-      ∙ map_more f (one (get_or xs i None)) y (g (drop (i + 1) xs)) e
+  map_at f xs i x y below is e =
+      ap (λ zs. option_map f (all_known (g zs))) (drop_at xs i x below is) ∙ ap (λ zs. option_map f (all_known zs)) (each x (drop (i + 1) xs))
+      ∙ map_more f (one x) y (g (drop (i + 1) xs)) e
 
-  pub then_at : {B : Type 0} (f : List A → Option B) (xs : List (Option Value)) (i : ℕ) (y : A) → i < length xs → one (get_or xs i None) ≡ Some y
+  pub then_at : {B : Type 0} (f : List A → Option B) (xs : List (Option Value)) (i : ℕ) (x : Option Value) (y : A) → i < length xs → x ≡ get_or xs i x → one x ≡ Some y
       → option_and_then f (all_known (g (drop i xs))) ≡ option_and_then (λ ys. f (y ∷ ys)) (all_known (g (drop (i + 1) xs)))
-  then_at f xs i y below e =
-      ap (λ zs. option_and_then f (all_known (g zs))) (drop_at xs i below) ∙ ap (λ zs. option_and_then f (all_known zs)) (each (get_or xs i None) (drop (i + 1) xs))
-      ∙ then_more f (one (get_or xs i None)) y (g (drop (i + 1) xs)) e
+  then_at f xs i x y below is e =
+      ap (λ zs. option_and_then f (all_known (g zs))) (drop_at xs i x below is) ∙ ap (λ zs. option_and_then f (all_known zs)) (each x (drop (i + 1) xs))
+      ∙ then_more f (one x) y (g (drop (i + 1) xs)) e
 
 -- ---- the steps of the loops
 
-pub parity_at : (xs : List (Option Value)) (i : ℕ) (odd b : Bool) → i < length xs → known_truth (known_element (get_or xs i None)) ≡ Some b
+pub parity_at : (xs : List (Option Value)) (i : ℕ) (x : Option Value) (odd b : Bool) → i < length xs → x ≡ get_or xs i x → known_truth (known_element x) ≡ Some b
     → option_map (λ bs. Truth (fold exclusive_or odd bs)) (all_known (map known_truth (known_elements (drop i xs))))
     ≡ option_map (λ bs. Truth (fold exclusive_or (exclusive_or odd b) bs)) (all_known (map known_truth (known_elements (drop (i + 1) xs))))
-parity_at xs i odd b below e =
-    map_at (λ x. known_truth (known_element x)) (λ xs. map known_truth (known_elements xs)) (λ x xs. refl) (λ bs. Truth (fold exclusive_or odd bs)) xs i b below e
+parity_at xs i x odd b below is e =
+    map_at (λ x. known_truth (known_element x)) (λ xs. map known_truth (known_elements xs)) (λ x xs. refl) (λ bs. Truth (fold exclusive_or odd bs)) xs i x b below is e
 
 pub and_assoc : (a b c : Bool) → (a && (b && c)) ≡ ((a && b) && c)
 and_assoc true b c = refl
 and_assoc false b c = refl
 
-pub equality_at : (xs : List (Option Value)) (i : ℕ) (equal still : Bool) (last next now : Element) → i < length xs → known_element (get_or xs i None) ≡ Some next
-    → (equal && is_same last next) ≡ still → next ≡ now
-    → option_map (λ es. Truth (equal && are_chained is_same (last ∷ es))) (all_known (known_elements (drop i xs)))
-    ≡ option_map (λ es. Truth (still && are_chained is_same (now ∷ es))) (all_known (known_elements (drop (i + 1) xs)))
-equality_at xs i equal still last next now below e s n =
-    map_at known_element known_elements (λ x xs. refl) (λ es. Truth (equal && are_chained is_same (last ∷ es))) xs i next below e
-    ∙ (λ j. option_map (λ es. Truth (and_assoc equal (is_same last next) (are_chained is_same (next ∷ es)) j)) (all_known (known_elements (drop (i + 1) xs))))
-    ∙ ap (λ b. option_map (λ es. Truth (b && are_chained is_same (next ∷ es))) (all_known (known_elements (drop (i + 1) xs)))) s
-    ∙ ap (λ x. option_map (λ es. Truth (still && are_chained is_same (x ∷ es))) (all_known (known_elements (drop (i + 1) xs)))) n
-
-pub chain_at : (relation : ℤ → ℤ → Bool) (xs : List (Option Value)) (i : ℕ) (holds still : Bool) (last next now : ℤ) → i < length xs → known_integer (known_element (get_or xs i None)) ≡ Some next
+pub chain_at : (relation : ℤ → ℤ → Bool) (xs : List (Option Value)) (i : ℕ) (x : Option Value) (holds still : Bool) (last next now : ℤ) → i < length xs → x ≡ get_or xs i x → known_integer (known_element x) ≡ Some next
     → (holds && relation last next) ≡ still → next ≡ now
     → option_map (λ zs. holds && are_chained relation (last ∷ zs)) (known_integers (known_elements (drop i xs)))
     ≡ option_map (λ zs. still && are_chained relation (now ∷ zs)) (known_integers (known_elements (drop (i + 1) xs)))
-chain_at relation xs i holds still last next now below e s n =
-    map_at (λ x. known_integer (known_element x)) (λ xs. map known_integer (known_elements xs)) (λ x xs. refl) (λ zs. holds && are_chained relation (last ∷ zs)) xs i next below e
+chain_at relation xs i x holds still last next now below is e s n =
+    map_at (λ x. known_integer (known_element x)) (λ xs. map known_integer (known_elements xs)) (λ x xs. refl) (λ zs. holds && are_chained relation (last ∷ zs)) xs i x next below is e
     ∙ (λ j. option_map (λ zs. and_assoc holds (relation last next) (are_chained relation (next ∷ zs)) j) (known_integers (known_elements (drop (i + 1) xs))))
     ∙ ap (λ b. option_map (λ zs. b && are_chained relation (next ∷ zs)) (known_integers (known_elements (drop (i + 1) xs)))) s
     ∙ ap (λ x. option_map (λ zs. still && are_chained relation (x ∷ zs)) (known_integers (known_elements (drop (i + 1) xs)))) n
 
-pub steps_at : (combine : ℤ → ℤ → Option ℤ) (xs : List (Option Value)) (i : ℕ) (total next sum : ℤ) → i < length xs → known_integer (known_element (get_or xs i None)) ≡ Some next → combine total next ≡ Some sum
-    → option_and_then (steps_from combine total) (known_integers (known_elements (drop i xs)))
-    ≡ option_and_then (steps_from combine sum) (known_integers (known_elements (drop (i + 1) xs)))
-steps_at combine xs i total next sum below e combined =
-    then_at (λ x. known_integer (known_element x)) (λ xs. map known_integer (known_elements xs)) (λ x xs. refl) (steps_from combine total) xs i next below e
-    ∙ ap (λ o. option_and_then (λ zs. option_and_then (λ c. steps_from combine c zs) o) (known_integers (known_elements (drop (i + 1) xs)))) combined
+pub steps_at : {A : Type 0} (one : Option Element → Option A) (combine : A → A → Option A) (xs : List (Option Value)) (i : ℕ) (x : Option Value) (total next sum : A) → i < length xs → x ≡ get_or xs i x
+    → one (known_element x) ≡ Some next → combine total next ≡ Some sum
+    → option_and_then (steps_from combine total) (all_known (map one (known_elements (drop i xs)))) ≡ option_and_then (steps_from combine sum) (all_known (map one (known_elements (drop (i + 1) xs))))
+steps_at one combine xs i x total next sum below is e combined =
+    then_at (λ x. one (known_element x)) (λ xs. map one (known_elements xs)) (λ x xs. refl) (steps_from combine total) xs i x next below is e
+    ∙ ap (λ o. option_and_then (λ zs. option_and_then (λ c. steps_from combine c zs) o) (all_known (map one (known_elements (drop (i + 1) xs))))) combined
 
 -- ---- arguments of another number
 
@@ -154,14 +144,14 @@ from_left_many Plus a b zs = refl
 from_left_many Times a b zs = refl
 from_left_many Div a b zs = refl
 
-pub from_left_steps : (op : Arithmetic) (xs : List (Option Value)) (first : ℤ) → 2 ≤ length xs → known_integer (known_element (get_or xs 0 None)) ≡ Some first
+pub from_left_steps : (op : Arithmetic) (xs : List (Option Value)) (item : Option Value) (first : ℤ) → 2 ≤ length xs → item ≡ get_or xs 0 item → known_integer (known_element item) ≡ Some first
     → option_and_then (steps_from (known_arithmetic op) first) (known_integers (known_elements (drop 1 xs))) ≡ option_and_then (known_from_left op) (known_integers (known_elements xs))
-from_left_steps op [] first two e = absurd (omega arith)
-from_left_steps op (x ∷ []) first two e = absurd (omega arith)
-from_left_steps op (x ∷ y ∷ xs) first two e =
+from_left_steps op [] item first two is e = absurd (omega arith)
+from_left_steps op (x ∷ []) item first two is e = absurd (omega arith)
+from_left_steps op (x ∷ y ∷ xs) item first two is e =
     then_same (steps_from (known_arithmetic op) first) (λ zs. known_from_left op (first ∷ zs)) (known_integers (known_elements (y ∷ xs)))
     (λ zs k. many zs (length_integers (y ∷ xs) zs k))
-    ∙ sym (then_more (known_from_left op) (known_integer (known_element x)) first (map known_integer (known_elements (y ∷ xs))) e)
+    ∙ sym (then_more (known_from_left op) (known_integer (known_element x)) first (map known_integer (known_elements (y ∷ xs))) (ap (λ z. known_integer (known_element z)) (sym is) ∙ e))
   where
     many : (zs : List ℤ) → length zs ≡ length (y ∷ xs) → steps_from (known_arithmetic op) first zs ≡ known_from_left op (first ∷ zs)
     many [] n = absurd (none n)
@@ -265,21 +255,48 @@ all_some (Some x ∷ xs) = by (all_known (known_elements xs)) (all_some xs)
     by None h = h
     by (Some es) h = h
 
+-- a test of elements that are all known, by one of what is known of them
+module _ (known_test : List (Option Element) → Bool) (test : List Element → Bool) (same : (ks : List (Option Element)) (es : List Element) → all_known ks ≡ Some es → known_test ks ≡ test es) where
+  tested : (xs : List (Option Value)) → list_all is_some xs ≡ true → Some (Truth (known_test (known_elements xs))) ≡ option_map (λ es. Truth (test es)) (all_known (known_elements xs))
+  tested xs h = by (all_known (known_elements xs)) (all_some xs) (same (known_elements xs))
+    where
+      by : (o : _) → MatchOption o (list_all is_some xs ≡ false) (λ es. list_all is_some xs ≡ true) → ((es : _) → o ≡ Some es → known_test (known_elements xs) ≡ test es)
+          → Some (Truth (known_test (known_elements xs))) ≡ option_map (λ es. Truth (test es)) o
+      by None k f = cc
+      by (Some es) k f = ap (λ b. Some (Truth b)) (f es refl)
+
+  untested : (xs : List (Option Value)) → list_all is_some xs ≡ false → None ≡ option_map (λ es. Truth (test es)) (all_known (known_elements xs))
+  untested xs h = by (all_known (known_elements xs)) (all_some xs)
+    where
+      by : (o : _) → MatchOption o (list_all is_some xs ≡ false) (λ es. list_all is_some xs ≡ true) → None ≡ option_map (λ es. Truth (test es)) o
+      by None k = refl
+      by (Some es) k = cc
+
 pub distinct_all : (xs : List (Option Value)) → list_all is_some xs ≡ true
     → Some (Truth (are_distinct is_same_known (known_elements xs))) ≡ option_map (λ es. Truth (are_distinct is_same es)) (all_known (known_elements xs))
-distinct_all xs h = by (all_known (known_elements xs)) (all_some xs) (distinct_known (known_elements xs))
-  where
-    by : (o : _) → MatchOption o (list_all is_some xs ≡ false) (λ es. list_all is_some xs ≡ true)
-        → ((es : _) → o ≡ Some es → are_distinct is_same_known (known_elements xs) ≡ are_distinct is_same es)
-        → Some (Truth (are_distinct is_same_known (known_elements xs))) ≡ option_map (λ es. Truth (are_distinct is_same es)) o
-    by None k f = cc
-    by (Some es) k f = ap (λ b. Some (Truth b)) (f es refl)
+distinct_all = tested (are_distinct is_same_known) (are_distinct is_same) distinct_known
 
 pub distinct_open : (xs : List (Option Value)) → list_all is_some xs ≡ false → None ≡ option_map (λ es. Truth (are_distinct is_same es)) (all_known (known_elements xs))
-distinct_open xs h = by (all_known (known_elements xs)) (all_some xs)
+distinct_open = untested (are_distinct is_same_known) (are_distinct is_same) distinct_known
+
+-- so for `=`
+chained_known : (ks : List (Option Element)) (es : List Element) → all_known ks ≡ Some es → are_chained is_same_known ks ≡ are_chained is_same es
+chained_known [] es h = let n : [] ≡ es = cc in ap (are_chained is_same) n
+chained_known (None ∷ ks) es h = cc
+chained_known (Some k ∷ []) es h = let n : k ∷ [] ≡ es = cc in ap (are_chained is_same) n
+chained_known (Some k ∷ None ∷ ks) es h = cc
+chained_known (Some k ∷ Some l ∷ ks) es h = by (all_known ks) (λ fs e. chained_known (Some l ∷ ks) (l ∷ fs) (ap (option_map (λ gs. l ∷ gs)) e)) h
   where
-    by : (o : _) → MatchOption o (list_all is_some xs ≡ false) (λ es. list_all is_some xs ≡ true) → None ≡ option_map (λ es. Truth (are_distinct is_same es)) o
-    by None k = refl
-    by (Some es) k = cc
+    by : (o : _) → ((fs : _) → o ≡ Some fs → are_chained is_same_known (Some l ∷ ks) ≡ are_chained is_same (l ∷ fs)) → option_map (λ gs. k ∷ gs) (option_map (λ gs. l ∷ gs) o) ≡ Some es
+        → are_chained is_same_known (Some k ∷ Some l ∷ ks) ≡ are_chained is_same es
+    by None f h = cc
+    by (Some fs) f h = let n : k ∷ l ∷ fs ≡ es = cc in ap (λ b. is_same k l && b) (f fs refl) ∙ ap (are_chained is_same) n
+
+pub chained_all : (xs : List (Option Value)) → list_all is_some xs ≡ true
+    → Some (Truth (are_chained is_same_known (known_elements xs))) ≡ option_map (λ es. Truth (are_chained is_same es)) (all_known (known_elements xs))
+chained_all = tested (are_chained is_same_known) (are_chained is_same) chained_known
+
+pub chained_open : (xs : List (Option Value)) → list_all is_some xs ≡ false → None ≡ option_map (λ es. Truth (are_chained is_same es)) (all_known (known_elements xs))
+chained_open = untested (are_chained is_same_known) (are_chained is_same) chained_known
 
 pub ruleset tests = (list_any-map, list_all-map)

@@ -1,6 +1,6 @@
 //! The operators of the theory FixedSizeBitVectors, and those that the logic QF_BV adds.
 
-ghost use Rattle.std.specs.Prelude.{◌≡◌, ◌×◌, option_and_then, option_map};
+ghost use Rattle.std.specs.Prelude.{◌≡◌, ◌∷◌, ◌%◌, ◌^◌, [], option_and_then, option_map};
 ghost use Rattle.smt_bits.specs.BitVector.{vector};
 ghost use Rattle.smt_bits.specs.Parts.{concatenation};
 ghost use Rattle.smt_values.specs.BitOperations as meaning;
@@ -48,9 +48,9 @@ fn concatenated(args: &[Option<Value>]) -> Option<Bits>
     ensures { result ≡ option_and_then (known_from_left concatenation) (known_vectors (known_elements args.now)) }
 {
     let (first, rest) = args.split_first()?;
-    let mut whole = bits(*first)?;
+    let mut whole = bits(first)?;
     for arg in rest {
-        whole = parts::concat(whole, bits(*arg)?)?;
+        whole = parts::concat(whole, bits(arg)?)?;
     }
     Some(whole)
 }
@@ -60,9 +60,9 @@ fn folded(op: BitsFolded, args: &[Option<Value>]) -> Option<Bits>
     ensures { result ≡ option_and_then (known_from_left (known_folded op)) (known_vectors (known_elements args.now)) }
 {
     let (first, rest) = args.split_first()?;
-    let mut total = bits(*first)?;
+    let mut total = bits(first)?;
     for arg in rest {
-        total = combined(op, total, bits(*arg)?)?;
+        total = combined(op, total, bits(arg)?)?;
     }
     Some(total)
 }
@@ -131,7 +131,7 @@ fn only(args: &[Option<Value>]) -> Option<Bits>
     ensures { result ≡ option_and_then the_only (known_vectors (known_elements args.now)) }
 {
     match args {
-        [arg] => bits(*arg),
+        [arg] => bits(arg),
         _ => None,
     }
 }
@@ -141,7 +141,7 @@ fn of_two(args: &[Option<Value>]) -> Option<(Bits, Bits)>
     ensures { result ≡ option_and_then two_of_one_width (known_vectors (known_elements args.now)) }
 {
     match args {
-        [first, second] => of_one_width(bits(*first)?, bits(*second)?),
+        [first, second] => of_one_width(bits(first)?, bits(second)?),
         _ => None,
     }
 }
@@ -157,11 +157,11 @@ fn of_one_width(s: Bits, t: Bits) -> Option<(Bits, Bits)>
 }
 
 // The bit vector that the argument is known to be.
-fn bits(arg: Option<Value>) -> Option<Bits>
-    ensures { result ≡ known_vector (known_element arg) }
+fn bits(arg: &Option<Value>) -> Option<Bits>
+    ensures { result ≡ known_vector (known_element arg.now) }
 {
     match arg {
-        Some(Value::Bits(bits)) => Some(bits),
+        Some(Value::Bits(bits)) => Some(*bits),
         Some(Value::Bool(_) | Value::Int(_)) | None => None,
     }
 }

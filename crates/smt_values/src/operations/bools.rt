@@ -5,7 +5,7 @@ ghost use Rattle.std.specs.List.{list_all, list_any};
 ghost use Rattle.smt_values.specs.Element.{element_of, known_element, known_elements};
 ghost use Rattle.smt_values.specs.Internal.Same.{is_same_known};
 ghost use Rattle.smt_values.specs.KnownOperations.{as_disjunction, decided, is_known, known_choice, known_core, known_negation, known_truth};
-ghost use Rattle.smt_values.specs.Lists.{are_distinct};
+ghost use Rattle.smt_values.specs.Lists.{are_chained, are_distinct};
 ghost use Rattle.smt_values.specs.Operations as meaning;
 ghost use Rattle.smt_values.specs.Operations.{exclusive_or};
 ghost use Rattle.smt_theory.specs.declared.op.CoreOp.TheVariants.{Distinct, Equal, Xor};
@@ -34,7 +34,7 @@ fn negation(args: &[Option<Value>]) -> Option<Value>
     ensures { known_element result ≡ known_negation (known_elements args.now) }
 {
     match args {
-        [arg] => Some(Value::Bool(!truth(*arg)?)),
+        [arg] => Some(Value::Bool(!truth(arg)?)),
         _ => None,
     }
 }
@@ -43,7 +43,7 @@ fn choice(args: &[Option<Value>]) -> Option<Value>
     ensures { known_element result ≡ known_choice (known_elements args.now) }
 {
     match args {
-        [condition, chosen, other] => { if truth(*condition)? { *chosen } else { *other } }
+        [condition, chosen, other] => { if truth(condition)? { *chosen } else { *other } }
         _ => None,
     }
 }
@@ -68,9 +68,9 @@ fn implication(args: &[Option<Value>]) -> Option<Value>
     let Some((conclusion, premises)) = args.split_last() else {
         return Some(Value::Bool(false));
     };
-    if is_met(premises, *conclusion) {
+    if is_met(premises, conclusion) {
         Some(Value::Bool(true))
-    } else if is_missed(premises, *conclusion) {
+    } else if is_missed(premises, conclusion) {
         Some(Value::Bool(false))
     } else {
         None
@@ -78,15 +78,15 @@ fn implication(args: &[Option<Value>]) -> Option<Value>
 }
 
 // Whether the implication is known to be true: a premise is false or the conclusion true.
-fn is_met(premises: &[Option<Value>], conclusion: Option<Value>) -> bool
-    ensures { result ≡ (list_any (λ premise. is_known false (known_element premise)) premises.now || is_known true (known_element conclusion)) }
+fn is_met(premises: &[Option<Value>], conclusion: &Option<Value>) -> bool
+    ensures { result ≡ (list_any (λ premise. is_known false (known_element premise)) premises.now || is_known true (known_element conclusion.now)) }
 {
     some_are(premises, false) || is(conclusion, true)
 }
 
 // Whether the implication is known to be false: the premises are all true and the conclusion false.
-fn is_missed(premises: &[Option<Value>], conclusion: Option<Value>) -> bool
-    ensures { result ≡ (list_all (λ premise. is_known true (known_element premise)) premises.now && is_known false (known_element conclusion)) }
+fn is_missed(premises: &[Option<Value>], conclusion: &Option<Value>) -> bool
+    ensures { result ≡ (list_all (λ premise. is_known true (known_element premise)) premises.now && is_known false (known_element conclusion.now)) }
 {
     all_are(premises, true) && is(conclusion, false)
 }
@@ -96,7 +96,7 @@ fn parity(args: &[Option<Value>]) -> Option<Value>
 {
     let mut odd = false;
     for arg in args {
-        let is_true = truth(*arg)?;
+        let is_true = truth(arg)?;
         odd = is_one_of(odd, is_true);
     }
     Some(Value::Bool(odd))
@@ -105,17 +105,26 @@ fn parity(args: &[Option<Value>]) -> Option<Value>
 fn equality(args: &[Option<Value>]) -> Option<Value>
     ensures { known_element result ≡ known_core Equal (known_elements args.now) }
 {
-    let Some((first, rest)) = args.split_first() else {
-        return Some(Value::Bool(true));
-    };
-    let mut last = (*first)?;
-    let mut equal = true;
-    for arg in rest {
-        let next = (*arg)?;
-        equal = equal && is_same(last, next);
-        last = next;
+    if all_are_known(args) {
+        Some(Value::Bool(are_all_same(args)))
+    } else {
+        None
     }
-    Some(Value::Bool(equal))
+}
+
+// Whether each is the same as the one after it.
+#[tactic(auto, using(crate::proofs::KnownLemmas::tests))]
+fn are_all_same(args: &[Option<Value>]) -> bool
+    ensures { result ≡ are_chained is_same_known (known_elements args.now) }
+{
+    let mut left = args;
+    while let [first, second, ..] = left {
+        if !are_both(first, second) {
+            return false;
+        }
+        left = &left[1..];
+    }
+    true
 }
 
 fn distinctness(args: &[Option<Value>]) -> Option<Value>
@@ -135,7 +144,7 @@ fn are_all_distinct(args: &[Option<Value>]) -> bool
 {
     let mut left = args;
     while let Some((first, rest)) = left.split_first() {
-        if is_among(*first, rest) {
+        if is_among(first, rest) {
             return false;
         }
         left = rest;
@@ -143,15 +152,15 @@ fn are_all_distinct(args: &[Option<Value>]) -> bool
     true
 }
 
-fn is_among(value: Option<Value>, others: &[Option<Value>]) -> bool
-    ensures { result ≡ list_any (λ other. is_same_known (known_element value) (known_element other)) others.now }
+fn is_among(value: &Option<Value>, others: &[Option<Value>]) -> bool
+    ensures { result ≡ list_any (λ other. is_same_known (known_element value.now) (known_element other)) others.now }
 {
-    others.iter().any(|other| are_both(value, *other))
+    others.iter().any(|other| are_both(value, other))
 }
 
 // Whether both are known to be the same, or both open.
-fn are_both(a: Option<Value>, b: Option<Value>) -> bool
-    ensures { result ≡ is_same_known (known_element a) (known_element b) }
+fn are_both(a: &Option<Value>, b: &Option<Value>) -> bool
+    ensures { result ≡ is_same_known (known_element a.now) (known_element b.now) }
 {
     match (a, b) {
         (Some(a), Some(b)) => is_same(a, b),
@@ -170,13 +179,13 @@ fn is_one_of(a: bool, b: bool) -> bool
 fn some_are(args: &[Option<Value>], truth: bool) -> bool
     ensures { result ≡ list_any (λ arg. is_known truth (known_element arg)) args.now }
 {
-    args.iter().any(|arg| is(*arg, truth))
+    args.iter().any(|arg| is(arg, truth))
 }
 
 fn all_are(args: &[Option<Value>], truth: bool) -> bool
     ensures { result ≡ list_all (λ arg. is_known truth (known_element arg)) args.now }
 {
-    args.iter().all(|arg| is(*arg, truth))
+    args.iter().all(|arg| is(arg, truth))
 }
 
 fn all_are_known(args: &[Option<Value>]) -> bool
@@ -186,27 +195,27 @@ fn all_are_known(args: &[Option<Value>]) -> bool
 }
 
 // Whether the argument is known to be this truth value.
-fn is(arg: Option<Value>, truth: bool) -> bool
-    ensures { result ≡ is_known truth (known_element arg) }
+fn is(arg: &Option<Value>, truth: bool) -> bool
+    ensures { result ≡ is_known truth (known_element arg.now) }
 {
     match arg {
-        Some(Value::Bool(b)) => b == truth,
+        Some(Value::Bool(b)) => *b == truth,
         Some(Value::Int(_) | Value::Bits(_)) | None => false,
     }
 }
 
-fn is_same(a: Value, b: Value) -> bool
-    ensures { result ≡ meaning.is_same (element_of a) (element_of b) }
+fn is_same(a: &Value, b: &Value) -> bool
+    ensures { result ≡ meaning.is_same (element_of a.now) (element_of b.now) }
 {
     a == b
 }
 
 // The truth value that the argument is known to be.
-fn truth(arg: Option<Value>) -> Option<bool>
-    ensures { result ≡ known_truth (known_element arg) }
+fn truth(arg: &Option<Value>) -> Option<bool>
+    ensures { result ≡ known_truth (known_element arg.now) }
 {
     match arg {
-        Some(Value::Bool(b)) => Some(b),
+        Some(Value::Bool(b)) => Some(*b),
         Some(Value::Int(_) | Value::Bits(_)) | None => None,
     }
 }

@@ -27,10 +27,10 @@ fn from_left(op: Arithmetic, args: &[Option<Value>]) -> Option<i128>
 {
     match args {
         [arg] => match op {
-            Arithmetic::Minus => integer(*arg)?.checked_neg(),
-            Arithmetic::Plus | Arithmetic::Times | Arithmetic::Div => integer(*arg),
+            Arithmetic::Minus => integer(arg)?.checked_neg(),
+            Arithmetic::Plus | Arithmetic::Times | Arithmetic::Div => integer(arg),
         },
-        [first, rest @ ..] => steps(op, integer(*first)?, rest),
+        [first, rest @ ..] => steps(op, integer(first)?, rest),
         [] => None,
     }
 }
@@ -40,7 +40,7 @@ fn steps(op: Arithmetic, first: i128, rest: &[Option<Value>]) -> Option<i128>
 {
     let mut total = first;
     for arg in rest {
-        let next = integer(*arg)?;
+        let next = integer(arg)?;
         total = combined(op, total, next)?;
     }
     Some(total)
@@ -64,10 +64,10 @@ fn chain(op: Comparison, args: &[Option<Value>]) -> Option<bool>
     let Some((first, rest)) = args.split_first() else {
         return Some(true);
     };
-    let mut last = integer(*first)?;
+    let mut last = integer(first)?;
     let mut holds = true;
     for arg in rest {
-        let next = integer(*arg)?;
+        let next = integer(arg)?;
         holds = holds && is_related(op, last, next);
         last = next;
     }
@@ -89,7 +89,7 @@ fn modulo(args: &[Option<Value>]) -> Option<i128>
     ensures { result ≡ option_and_then known_mod (known_integers (known_elements args.now)) }
 {
     match args {
-        [dividend, divisor] => remainder(integer(*dividend)?, integer(*divisor)?),
+        [dividend, divisor] => remainder(integer(dividend)?, integer(divisor)?),
         _ => None,
     }
 }
@@ -108,7 +108,7 @@ fn absolute(args: &[Option<Value>]) -> Option<i128>
     ensures { result ≡ option_and_then known_abs (known_integers (known_elements args.now)) }
 {
     match args {
-        [arg] => integer(*arg)?.checked_abs(),
+        [arg] => integer(arg)?.checked_abs(),
         _ => None,
     }
 }
@@ -118,17 +118,17 @@ fn divisibility(n: u64, args: &[Option<Value>]) -> Option<bool>
     ensures { result ≡ option_and_then (known_divisible n) (known_integers (known_elements args.now)) }
 {
     match args {
-        [arg] if n > 0 => Some(integer(*arg)?.unsigned_abs() % u128::from(n) == 0),
+        [arg] if n > 0 => Some(integer(arg)?.unsigned_abs() % u128::from(n) == 0),
         _ => None,
     }
 }
 
 // The integer that the argument is known to be.
-fn integer(arg: Option<Value>) -> Option<i128>
-    ensures { result ≡ known_integer (known_element arg) }
+fn integer(arg: &Option<Value>) -> Option<i128>
+    ensures { result ≡ known_integer (known_element arg.now) }
 {
     match arg {
-        Some(Value::Int(z)) => Some(z),
+        Some(Value::Int(z)) => Some(*z),
         Some(Value::Bool(_) | Value::Bits(_)) | None => None,
     }
 }

@@ -17,9 +17,9 @@ loop-arg-preserved c =
     c.loop-arg.invariant
     ∙ elim c.if-holds.branch [
       | then-holds w ↦
-          chain_at (compares c.args.op) c.in-Some.rest.now c.loop-arg.arg-index c.loop-arg.holds c.if-holds.holds last next (cast_signed w128 c.if-holds.last-bits) (omega arith) known
+          chain_at (compares c.args.op) c.in-Some.rest.now c.loop-arg.arg-index c.arg-item.result c.loop-arg.holds c.if-holds.holds last next (cast_signed w128 c.if-holds.last-bits) (omega arith) c.arg-item.is known
           (ap (λ b. b && compares c.args.op last next) w.if-holds.true ∙ sym (w.holds-is ∙ w.is_related-holds.ensures ∙ ap (compares c.args.op last) same)) (sym (w.last-is ∙ same))
       | else-holds w ↦
-          chain_at (compares c.args.op) c.in-Some.rest.now c.loop-arg.arg-index c.loop-arg.holds c.if-holds.holds last next (cast_signed w128 c.if-holds.last-bits) (omega arith) known
+          chain_at (compares c.args.op) c.in-Some.rest.now c.loop-arg.arg-index c.arg-item.result c.loop-arg.holds c.if-holds.holds last next (cast_signed w128 c.if-holds.last-bits) (omega arith) c.arg-item.is known
           (ap (λ b. b && compares c.args.op last next) w.if-holds.false ∙ sym (w.holds-is ∙ w.if-holds.false)) (sym (w.last-is ∙ same))
     ]

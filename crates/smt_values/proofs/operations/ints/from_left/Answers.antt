@@ -15,4 +15,4 @@ returns-in_ok-integer-in-len1-up c =
     c.steps.ensures
     ∙ ap (λ z. option_and_then (steps_from (known_arithmetic c.args.op) z) (known_integers (known_elements (take (length c.args.args.now - 1) (drop 1 c.args.args.now))))) (to_z-of_z w128 first fits)
     ∙ ap (λ xs. option_and_then (steps_from (known_arithmetic c.args.op) first) (known_integers (known_elements xs))) (rest_is c.args.args.now)
-    ∙ from_left_steps c.args.op c.args.args.now first (omega arith) (sym c.integer-in-len1-up.ensures ∙ c.in_ok-integer-in-len1-up.was)
+    ∙ from_left_steps c.args.op c.args.args.now c.first-item.result first (omega arith) c.first-item.is (sym c.integer-in-len1-up.ensures ∙ c.in_ok-integer-in-len1-up.was)
