@@ -21,7 +21,7 @@ digits_value_after-ge base n (c ∷ bytes) h =
 below_word-large : (n : ℕ) → 2 ^ 128 ≤ n → below_word n ≡ None
 below_word-large n h = let e : nat_lt n (2 ^ 128) ≡ false = search rules in rw e refl
 
-large_below_word : (n : ℕ) → below_word n ≡ None → 2 ^ 128 ≤ n
+pub large_below_word : (n : ℕ) → below_word n ≡ None → 2 ^ 128 ≤ n
 large_below_word n h = by (nat_lt n (2 ^ 128)) (λ e. search rules) h
   where
     by : (b : Bool) → (b ≡ false → 2 ^ 128 ≤ n) → cond b (Some n) None ≡ None → 2 ^ 128 ≤ n

@@ -1,3 +1,7 @@
+mod FindLemmas
+pub mod BitsOperatorLemmas
 pub mod OperatorLemmas
 pub mod DigitLemmas
 pub mod RankLemmas
+pub mod BitsRankLemmas
+pub mod TableLemmas

@@ -1,4 +1,4 @@
--- The ranks that are computed are those of the table. Proofs of crates above cite these too.
+-- Tests of sorts, and the computed ranks of Core and Ints beside the table. Proofs of crates above cite these too.
 use Rattle.std.proofs.Common.{◌≡◌, ◌↔◌, ◌⊎◌, inl, inr, ℕ, ◌<◌, ◌≤◌, Bool, true, false, cond, ◌&&◌, ◌||◌, List, [], ◌∷◌, Some, None, length, get_or, nat_lt, nat_le, refl, sym, ap, subst, arith, rules}
 use Rattle.std.specs.Prelude.{All}
 use Rattle.std.specs.Bool.{Decides, then_some}
@@ -6,15 +6,13 @@ use Rattle.std.specs.List.{list_all}
 use Rattle.std.proofs.lemmas.Bool.Decides.{Decides-eqb}
 use Rattle.std.proofs.lemmas.List.Sums.{AllPass-from_list_all, list_all-from_AllPass}
 use Rattle.std.proofs.lemmas.Slice.Eq.{slice_eq-Decides}
-use Rattle.smt_theory.specs.Ranks.{HasCoreRank, HasIntsRank, HasRank, AreSeveral, AreSeveralOfOne, are_exactly, are_several, are_several_of_one, choice_rank, core_rank, ints_rank, rank_of}
+use Rattle.smt_theory.specs.Ranks.{HasCoreRank, HasIntsRank, AreSeveral, AreSeveralOfOne, are_exactly, are_several, are_several_of_one, choice_rank, core_rank, ints_rank}
 use Rattle.smt_theory.specs.Sort.{is_same_sort}
 use Rattle.smt_theory.specs.declared.op.Arithmetic.TheVariants.{Minus, Plus, Times, Div}
 use Rattle.smt_theory.specs.declared.op.CoreOp.{CoreOp}
 use Rattle.smt_theory.specs.declared.op.CoreOp.TheVariants.{True, False, Not, Implies, And, Or, Xor, Equal, Distinct, Ite}
 use Rattle.smt_theory.specs.declared.op.IntsOp.{IntsOp}
 use Rattle.smt_theory.specs.declared.op.IntsOp.TheVariants.{Arithmetic, Comparison, Mod, Abs, Divisible}
-use Rattle.smt_theory.specs.declared.op.Op.{Op}
-use Rattle.smt_theory.specs.declared.op.Op.TheVariants.{Core, Ints}
 use Rattle.smt_theory.specs.declared.sort.Sort.{Sort}
 use Rattle.smt_theory.specs.declared.sort.Sort.TheVariants.{Bool as Boolean, Int, Bits}
 
@@ -29,11 +27,11 @@ is_same_sort-Decides (Bits m) Boolean = (λ h. cc, λ h. cc)
 is_same_sort-Decides (Bits m) Int = (λ h. cc, λ h. cc)
 is_same_sort-Decides (Bits m) (Bits n) = (λ h. ap Bits ((Decides-eqb m n).0 h), λ h. (Decides-eqb m n).1 (cc))
 
-are_exactly-Decides : (sorts args : List Sort) → Decides (are_exactly sorts args) (args ≡ sorts)
+pub are_exactly-Decides : (sorts args : List Sort) → Decides (are_exactly sorts args) (args ≡ sorts)
 are_exactly-Decides sorts args = slice_eq-Decides is_same_sort-Decides args sorts (are_exactly sorts args) refl
 
 -- of two tests and two facts
-Decides-and : {P Q : Type 0} (p q : Bool) → Decides p P → Decides q Q → Decides (p && q) (P × Q)
+pub Decides-and : {P Q : Type 0} (p q : Bool) → Decides p P → Decides q Q → Decides (p && q) (P × Q)
 Decides-and true q d e = (λ h. (d.0 refl, e.0 h), λ h. e.1 h.1)
 Decides-and false q d e = (λ h. cc, λ h. d.1 h.0)
 
@@ -44,10 +42,10 @@ Decides-or false q d e = (λ h. inr (e.0 h), λ h. elim h [ inl p ↦ absurd_of 
     absurd_of : false ≡ true → q ≡ true
     absurd_of h = cc
 
-nat_le-Decides : (m n : ℕ) → Decides (nat_le m n) (m ≤ n)
+pub nat_le-Decides : (m n : ℕ) → Decides (nat_le m n) (m ≤ n)
 nat_le-Decides m n = search rules
 
-nat_lt-Decides : (m n : ℕ) → Decides (nat_lt m n) (m < n)
+pub nat_lt-Decides : (m n : ℕ) → Decides (nat_lt m n) (m < n)
 nat_lt-Decides m n = search rules
 
 all_same-Decides : (sort : Sort) (args : List Sort) → Decides (list_all (λ arg. is_same_sort arg sort) args) (All (λ arg. arg ≡ sort) args)
@@ -56,7 +54,7 @@ all_same-Decides sort args = (
   λ h. list_all-from_AllPass (λ arg. is_same_sort arg sort) args (λ k d below. (is_same_sort-Decides (get_or args k d) sort).1 (h k d below)),
 )
 
-are_several-Decides : (sort : Sort) (args : List Sort) → Decides (are_several sort args) (AreSeveral sort args)
+pub are_several-Decides : (sort : Sort) (args : List Sort) → Decides (are_several sort args) (AreSeveral sort args)
 are_several-Decides sort args = Decides-and (nat_le 2 (length args)) _ (nat_le-Decides 2 (length args)) (all_same-Decides sort args)
 
 are_several_of_one-Decides : (args : List Sort) → Decides (are_several_of_one args) (AreSeveralOfOne args)
@@ -92,7 +90,7 @@ choice-row (a ∷ b ∷ c ∷ []) sort =
     by true d = (λ h. let e = d.0 refl in cc, λ h. cc)
     by false d = (λ h. cc, λ h. let e : false ≡ true = d.1 (cc, cc) in cc)
 
-core-row : (op : CoreOp) (args : List Sort) (sort : Sort) → (core_rank op args ≡ Some sort) ↔ HasCoreRank op args sort
+pub core-row : (op : CoreOp) (args : List Sort) (sort : Sort) → (core_rank op args ≡ Some sort) ↔ HasCoreRank op args sort
 core-row True args sort = row (are_exactly [] args) Boolean sort (are_exactly-Decides [] args)
 core-row False args sort = row (are_exactly [] args) Boolean sort (are_exactly-Decides [] args)
 core-row Not args sort = row (are_exactly (Boolean ∷ []) args) Boolean sort (are_exactly-Decides (Boolean ∷ []) args)
@@ -104,7 +102,7 @@ core-row Equal args sort = row (are_several_of_one args) Boolean sort (are_sever
 core-row Distinct args sort = row (are_several_of_one args) Boolean sort (are_several_of_one-Decides args)
 core-row Ite args sort = choice-row args sort
 
-ints-row : (op : IntsOp) (args : List Sort) (sort : Sort) → (ints_rank op args ≡ Some sort) ↔ HasIntsRank op args sort
+pub ints-row : (op : IntsOp) (args : List Sort) (sort : Sort) → (ints_rank op args ≡ Some sort) ↔ HasIntsRank op args sort
 ints-row (Arithmetic Minus) args sort =
     row (are_exactly (Int ∷ []) args || are_several Int args) Int sort (Decides-or _ _ (are_exactly-Decides (Int ∷ []) args) (are_several-Decides Int args))
 ints-row (Arithmetic Plus) args sort = row (are_several Int args) Int sort (are_several-Decides Int args)
@@ -115,8 +113,3 @@ ints-row Abs args sort = row (are_exactly (Int ∷ []) args) Int sort (are_exact
 ints-row (Comparison op) args sort = row (are_several Int args) Boolean sort (are_several-Decides Int args)
 ints-row (Divisible n) args sort =
     row (nat_lt 0 n && are_exactly (Int ∷ []) args) Boolean sort (Decides-and (nat_lt 0 n) _ (nat_lt-Decides 0 n) (are_exactly-Decides (Int ∷ []) args))
-
--- what is computed is what the table has
-pub rank_of-row : (op : Op) (args : List Sort) (sort : Sort) → (rank_of op args ≡ Some sort) ↔ HasRank op args sort
-rank_of-row (Core op) args sort = core-row op args sort
-rank_of-row (Ints op) args sort = ints-row op args sort

@@ -4,5 +4,6 @@ pub mod Words
 pub mod Theories
 pub mod Numbers
 pub mod Index
+pub mod BitsOperators
 pub mod Operators
 pub mod Ranks

@@ -1,7 +1,9 @@
--- SMT-LIB 2.6, theories Core and Ints: the operators by name and indexes.
-use Rattle.std.specs.Prelude.{ℕ, ◌<◌, List, [], ◌∷◌, Bool, ◌&&◌, IsTrue, Option, Some, None, Result, Err, is_some, option_map, ok_or, nat_lt, find, bytes_eq, codes, if◌then◌else◌}
+-- SMT-LIB 2.6, theories Core, Ints and FixedSizeBitVectors, and logic QF_BV: the operators by name and indexes.
+use Rattle.std.specs.Prelude.{ℕ, ◌≡◌, ◌<◌, List, [], ◌∷◌, Bool, ◌&&◌, IsTrue, Option, Some, None, Result, Ok, Err, is_some, option_map, ok_or, nat_lt, find, bytes_eq, codes, if◌then◌else◌}
 use Rattle.std.specs.Option.{option_or}
+use Rattle.smt_theory.specs.BitsOperators.{AreInRange, IsBitsName, bits_indexes, bits_named, indexed_bits}
 use Rattle.smt_theory.specs.Index.{IndexView, Number}
+use Rattle.smt_theory.specs.Words.{result_and_then}
 use Rattle.smt_theory.specs.declared.op.Arithmetic.TheVariants.{Minus, Plus, Times, Div}
 use Rattle.smt_theory.specs.declared.op.Comparison.TheVariants.{AtMost, Less, AtLeast, Greater}
 use Rattle.smt_theory.specs.declared.op.CoreOp.{CoreOp}
@@ -9,7 +11,7 @@ use Rattle.smt_theory.specs.declared.op.CoreOp.TheVariants.{True, False, Not, Im
 use Rattle.smt_theory.specs.declared.op.IntsOp.{IntsOp}
 use Rattle.smt_theory.specs.declared.op.IntsOp.TheVariants.{Arithmetic, Comparison, Mod, Abs, Divisible}
 use Rattle.smt_theory.specs.declared.op.Op.{Op}
-use Rattle.smt_theory.specs.declared.op.Op.TheVariants.{Core, Ints}
+use Rattle.smt_theory.specs.declared.op.Op.TheVariants.{Core, Ints, Bits}
 use Rattle.smt_theory.specs.declared.op.OpFault.{OpFault}
 use Rattle.smt_theory.specs.declared.op.OpFault.TheVariants.{Unknown, Index as WrongIndex}
 use Rattle.smt_theory.specs.declared.theories.Theories.{Theories}
@@ -58,7 +60,7 @@ ints_named symbol = find (λ op. bytes_eq symbol (ints_name op)) ints_plain
 -- the plain operator of a name
 abbrev pub plain_op : Theories → List ℕ → Option Op
 plain_op theories symbol =
-    option_or (option_map Core (core_named symbol)) (if theories.ints then option_map Ints (ints_named symbol) else None)
+    option_or (option_map Core (core_named symbol)) (option_or (if theories.ints then option_map Ints (ints_named symbol) else None) (if theories.bits then option_map Bits (bits_named symbol) else None))
 
 -- whether a name is a plain operator's, so that nothing new may have it
 abbrev pub is_plain_operator : Theories → List ℕ → Bool
@@ -72,7 +74,9 @@ divisible_by _ = None
 -- the indexed operator of a name
 abbrev pub indexed_op : Theories → List ℕ → List IndexView → Result Op OpFault
 indexed_op theories symbol indexes =
-    if theories.ints && bytes_eq symbol (codes "divisible") then ok_or (divisible_by indexes) WrongIndex else Err Unknown
+    if theories.ints && bytes_eq symbol (codes "divisible") then ok_or (divisible_by indexes) WrongIndex
+    else if theories.bits then result_and_then (indexed_bits symbol indexes) (λ op. Ok (Bits op))
+    else Err Unknown
 
 -- the operator of a symbol with indexes
 abbrev pub op_by : Theories → List ℕ → List IndexView → Result Op OpFault
@@ -81,12 +85,15 @@ op_by theories symbol (index ∷ indexes) = indexed_op theories symbol (index �
 
 -- ---- the form of each operator
 
-abbrev pub name_of : Op → List ℕ
-name_of (Core op) = core_name op
-name_of (Ints op) = ints_name op
+-- whether a symbol is the operator's name
+abbrev pub IsNameOf : Op → List ℕ → Type 0
+IsNameOf (Core op) symbol = symbol ≡ core_name op
+IsNameOf (Ints op) symbol = symbol ≡ ints_name op
+IsNameOf (Bits op) symbol = IsBitsName op symbol
 
 abbrev pub indexes_of : Op → List IndexView
 indexes_of (Ints (Divisible n)) = Number n ∷ []
+indexes_of (Bits op) = bits_indexes op
 indexes_of _ = []
 
 -- the operator is of these theories, and its indexes are in range
@@ -94,3 +101,4 @@ abbrev pub IsOperatorOf : Theories → Op → Type 0
 IsOperatorOf theories (Core op) = Unit {0}
 IsOperatorOf theories (Ints (Divisible n)) = IsTrue theories.ints × (0 < n)
 IsOperatorOf theories (Ints op) = IsTrue theories.ints
+IsOperatorOf theories (Bits op) = IsTrue theories.bits × AreInRange op

@@ -1,7 +1,7 @@
 //! What holds of the definitions that the contracts name. Nothing here does anything: each contract is a law.
 
 ghost use Rattle.std.specs.Prelude.{◌≡◌, ◌↔◌, ℕ, List, IsTrue, Ok, Some};
-ghost use Rattle.smt_theory.specs.Operators.{IsOperatorOf, indexes_of, name_of, op_by};
+ghost use Rattle.smt_theory.specs.Operators.{IsNameOf, IsOperatorOf, indexes_of, op_by};
 ghost use Rattle.smt_theory.specs.Ranks.{HasRank, rank_of};
 ghost use Rattle.smt_theory.specs.Sort.{is_same_sort};
 ghost use Rattle.smt_theory.specs.Index.{IndexView};
@@ -19,7 +19,7 @@ pub fn ranks_are_the_table()
 /// operator is one of the theories.
 pub fn operators_are_found_by_their_names()
     ensures { (theories : Theories) (symbol : List ℕ) (indexes : List IndexView) (op : Op)
-        → (op_by theories symbol indexes ≡ Ok op) ↔ (IsOperatorOf theories op × (symbol ≡ name_of op) × (indexes ≡ indexes_of op)) }
+        → (op_by theories symbol indexes ≡ Ok op) ↔ (IsOperatorOf theories op × IsNameOf op symbol × (indexes ≡ indexes_of op)) }
 {}
 
 /// Two sorts are the same exactly where the test says so.

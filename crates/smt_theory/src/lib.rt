@@ -29,7 +29,10 @@ mod width;
 pub use index::Index;
 pub use numbers::{digit, number};
 pub use op::names::op_of;
-pub use op::{Arithmetic, Comparison, CoreOp, IntsOp, Op, OpFault};
+pub use op::{
+    Arithmetic, BitsBinary, BitsComparison, BitsFolded, BitsOp, BitsUnary, Comparison, CoreOp,
+    IntsOp, Op, OpFault,
+};
 pub use ranks::rank;
 pub use sort::Sort;
 pub use theories::{Theories, theories_of};

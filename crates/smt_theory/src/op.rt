@@ -1,12 +1,16 @@
 //! Operators, by the theory that they are of.
 
+mod bits_names;
 pub(crate) mod names;
+
+use crate::width::Width;
 
 /// An operator of a theory, with its indexes.
 #[derive(Clone, Copy, Debug, PartialEq, Eq)]
 pub enum Op {
     Core(CoreOp),
     Ints(IntsOp),
+    Bits(BitsOp),
 }
 
 /// An operator of the theory Core.
@@ -59,6 +63,106 @@ pub enum Comparison {
     AtLeast,
     /// `>`
     Greater,
+}
+
+/// An operator of the theory FixedSizeBitVectors, or one that the logic QF_BV adds.
+#[derive(Clone, Copy, Debug, PartialEq, Eq)]
+pub enum BitsOp {
+    /// `(_ bvX n)`: the number X in n bits; an operator where X is below 2^n.
+    Constant(u128, Width),
+    Concat,
+    /// `(_ extract i j)`: bits i down to j; an operator where j is at most i.
+    Extract(u64, u64),
+    Unary(BitsUnary),
+    Folded(BitsFolded),
+    Binary(BitsBinary),
+    Comparison(BitsComparison),
+    /// `bvcomp`
+    Comp,
+    /// `(_ repeat i)`; an operator for i from 1 on.
+    Repeat(u64),
+    /// `(_ zero_extend i)`
+    ZeroExtend(u64),
+    /// `(_ sign_extend i)`
+    SignExtend(u64),
+    /// `(_ rotate_left i)`
+    RotateLeft(u64),
+    /// `(_ rotate_right i)`
+    RotateRight(u64),
+}
+
+/// The operators on one bit vector.
+#[derive(Clone, Copy, Debug, PartialEq, Eq)]
+pub enum BitsUnary {
+    /// `bvnot`
+    Not,
+    /// `bvneg`
+    Negate,
+}
+
+/// The operators on bit vectors that are applied from the left, to two or more.
+#[derive(Clone, Copy, Debug, PartialEq, Eq)]
+pub enum BitsFolded {
+    /// `bvand`
+    And,
+    /// `bvor`
+    Or,
+    /// `bvxor`
+    Xor,
+    /// `bvadd`
+    Add,
+    /// `bvmul`
+    Multiply,
+}
+
+/// The operators on two bit vectors that give a third.
+#[derive(Clone, Copy, Debug, PartialEq, Eq)]
+pub enum BitsBinary {
+    /// `bvnand`
+    Nand,
+    /// `bvnor`
+    Nor,
+    /// `bvxnor`
+    Xnor,
+    /// `bvsub`
+    Subtract,
+    /// `bvudiv`
+    DivideUnsigned,
+    /// `bvurem`
+    RemainderUnsigned,
+    /// `bvsdiv`
+    DivideSigned,
+    /// `bvsrem`
+    RemainderSigned,
+    /// `bvsmod`
+    ModuloSigned,
+    /// `bvshl`
+    ShiftLeft,
+    /// `bvlshr`
+    ShiftRight,
+    /// `bvashr`
+    ShiftRightSigned,
+}
+
+/// The relations on two bit vectors.
+#[derive(Clone, Copy, Debug, PartialEq, Eq)]
+pub enum BitsComparison {
+    /// `bvult`
+    UnsignedLess,
+    /// `bvule`
+    UnsignedAtMost,
+    /// `bvugt`
+    UnsignedGreater,
+    /// `bvuge`
+    UnsignedAtLeast,
+    /// `bvslt`
+    SignedLess,
+    /// `bvsle`
+    SignedAtMost,
+    /// `bvsgt`
+    SignedGreater,
+    /// `bvsge`
+    SignedAtLeast,
 }
 
 /// Why an identifier is no operator.

@@ -6,7 +6,10 @@ ghost use Rattle.smt_theory.specs.Ranks.{HasRank, rank_of, core_rank, ints_rank,
 ghost use Rattle.smt_theory.specs.Sort.{is_same_sort};
 ghost use Rattle.smt_theory.specs.declared.sort.Sort.{Sort};
 
+mod bits;
+
 use crate::op::{Arithmetic, CoreOp, IntsOp, Op};
+use crate::ranks::bits::rank_in_bits;
 use crate::sort::Sort;
 
 /// The sort of the operator's result for arguments of these sorts; `None` where it has no rank for them.
@@ -17,6 +20,7 @@ pub fn rank(op: Op, args: &[Sort]) -> Option<Sort>
     match op {
         Op::Core(op) => rank_in_core(op, args),
         Op::Ints(op) => rank_in_ints(op, args),
+        Op::Bits(op) => rank_in_bits(op, args),
     }
 }
 
@@ -62,13 +66,13 @@ fn rank_of_choice(args: &[Sort]) -> Option<Sort>
 }
 
 // Whether the sorts are these.
-fn are(args: &[Sort], sorts: &[Sort]) -> bool
+pub(crate) fn are(args: &[Sort], sorts: &[Sort]) -> bool
     ensures { result ≡ are_exactly sorts.now args.now }
 {
     args == sorts
 }
 
-fn are_two_or_more(args: &[Sort], sort: Sort) -> bool
+pub(crate) fn are_two_or_more(args: &[Sort], sort: Sort) -> bool
     ensures { result ≡ are_several sort args.now }
 {
     args.len() >= 2 && all_are(args, sort)

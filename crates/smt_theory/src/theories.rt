@@ -1,7 +1,7 @@
 //! Theories, and the logics that choose them.
 
 ghost use Rattle.std.specs.Prelude.{◌≡◌};
-ghost use Rattle.smt_theory.specs.Theories.{theories_named, is_logic_of_integers};
+ghost use Rattle.smt_theory.specs.Theories.{theories_named, is_logic_of_bit_vectors, is_logic_of_integers};
 
 use crate::op::names::is_named;
 
@@ -24,10 +24,20 @@ pub fn theories_of(logic: &[u8]) -> Option<Theories>
             ints: false,
             bits: false,
         })
-    } else if is_of_integers(logic) || is_named(logic, b"ALL") {
+    } else if is_of_integers(logic) {
         Some(Theories {
             ints: true,
             bits: false,
+        })
+    } else if is_of_bit_vectors(logic) {
+        Some(Theories {
+            ints: false,
+            bits: true,
+        })
+    } else if is_named(logic, b"ALL") {
+        Some(Theories {
+            ints: true,
+            bits: true,
         })
     } else {
         None
@@ -43,4 +53,10 @@ fn is_of_integers(logic: &[u8]) -> bool
         || is_named(logic, b"QF_UFIDL")
         || is_named(logic, b"QF_UFLIA")
         || is_named(logic, b"QF_UFNIA")
+}
+
+fn is_of_bit_vectors(logic: &[u8]) -> bool
+    ensures { result ≡ is_logic_of_bit_vectors logic.now }
+{
+    is_named(logic, b"QF_BV") || is_named(logic, b"QF_UFBV")
 }

@@ -1,6 +1,6 @@
 //! Widths of bit vectors.
 
-ghost use Rattle.std.specs.Prelude.{◌≡◌, ◌≤◌};
+ghost use Rattle.std.specs.Prelude.{◌≡◌, ◌≤◌, ◌^◌, nat_lt};
 ghost use Rattle.smt_theory.specs.Width.{width_of};
 
 use std::marker::Model;
@@ -42,5 +42,12 @@ impl Width {
         ensures within { result ≤ 128 }
     {
         u64::from(self.bits)
+    }
+
+    /// Whether so many bits can hold this number.
+    pub(crate) fn holds(self, number: u128) -> bool
+        ensures { result ≡ nat_lt number (2 ^ self) }
+    {
+        self.bits == 128 || number < 1 << self.bits
     }
 }

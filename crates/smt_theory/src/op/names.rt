@@ -5,7 +5,8 @@ ghost use Rattle.smt_theory.specs.Index.{index_view};
 ghost use Rattle.smt_theory.specs.Operators.{core_named, ints_named, plain_op, indexed_op, divisible_by, op_by};
 
 use crate::index::Index;
-use crate::op::{Arithmetic, Comparison, CoreOp, IntsOp, Op, OpFault};
+use crate::op::bits_names::{bits_op, indexed_bits_op};
+use crate::op::{Arithmetic, BitsOp, Comparison, CoreOp, IntsOp, Op, OpFault};
 use crate::theories::Theories;
 
 /// The operator that these theories have under this symbol (without bars) with these indexes.
@@ -15,7 +16,10 @@ pub fn op_of(theories: Theories, symbol: &[u8], indexes: &[Index]) -> Result<Op,
     ensures { result ≡ op_by theories symbol.now (map index_view indexes.now) }
 {
     if indexes.is_empty() {
-        plain(theories, symbol).ok_or(OpFault::Unknown)
+        match plain(theories, symbol) {
+            Some(op) => Ok(op),
+            None => Err(OpFault::Unknown),
+        }
     } else {
         indexed(theories, symbol, indexes)
     }
@@ -25,9 +29,15 @@ fn plain(theories: Theories, symbol: &[u8]) -> Option<Op>
     ensures { result ≡ plain_op theories symbol.now }
 {
     if let Some(op) = core_op(symbol) {
-        Some(Op::Core(op))
-    } else if theories.ints {
-        ints_op(symbol).map(Op::Ints)
+        return Some(Op::Core(op));
+    }
+    if theories.ints
+        && let Some(op) = ints_op(symbol)
+    {
+        return Some(Op::Ints(op));
+    }
+    if theories.bits {
+        bits_op(symbol).map(Op::Bits)
     } else {
         None
     }
@@ -38,6 +48,8 @@ fn indexed(theories: Theories, symbol: &[u8], indexes: &[Index]) -> Result<Op, O
 {
     if theories.ints && is_named(symbol, b"divisible") {
         divisible(indexes).ok_or(OpFault::Index)
+    } else if theories.bits {
+        indexed_bits_op(symbol, indexes).map(Op::Bits)
     } else {
         Err(OpFault::Unknown)
     }

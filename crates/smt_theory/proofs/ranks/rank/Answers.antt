@@ -2,7 +2,7 @@ use Rattle.std.proofs.Common.{◌≡◌, ◌↔◌, List, Option, Some, ◌∙�
 use Rattle.smt_theory.specs.Ranks.{HasRank, rank_of}
 use Rattle.smt_theory.specs.declared.op.Op.{Op}
 use Rattle.smt_theory.specs.declared.sort.Sort.{Sort}
-use Rattle.smt_theory.proofs.RankLemmas.{rank_of-row}
+use Rattle.smt_theory.proofs.TableLemmas.{rank_of-row}
 use Rattle.smt_theory.proofs.ranks.rank.Goals as goal
 
 -- what has been computed is what the table has
@@ -16,3 +16,7 @@ returns-in-Core-clause-listed c =
 pub returns-in-Ints-clause-listed : goal.returns-in-Ints-clause-listed
 returns-in-Ints-clause-listed c =
     listed c.args.op c.args.args.now _ (c.rank_in_ints.ensures ∙ sym (ap (λ op. rank_of op c.args.args.now) c.in-Ints.is))
+
+pub returns-in-Bits-clause-listed : goal.returns-in-Bits-clause-listed
+returns-in-Bits-clause-listed c =
+    listed c.args.op c.args.args.now _ (c.rank_in_bits.ensures ∙ sym (ap (λ op. rank_of op c.args.args.now) c.in-Bits.is))

@@ -1,0 +1,144 @@
+-- SMT-LIB 2.6, theory FixedSizeBitVectors and logic QF_BV: the operators by name and indexes.
+use Rattle.std.specs.Prelude.{ℕ, ◌≡◌, ◌<◌, ◌≤◌, ◌^◌, ◌++◌, List, [], ◌∷◌, Bool, false, ◌&&◌, ◌==◌, IsTrue, Option, Some, None, Result, Err, option_map, ok_or, nat_le, nat_lt, find, bytes_eq, codes, if◌then◌else◌}
+use Rattle.std.specs.Option.{option_and_then}
+use Rattle.std.specs.Str.Parse.{digits_value}
+use Rattle.smt_theory.specs.Index.{IndexView, Number}
+use Rattle.smt_theory.specs.Numbers.{is_numeral}
+use Rattle.smt_theory.specs.Width.{width_of}
+use Rattle.smt_theory.specs.declared.op.BitsBinary.TheVariants.{Nand, Nor, Xnor, Subtract, DivideUnsigned, RemainderUnsigned, DivideSigned, RemainderSigned, ModuloSigned, ShiftLeft, ShiftRight, ShiftRightSigned}
+use Rattle.smt_theory.specs.declared.op.BitsComparison.TheVariants.{UnsignedLess, UnsignedAtMost, UnsignedGreater, UnsignedAtLeast, SignedLess, SignedAtMost, SignedGreater, SignedAtLeast}
+use Rattle.smt_theory.specs.declared.op.BitsFolded.TheVariants.{And, Or, Xor, Add, Multiply}
+use Rattle.smt_theory.specs.declared.op.BitsOp.{BitsOp}
+use Rattle.smt_theory.specs.declared.op.BitsOp.TheVariants.{Constant, Concat, Extract, Unary, Folded, Binary, Comparison, Comp, Repeat, ZeroExtend, SignExtend, RotateLeft, RotateRight}
+use Rattle.smt_theory.specs.declared.op.BitsUnary.TheVariants.{Not, Negate}
+use Rattle.smt_theory.specs.declared.op.OpFault.{OpFault}
+use Rattle.smt_theory.specs.declared.op.OpFault.TheVariants.{Unknown, Index as WrongIndex}
+
+-- the name of an operator; of a constant what stands before its numeral
+abbrev pub bits_name : BitsOp → List ℕ
+bits_name (Constant number width) = codes "bv"
+bits_name Concat = codes "concat"
+bits_name (Extract i j) = codes "extract"
+bits_name (Unary Not) = codes "bvnot"
+bits_name (Unary Negate) = codes "bvneg"
+bits_name (Folded And) = codes "bvand"
+bits_name (Folded Or) = codes "bvor"
+bits_name (Folded Xor) = codes "bvxor"
+bits_name (Folded Add) = codes "bvadd"
+bits_name (Folded Multiply) = codes "bvmul"
+bits_name (Binary Nand) = codes "bvnand"
+bits_name (Binary Nor) = codes "bvnor"
+bits_name (Binary Xnor) = codes "bvxnor"
+bits_name (Binary Subtract) = codes "bvsub"
+bits_name (Binary DivideUnsigned) = codes "bvudiv"
+bits_name (Binary RemainderUnsigned) = codes "bvurem"
+bits_name (Binary DivideSigned) = codes "bvsdiv"
+bits_name (Binary RemainderSigned) = codes "bvsrem"
+bits_name (Binary ModuloSigned) = codes "bvsmod"
+bits_name (Binary ShiftLeft) = codes "bvshl"
+bits_name (Binary ShiftRight) = codes "bvlshr"
+bits_name (Binary ShiftRightSigned) = codes "bvashr"
+bits_name (Comparison UnsignedLess) = codes "bvult"
+bits_name (Comparison UnsignedAtMost) = codes "bvule"
+bits_name (Comparison UnsignedGreater) = codes "bvugt"
+bits_name (Comparison UnsignedAtLeast) = codes "bvuge"
+bits_name (Comparison SignedLess) = codes "bvslt"
+bits_name (Comparison SignedAtMost) = codes "bvsle"
+bits_name (Comparison SignedGreater) = codes "bvsgt"
+bits_name (Comparison SignedAtLeast) = codes "bvsge"
+bits_name Comp = codes "bvcomp"
+bits_name (Repeat i) = codes "repeat"
+bits_name (ZeroExtend i) = codes "zero_extend"
+bits_name (SignExtend i) = codes "sign_extend"
+bits_name (RotateLeft i) = codes "rotate_left"
+bits_name (RotateRight i) = codes "rotate_right"
+
+-- the plain operators
+abbrev pub bitwise_plain : List BitsOp
+bitwise_plain =
+    Unary Not ∷ Unary Negate ∷ Folded And ∷ Folded Or ∷ Folded Xor ∷ Folded Add ∷ Folded Multiply ∷ Comp ∷ []
+
+abbrev pub binary_plain : List BitsOp
+binary_plain =
+    Binary Nand ∷ Binary Nor ∷ Binary Xnor ∷ Binary Subtract ∷ Binary DivideUnsigned ∷ Binary RemainderUnsigned ∷ Binary DivideSigned ∷ Binary RemainderSigned ∷ Binary ModuloSigned ∷ Binary ShiftLeft ∷ Binary ShiftRight ∷ Binary ShiftRightSigned ∷ []
+
+abbrev pub comparison_plain : List BitsOp
+comparison_plain =
+    Comparison UnsignedLess ∷ Comparison UnsignedAtMost ∷ Comparison UnsignedGreater ∷ Comparison UnsignedAtLeast ∷ Comparison SignedLess ∷ Comparison SignedAtMost ∷ Comparison SignedGreater ∷ Comparison SignedAtLeast ∷ []
+
+abbrev pub bits_plain : List BitsOp
+bits_plain = Concat ∷ (bitwise_plain ++ (binary_plain ++ comparison_plain))
+
+-- the one of these operators that has this name
+abbrev pub named_among : List BitsOp → List ℕ → Option BitsOp
+named_among ops symbol = find (λ op. bytes_eq symbol (bits_name op)) ops
+
+abbrev pub bits_named : List ℕ → Option BitsOp
+bits_named symbol = named_among bits_plain symbol
+
+-- whether a symbol begins as the names of all plain operators but `concat` do
+abbrev pub begins_with_bv : List ℕ → Bool
+begins_with_bv (b ∷ v ∷ rest) = b == 98 && v == 118
+begins_with_bv _ = false
+
+-- the numeral in a constant's name
+abbrev pub constant_digits : List ℕ → Option (List ℕ)
+constant_digits (b ∷ v ∷ digits) = if begins_with_bv (b ∷ v ∷ digits) && is_numeral digits then Some digits else None
+constant_digits _ = None
+
+-- the number that is the only index
+abbrev pub only_number : List IndexView → Option ℕ
+only_number (Number i ∷ []) = Some i
+only_number _ = None
+
+abbrev pub constant_by : List ℕ → List IndexView → Option BitsOp
+constant_by digits indexes =
+    option_and_then (λ width. if nat_lt (digits_value 10 digits) (2 ^ width) then Some (Constant (digits_value 10 digits) width) else None) (option_and_then width_of (only_number indexes))
+
+abbrev pub extract_by : List IndexView → Option BitsOp
+extract_by (Number i ∷ Number j ∷ []) = if nat_le j i then Some (Extract i j) else None
+extract_by _ = None
+
+abbrev pub repeat_by : List IndexView → Option BitsOp
+repeat_by indexes = option_and_then (λ i. if nat_lt 0 i then Some (Repeat i) else None) (only_number indexes)
+
+-- a name with a numeral in it is a constant's, whatever its indexes are
+abbrev pub indexed_constant : Option (List ℕ) → List IndexView → Result BitsOp OpFault
+indexed_constant None indexes = Err Unknown
+indexed_constant (Some digits) indexes = ok_or (constant_by digits indexes) WrongIndex
+
+-- the operator `(_ symbol index ..)`
+abbrev pub indexed_bits : List ℕ → List IndexView → Result BitsOp OpFault
+indexed_bits symbol indexes =
+    if bytes_eq symbol (codes "extract") then ok_or (extract_by indexes) WrongIndex
+    else if bytes_eq symbol (codes "repeat") then ok_or (repeat_by indexes) WrongIndex
+    else if bytes_eq symbol (codes "zero_extend") then ok_or (option_map ZeroExtend (only_number indexes)) WrongIndex
+    else if bytes_eq symbol (codes "sign_extend") then ok_or (option_map SignExtend (only_number indexes)) WrongIndex
+    else if bytes_eq symbol (codes "rotate_left") then ok_or (option_map RotateLeft (only_number indexes)) WrongIndex
+    else if bytes_eq symbol (codes "rotate_right") then ok_or (option_map RotateRight (only_number indexes)) WrongIndex
+    else indexed_constant (constant_digits symbol) indexes
+
+-- ---- the form of each operator
+
+-- whether a symbol is the operator's name: of a constant it is `bv` with a numeral of its number
+abbrev pub IsBitsName : BitsOp → List ℕ → Type 0
+IsBitsName (Constant number width) symbol =
+    (digits : List ℕ) × (symbol ≡ codes "bv" ++ digits) × IsTrue (is_numeral digits) × (digits_value 10 digits ≡ number)
+IsBitsName op symbol = symbol ≡ bits_name op
+
+abbrev pub bits_indexes : BitsOp → List IndexView
+bits_indexes (Constant number width) = Number width ∷ []
+bits_indexes (Extract i j) = Number i ∷ Number j ∷ []
+bits_indexes (Repeat i) = Number i ∷ []
+bits_indexes (ZeroExtend i) = Number i ∷ []
+bits_indexes (SignExtend i) = Number i ∷ []
+bits_indexes (RotateLeft i) = Number i ∷ []
+bits_indexes (RotateRight i) = Number i ∷ []
+bits_indexes _ = []
+
+-- the operator's indexes are in range
+abbrev pub AreInRange : BitsOp → Type 0
+AreInRange (Constant number width) = (1 ≤ width) × (width ≤ 128) × (number < 2 ^ width)
+AreInRange (Extract i j) = j ≤ i
+AreInRange (Repeat i) = 0 < i
+AreInRange _ = Unit {0}
