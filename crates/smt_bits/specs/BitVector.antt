@@ -1,5 +1,5 @@
 -- SMT-LIB 2.6, theory FixedSizeBitVectors: bit vectors, and the ways to read one.
-use Rattle.std.specs.Prelude.{ℕ, zero, suc, ◌+◌, ◌*◌, ◌^◌, ◌<◌, ℤ, pos, ◌-ℤ◌, unsigned_abs, Bool, nat_le, if◌then◌else◌}
+use Rattle.std.specs.Prelude.{ℕ, zero, suc, ◌+◌, ◌*◌, ◌^◌, ◌<◌, ◌≤◌, ℤ, pos, ◌-ℤ◌, unsigned_abs, Bool, nat_le, if◌then◌else◌}
 use Rattle.std.specs.Int.{int_rem_euclid}
 
 -- a bit vector: its width, and the number below 2 ^ width that its bits are, the first one the highest
@@ -11,8 +11,9 @@ pub record BitVector : Type 0 where
 abbrev pub vector : ℕ → ℕ → BitVector
 vector m n = record { width = m; number = n }
 
+-- it has a bit at least, and its number fits
 abbrev pub IsVector : BitVector → Type 0
-IsVector v = v.number < 2 ^ v.width
+IsVector v = (1 ≤ v.width) × (v.number < 2 ^ v.width)
 
 -- whether the highest of m bits is set
 abbrev pub is_negative : ℕ → ℕ → Bool

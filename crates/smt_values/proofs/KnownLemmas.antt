@@ -113,12 +113,16 @@ then_same : {A B : Type 0} (f g : A → Option B) (o : Option A) → ((x : A) �
 then_same f g None h = refl
 then_same f g (Some x) h = h x refl
 
-length_integers : (xs : List (Option Value)) (zs : List ℤ) → known_integers (known_elements xs) ≡ Some zs → length zs ≡ length xs
-length_integers xs zs e = length_known (map known_integer (known_elements xs)) zs e ∙ length-map (known_elements xs) known_integer ∙ length-map xs known_element
+-- as many as the arguments, where each is known
+module _ {A : Type 0} (one : Option Element → Option A) where
+  length_of : (xs : List (Option Value)) (ys : List A) → all_known (map one (known_elements xs)) ≡ Some ys → length ys ≡ length xs
+  length_of xs ys e = length_known (map one (known_elements xs)) ys e ∙ length-map (known_elements xs) one ∙ length-map xs known_element
 
-pub integers_none : {B : Type 0} (f : List ℤ → Option B) (xs : List (Option Value)) → ((zs : List ℤ) → length zs ≡ length xs → f zs ≡ None)
-    → None ≡ option_and_then f (known_integers (known_elements xs))
-integers_none {B} f xs h = sym (then_same f (λ zs. None) (known_integers (known_elements xs)) (λ zs e. h zs (length_integers xs zs e)) ∙ then_none {B = B} (known_integers (known_elements xs)))
+  pub none_of : {B : Type 0} (f : List A → Option B) (xs : List (Option Value)) → ((ys : List A) → length ys ≡ length xs → f ys ≡ None)
+      → None ≡ option_and_then f (all_known (map one (known_elements xs)))
+  none_of {B} f xs h =
+      let all = all_known (map one (known_elements xs)) in
+      sym (then_same f (λ ys. None) all (λ ys e. h ys (length_of xs ys e)) ∙ then_none {B = B} all)
 
 pub mod_none : (zs : List ℤ) → length zs ≢ 2 → known_mod zs ≡ None
 mod_none [] n = refl
@@ -150,7 +154,7 @@ from_left_steps op [] item first two is e = absurd (omega arith)
 from_left_steps op (x ∷ []) item first two is e = absurd (omega arith)
 from_left_steps op (x ∷ y ∷ xs) item first two is e =
     then_same (steps_from (known_arithmetic op) first) (λ zs. known_from_left op (first ∷ zs)) (known_integers (known_elements (y ∷ xs)))
-    (λ zs k. many zs (length_integers (y ∷ xs) zs k))
+    (λ zs k. many zs (length_of known_integer (y ∷ xs) zs k))
     ∙ sym (then_more (known_from_left op) (known_integer (known_element x)) first (map known_integer (known_elements (y ∷ xs))) (ap (λ z. known_integer (known_element z)) (sym is) ∙ e))
   where
     many : (zs : List ℤ) → length zs ≡ length (y ∷ xs) → steps_from (known_arithmetic op) first zs ≡ known_from_left op (first ∷ zs)
@@ -298,5 +302,10 @@ chained_all = tested (are_chained is_same_known) (are_chained is_same) chained_k
 
 pub chained_open : (xs : List (Option Value)) → list_all is_some xs ≡ false → None ≡ option_map (λ es. Truth (are_chained is_same es)) (all_known (known_elements xs))
 chained_open = untested (are_chained is_same_known) (are_chained is_same) chained_known
+
+pub chained_short : (xs : List (Option Value)) → length xs < 2 → true ≡ are_chained is_same_known (known_elements xs)
+chained_short [] h = refl
+chained_short (x ∷ []) h = refl
+chained_short (x ∷ y ∷ xs) h = absurd (omega arith)
 
 pub ruleset tests = (list_any-map, list_all-map)

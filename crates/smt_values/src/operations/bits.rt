@@ -1,6 +1,6 @@
 //! The operators of the theory FixedSizeBitVectors, and those that the logic QF_BV adds.
 
-ghost use Rattle.std.specs.Prelude.{◌≡◌, ◌∷◌, ◌%◌, ◌^◌, [], option_and_then, option_map};
+ghost use Rattle.std.specs.Prelude.{◌≡◌, ◌∷◌, ◌%◌, ◌^◌, [], option_and_then, option_map, MatchOption};
 ghost use Rattle.smt_bits.specs.BitVector.{vector};
 ghost use Rattle.smt_bits.specs.Parts.{concatenation};
 ghost use Rattle.smt_values.specs.BitOperations as meaning;
@@ -22,9 +22,18 @@ pub fn apply_bits(op: BitsOp, args: &[Option<Value>]) -> Option<Value>
         BitsOp::Extract(i, j) => parts::extract(i, j, only(args)?).map(Value::Bits),
         BitsOp::Unary(op) => Some(Value::Bits(unary(op, only(args)?))),
         BitsOp::Folded(op) => folded(op, args).map(Value::Bits),
-        BitsOp::Binary(op) => of_two(args).map(|(s, t)| Value::Bits(binary(op, s, t))),
-        BitsOp::Comparison(op) => of_two(args).map(|(s, t)| Value::Bool(is_related(op, s, t))),
-        BitsOp::Comp => of_two(args).map(|(s, t)| Value::Bits(signed::bvcomp(s, t))),
+        BitsOp::Binary(op) => {
+            let (s, t) = of_two(args)?;
+            Some(Value::Bits(binary(op, s, t)))
+        }
+        BitsOp::Comparison(op) => {
+            let (s, t) = of_two(args)?;
+            Some(Value::Bool(is_related(op, s, t)))
+        }
+        BitsOp::Comp => {
+            let (s, t) = of_two(args)?;
+            Some(Value::Bits(signed::bvcomp(s, t)))
+        }
         BitsOp::Repeat(i) => parts::repeat(i, only(args)?).map(Value::Bits),
         BitsOp::ZeroExtend(i) => parts::zero_extend(i, only(args)?).map(Value::Bits),
         BitsOp::SignExtend(i) => parts::sign_extend(i, only(args)?).map(Value::Bits),
@@ -36,10 +45,9 @@ pub fn apply_bits(op: BitsOp, args: &[Option<Value>]) -> Option<Value>
 fn constant(number: u128, width: Width, args: &[Option<Value>]) -> Option<Bits>
     ensures { result ≡ option_and_then (λ vs. option_map (λ _. vector width (number % 2 ^ width)) (none_given vs)) (known_vectors (known_elements args.now)) }
 {
-    if args.is_empty() {
-        Some(Bits::new(width, number))
-    } else {
-        None
+    match args {
+        [] => Some(Bits::new(width, number)),
+        _ => None,
     }
 }
 
@@ -47,10 +55,19 @@ fn constant(number: u128, width: Width, args: &[Option<Value>]) -> Option<Bits>
 fn concatenated(args: &[Option<Value>]) -> Option<Bits>
     ensures { result ≡ option_and_then (known_from_left concatenation) (known_vectors (known_elements args.now)) }
 {
-    let (first, rest) = args.split_first()?;
-    let mut whole = bits(first)?;
+    match args {
+        [first, rest @ ..] => joined(bits(first)?, rest),
+        [] => None,
+    }
+}
+
+fn joined(first: Bits, rest: &[Option<Value>]) -> Option<Bits>
+    ensures { result ≡ option_and_then (steps_from concatenation first) (known_vectors (known_elements rest.now)) }
+{
+    let mut whole = first;
     for arg in rest {
-        whole = parts::concat(whole, bits(arg)?)?;
+        let next = bits(arg)?;
+        whole = parts::concat(whole, next)?;
     }
     Some(whole)
 }
@@ -59,10 +76,19 @@ fn concatenated(args: &[Option<Value>]) -> Option<Bits>
 fn folded(op: BitsFolded, args: &[Option<Value>]) -> Option<Bits>
     ensures { result ≡ option_and_then (known_from_left (known_folded op)) (known_vectors (known_elements args.now)) }
 {
-    let (first, rest) = args.split_first()?;
-    let mut total = bits(first)?;
+    match args {
+        [first, rest @ ..] => steps(op, bits(first)?, rest),
+        [] => None,
+    }
+}
+
+fn steps(op: BitsFolded, first: Bits, rest: &[Option<Value>]) -> Option<Bits>
+    ensures { result ≡ option_and_then (steps_from (known_folded op) first) (known_vectors (known_elements rest.now)) }
+{
+    let mut total = first;
     for arg in rest {
-        total = combined(op, total, bits(arg)?)?;
+        let next = bits(arg)?;
+        total = combined(op, total, next)?;
     }
     Some(total)
 }
@@ -112,6 +138,7 @@ fn binary(op: BitsBinary, s: Bits, t: Bits) -> Bits
 }
 
 fn is_related(op: BitsComparison, s: Bits, t: Bits) -> bool
+    requires { s.width ≡ t.width }
     ensures { result ≡ meaning.are_compared op s t }
 {
     match op {
@@ -138,7 +165,8 @@ fn only(args: &[Option<Value>]) -> Option<Bits>
 
 // The bit vectors that two arguments of one width are known to be.
 fn of_two(args: &[Option<Value>]) -> Option<(Bits, Bits)>
-    ensures { result ≡ option_and_then two_of_one_width (known_vectors (known_elements args.now)) }
+    ensures one_width { MatchOption result (Unit {0}) (λ p. p.0.width ≡ p.1.width) }
+    ensures known { result ≡ option_and_then two_of_one_width (known_vectors (known_elements args.now)) }
 {
     match args {
         [first, second] => of_one_width(bits(first)?, bits(second)?),
@@ -147,7 +175,8 @@ fn of_two(args: &[Option<Value>]) -> Option<(Bits, Bits)>
 }
 
 fn of_one_width(s: Bits, t: Bits) -> Option<(Bits, Bits)>
-    ensures { result ≡ two_of_one_width (s ∷ t ∷ []) }
+    ensures one_width { MatchOption result (Unit {0}) (λ p. p.0.width ≡ p.1.width) }
+    ensures known { result ≡ two_of_one_width (s ∷ t ∷ []) }
 {
     if s.width() == t.width() {
         Some((s, t))

@@ -1,0 +1,106 @@
+-- Results of operators on bit vectors are of the sorts that ranks give.
+use Rattle.std.proofs.Common.{◌≡◌, ℕ, ◌+◌, ◌-◌, ◌*◌, ◌%◌, ◌^◌, ◌<◌, ◌≤◌, List, [], ◌∷◌, length, refl, sym, ap, ◌∙◌, subst, arith, rules}
+use Rattle.std.proofs.Math.Nat.{mod-lt}
+use Rattle.std.proofs.Math.Pow.{pow_pos}
+use Rattle.std.specs.Prelude.{fold, map, sum}
+use Rattle.smt_bits.specs.BitVector.{BitVector, IsVector, vector}
+use Rattle.smt_bits.specs.Operators.{bvcomp, concat, extract, repeat, sign_extend, rotate_left, rotate_right}
+use Rattle.smt_theory.specs.Ranks.{HasBitsRank, AreSeveral}
+use Rattle.smt_theory.specs.declared.op.BitsBinary.{BitsBinary}
+use Rattle.smt_theory.specs.declared.op.BitsFolded.{BitsFolded}
+use Rattle.smt_theory.specs.declared.op.BitsOp.{BitsOp}
+use Rattle.smt_theory.specs.declared.op.BitsOp.TheVariants.{Constant, Concat, Extract, Unary, Folded, Binary, Comparison, Comp, Repeat, ZeroExtend, SignExtend, RotateLeft, RotateRight}
+use Rattle.smt_theory.specs.declared.op.BitsUnary.{BitsUnary}
+use Rattle.smt_theory.specs.declared.sort.Sort.{Sort}
+use Rattle.smt_theory.specs.declared.sort.Sort.TheVariants.{Bool as BoolSort, Int as IntSort, Bits as BitsSort}
+use Rattle.smt_values.specs.BitOperations.{binary, concatenated, folded, folded_vector, operate_bits, unary}
+use Rattle.smt_values.specs.Element.{Element, Truth, Integer, Vector, IsOfSort, AreOfSorts}
+use Rattle.smt_values.specs.Operations.{vector_of}
+
+-- the results fit their widths
+pub record ResultsFit : Type 0 where
+  pub unary_fits : (op : BitsUnary) (m s : ℕ) → unary op m s < 2 ^ m
+  pub folded_fits : (op : BitsFolded) (m s t : ℕ) → folded op m s t < 2 ^ m
+  pub binary_fits : (op : BitsBinary) (m s t : ℕ) → 1 ≤ m → s < 2 ^ m → binary op m s t < 2 ^ m
+  pub concat_fits : (m n s t : ℕ) → s < 2 ^ m → t < 2 ^ n → concat n s t < 2 ^ (m + n)
+  pub extract_fits : (i j s : ℕ) → extract i j s < 2 ^ (i - j + 1)
+  pub repeat_fits : (i m s : ℕ) → s < 2 ^ m → repeat i m s < 2 ^ (i * m)
+  pub sign_extend_fits : (i m s : ℕ) → sign_extend i m s < 2 ^ (m + i)
+  pub rotate_left_fits : (i m s : ℕ) → 1 ≤ m → s < 2 ^ m → rotate_left i m s < 2 ^ m
+  pub rotate_right_fits : (i m s : ℕ) → 1 ≤ m → s < 2 ^ m → rotate_right i m s < 2 ^ m
+  pub comp_fits : (s t : ℕ) → bvcomp s t < 2
+
+-- ---- arguments
+
+-- an element of a sort of bit vectors
+vector_is : (m : ℕ) (e : Element) → IsOfSort (BitsSort m) e → ((vector_of e).width ≡ m) × IsVector (vector_of e)
+vector_is m (Truth b) h = absurd h
+vector_is m (Integer z) h = absurd h
+vector_is m (Vector v) h = h
+
+record One (m : ℕ) (es : List Element) : Type 0 where
+  v : BitVector
+  is : map vector_of es ≡ v ∷ []
+  width : v.width ≡ m
+  some : 1 ≤ v.width
+  below : v.number < 2 ^ v.width
+
+one : (m : ℕ) (es : List Element) → AreOfSorts (BitsSort m ∷ []) es → One m es
+one m [] h = absurd h
+one m (e ∷ f ∷ es) h = absurd h.1
+one m (e ∷ []) h = let d = vector_is m e h.0 in record { v = vector_of e; is = refl; width = d.0; some = d.1.0; below = d.1.1 }
+
+record Two (m : ℕ) (es : List Element) : Type 0 where
+  v : BitVector
+  w : BitVector
+  is : map vector_of es ≡ v ∷ w ∷ []
+  width : v.width ≡ m
+  some : 1 ≤ v.width
+  below : v.number < 2 ^ v.width
+
+two : (m : ℕ) (es : List Element) → AreOfSorts (BitsSort m ∷ BitsSort m ∷ []) es → Two m es
+two m [] h = absurd h
+two m (e ∷ []) h = absurd h.1
+two m (e ∷ f ∷ g ∷ es) h = absurd h.1.1
+two m (e ∷ f ∷ []) h = let d = vector_is m e h.0 in record { v = vector_of e; w = vector_of f; is = refl; width = d.0; some = d.1.0; below = d.1.1 }
+
+-- ---- results
+
+wider : (m i s : ℕ) → s < 2 ^ m → s < 2 ^ (m + i)
+wider m i s h = ?
+
+module _ (fits : ResultsFit) where
+  folded_of : (op : BitsFolded) (m : ℕ) (vs : List BitVector) (s : BitVector) → s.width ≡ m → 1 ≤ s.width → s.number < 2 ^ s.width → IsOfSort (BitsSort m) (Vector (fold (folded_vector op) s vs))
+  folded_of op m [] s e some below = (e, (some, below))
+  folded_of op m (t ∷ vs) s e some below = folded_of op m vs (folded_vector op s t) e some (fits.folded_fits op s.width s.number t.number)
+
+  concat_of : (widths : List ℕ) (es : List Element) (s : BitVector) → AreOfSorts (map BitsSort widths) es → 1 ≤ s.width → s.number < 2 ^ s.width
+      → IsOfSort (BitsSort (s.width + sum widths)) (Vector (fold concatenated s (map vector_of es)))
+  concat_of [] [] s h some below = (omega arith, (some, below))
+  concat_of [] (e ∷ es) s h some below = absurd h
+  concat_of (m ∷ widths) [] s h some below = absurd h
+  concat_of (m ∷ widths) (e ∷ es) s h some below =
+      let d = vector_is m e h.0 in
+      let t = vector_of e in
+      let same : s.width + t.width + sum widths ≡ s.width + sum (m ∷ widths) = ? in
+      subst (λ n. IsOfSort (BitsSort n) (Vector (fold concatenated (concatenated s t) (map vector_of es)))) same
+      (concat_of widths es (concatenated s t) h.1 (omega arith) (fits.concat_fits s.width t.width s.number t.number below d.1.1))
+
+  several_of : (op : BitsFolded) (m : ℕ) (sorts : List Sort) (es : List Element) → AreSeveral (BitsSort m) sorts → AreOfSorts sorts es → IsOfSort (BitsSort m) (operate_bits (Folded op) (map vector_of es))
+  several_of op m [] es h all = absurd (none h.0)
+    where
+      none : 2 ≤ 0 → ⊥
+      none n = omega arith
+  several_of op m (sort ∷ sorts) [] h all = absurd all
+  several_of op m (sort ∷ sorts) (e ∷ es) h all =
+      let first : sort ≡ BitsSort m = h.1 0 (BitsSort m) (omega arith) in
+      let d = vector_is m e (subst (λ s. IsOfSort s e) first all.0) in
+      folded_of op m (map vector_of es) (vector_of e) d.0 d.1.0 d.1.1
+
+  several_parts : (widths : List ℕ) (es : List Element) → 2 ≤ length widths → AreOfSorts (map BitsSort widths) es → IsOfSort (BitsSort (sum widths)) (operate_bits Concat (map vector_of es))
+  several_parts [] es h all = absurd (omega arith)
+  several_parts (m ∷ widths) [] h all = absurd all
+  several_parts (m ∷ widths) (e ∷ es) h all =
+      let d = vector_is m e all.0 in
+      subst (λ n. IsOfSort (BitsSort n) (Vector (fold concatenated (vector_of e) (map vector_of es)))) ?
+      (concat_of widths es (vector_of e) all.1 d.1.0 d.1.1)
