@@ -1,6 +1,7 @@
 -- What the lowest m of the machine's 128 bits are.
 use Rattle.std.proofs.Common.{◌≡◌, ℕ, ◌+◌, ◌-◌, ◌*◌, ◌/◌, ◌%◌, ◌^◌, ◌<◌, ◌≤◌, sym, ap, ◌∙◌, arith, ne_eqb, div-le_self, lt_of_le_of_lt, pow_pos, pow-add, add-mul, one-mul, div-add-mod'}
 use Rattle.std.proofs.Math.Nat.{add-mod_right, add-mul-mod_self_right, mod-eq_of_lt, mod-le}
+use Rattle.std.proofs.lemmas.Nat.{div-mul-add, mod-mul-add}
 use Rattle.std.proofs.Math.Pow.{mod-mod-pow}
 use Rattle.smt_bits.specs.Operators.{bvudiv, bvurem}
 
@@ -50,3 +51,8 @@ quotient m s t some below = rw (ne_eqb t 0 some) (mod-eq_of_lt (lt_of_le_of_lt (
 
 pub remainder : (m s t : ℕ) → (t ≡ 0 → ⊥) → s < 2 ^ m → s % t % 2 ^ m ≡ bvurem m s t
 remainder m s t some below = rw (ne_eqb t 0 some) (mod-eq_of_lt (lt_of_le_of_lt (mod-le s t) below))
+
+pub quotient_one : (m s t q r : ℕ) → s ≡ q * t + r → r < t → (q ≡ bvudiv m s t) × (r ≡ bvurem m s t)
+quotient_one m s t q r is less =
+    let some : t ≡ 0 → ⊥ = λ none. omega arith in
+    (rw (ne_eqb t 0 some) (sym (ap (λ n. n / t) is ∙ div-mul-add q t r less)), rw (ne_eqb t 0 some) (sym (ap (λ n. n % t) is ∙ mod-mul-add q t r less)))

@@ -1,6 +1,6 @@
 //! Shifts by a vector's number (SMT-LIB 2.6, theory FixedSizeBitVectors; `bvashr` is of logic QF_BV).
 
-ghost use Rattle.std.specs.Prelude.{◌≡◌};
+ghost use Rattle.std.specs.Prelude.{◌≡◌, ◌*◌, ◌/◌, ◌%◌, ◌^◌};
 ghost use Rattle.smt_bits.specs.BitVector.{vector};
 ghost use Rattle.smt_bits.specs.Operators as meaning;
 
@@ -11,11 +11,7 @@ pub fn bvshl(s: Bits, t: Bits) -> Bits
     requires { s.width ≡ t.width }
     ensures { result ≡ vector s.width (meaning.bvshl s.width s.number t.number) }
 {
-    if t.number() < u128::from(s.width().bits()) {
-        Bits::new(s.width(), s.number() << t.number())
-    } else {
-        Bits::new(s.width(), 0)
-    }
+    Bits::new(s.width(), shifted_left(s.number(), t.number()))
 }
 
 /// `bvlshr`: the quotient by 2^t rounded down, which is 0 from t = m on. Asks for two vectors of one width.
@@ -23,11 +19,7 @@ pub fn bvlshr(s: Bits, t: Bits) -> Bits
     requires { s.width ≡ t.width }
     ensures { result ≡ vector s.width (meaning.bvlshr s.width s.number t.number) }
 {
-    if t.number() < u128::from(s.width().bits()) {
-        Bits::new(s.width(), s.number() >> t.number())
-    } else {
-        Bits::new(s.width(), 0)
-    }
+    Bits::new(s.width(), shifted_right(s.number(), t.number()))
 }
 
 /// `bvashr`: the signed reading's quotient by 2^t rounded down, so that the highest bit is copied in. Asks for two vectors of one width.
@@ -35,7 +27,20 @@ pub fn bvashr(s: Bits, t: Bits) -> Bits
     requires { s.width ≡ t.width }
     ensures { result ≡ vector s.width (meaning.bvashr s.width s.number t.number) }
 {
-    // From m - 1 on each bit is a copy of the highest.
-    let amount = t.number().min(u128::from(s.width().bits() - 1));
-    Bits::from_signed(s.width(), s.signed() >> amount)
+    // From 127 on all that is left of a machine's number is copies of its sign.
+    Bits::from_signed(s.width(), s.signed() >> t.number().min(127))
+}
+
+// What 128 bits hold of n * 2^t.
+fn shifted_left(n: u128, t: u128) -> u128
+    ensures { result ≡ n * 2 ^ t % 2 ^ 128 }
+{
+    if t < 128 { n << t } else { 0 }
+}
+
+// The quotient of n by 2^t.
+fn shifted_right(n: u128, t: u128) -> u128
+    ensures { result ≡ n / 2 ^ t }
+{
+    if t < 128 { n >> t } else { 0 }
 }

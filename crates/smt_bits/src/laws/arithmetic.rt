@@ -1,1 +1,38 @@
 //! Laws of the arithmetic modulo powers of two.
+
+ghost use Rattle.std.specs.Prelude.{◌≡◌, ◌≢◌, ℕ, ◌+◌, ◌*◌, ◌^◌, ◌<◌};
+ghost use Rattle.smt_bits.specs.Operators.{bvadd, bvashr, bvlshr, bvmul, bvneg, bvnot, bvshl, bvsub, bvudiv, bvurem};
+
+/// The negative is the complement plus one.
+pub fn negation_is_the_complement_and_one()
+    ensures { (m s : ℕ) → s < 2 ^ m → bvneg m s ≡ bvadd m (bvnot m s) 1 }
+{}
+
+/// To subtract what was added gives back the first number.
+pub fn subtraction_undoes_addition()
+    ensures { (m s t : ℕ) → s < 2 ^ m → t < 2 ^ m → bvsub m (bvadd m s t) t ≡ s }
+{}
+
+/// Where the divisor is not 0, `bvudiv` and `bvurem` are the one quotient and the one remainder with `s = q * t + r` and `r < t`.
+pub fn unsigned_division_is_by_the_law()
+    ensures exact { (m s t : ℕ) → t ≢ 0 → s ≡ bvudiv m s t * t + bvurem m s t }
+    ensures high { (m s t : ℕ) → t ≢ 0 → bvurem m s t < t }
+    ensures one { (m s t q r : ℕ) → s ≡ q * t + r → r < t → (q ≡ bvudiv m s t) × (r ≡ bvurem m s t) }
+{}
+
+/// Each result is a number of m bits.
+pub fn arithmetic_fits()
+    ensures neg { (m s : ℕ) → bvneg m s < 2 ^ m }
+    ensures add { (m s t : ℕ) → bvadd m s t < 2 ^ m }
+    ensures sub { (m s t : ℕ) → bvsub m s t < 2 ^ m }
+    ensures mul { (m s t : ℕ) → bvmul m s t < 2 ^ m }
+    ensures udiv { (m s t : ℕ) → s < 2 ^ m → bvudiv m s t < 2 ^ m }
+    ensures urem { (m s t : ℕ) → s < 2 ^ m → bvurem m s t < 2 ^ m }
+{}
+
+/// Each shifted vector is a number of m bits, whatever number it is shifted by.
+pub fn shifts_fit()
+    ensures shl { (m s t : ℕ) → bvshl m s t < 2 ^ m }
+    ensures lshr { (m s t : ℕ) → s < 2 ^ m → bvlshr m s t < 2 ^ m }
+    ensures ashr { (m s t : ℕ) → bvashr m s t < 2 ^ m }
+{}
