@@ -1,8 +1,10 @@
 -- Results of operators on bit vectors are of the sorts that ranks give.
 use Rattle.std.proofs.Common.{◌≡◌, ℕ, ◌+◌, ◌-◌, ◌*◌, ◌%◌, ◌^◌, ◌<◌, ◌≤◌, List, [], ◌∷◌, length, refl, sym, ap, ◌∙◌, subst, arith, rules}
 use Rattle.std.proofs.Math.Nat.{mod-lt}
-use Rattle.std.proofs.Math.Pow.{pow_pos}
-use Rattle.std.specs.Prelude.{fold, map, sum}
+use Rattle.std.proofs.Math.Pow.{pow_mono, pow_pos}
+use Rattle.std.proofs.lemmas.List.Sums.{sum_by-cons}
+use Rattle.std.specs.List.{sum}
+use Rattle.std.specs.Prelude.{fold, map}
 use Rattle.smt_bits.specs.BitVector.{BitVector, IsVector, vector}
 use Rattle.smt_bits.specs.Operators.{bvcomp, concat, extract, repeat, sign_extend, rotate_left, rotate_right}
 use Rattle.smt_theory.specs.Ranks.{HasBitsRank, AreSeveral}
@@ -67,7 +69,10 @@ two m (e ∷ f ∷ []) h = let d = vector_is m e h.0 in record { v = vector_of e
 -- ---- results
 
 wider : (m i s : ℕ) → s < 2 ^ m → s < 2 ^ (m + i)
-wider m i s h = ?
+wider m i s h = let more : 2 ^ m ≤ 2 ^ (m + i) = pow_mono (omega arith) in omega arith
+
+sum-cons : (m : ℕ) (widths : List ℕ) → sum (m ∷ widths) ≡ m + sum widths
+sum-cons m widths = sum_by-cons (λ n. n) m widths
 
 module _ (fits : ResultsFit) where
   folded_of : (op : BitsFolded) (m : ℕ) (vs : List BitVector) (s : BitVector) → s.width ≡ m → 1 ≤ s.width → s.number < 2 ^ s.width → IsOfSort (BitsSort m) (Vector (fold (folded_vector op) s vs))
@@ -82,9 +87,11 @@ module _ (fits : ResultsFit) where
   concat_of (m ∷ widths) (e ∷ es) s h some below =
       let d = vector_is m e h.0 in
       let t = vector_of e in
-      let same : s.width + t.width + sum widths ≡ s.width + sum (m ∷ widths) = ? in
+      let width : t.width ≡ m = d.0 in
+      let whole = sum-cons m widths in
+      let same : s.width + t.width + sum widths ≡ s.width + sum (m ∷ widths) = omega arith in
       subst (λ n. IsOfSort (BitsSort n) (Vector (fold concatenated (concatenated s t) (map vector_of es)))) same
-      (concat_of widths es (concatenated s t) h.1 (omega arith) (fits.concat_fits s.width t.width s.number t.number below d.1.1))
+      (concat_of widths es (concatenated s t) h.1 (let w = some in omega arith) (fits.concat_fits s.width t.width s.number t.number below d.1.1))
 
   several_of : (op : BitsFolded) (m : ℕ) (sorts : List Sort) (es : List Element) → AreSeveral (BitsSort m) sorts → AreOfSorts sorts es → IsOfSort (BitsSort m) (operate_bits (Folded op) (map vector_of es))
   several_of op m [] es h all = absurd (none h.0)
@@ -102,5 +109,57 @@ module _ (fits : ResultsFit) where
   several_parts (m ∷ widths) [] h all = absurd all
   several_parts (m ∷ widths) (e ∷ es) h all =
       let d = vector_is m e all.0 in
-      subst (λ n. IsOfSort (BitsSort n) (Vector (fold concatenated (vector_of e) (map vector_of es)))) ?
+      subst (λ n. IsOfSort (BitsSort n) (Vector (fold concatenated (vector_of e) (map vector_of es)))) (ap (λ n. n + sum widths) d.0 ∙ sym (sum-cons m widths))
       (concat_of widths es (vector_of e) all.1 d.1.0 d.1.1)
+
+  -- the result of an operator on one vector, and on two
+  of_one : (f : BitVector → BitVector) (op : BitsOp) (m n : ℕ) (es : List Element) → ((v : BitVector) → operate_bits op (v ∷ []) ≡ Vector (f v)) → ((v : BitVector) → v.width ≡ m → 1 ≤ v.width → v.number < 2 ^ v.width → IsOfSort (BitsSort n) (Vector (f v)))
+      → AreOfSorts (BitsSort m ∷ []) es → IsOfSort (BitsSort n) (operate_bits op (map vector_of es))
+  of_one f op m n es is fit all =
+      let o = one m es all in
+      subst (IsOfSort (BitsSort n)) (sym (ap (operate_bits op) o.is ∙ is o.v)) (fit o.v o.width o.some o.below)
+
+  pub bits : (op : BitsOp) (sorts : List Sort) (sort : Sort) (es : List Element) → HasBitsRank op sorts sort → AreOfSorts sorts es → IsOfSort sort (operate_bits op (map vector_of es))
+  bits (Constant x n) sorts sort es r h = subst (λ s. IsOfSort s (Vector (vector n (x % 2 ^ n)))) (sym r.4) (refl, (r.0, mod-lt x (2 ^ n) (pow_pos n)))
+  bits Concat sorts sort es r h = subst (λ s. IsOfSort s (operate_bits Concat (map vector_of es))) (sym r.4) (several_parts r.0 es r.2 (subst (λ ss. AreOfSorts ss es) r.1 h))
+  bits (Extract i j) sorts sort es r h =
+      subst (λ s. IsOfSort s (operate_bits (Extract i j) (map vector_of es))) (sym r.4)
+      (of_one (λ v. vector (i - j + 1) (extract i j v.number)) (Extract i j) r.0 (i - j + 1) es (λ v. refl) (λ v w some below. (refl, (omega arith, fits.extract_fits i j v.number))) (subst (λ ss. AreOfSorts ss es) r.1 h))
+  bits (Unary op) sorts sort es r h =
+      subst (λ s. IsOfSort s (operate_bits (Unary op) (map vector_of es))) (sym r.2)
+      (of_one (λ v. vector v.width (unary op v.width v.number)) (Unary op) r.0 r.0 es (λ v. refl) (λ v w some below. (w, (some, fits.unary_fits op v.width v.number))) (subst (λ ss. AreOfSorts ss es) r.1 h))
+  bits (Folded op) sorts sort es r h = subst (λ s. IsOfSort s (operate_bits (Folded op) (map vector_of es))) (sym r.2) (several_of op r.0 sorts es r.1 h)
+  bits (Binary op) sorts sort es r h =
+      let o = two r.0 es (subst (λ ss. AreOfSorts ss es) r.1 h) in
+      subst (λ s. IsOfSort s (operate_bits (Binary op) (map vector_of es))) (sym r.2)
+      (subst (λ vs. IsOfSort (BitsSort r.0) (operate_bits (Binary op) vs)) (sym o.is) (o.width, (o.some, fits.binary_fits op o.v.width o.v.number o.w.number o.some o.below)))
+  bits (Comparison op) sorts sort es r h =
+      let o = two r.0 es (subst (λ ss. AreOfSorts ss es) r.1 h) in
+      subst (λ s. IsOfSort s (operate_bits (Comparison op) (map vector_of es))) (sym r.2) (subst (λ vs. IsOfSort BoolSort (operate_bits (Comparison op) vs)) (sym o.is) tt)
+  bits Comp sorts sort es r h =
+      let o = two r.0 es (subst (λ ss. AreOfSorts ss es) r.1 h) in
+      subst (λ s. IsOfSort s (operate_bits Comp (map vector_of es))) (sym r.2)
+      (subst (λ vs. IsOfSort (BitsSort 1) (operate_bits Comp vs)) (sym o.is) (refl, (omega arith, fits.comp_fits o.v.number o.w.number)))
+  bits (Repeat i) sorts sort es r h =
+      subst (λ s. IsOfSort s (operate_bits (Repeat i) (map vector_of es))) (sym r.4)
+      (of_one (λ v. vector (i * v.width) (repeat i v.width v.number)) (Repeat i) r.0 (i * r.0) es (λ v. refl)
+      (λ v w some below. (ap (λ n. i * n) w, (positive i v.width r.2 some, fits.repeat_fits i v.width v.number below))) (subst (λ ss. AreOfSorts ss es) r.1 h))
+    where
+      positive : (i m : ℕ) → 1 ≤ i → 1 ≤ m → 1 ≤ i * m
+      positive i m a b = mul-pos a b
+  bits (ZeroExtend i) sorts sort es r h =
+      subst (λ s. IsOfSort s (operate_bits (ZeroExtend i) (map vector_of es))) (sym r.3)
+      (of_one (λ v. vector (v.width + i) v.number) (ZeroExtend i) r.0 (r.0 + i) es (λ v. refl)
+      (λ v w some below. (ap (λ n. n + i) w, (omega arith, wider v.width i v.number below))) (subst (λ ss. AreOfSorts ss es) r.1 h))
+  bits (SignExtend i) sorts sort es r h =
+      subst (λ s. IsOfSort s (operate_bits (SignExtend i) (map vector_of es))) (sym r.3)
+      (of_one (λ v. vector (v.width + i) (sign_extend i v.width v.number)) (SignExtend i) r.0 (r.0 + i) es (λ v. refl)
+      (λ v w some below. (ap (λ n. n + i) w, (omega arith, fits.sign_extend_fits i v.width v.number))) (subst (λ ss. AreOfSorts ss es) r.1 h))
+  bits (RotateLeft i) sorts sort es r h =
+      subst (λ s. IsOfSort s (operate_bits (RotateLeft i) (map vector_of es))) (sym r.2)
+      (of_one (λ v. vector v.width (rotate_left i v.width v.number)) (RotateLeft i) r.0 r.0 es (λ v. refl)
+      (λ v w some below. (w, (some, fits.rotate_left_fits i v.width v.number some below))) (subst (λ ss. AreOfSorts ss es) r.1 h))
+  bits (RotateRight i) sorts sort es r h =
+      subst (λ s. IsOfSort s (operate_bits (RotateRight i) (map vector_of es))) (sym r.2)
+      (of_one (λ v. vector v.width (rotate_right i v.width v.number)) (RotateRight i) r.0 r.0 es (λ v. refl)
+      (λ v w some below. (w, (some, fits.rotate_right_fits i v.width v.number some below))) (subst (λ ss. AreOfSorts ss es) r.1 h))

@@ -9,9 +9,10 @@ use Rattle.smt_theory.specs.declared.op.CoreOp.TheVariants.{True, False, Not, Im
 use Rattle.smt_theory.specs.declared.op.IntsOp.{IntsOp}
 use Rattle.smt_theory.specs.declared.op.IntsOp.TheVariants.{Arithmetic as Left, Comparison as Chain, Mod, Abs, Divisible}
 use Rattle.smt_theory.specs.declared.op.Op.{Op}
-use Rattle.smt_theory.specs.declared.op.Op.TheVariants.{Core, Ints}
+use Rattle.smt_theory.specs.declared.op.Op.TheVariants.{Core, Ints, Bits}
 use Rattle.smt_theory.specs.declared.sort.Sort.{Sort}
 use Rattle.smt_theory.specs.declared.sort.Sort.TheVariants.{Bool as Boolean, Int}
+use Rattle.smt_values.proofs.BitSortLemmas.{ResultsFit, bits}
 use Rattle.smt_values.specs.Element.{Element, Truth, IsOfSort, AreOfSorts}
 use Rattle.smt_values.specs.Operations.{DivisionByZero, truth_of, integer_of, chosen, operate_core, operate_ints, operate}
 
@@ -89,6 +90,7 @@ ints t Mod sorts sort es r h = integer sort _ r.1 (of_two t es (subst (λ ss. Ar
 ints t Abs sorts sort es r h = integer sort _ r.1 (of_one t es (subst (λ ss. AreOfSorts ss es) r.0 h))
 ints t (Divisible n) sorts sort es r h = subst (λ s. IsOfSort s (operate_ints t (Divisible n) (map integer_of es))) (sym r.1) (divisible t n (map integer_of es))
 
-pub result_of_sort : (t : DivisionByZero) (op : Op) (sorts : List Sort) (sort : Sort) (es : List Element) → HasRank op sorts sort → AreOfSorts sorts es → IsOfSort sort (operate t op es)
-result_of_sort t (Core op) sorts sort es r h = core op sorts sort es r h
-result_of_sort t (Ints op) sorts sort es r h = ints t op sorts sort es r h
+pub result_of_sort : (fits : ResultsFit) (t : DivisionByZero) (op : Op) (sorts : List Sort) (sort : Sort) (es : List Element) → HasRank op sorts sort → AreOfSorts sorts es → IsOfSort sort (operate t op es)
+result_of_sort fits t (Core op) sorts sort es r h = core op sorts sort es r h
+result_of_sort fits t (Ints op) sorts sort es r h = ints t op sorts sort es r h
+result_of_sort fits t (Bits op) sorts sort es r h = bits fits op sorts sort es r h

@@ -1,4 +1,5 @@
-//! What holds of the definitions that the contracts name. Nothing here does anything: each contract is a law.
+//! What holds of the definitions that the contracts name. Nothing here does anything: each contract is a law, and
+//! a body but calls the laws that it rests on.
 
 ghost use Rattle.std.specs.Prelude.{◌≡◌, ◌≢◌, ◌≤ℤ◌, ◌<ℤ◌, ℤ, pos, ◌+ℤ◌, ◌*ℤ◌, unsigned_abs, List, Option};
 ghost use Rattle.smt_theory.specs.Ranks.{HasRank};
@@ -8,8 +9,10 @@ ghost use Rattle.smt_values.specs.Element.{Agrees, AllAgree, AreOfSorts, Element
 ghost use Rattle.smt_values.specs.KnownOperations.{known_step};
 ghost use Rattle.smt_values.specs.Operations.{DivisionByZero, operate, quotient, remainder};
 
+use smt_bits::laws::{arithmetic, bitwise, parts, signed};
+
 /// What is known of an operator's result is the standard's value, whatever the open arguments are and whatever division by zero
-/// gives (SMT-LIB 2.6, theories Core and Ints).
+/// gives (SMT-LIB 2.6, theories Core, Ints and FixedSizeBitVectors).
 pub fn known_results_are_true()
     ensures { (z : DivisionByZero) (op : Op) (knowns : List (Option Element)) (args : List Element)
         → AllAgree knowns args → Agrees (known_step op knowns) (operate z op args) }
@@ -19,7 +22,13 @@ pub fn known_results_are_true()
 pub fn results_are_of_their_sorts()
     ensures { (z : DivisionByZero) (op : Op) (sorts : List Sort) (sort : Sort) (args : List Element)
         → HasRank op sorts sort → AreOfSorts sorts args → IsOfSort sort (operate z op args) }
-{}
+{
+    arithmetic::arithmetic_fits();
+    arithmetic::shifts_fit();
+    bitwise::bitwise_fits();
+    parts::parts_fit();
+    signed::signed_fits();
+}
 
 /// `div` and `mod` by a number that is not 0 are the one quotient and the one remainder with `a = n * q + r` and `0 <= r < |n|`
 /// (SMT-LIB 2.6, theory Ints).
