@@ -1,3 +1,4 @@
 mod PartLemmas
 mod SignedDivisionLemmas
 pub mod SignedLemmas
+mod SignedReadingLemmas
