@@ -1,4 +1,5 @@
 mod PartLemmas
 mod SignedDivisionLemmas
+mod SignedLawLemmas
 pub mod SignedLemmas
 mod SignedReadingLemmas

@@ -1,5 +1,5 @@
 -- The signed reading, and the way back.
-use Rattle.std.proofs.Common.{◌≡◌, ◌≢◌, ℕ, zero, suc, ◌+◌, ◌-◌, ◌*◌, ◌%◌, ◌^◌, ◌<◌, ◌≤◌, ℤ, pos, negsuc, ◌-ℤ◌, cond, refl, sym, ap, subst, ◌∙◌, ⊎_elim, arith, le-leb, lt_of_lt_of_le}
+use Rattle.std.proofs.Common.{◌≡◌, ◌≢◌, ℕ, zero, suc, ◌+◌, ◌-◌, ◌*◌, ◌%◌, ◌^◌, ◌<◌, ◌≤◌, ℤ, pos, negsuc, ◌-ℤ◌, neg_ℤ, cond, refl, sym, ap, subst, ◌∙◌, ⊎_elim, arith, le-leb, lt_of_lt_of_le}
 use Rattle.std.proofs.lemmas.Bool.{cases_lt, lt-leb}
 use Rattle.std.proofs.lemmas.Int.{ints}
 use Rattle.std.proofs.lemmas.Nat.{mod_below, pow_pos}
@@ -20,12 +20,12 @@ signed_high m s k sum high =
 pub modulo_signed : (m s : ℕ) → s < 2 ^ m → modulo m (signed m s) ≡ s
 modulo_signed m s below =
     ⊎_elim
-        (λ low. ap (modulo m) (signed_low m s low) ∙ mod-eq_of_lt below)
-        (λ high.
-            let k = 2 ^ m - suc s in
-            let same : k % 2 ^ m ≡ k = mod-eq_of_lt (omega arith) in
-            ap (modulo m) (signed_high m s k (omega arith) high) ∙ omega (arith, same))
-        (cases_lt (2 * s) (2 ^ m))
+    (λ low. ap (modulo m) (signed_low m s low) ∙ mod-eq_of_lt below)
+    (λ high.
+    let k = 2 ^ m - suc s in
+    let same : k % 2 ^ m ≡ k = mod-eq_of_lt (omega arith) in
+    ap (modulo m) (signed_high m s k (omega arith) high) ∙ omega (arith, same))
+    (cases_lt (2 * s) (2 ^ m))
 
 pub signed_modulo : (h : ℕ) (z : ℤ) → mag z < 2 ^ h → signed (suc h) (modulo (suc h) z) ≡ z
 signed_modulo h (pos n) fits =
@@ -41,9 +41,9 @@ pub signed_within : (h s : ℕ) → s < 2 ^ suc h → mag (signed (suc h) s) < 2
 signed_within h s below =
     let double = two-pow-succ h in
     ⊎_elim
-        (λ low. subst (λ z. mag z < 2 ^ h) (sym (signed_low (suc h) s low)) (omega arith))
-        (λ high. subst (λ z. mag z < 2 ^ h) (sym (signed_high (suc h) s (2 ^ suc h - suc s) (omega arith) high)) (omega arith))
-        (cases_lt (2 * s) (2 ^ suc h))
+    (λ low. subst (λ z. mag z < 2 ^ h) (sym (signed_low (suc h) s low)) (omega arith))
+    (λ high. subst (λ z. mag z < 2 ^ h) (sym (signed_high (suc h) s (2 ^ suc h - suc s) (omega arith) high)) (omega arith))
+    (cases_lt (2 * s) (2 ^ suc h))
 
 pub signed_extended : (i m s : ℕ) → 1 ≤ m → s < 2 ^ m → signed (m + i) (modulo (m + i) (signed m s)) ≡ signed m s
 signed_extended i zero s some below = absurd (omega arith)
@@ -58,3 +58,14 @@ modulo_below m (negsuc n) = omega (arith, pow_pos m)
 
 pub signed_nonzero : (m t : ℕ) → t < 2 ^ m → t ≢ 0 → signed m t ≢ pos 0
 signed_nonzero m t below some none = some (sym (modulo_signed m t below) ∙ ap (modulo m) none ∙ mod-eq_of_lt (pow_pos m))
+
+-- ---- absolute values
+
+pub abs_most : (w : ℕ) (z : ℤ) → mag z < w → unsigned_abs z ≤ w
+abs_most w (pos n) fits = omega arith
+abs_most w (negsuc n) fits = omega arith
+
+pub abs_neg : (z : ℤ) → unsigned_abs (neg_ℤ z) ≡ unsigned_abs z
+abs_neg (pos zero) = refl
+abs_neg (pos (suc n)) = refl
+abs_neg (negsuc n) = refl
