@@ -1,5 +1,5 @@
 -- What the code of the parts computes.
-use Rattle.std.proofs.Common.{◌≡◌, ℕ, add_comm, zero, suc, ◌+◌, ◌-◌, ◌*◌, ◌/◌, ◌%◌, ◌^◌, ◌<◌, ◌≤◌, refl, sym, ap, subst, ◌∙◌, arith, bit_or}
+use Rattle.std.proofs.Common.{◌≡◌, ℕ, add_comm, zero, suc, ◌+◌, ◌-◌, ◌*◌, ◌/◌, ◌%◌, ◌^◌, ◌<◌, ◌≤◌, sym, ap, subst, ◌∙◌, arith, bit_or}
 use Rattle.std.proofs.lemmas.Nat.{pow_pos, pow-add, mul-add-lt, or_shifted, shl_whole, or_mod, mod-pow-add, mul-le, mod_below, mod_low, shl-shr, shr_high, shr_le, shr_below, shr_split}
 use Rattle.std.proofs.Math.Nat.{mod-eq_of_lt, mod-one, div-eq_of_lt, div-one, mul-mod_left, zero-mul}
 use Rattle.std.proofs.Math.Pow.{mod-mod-pow, shr_mod}

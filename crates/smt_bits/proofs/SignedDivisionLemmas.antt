@@ -1,11 +1,11 @@
 -- Division of signed readings.
-use Rattle.std.proofs.Common.{◌≡◌, ◌≢◌, ℕ, zero, suc, ◌+◌, ◌-◌, ◌*◌, ◌/◌, ◌%◌, ◌^◌, ◌<◌, ◌≤◌, ℤ, pos, negsuc, ◌+ℤ◌, ◌-ℤ◌, ◌*ℤ◌, neg_ℤ, ◌≤ℤ◌, ◌<ℤ◌, FitsSigned, Bool, true, false, cond, refl, sym, ap, ◌∙◌, ◌⊎◌, ⊎_elim, arith, le-ltb}
+use Rattle.std.proofs.Common.{◌≡◌, ◌≢◌, ℕ, zero, suc, ◌+◌, ◌-◌, ◌/◌, ◌%◌, ◌^◌, ◌<◌, ◌≤◌, ℤ, pos, negsuc, ◌+ℤ◌, neg_ℤ, ◌≤ℤ◌, ◌<ℤ◌, FitsSigned, cond, sym, ap, ◌∙◌, ⊎_elim, arith, le-ltb}
 use Rattle.std.proofs.lemmas.Bool.{cases_lt, ne_eqb}
 use Rattle.std.proofs.lemmas.Int.{ints, to_z-of_z}
 use Rattle.std.proofs.lemmas.Nat.{mod_below}
 use Rattle.std.proofs.Math.Nat.{div-le_self, mod-add-mod, mod-eq_of_lt, mod_self, zero-mod}
-use Rattle.std.specs.Int.{w128, cast_signed, cast_unsigned, int_rem_euclid, int_div_euclid}
-use Rattle.std.specs.Prelude.{int_div, int_lt, int_rem, unsigned_abs}
+use Rattle.std.specs.Int.{w128, cast_signed, cast_unsigned, int_rem_euclid}
+use Rattle.std.specs.Prelude.{int_div, unsigned_abs}
 use Rattle.smt_bits.specs.BitVector.{is_negative, modulo, signed}
 use Rattle.smt_bits.specs.Operators as meaning
 use Rattle.smt_bits.proofs.SignedLemmas.{cast_modulo}

@@ -1,17 +1,17 @@
 -- The laws of signed division.
-use Rattle.std.proofs.Common.{◌≡◌, ◌≢◌, ℕ, zero, suc, ◌+◌, ◌-◌, ◌*◌, ◌/◌, ◌%◌, ◌^◌, ◌<◌, ◌≤◌, ℤ, pos, negsuc, ◌+ℤ◌, ◌-ℤ◌, ◌*ℤ◌, neg_ℤ, ◌≤ℤ◌, ◌<ℤ◌, Bool, true, false, cond, eqb, refl, sym, ap, subst, ◌∙◌, arith, lt_of_le_of_lt, div-add-mod'}
-use Rattle.std.proofs.lemmas.Bool.{ne_eqb, eqb-true, eq-eqb}
+use Rattle.std.proofs.Common.{◌≡◌, ◌≢◌, ℕ, zero, suc, ◌-◌, ◌/◌, ◌^◌, ◌<◌, ◌≤◌, ℤ, pos, negsuc, ◌+ℤ◌, ◌*ℤ◌, neg_ℤ, ◌≤ℤ◌, ◌<ℤ◌, Bool, true, false, cond, eqb, refl, sym, ap, subst, ◌∙◌, arith, lt_of_le_of_lt, div-add-mod'}
+use Rattle.std.proofs.lemmas.Bool.{ne_eqb}
 use Rattle.std.proofs.lemmas.Bool.Decides.{nat_tests}
 use Rattle.std.proofs.lemmas.Int.{ints, quot-rem, rem_below}
-use Rattle.std.proofs.lemmas.Nat.{mod_below, pow_pos}
+use Rattle.std.proofs.lemmas.Nat.{mod_below}
 use Rattle.std.proofs.Math.Nat.{zero-mod}
 use Rattle.std.proofs.Math.Pow.{pow_mono}
-use Rattle.std.specs.Int.{int_rem_euclid, int_div_euclid}
+use Rattle.std.specs.Int.{int_rem_euclid}
 use Rattle.std.specs.Prelude.{int_div, int_rem, unsigned_abs}
 use Rattle.smt_bits.specs.BitVector.{is_negative, modulo, signed}
 use Rattle.smt_bits.specs.Operators as meaning
 use Rattle.smt_bits.proofs.SignedDivisionLemmas.{flooring_positive, rem_euclid_positive}
-use Rattle.smt_bits.proofs.SignedReadingLemmas.{abs_most, abs_neg, modulo_below, modulo_signed, signed_modulo, signed_nonzero, signed_within}
+use Rattle.smt_bits.proofs.SignedReadingLemmas.{abs_most, abs_neg, modulo_below, signed_modulo, signed_nonzero, signed_within}
 use lib.Signed.{mag}
 
 -- ---- the range
