@@ -4,4 +4,6 @@ pub mod LiteralLemmas
 pub mod PartLemmas
 pub mod ShiftLemmas
 pub mod SignedDivisionLemmas
+pub mod SignedLawLemmas
 pub mod SignedLemmas
+pub mod SignedReadingLemmas

@@ -1,14 +1,15 @@
 -- Division of signed readings.
-use Rattle.std.proofs.Common.{◌≡◌, ◌≢◌, ℕ, zero, suc, ◌+◌, ◌-◌, ◌*◌, ◌/◌, ◌%◌, ◌^◌, ◌<◌, ◌≤◌, ℤ, pos, negsuc, ◌+ℤ◌, ◌-ℤ◌, ◌*ℤ◌, neg_ℤ, ◌≤ℤ◌, ◌<ℤ◌, FitsSigned, Bool, true, false, cond, refl, sym, ap, ◌∙◌, ◌⊎◌, ⊎_elim, arith, le-ltb}
+use Rattle.std.proofs.Common.{◌≡◌, ◌≢◌, ℕ, zero, suc, ◌+◌, ◌-◌, ◌/◌, ◌%◌, ◌^◌, ◌<◌, ◌≤◌, ℤ, pos, negsuc, ◌+ℤ◌, neg_ℤ, ◌≤ℤ◌, ◌<ℤ◌, FitsSigned, cond, sym, ap, ◌∙◌, ⊎_elim, arith, le-ltb}
 use Rattle.std.proofs.lemmas.Bool.{cases_lt, ne_eqb}
 use Rattle.std.proofs.lemmas.Int.{ints, to_z-of_z}
 use Rattle.std.proofs.lemmas.Nat.{mod_below}
 use Rattle.std.proofs.Math.Nat.{div-le_self, mod-add-mod, mod-eq_of_lt, mod_self, zero-mod}
-use Rattle.std.specs.Int.{w128, cast_signed, cast_unsigned, int_rem_euclid, int_div_euclid}
-use Rattle.std.specs.Prelude.{int_div, int_lt, int_rem, unsigned_abs}
+use Rattle.std.specs.Int.{w128, cast_signed, cast_unsigned, int_rem_euclid}
+use Rattle.std.specs.Prelude.{int_div, unsigned_abs}
 use Rattle.smt_bits.specs.BitVector.{is_negative, modulo, signed}
 use Rattle.smt_bits.specs.Operators as meaning
 use Rattle.smt_bits.proofs.SignedLemmas.{cast_modulo}
+use Rattle.smt_bits.proofs.SignedReadingLemmas.{abs_most, abs_neg}
 
 -- the remainder of the next number
 record IsMore (w k j : ℕ) : Type 0 where
@@ -68,14 +69,10 @@ pub flooring_positive : (a n : ℤ) → pos 0 ≤ℤ n → int_rem_euclid a n �
 flooring_positive a (pos n) positive = sym (ap (λ b. cond b (neg_ℤ (int_rem_euclid (neg_ℤ a) (pos n))) (int_rem_euclid a (pos n))) (le-ltb n 0 (omega arith)))
 flooring_positive a (negsuc y) positive = absurd (omega (arith, ints))
 
-abs_neg : (n : ℕ) → unsigned_abs (neg_ℤ (pos n)) ≡ n
-abs_neg zero = refl
-abs_neg (suc n) = refl
-
 div_abs : (a n : ℤ) → unsigned_abs (int_div a n) ≤ unsigned_abs a
 div_abs (pos a) (pos n) = div-le_self a n
-div_abs (pos a) (negsuc n) = omega (arith, abs_neg (a / suc n), div-le_self a (suc n))
-div_abs (negsuc a) (pos n) = omega (arith, abs_neg (suc a / n), div-le_self (suc a) n)
+div_abs (pos a) (negsuc n) = omega (arith, abs_neg (pos (a / suc n)), div-le_self a (suc n))
+div_abs (negsuc a) (pos n) = omega (arith, abs_neg (pos (suc a / n)), div-le_self (suc a) n)
 div_abs (negsuc a) (negsuc n) = div-le_self (suc a) (suc n)
 
 wrapped : (m : ℕ) (z : ℤ) → m ≤ 128 → unsigned_abs z ≤ 2 ^ 127 → modulo m (cast_signed w128 (cast_unsigned w128 z)) ≡ modulo m z
@@ -87,10 +84,6 @@ wrapped m (pos n) within most =
     (cases_lt n (2 ^ 127))
 wrapped m (negsuc n) within most = ap (modulo m) (to_z-of_z w128 (negsuc n) (record { sfits = omega arith }))
 
-abs_fits : (z : ℤ) → FitsSigned w128 z → unsigned_abs z ≤ 2 ^ 127
-abs_fits (pos n) fits = let small : n < 2 ^ 127 = fits.sfits in omega arith
-abs_fits (negsuc n) fits = let small : n < 2 ^ 127 = fits.sfits in omega arith
-
 -- the quotient may be 2 ^ 127, which has the bits of its opposite
 pub wrapped_quotient : (m : ℕ) (a n : ℤ) → m ≤ 128 → unsigned_abs a ≤ 2 ^ 127 → modulo m (cast_signed w128 (cast_unsigned w128 (int_div a n))) ≡ modulo m (int_div a n)
 wrapped_quotient m a n within most = wrapped m (int_div a n) within (omega (arith, div_abs a n))
@@ -101,7 +94,7 @@ pub quotient_is : (m : ℕ) (a n x y q : ℤ) → m ≤ 128 → FitsSigned w128 
     → modulo m (cast_signed w128 (cast_unsigned w128 q)) ≡ modulo m (int_div a n)
 quotient_is m a n x y q within fx fy fq is_a is_n is_q =
     let read = λ (z : ℤ). cast_signed w128 (cast_unsigned w128 z) in
-    let most : unsigned_abs x ≤ 2 ^ 127 = abs_fits x fx in
+    let most : unsigned_abs x ≤ 2 ^ 127 = abs_most (2 ^ 127) x fx.sfits in
     ap (modulo m) (to_z-of_z w128 q fq ∙ is_q)
     ∙ ap (λ z. modulo m (read (int_div z (read y)))) (to_z-of_z w128 x fx)
     ∙ ap (λ z. modulo m (read (int_div x z))) (to_z-of_z w128 y fy)
