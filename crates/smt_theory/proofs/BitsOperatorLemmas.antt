@@ -1,5 +1,5 @@
 -- Operators on bit vectors are found by their own names and indexes, and by no others.
-use Rattle.std.proofs.Common.{◌≡◌, ℕ, ◌<◌, ◌≤◌, ◌^◌, ◌++◌, ◌==◌, Bool, true, false, cond, ◌&&◌, List, [], ◌∷◌, Option, Some, None, Result, Ok, Err, nat_lt, nat_le, refl, sym, ap, ◌∙◌, subst, arith, rules}
+use Rattle.std.proofs.Common.{◌≡◌, ℕ, ◌<◌, ◌≤◌, ◌^◌, ◌++◌, ◌==◌, Bool, true, false, cond, ◌&&◌, List, [], ◌∷◌, Option, Some, None, Result, Ok, nat_lt, nat_le, refl, sym, ap, ◌∙◌, subst, rules}
 use Rattle.std.specs.Prelude.{IsTrue, bytes_eq, codes, find, option_map, ok_or}
 use Rattle.std.specs.Option.{option_and_then, option_or}
 use Rattle.std.specs.Str.Parse.{digits_value}
@@ -8,13 +8,12 @@ use Rattle.std.proofs.lemmas.List.Folds.{find-append}
 use Rattle.std.proofs.lemmas.Slice.Eq.{bytes_eq-Decides}
 use Rattle.smt_theory.proofs.DigitLemmas.{large_below_word}
 use Rattle.smt_theory.proofs.FindLemmas.{map-some, ok_or-Ok}
-use Rattle.smt_theory.specs.BitsOperators.{AreInRange, IsBitsName, begins_with_bv, binary_plain, bits_indexes, bits_name, bits_named, bitwise_plain, comparison_plain, constant_by, constant_digits, extract_by, indexed_bits, indexed_constant, named_among, only_number, repeat_by}
+use Rattle.smt_theory.specs.BitsOperators.{AreInRange, IsBitsName, binary_plain, bits_indexes, bits_name, bits_named, bitwise_plain, comparison_plain, constant_by, constant_digits, extract_by, indexed_bits, indexed_constant, named_among, only_number, repeat_by}
 use Rattle.smt_theory.specs.Numbers.{below_word, is_numeral}
 use Rattle.smt_theory.specs.Operators.{core_named, divisible_by, ints_named, op_by}
 use Rattle.smt_theory.specs.Width.{width_of}
 use Rattle.smt_theory.specs.Index.{IndexView}
 use Rattle.smt_theory.specs.Index.{Number, Large, Name}
-use Rattle.smt_theory.specs.Words.{result_and_then}
 use Rattle.smt_theory.specs.declared.op.BitsBinary.TheVariants.{Nand, Nor, Xnor, Subtract, DivideUnsigned, RemainderUnsigned, DivideSigned, RemainderSigned, ModuloSigned, ShiftLeft, ShiftRight, ShiftRightSigned}
 use Rattle.smt_theory.specs.declared.op.BitsComparison.TheVariants.{UnsignedLess, UnsignedAtMost, UnsignedGreater, UnsignedAtLeast, SignedLess, SignedAtMost, SignedGreater, SignedAtLeast}
 use Rattle.smt_theory.specs.declared.op.BitsFolded.TheVariants.{And, Or, Xor, Add, Multiply}

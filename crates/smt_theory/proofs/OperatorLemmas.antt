@@ -1,7 +1,6 @@
 -- Operators are found by their own names and indexes, and by no others.
-use Rattle.std.proofs.Common.{◌≡◌, ◌⊎◌, inl, inr, ℕ, ◌<◌, Bool, true, false, cond, ◌&&◌, List, [], ◌∷◌, Option, Some, None, Result, Ok, Err, length, map, nat_eq, nat_lt, refl, sym, ap, ◌∙◌, subst, rules}
-use Rattle.std.specs.Prelude.{IsTrue, bytes_eq, codes, find, option_map, ok_or}
-use Rattle.std.specs.Option.{option_or}
+use Rattle.std.proofs.Common.{◌≡◌, inl, inr, ℕ, ◌<◌, Bool, true, false, cond, ◌&&◌, List, [], ◌∷◌, Option, Some, None, Result, Ok, Err, length, map, nat_eq, nat_lt, refl, sym, subst, rules}
+use Rattle.std.specs.Prelude.{IsTrue, bytes_eq, codes, option_map, ok_or}
 use Rattle.std.proofs.lemmas.Slice.Eq.{bytes_eq-Decides}
 use Rattle.smt_theory.proofs.BitsOperatorLemmas.{bits_found, indexed_bits-own}
 use Rattle.smt_theory.proofs.FindLemmas.{Each, find_named, map-some, ok_or-Ok, option_or-some, when-some}

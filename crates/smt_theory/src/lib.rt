@@ -1,5 +1,8 @@
 //! Sorts, theories and operators of SMT-LIB 2.6.
 //!
+//! The theories are Core, Ints and FixedSizeBitVectors, the last with the operators that the logic QF_BV adds. Bit vectors are up to
+//! 128 bits wide.
+//!
 //! A logic has theories (`theories_of`), a symbol with its indexes is an operator of theories (`op_of`), and an operator has a
 //! result's sort for the sorts of its arguments (`rank`). Nothing here takes memory, knows a text or a value.
 //!

@@ -1,6 +1,7 @@
 //! Operators, ranks and logics, worked out by hand from the theory files.
 
 use crate::{Index, Op, OpFault, Sort, Theories, Width, op_of, rank, theories_of};
+use std::process::Abort;
 use std::test::Fail;
 
 const INTEGERS: Theories = Theories {
@@ -32,19 +33,26 @@ fn ranked(name: &[u8], args: &[Sort]) -> Result<Option<Sort>, Fail> {
 }
 
 fn fault(found: Result<Op, OpFault>) -> Option<OpFault> {
-    found.err()
+    match found {
+        Ok(_) => None,
+        Err(fault) => Some(fault),
+    }
 }
 
 fn width(bits: u64) -> Result<Sort, Fail> {
     Ok(Sort::Bits(Width::new(bits).ok_or("no width")?))
 }
 
-// The sort that the operator on bit vectors of this name and these indexes gives.
-fn of_bits(name: &[u8], indexes: &[Index], args: &[Sort]) -> Result<Option<Sort>, Fail> {
-    let op = op_of(BITS, name, indexes)
-        .ok()
-        .ok_or("no operator has this name with these indexes")?;
-    Ok(rank(op, args))
+// The operator on bit vectors of this name and these indexes gives this sort for arguments of these sorts.
+fn check_rank(rt: &impl Abort, name: &[u8], indexes: &[Index], args: &[Sort], sort: Option<Sort>) {
+    match op_of(BITS, name, indexes) {
+        Ok(op) => assert_eq!(rt; rank(op, args), sort),
+        Err(fault) => assert!(rt; false, "{fault:?}"),
+    }
+}
+
+fn check_fault(rt: &impl Abort, theories: Theories, name: &[u8], indexes: &[Index], told: OpFault) {
+    assert_eq!(rt; fault(op_of(theories, name, indexes)), Some(told));
 }
 
 #[test]
@@ -69,47 +77,78 @@ fn ranks(rt: HostRuntime) -> Result<(), Fail> {
 #[test]
 fn bit_vectors(rt: HostRuntime) -> Result<(), Fail> {
     let (one, four, eight, most) = (width(1)?, width(4)?, width(8)?, width(128)?);
-    let last = u64::MAX;
-    assert_eq!(rt;
-        of_bits(b"concat", &[], &[four, four, one])?,
-        Some(width(9)?)
+    check_rank(&rt, b"concat", &[], &[four, four, one], Some(width(9)?));
+    check_rank(&rt, b"concat", &[], &[most, one], None);
+    check_rank(&rt, b"concat", &[], &[four], None);
+    check_rank(&rt, b"bvnot", &[], &[eight], Some(eight));
+    check_rank(&rt, b"bvadd", &[], &[eight, eight, eight], Some(eight));
+    check_rank(&rt, b"bvadd", &[], &[eight], None);
+    check_rank(&rt, b"bvsub", &[], &[eight, eight], Some(eight));
+    check_rank(&rt, b"bvsub", &[], &[eight, eight, eight], None);
+    check_rank(&rt, b"bvashr", &[], &[eight, four], None);
+    check_rank(&rt, b"bvslt", &[], &[eight, eight], Some(Sort::Bool));
+    check_rank(&rt, b"bvcomp", &[], &[eight, eight], Some(one));
+    let (zero, two, eighth, last) = (
+        Index::Number(0),
+        Index::Number(2),
+        Index::Number(8),
+        Index::Number(u64::MAX),
     );
-    assert_eq!(rt; of_bits(b"concat", &[], &[most, one])?, None);
-    assert_eq!(rt; of_bits(b"concat", &[], &[four])?, None);
-    assert_eq!(rt; of_bits(b"bvnot", &[], &[eight])?, Some(eight));
-    assert_eq!(rt;
-        of_bits(b"bvadd", &[], &[eight, eight, eight])?,
-        Some(eight)
+    check_rank(
+        &rt,
+        b"extract",
+        &[Index::Number(6), two],
+        &[eight],
+        Some(width(5)?),
     );
-    assert_eq!(rt; of_bits(b"bvadd", &[], &[eight])?, None);
-    assert_eq!(rt; of_bits(b"bvsub", &[], &[eight, eight])?, Some(eight));
-    assert_eq!(rt; of_bits(b"bvsub", &[], &[eight, eight, eight])?, None);
-    assert_eq!(rt; of_bits(b"bvashr", &[], &[eight, four])?, None);
-    assert_eq!(rt; of_bits(b"bvslt", &[], &[eight, eight])?, Some(Sort::Bool));
-    assert_eq!(rt; of_bits(b"bvcomp", &[], &[eight, eight])?, Some(one));
-    let (two, six, eighth) = (Index::Number(2), Index::Number(6), Index::Number(8));
-    assert_eq!(rt;
-        of_bits(b"extract", &[six, two], &[eight])?,
-        Some(width(5)?)
+    check_rank(&rt, b"extract", &[eighth, zero], &[eight], None);
+    check_rank(&rt, b"repeat", &[two], &[four], Some(eight));
+    check_rank(&rt, b"repeat", &[last], &[four], None);
+    check_rank(
+        &rt,
+        b"sign_extend",
+        &[Index::Number(4)],
+        &[four],
+        Some(eight),
     );
-    assert_eq!(rt;
-        of_bits(b"extract", &[eighth, Index::Number(0)], &[eight])?,
-        None
+    check_rank(&rt, b"zero_extend", &[last], &[one], None);
+    check_rank(&rt, b"rotate_left", &[last], &[four], Some(four));
+    check_rank(&rt, b"bv255", &[eighth], &[], Some(eight));
+    Ok(())
+}
+
+#[test]
+fn no_operators_on_bit_vectors(rt: HostRuntime) -> Result<(), Fail> {
+    let (zero, two, three, eighth) = (
+        Index::Number(0),
+        Index::Number(2),
+        Index::Number(3),
+        Index::Number(8),
     );
-    assert_eq!(rt; of_bits(b"repeat", &[two], &[four])?, Some(eight));
-    assert_eq!(rt; of_bits(b"repeat", &[Index::Number(last)], &[four])?, None);
-    assert_eq!(rt; of_bits(b"sign_extend", &[six], &[width(2)?])?, Some(eight));
-    assert_eq!(rt;
-        of_bits(b"zero_extend", &[Index::Number(last)], &[one])?,
-        None
+    check_fault(&rt, BITS, b"extract", &[two, three], OpFault::Index);
+    check_fault(&rt, BITS, b"extract", &[three], OpFault::Index);
+    check_fault(&rt, BITS, b"extract", &[], OpFault::Unknown);
+    check_fault(&rt, BITS, b"repeat", &[zero], OpFault::Index);
+    check_fault(&rt, BITS, b"rotate_right", &[Index::Large], OpFault::Index);
+    check_fault(&rt, BITS, b"bv256", &[eighth], OpFault::Index);
+    check_fault(&rt, BITS, b"bv0", &[Index::Number(129)], OpFault::Index);
+    check_fault(&rt, BITS, b"bv0", &[zero], OpFault::Index);
+    check_fault(&rt, BITS, b"bv0", &[Index::Name(b"n")], OpFault::Index);
+    check_fault(
+        &rt,
+        BITS,
+        b"bv340282366920938463463374607431768211456",
+        &[eighth],
+        OpFault::Index,
     );
-    assert_eq!(rt;
-        of_bits(b"rotate_left", &[Index::Number(last)], &[four])?,
-        Some(four)
-    );
-    assert_eq!(rt; of_bits(b"bv255", &[eighth], &[])?, Some(eight));
-    let largest = b"bv340282366920938463463374607431768211455";
-    assert_eq!(rt; of_bits(largest, &[Index::Number(128)], &[])?, Some(most));
+    check_fault(&rt, BITS, b"bv007", &[eighth], OpFault::Unknown);
+    check_fault(&rt, BITS, b"bv", &[eighth], OpFault::Unknown);
+    check_fault(&rt, BITS, b"bv1a", &[eighth], OpFault::Unknown);
+    check_fault(&rt, BITS, b"bv1", &[], OpFault::Unknown);
+    check_fault(&rt, BITS, b"bvadd", &[eighth], OpFault::Unknown);
+    check_fault(&rt, BITS, b"divisible", &[three], OpFault::Unknown);
+    check_fault(&rt, INTEGERS, b"bvadd", &[], OpFault::Unknown);
+    check_fault(&rt, INTEGERS, b"bv1", &[eighth], OpFault::Unknown);
     Ok(())
 }
 
@@ -157,32 +196,6 @@ fn names_and_indexes(rt: HostRuntime) -> Result<(), Fail> {
     );
     assert_eq!(rt; fault(op_of(CORE, b"+", &[])), Some(OpFault::Unknown));
     assert_eq!(rt; fault(op_of(INTEGERS, b"an", &[])), Some(OpFault::Unknown));
-    let (zero, two, three, width) = (
-        Index::Number(0),
-        Index::Number(2),
-        Index::Number(3),
-        Index::Number(8),
-    );
-    let (unknown, wrong) = (Some(OpFault::Unknown), Some(OpFault::Index));
-    assert_eq!(rt; fault(op_of(BITS, b"extract", &[two, three])), wrong);
-    assert_eq!(rt; fault(op_of(BITS, b"extract", &[three])), wrong);
-    assert_eq!(rt; fault(op_of(BITS, b"extract", &[])), unknown);
-    assert_eq!(rt; fault(op_of(BITS, b"repeat", &[zero])), wrong);
-    assert_eq!(rt; fault(op_of(BITS, b"rotate_right", &[Index::Large])), wrong);
-    assert_eq!(rt; fault(op_of(BITS, b"bv256", &[width])), wrong);
-    assert_eq!(rt; fault(op_of(BITS, b"bv0", &[Index::Number(129)])), wrong);
-    assert_eq!(rt; fault(op_of(BITS, b"bv0", &[zero])), wrong);
-    assert_eq!(rt; fault(op_of(BITS, b"bv0", &[Index::Name(b"n")])), wrong);
-    let too_large = b"bv340282366920938463463374607431768211456";
-    assert_eq!(rt; fault(op_of(BITS, too_large, &[width])), wrong);
-    assert_eq!(rt; fault(op_of(BITS, b"bv007", &[width])), unknown);
-    assert_eq!(rt; fault(op_of(BITS, b"bv", &[width])), unknown);
-    assert_eq!(rt; fault(op_of(BITS, b"bv1a", &[width])), unknown);
-    assert_eq!(rt; fault(op_of(BITS, b"bv1", &[])), unknown);
-    assert_eq!(rt; fault(op_of(BITS, b"bvadd", &[width])), unknown);
-    assert_eq!(rt; fault(op_of(BITS, b"divisible", &[three])), unknown);
-    assert_eq!(rt; fault(op_of(INTEGERS, b"bvadd", &[])), unknown);
-    assert_eq!(rt; fault(op_of(INTEGERS, b"bv1", &[width])), unknown);
     Ok(())
 }
 

@@ -6,7 +6,7 @@ ghost use Rattle.smt_theory.specs.Operators.{core_named, ints_named, plain_op, i
 
 use crate::index::Index;
 use crate::op::bits_names::{bits_op, indexed_bits_op};
-use crate::op::{Arithmetic, BitsOp, Comparison, CoreOp, IntsOp, Op, OpFault};
+use crate::op::{Arithmetic, Comparison, CoreOp, IntsOp, Op, OpFault};
 use crate::theories::Theories;
 
 /// The operator that these theories have under this symbol (without bars) with these indexes.

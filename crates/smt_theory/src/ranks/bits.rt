@@ -5,7 +5,7 @@ ghost use Rattle.smt_theory.specs.Ranks.{bits_rank, within_limit};
 ghost use Rattle.smt_theory.specs.Ranks as ranks;
 
 use crate::op::BitsOp;
-use crate::ranks::{are, are_two_or_more, is_same};
+use crate::ranks::{are, are_two_or_more};
 use crate::sort::Sort;
 use crate::width::Width;
 

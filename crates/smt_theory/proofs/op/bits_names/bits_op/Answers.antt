@@ -1,6 +1,6 @@
 use Rattle.std.proofs.Common.{◌∙◌, sym, ap}
 use Rattle.std.specs.Option.{option_or}
-use Rattle.smt_theory.specs.BitsOperators.{binary_plain, bitwise_plain, comparison_plain, named_among}
+use Rattle.smt_theory.specs.BitsOperators.{binary_plain, bitwise_plain, named_among}
 use Rattle.smt_theory.proofs.BitsOperatorLemmas.{bits_named-lists}
 use Rattle.smt_theory.proofs.op.bits_names.bits_op.Goals as goal
 

@@ -1,4 +1,4 @@
-use Rattle.std.proofs.Common.{◌≡◌, ℕ, length}
+use Rattle.std.proofs.Common.{◌≡◌, length}
 use Rattle.smt_theory.specs.Ranks.{width_behind}
 use Rattle.smt_theory.proofs.ranks.bits.width_behind.Given as goal
 
