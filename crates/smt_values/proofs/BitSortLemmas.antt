@@ -1,18 +1,21 @@
 -- Results of operators on bit vectors are of the sorts that ranks give.
 use Rattle.std.proofs.Common.{◌≡◌, ℕ, ◌+◌, ◌-◌, ◌*◌, ◌%◌, ◌^◌, ◌<◌, ◌≤◌, List, [], ◌∷◌, length, refl, sym, ap, ◌∙◌, subst, arith, rules}
-use Rattle.std.proofs.Math.Nat.{mod-lt}
+use Rattle.std.proofs.Math.Nat.{mod-lt, one-le-mul}
 use Rattle.std.proofs.Math.Pow.{pow_mono, pow_pos}
 use Rattle.std.proofs.lemmas.List.Sums.{sum_by-cons}
 use Rattle.std.specs.List.{sum}
 use Rattle.std.specs.Prelude.{fold, map}
 use Rattle.smt_bits.specs.BitVector.{BitVector, IsVector, vector}
-use Rattle.smt_bits.specs.Operators.{bvcomp, concat, extract, repeat, sign_extend, rotate_left, rotate_right}
+use Rattle.smt_bits.specs.Operators.{bvneg, bvadd, bvsub, bvmul, bvudiv, bvurem, bvnot, bvand, bvor, bvxor, bvnand, bvnor, bvxnor, bvsdiv, bvsrem, bvsmod, bvshl, bvlshr, bvashr, bvcomp, concat, extract, repeat, sign_extend, rotate_left, rotate_right}
 use Rattle.smt_theory.specs.Ranks.{HasBitsRank, AreSeveral}
 use Rattle.smt_theory.specs.declared.op.BitsBinary.{BitsBinary}
+use Rattle.smt_theory.specs.declared.op.BitsBinary.TheVariants.{Nand, Nor, Xnor, Subtract, DivideUnsigned, RemainderUnsigned, DivideSigned, RemainderSigned, ModuloSigned, ShiftLeft, ShiftRight, ShiftRightSigned}
 use Rattle.smt_theory.specs.declared.op.BitsFolded.{BitsFolded}
+use Rattle.smt_theory.specs.declared.op.BitsFolded.TheVariants.{And, Or, Xor, Add, Multiply}
 use Rattle.smt_theory.specs.declared.op.BitsOp.{BitsOp}
 use Rattle.smt_theory.specs.declared.op.BitsOp.TheVariants.{Constant, Concat, Extract, Unary, Folded, Binary, Comparison, Comp, Repeat, ZeroExtend, SignExtend, RotateLeft, RotateRight}
 use Rattle.smt_theory.specs.declared.op.BitsUnary.{BitsUnary}
+use Rattle.smt_theory.specs.declared.op.BitsUnary.TheVariants.{Not, Negate}
 use Rattle.smt_theory.specs.declared.sort.Sort.{Sort}
 use Rattle.smt_theory.specs.declared.sort.Sort.TheVariants.{Bool as BoolSort, Int as IntSort, Bits as BitsSort}
 use Rattle.smt_values.specs.BitOperations.{binary, concatenated, folded, folded_vector, operate_bits, unary}
@@ -31,6 +34,54 @@ pub record ResultsFit : Type 0 where
   pub rotate_left_fits : (i m s : ℕ) → 1 ≤ m → s < 2 ^ m → rotate_left i m s < 2 ^ m
   pub rotate_right_fits : (i m s : ℕ) → 1 ≤ m → s < 2 ^ m → rotate_right i m s < 2 ^ m
   pub comp_fits : (s t : ℕ) → bvcomp s t < 2
+
+-- by the operator
+pub unary_fits_by : ((m s : ℕ) → bvnot m s < 2 ^ m) → ((m s : ℕ) → bvneg m s < 2 ^ m) → (op : BitsUnary) (m s : ℕ) → unary op m s < 2 ^ m
+unary_fits_by not neg Not m s = not m s
+unary_fits_by not neg Negate m s = neg m s
+
+-- every result of an operator fits, whatever the numbers are
+abbrev pub AllFit : (ℕ → ℕ → ℕ → ℕ) → Type 0
+AllFit f = (m s t : ℕ) → f m s t < 2 ^ m
+
+-- it fits where the first number does
+abbrev pub FitWith : (ℕ → ℕ → ℕ → ℕ) → Type 0
+FitWith f = (m s t : ℕ) → s < 2 ^ m → f m s t < 2 ^ m
+
+pub folded_fits_by : AllFit bvand → AllFit bvor → AllFit bvxor → AllFit bvadd → AllFit bvmul → (op : BitsFolded) (m s t : ℕ) → folded op m s t < 2 ^ m
+folded_fits_by and or xor add mul And m s t = and m s t
+folded_fits_by and or xor add mul Or m s t = or m s t
+folded_fits_by and or xor add mul Xor m s t = xor m s t
+folded_fits_by and or xor add mul Add m s t = add m s t
+folded_fits_by and or xor add mul Multiply m s t = mul m s t
+
+pub record BinaryFit : Type 0 where
+  pub nand : AllFit bvnand
+  pub nor : AllFit bvnor
+  pub xnor : AllFit bvxnor
+  pub sub : AllFit bvsub
+  pub udiv : FitWith bvudiv
+  pub urem : FitWith bvurem
+  pub sdiv : (m s t : ℕ) → 1 ≤ m → bvsdiv m s t < 2 ^ m
+  pub srem : FitWith bvsrem
+  pub smod : FitWith bvsmod
+  pub shl : AllFit bvshl
+  pub lshr : FitWith bvlshr
+  pub ashr : AllFit bvashr
+
+pub binary_fits_by : BinaryFit → (op : BitsBinary) (m s t : ℕ) → 1 ≤ m → s < 2 ^ m → binary op m s t < 2 ^ m
+binary_fits_by fit Nand m s t some below = fit.nand m s t
+binary_fits_by fit Nor m s t some below = fit.nor m s t
+binary_fits_by fit Xnor m s t some below = fit.xnor m s t
+binary_fits_by fit Subtract m s t some below = fit.sub m s t
+binary_fits_by fit DivideUnsigned m s t some below = fit.udiv m s t below
+binary_fits_by fit RemainderUnsigned m s t some below = fit.urem m s t below
+binary_fits_by fit DivideSigned m s t some below = fit.sdiv m s t some
+binary_fits_by fit RemainderSigned m s t some below = fit.srem m s t below
+binary_fits_by fit ModuloSigned m s t some below = fit.smod m s t below
+binary_fits_by fit ShiftLeft m s t some below = fit.shl m s t
+binary_fits_by fit ShiftRight m s t some below = fit.lshr m s t below
+binary_fits_by fit ShiftRightSigned m s t some below = fit.ashr m s t
 
 -- ---- arguments
 
@@ -120,7 +171,7 @@ module _ (fits : ResultsFit) where
       subst (IsOfSort (BitsSort n)) (sym (ap (operate_bits op) o.is ∙ is o.v)) (fit o.v o.width o.some o.below)
 
   pub bits : (op : BitsOp) (sorts : List Sort) (sort : Sort) (es : List Element) → HasBitsRank op sorts sort → AreOfSorts sorts es → IsOfSort sort (operate_bits op (map vector_of es))
-  bits (Constant x n) sorts sort es r h = subst (λ s. IsOfSort s (Vector (vector n (x % 2 ^ n)))) (sym r.4) (refl, (r.0, mod-lt x (2 ^ n) (pow_pos n)))
+  bits (Constant x n) sorts sort es r h = subst (λ s. IsOfSort s (Vector (vector n (x % 2 ^ n)))) (sym r.4) (refl, (r.0, mod-lt x (pow_pos n)))
   bits Concat sorts sort es r h = subst (λ s. IsOfSort s (operate_bits Concat (map vector_of es))) (sym r.4) (several_parts r.0 es r.2 (subst (λ ss. AreOfSorts ss es) r.1 h))
   bits (Extract i j) sorts sort es r h =
       subst (λ s. IsOfSort s (operate_bits (Extract i j) (map vector_of es))) (sym r.4)
@@ -146,7 +197,7 @@ module _ (fits : ResultsFit) where
       (λ v w some below. (ap (λ n. i * n) w, (positive i v.width r.2 some, fits.repeat_fits i v.width v.number below))) (subst (λ ss. AreOfSorts ss es) r.1 h))
     where
       positive : (i m : ℕ) → 1 ≤ i → 1 ≤ m → 1 ≤ i * m
-      positive i m a b = mul-pos a b
+      positive i m a b = one-le-mul a b
   bits (ZeroExtend i) sorts sort es r h =
       subst (λ s. IsOfSort s (operate_bits (ZeroExtend i) (map vector_of es))) (sym r.3)
       (of_one (λ v. vector (v.width + i) v.number) (ZeroExtend i) r.0 (r.0 + i) es (λ v. refl)

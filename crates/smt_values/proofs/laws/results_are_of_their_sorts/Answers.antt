@@ -1,5 +1,36 @@
+use Rattle.smt_values.proofs.BitSortLemmas.{binary_fits_by, folded_fits_by, unary_fits_by}
 use Rattle.smt_values.proofs.SortLemmas.{result_of_sort}
 use Rattle.smt_values.proofs.laws.results_are_of_their_sorts.Goals as goal
 
 pub returns : goal.returns
-returns c = result_of_sort
+returns c =
+    let arithmetic = c.arithmetic_fits.ensures in
+    let bitwise = c.bitwise_fits.ensures in
+    let shifts = c.shifts_fit.ensures in
+    let parts = c.parts_fit.ensures in
+    let signed = c.signed_fits.ensures in
+    result_of_sort record {
+      unary_fits = unary_fits_by bitwise.not arithmetic.neg;
+      folded_fits = folded_fits_by bitwise.and bitwise.or bitwise.xor arithmetic.add arithmetic.mul;
+      binary_fits = binary_fits_by record {
+        nand = bitwise.nand;
+        nor = bitwise.nor;
+        xnor = bitwise.xnor;
+        sub = arithmetic.sub;
+        udiv = arithmetic.udiv;
+        urem = arithmetic.urem;
+        sdiv = signed.bvsdiv;
+        srem = signed.bvsrem;
+        smod = signed.bvsmod;
+        shl = shifts.shl;
+        lshr = shifts.lshr;
+        ashr = shifts.ashr
+      };
+      concat_fits = parts.concat;
+      extract_fits = parts.extract;
+      repeat_fits = parts.repeat;
+      sign_extend_fits = parts.sign_extend;
+      rotate_left_fits = parts.rotate_left;
+      rotate_right_fits = parts.rotate_right;
+      comp_fits = signed.bvcomp
+    }
