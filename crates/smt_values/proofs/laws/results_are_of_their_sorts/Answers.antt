@@ -24,7 +24,7 @@ returns c =
         smod = signed.bvsmod;
         shl = shifts.shl;
         lshr = shifts.lshr;
-        ashr = shifts.ashr
+        ashr = shifts.ashr;
       };
       concat_fits = parts.concat;
       extract_fits = parts.extract;
@@ -32,5 +32,5 @@ returns c =
       sign_extend_fits = parts.sign_extend;
       rotate_left_fits = parts.rotate_left;
       rotate_right_fits = parts.rotate_right;
-      comp_fits = signed.bvcomp
+      comp_fits = signed.bvcomp;
     }
