@@ -1,5 +1,5 @@
 -- Sorts of lists, one step at a time.
-use Rattle.std.proofs.Common.{◌≡◌, ◌⊎◌, ℕ, Bool, true, false, cond, List, [], ◌∷◌, ◌++◌, Some, option_map, Result, Ok, Err, refl, ap, ◌∙◌, inl, inr, MatchResult}
+use Rattle.std.proofs.Common.{◌≡◌, ◌⊎◌, ℕ, Bool, true, false, cond, List, [], ◌∷◌, ◌++◌, Some, option_map, Result, Ok, Err, refl, sym, ap, ◌∙◌, append_assoc, inl, inr, MatchResult}
 use Rattle.std.specs.Str.{bytes_eq}
 use Rattle.smt_text.specs.Sexp.{Sexp, Sexps, Reserved, Items, Cons}
 use Rattle.smt_text.specs.declared.reserved.Word.TheVariants.{Underscore}
@@ -16,6 +16,15 @@ use Rattle.smt_terms.specs.declared.fault.TermFault.TheVariants.{Memory}
 -- the sorts of all are those that are done, and then those of the trees that are left
 abbrev pub sorts_behind : Names → List Sort → Sexps → Result (List Sort) TermFault
 sorts_behind names before left = result_and_then (sorts_in names [] left) (λ ss. Ok (before ++ ss))
+
+-- one sort more
+pub sorts_behind-next : (names : Names) (before after : List Sort) (x : Sexp) (xs left : Sexps) (sort : Sort) → left ≡ Cons x xs → sort_in names [] x ≡ Ok sort → after ≡ before ++ sort ∷ []
+    → sorts_behind names before left ≡ sorts_behind names after xs
+sorts_behind-next names before after x xs left sort split is more = rw (split, is, more) (by (sorts_in names [] xs))
+  where
+    by : (r : Result (List Sort) TermFault) → result_and_then (result_and_then r (λ ss. Ok (sort ∷ ss))) (λ ss. Ok (before ++ ss)) ≡ result_and_then r (λ ss. Ok ((before ++ sort ∷ []) ++ ss))
+    by (Ok ss) = ap Ok (sym (append_assoc before (sort ∷ []) ss))
+    by (Err f) = refl
 
 -- the same of the sorts that trees name
 abbrev pub named_behind : Theories → List Sort → Sexps → Result (List Sort) TermFault

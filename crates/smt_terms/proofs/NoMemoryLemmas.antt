@@ -1,26 +1,29 @@
 -- Want of memory is no answer of a definition.
-use Rattle.std.proofs.Common.{◌≡◌, ℕ, Bool, true, false, cond, not, ◌&&◌, ◌||◌, List, [], ◌∷◌, Option, Some, None, is_some, option_map, Result, Ok, Err, ok_or}
+use Rattle.std.proofs.Common.{◌≡◌, ℕ, ◌*◌, length, Bool, true, false, cond, not, ◌&&◌, ◌||◌, List, [], ◌∷◌, Option, Some, None, is_some, option_map, Result, Ok, Err, ok_or}
 use Rattle.std.specs.Str.{bytes_eq}
+use Rattle.std.specs.Str.Parse.{digits_value}
 use Rattle.smt_text.specs.Sexp.{Sexp, Sexps, Atom, Reserved, Items, Nil, Cons, Symbol, Numeral, Decimal, Hexadecimal, Binary, Text, Keyword}
 use Rattle.smt_text.specs.declared.reserved.Word.{Word}
 use Rattle.smt_text.specs.declared.reserved.Word.TheVariants.{Let, Bang, Underscore, Forall, Exists, Match, As, DefineFun, DefineFunRec, DefineFunsRec}
 use Rattle.smt_theory.specs.Operators.{op_by}
 use Rattle.smt_theory.specs.Ranks.{are_exactly, rank_of}
 use Rattle.smt_theory.specs.Sort.{is_same_sort}
+use Rattle.smt_theory.specs.Width.{width_of}
 use Rattle.smt_theory.specs.Words.{look_up, result_and_then}
 use Rattle.smt_theory.specs.declared.op.Op.{Op}
 use Rattle.smt_theory.specs.declared.op.OpFault.{OpFault}
 use Rattle.smt_theory.specs.declared.op.OpFault.TheVariants as ops
 use Rattle.smt_theory.specs.declared.sort.Sort.{Sort}
+use Rattle.smt_theory.specs.declared.sort.Sort.TheVariants.{Bits}
 use Rattle.smt_theory.specs.declared.theories.Theories.{Theories}
 use Rattle.smt_terms.specs.Checking.{sort_of_rank, sort_of_operator, sort_of_plain, sort_applied, sort_of_symbol, sort_unless_variable, sort_of_call, sort_in, sorts_in}
 use Rattle.smt_terms.specs.Identifier.{Identifier, Plain, Indexed, all_indexes, applied, indexed, word_fault}
 use Rattle.smt_terms.specs.Items.{ItemForm, are_parameters, declared_named, defined_as, definition, form_in, has_rank_of, item_form, item_in, items_before, name_fault, unless, without_parameters}
 use Rattle.smt_terms.specs.Signature.{Entry, Names, Rank, Signature, declaration, declared_in, entry_named, is_taken, names_of, rank_named}
-use Rattle.smt_terms.specs.SortTrees.{indexed_fault, integers, is_one_numeral, is_some_tree, list_fault, sort_named, sorts_named}
+use Rattle.smt_terms.specs.SortTrees.{bit_vector_sort, bit_vectors, indexed_sort, integers, is_some_tree, sort_named, sort_of_list, sorts_named}
 use Rattle.smt_terms.specs.SortTrees as sorts
 use Rattle.smt_terms.specs.declared.fault.TermFault.{TermFault}
-use Rattle.smt_terms.specs.declared.fault.TermFault.TheVariants.{Form, Unsupported, Unknown, IllSorted, BoundTwice, NotFresh, Memory}
+use Rattle.smt_terms.specs.declared.fault.TermFault.TheVariants.{Form, Unsupported, Unknown, IllSorted, Index, BoundTwice, NotFresh, Memory}
 
 -- an answer that is not want of memory
 abbrev pub IsOther : {A : Type 0} → Result A TermFault → Type 0
@@ -35,11 +38,6 @@ IsOther-and_then (Err f) next h i = λ e. h (cc)
 pub IsOther-test : {A : Type 0} (b : Bool) (x y : Result A TermFault) → IsOther x → IsOther y → IsOther (cond b x y)
 IsOther-test true x y h i = h
 IsOther-test false x y h i = i
-
--- one of two faults
-other_fault : (b : Bool) (x y : TermFault) → (x ≡ Memory → ⊥) → (y ≡ Memory → ⊥) → cond b x y ≡ Memory → ⊥
-other_fault true x y h i e = h e
-other_fault false x y h i e = i e
 
 -- ## Identifiers
 
@@ -101,6 +99,13 @@ IsOther-call names scope (Indexed f is) ss h = IsOther-sort_applied names (Index
 IsOther-integers : (theories : Theories) → IsOther (integers theories)
 IsOther-integers theories = IsOther-test theories.ints _ _ (λ e. cc) (λ e. cc)
 
+IsOther-bit_vectors : (theories : Theories) (width : Option ℕ) → IsOther (bit_vectors theories width)
+IsOther-bit_vectors theories width = IsOther-test theories.bits _ _ (in_range width) (λ e. cc)
+  where
+    in_range : (width : Option ℕ) → IsOther (ok_or (option_map Bits width) Index)
+    in_range None = λ e. cc
+    in_range (Some n) = λ e. cc
+
 -- a list that applies an identifier
 IsOther-application : (names : Names) (scope : List (List ℕ × Sort)) (head : Sexp) (args : Sexps) → IsOther (sorts_in names scope args)
     → IsOther (result_and_then (applied head args) (λ f. result_and_then (sorts_in names scope args) (λ ss. sort_of_call names scope f ss)))
@@ -120,8 +125,8 @@ mutual
   IsOther-sort names scope (Atom Numeral x) h = IsOther-integers names.theories h
   IsOther-sort names scope (Atom Keyword x) h = cc
   IsOther-sort names scope (Atom Decimal x) h = cc
-  IsOther-sort names scope (Atom Hexadecimal x) h = cc
-  IsOther-sort names scope (Atom Binary x) h = cc
+  IsOther-sort names scope (Atom Hexadecimal x) h = IsOther-bit_vectors names.theories (width_of (4 * length x)) h
+  IsOther-sort names scope (Atom Binary x) h = IsOther-bit_vectors names.theories (width_of (length x)) h
   IsOther-sort names scope (Atom Text x) h = cc
   IsOther-sort names scope (Reserved word) h = cc
   IsOther-sort names scope (Items Nil) h = cc
@@ -137,15 +142,20 @@ mutual
 
 -- ## Sorts and declarations
 
-indexed_other : (parts : Sexps) → indexed_fault parts ≡ Memory → ⊥
-indexed_other (Cons (Atom Symbol name) indexes) h =
-    other_fault (not (is_some (all_indexes indexes))) Form _ (λ e. cc) (other_fault (bytes_eq name _ && not (is_one_numeral indexes)) Form Unknown (λ e. cc) (λ e. cc)) h
-indexed_other _ h = cc
+IsOther-bit_vector_sort : (theories : Theories) (indexes : Sexps) → IsOther (bit_vector_sort theories indexes)
+IsOther-bit_vector_sort theories (Cons (Atom Numeral digits) Nil) h = IsOther-bit_vectors theories (width_of (digits_value 10 digits)) h
+IsOther-bit_vector_sort theories _ h = cc
 
-list_other : (parts : Sexps) → list_fault parts ≡ Memory → ⊥
-list_other (Cons (Reserved Underscore) parts) h = indexed_other parts h
-list_other (Cons (Atom Symbol name) args) h = other_fault (bytes_eq name _) Unsupported _ (λ e. cc) (other_fault (is_some_tree args) Unknown Form (λ e. cc) (λ e. cc)) h
-list_other _ h = cc
+IsOther-indexed_sort : (theories : Theories) (parts : Sexps) → IsOther (indexed_sort theories parts)
+IsOther-indexed_sort theories (Cons (Atom Symbol name) indexes) h =
+    IsOther-test (not (is_some (all_indexes indexes))) (Err Form) _ (λ e. cc) (IsOther-test (bytes_eq name _) (bit_vector_sort theories indexes) (Err Unknown) (IsOther-bit_vector_sort theories indexes) (λ e. cc)) h
+IsOther-indexed_sort theories _ h = cc
+
+IsOther-sort_of_list : (theories : Theories) (parts : Sexps) → IsOther (sort_of_list theories parts)
+IsOther-sort_of_list theories (Cons (Reserved Underscore) parts) h = IsOther-indexed_sort theories parts h
+IsOther-sort_of_list theories (Cons (Atom Symbol name) args) h =
+    IsOther-test (bytes_eq name _) (Err Unsupported) _ (λ e. cc) (IsOther-test (is_some_tree args) (Err Unknown) (Err Form) (λ e. cc) (λ e. cc)) h
+IsOther-sort_of_list theories _ h = cc
 
 IsOther-sort_symbol : (theories : Theories) (name : List ℕ) → IsOther (sorts.sort_of_symbol theories name)
 IsOther-sort_symbol theories name =
@@ -154,7 +164,7 @@ IsOther-sort_symbol theories name =
 -- trees that name sorts
 pub IsOther-named : (theories : Theories) (t : Sexp) → IsOther (sort_named theories t)
 IsOther-named theories (Atom Symbol x) h = IsOther-sort_symbol theories x h
-IsOther-named theories (Items parts) h = list_other parts (cc)
+IsOther-named theories (Items parts) h = IsOther-sort_of_list theories parts h
 IsOther-named theories _ h = cc
 
 pub IsOther-all_named : (theories : Theories) (ts : Sexps) → IsOther (sorts_named theories ts)

@@ -1,11 +1,12 @@
 -- SMT-LIB 2.6, sections 3.6 and 5.2: the sort of a term, or its first fault. That decimals and strings are not supported as terms is
--- this project's choice for now, and bit vectors are unknown; so is the order of the faults.
-use Rattle.std.specs.Prelude.{ℕ, List, [], ◌∷◌, Bool, true, false, Option, Some, None, Result, Ok, Err, if◌then◌else◌}
+-- this project's choice for now; so is the order of the faults.
+use Rattle.std.specs.Prelude.{ℕ, ◌*◌, List, [], ◌∷◌, Bool, true, false, Option, Some, None, Result, Ok, Err, length, if◌then◌else◌}
 use Rattle.smt_text.specs.Sexp as sexp
 use Rattle.smt_text.specs.Sexp.{Sexp, Sexps, Atom, Reserved, Items, Nil, Cons, Symbol, Keyword, Numeral, Hexadecimal, Binary}
 use Rattle.smt_text.specs.declared.reserved.Word.TheVariants.{Underscore}
 use Rattle.smt_theory.specs.Operators.{op_by}
 use Rattle.smt_theory.specs.Ranks.{are_exactly, rank_of}
+use Rattle.smt_theory.specs.Width.{width_of}
 use Rattle.smt_theory.specs.Words.{look_up, result_and_then}
 use Rattle.smt_theory.specs.declared.op.Op.{Op}
 use Rattle.smt_theory.specs.declared.op.OpFault.{OpFault}
@@ -13,7 +14,7 @@ use Rattle.smt_theory.specs.declared.op.OpFault.TheVariants as ops
 use Rattle.smt_theory.specs.declared.sort.Sort.{Sort}
 use Rattle.smt_terms.specs.Identifier.{Identifier, Plain, Indexed, applied, indexed}
 use Rattle.smt_terms.specs.Signature.{Names, Rank}
-use Rattle.smt_terms.specs.SortTrees.{integers}
+use Rattle.smt_terms.specs.SortTrees.{bit_vectors, integers}
 use Rattle.smt_terms.specs.declared.fault.TermFault.{TermFault}
 use Rattle.smt_terms.specs.declared.fault.TermFault.TheVariants.{Form, Unsupported, Unknown, IllSorted, Index}
 
@@ -65,8 +66,8 @@ abbrev mutual
   pub sort_in : Names → List (List ℕ × Sort) → Sexp → Result Sort TermFault
   sort_in names scope (Atom Symbol x) = sort_of_symbol names x (look_up scope x)
   sort_in names scope (Atom Numeral digits) = integers names.theories
-  sort_in names scope (Atom Hexadecimal digits) = Err Unknown
-  sort_in names scope (Atom Binary digits) = Err Unknown
+  sort_in names scope (Atom Hexadecimal digits) = bit_vectors names.theories (width_of (4 * length digits))
+  sort_in names scope (Atom Binary digits) = bit_vectors names.theories (width_of (length digits))
   sort_in names scope (Atom sexp.Decimal bytes) = Err Unsupported
   sort_in names scope (Atom sexp.Text bytes) = Err Unsupported
   sort_in names scope (Atom Keyword x) = Err Form

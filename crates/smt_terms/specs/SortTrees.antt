@@ -1,15 +1,17 @@
 -- SMT-LIB 2.6, section 3.5: the sort that a tree names, or its first fault. Which sorts are not supported, and which fault is told, is
 -- this project's choice.
-use Rattle.std.specs.Prelude.{ℕ, List, [], ◌∷◌, Bool, true, false, not, ◌&&◌, ◌||◌, is_some, Result, Ok, Err, bytes_eq, codes, if◌then◌else◌}
+use Rattle.std.specs.Prelude.{ℕ, List, [], ◌∷◌, Bool, true, false, not, ◌||◌, Option, is_some, option_map, Result, Ok, Err, ok_or, bytes_eq, codes, if◌then◌else◌}
+use Rattle.std.specs.Str.Parse.{digits_value}
 use Rattle.smt_text.specs.Sexp.{Sexp, Sexps, Atom, Reserved, Items, Nil, Cons, Numeral, Symbol}
 use Rattle.smt_text.specs.declared.reserved.Word.TheVariants.{Underscore}
 use Rattle.smt_theory.specs.declared.sort.Sort.{Sort}
-use Rattle.smt_theory.specs.declared.sort.Sort.TheVariants.{Bool as Boolean, Int}
+use Rattle.smt_theory.specs.declared.sort.Sort.TheVariants.{Bool as Boolean, Int, Bits}
 use Rattle.smt_theory.specs.declared.theories.Theories.{Theories}
+use Rattle.smt_theory.specs.Width.{width_of}
 use Rattle.smt_theory.specs.Words.{result_and_then}
 use Rattle.smt_terms.specs.Identifier.{all_indexes}
 use Rattle.smt_terms.specs.declared.fault.TermFault.{TermFault}
-use Rattle.smt_terms.specs.declared.fault.TermFault.TheVariants.{Form, Unsupported, Unknown}
+use Rattle.smt_terms.specs.declared.fault.TermFault.TheVariants.{Form, Unsupported, Unknown, Index}
 
 abbrev pub integers : Theories → Result Sort TermFault
 integers theories = if theories.ints then Ok Int else Err Unknown
@@ -18,31 +20,36 @@ abbrev pub sort_of_symbol : Theories → List ℕ → Result Sort TermFault
 sort_of_symbol theories name =
     if bytes_eq name (codes "Bool") then Ok Boolean else if bytes_eq name (codes "Int") then integers theories else if bytes_eq name (codes "Real") || bytes_eq name (codes "String") then Err Unsupported else Err Unknown
 
-abbrev pub is_one_numeral : Sexps → Bool
-is_one_numeral (Cons (Atom Numeral digits) Nil) = true
-is_one_numeral _ = false
+-- bit vectors of a width that there may be, or none where the number of bits is out of range
+abbrev pub bit_vectors : Theories → Option ℕ → Result Sort TermFault
+bit_vectors theories width = if theories.bits then ok_or (option_map Bits width) Index else Err Unknown
 
--- what is wrong with the sort `(_ symbol index ..)`, by what stands behind the `_`. Bit vectors are unknown yet
-abbrev pub indexed_fault : Sexps → TermFault
-indexed_fault (Cons (Atom Symbol name) indexes) =
-    if not (is_some (all_indexes indexes)) then Form else if bytes_eq name (codes "BitVec") && not (is_one_numeral indexes) then Form else Unknown
-indexed_fault _ = Form
+-- the sort `(_ BitVec index ..)` of these indexes
+abbrev pub bit_vector_sort : Theories → Sexps → Result Sort TermFault
+bit_vector_sort theories (Cons (Atom Numeral digits) Nil) = bit_vectors theories (width_of (digits_value 10 digits))
+bit_vector_sort theories _ = Err Form
+
+-- the sort `(_ symbol index ..)`, by what stands behind the `_`
+abbrev pub indexed_sort : Theories → Sexps → Result Sort TermFault
+indexed_sort theories (Cons (Atom Symbol name) indexes) =
+    if not (is_some (all_indexes indexes)) then Err Form else if bytes_eq name (codes "BitVec") then bit_vector_sort theories indexes else Err Unknown
+indexed_sort theories _ = Err Form
 
 abbrev pub is_some_tree : Sexps → Bool
 is_some_tree Nil = false
 is_some_tree (Cons x xs) = true
 
--- what is wrong with a list of these parts
-abbrev pub list_fault : Sexps → TermFault
-list_fault (Cons (Reserved Underscore) parts) = indexed_fault parts
-list_fault (Cons (Atom Symbol name) args) =
-    if bytes_eq name (codes "Array") then Unsupported else if is_some_tree args then Unknown else Form
-list_fault _ = Form
+-- the sort that a list of these parts names
+abbrev pub sort_of_list : Theories → Sexps → Result Sort TermFault
+sort_of_list theories (Cons (Reserved Underscore) parts) = indexed_sort theories parts
+sort_of_list theories (Cons (Atom Symbol name) args) =
+    if bytes_eq name (codes "Array") then Err Unsupported else if is_some_tree args then Err Unknown else Err Form
+sort_of_list theories _ = Err Form
 
 -- the sort that a tree names in these theories, or its first fault
 abbrev pub sort_named : Theories → Sexp → Result Sort TermFault
 sort_named theories (Atom Symbol name) = sort_of_symbol theories name
-sort_named theories (Items parts) = Err (list_fault parts)
+sort_named theories (Items parts) = sort_of_list theories parts
 sort_named theories _ = Err Form
 
 -- the sorts that trees name, in order, or the first fault

@@ -1,25 +1,27 @@
 //! The trees that name sorts.
 
 ghost use Rattle.std.specs.Prelude.{◌≡◌, ◌⊎◌, bytes_eq, Ok, Err, MatchResult};
+ghost use Rattle.std.specs.Str.Parse.{digits_value};
 ghost use Rattle.smt_text.specs.Tree.{sexp_of, sexps_of};
-ghost use Rattle.smt_terms.specs.SortTrees.{indexed_fault, is_one_numeral, sort_named, sort_of_symbol, sorts_named};
+ghost use Rattle.smt_theory.specs.Width.{width_of};
+ghost use Rattle.smt_terms.specs.SortTrees.{sort_named, sort_of_symbol, sorts_named};
 ghost use Rattle.smt_terms.specs.declared.fault.TermFault.TheVariants.{Memory};
 ghost use Rattle.smt_terms.specs.SortTrees as sorts;
 
 use crate::fault::TermFault;
 use crate::identifier::are_indexes;
 use smt_text::{Tree, Word, split_first};
-use smt_theory::{Sort, Theories};
+use smt_theory::{Sort, Theories, Width, number};
 use std::alloc::Global;
 
 /// The sort that a tree names in these theories (SMT-LIB 2.6, section 3.5), or what is wrong with it: out of form, a sort of the
-/// standard that is not supported, or unknown. Bit vectors are unknown yet.
+/// standard that is not supported, unknown, or bit vectors of a width out of range.
 pub fn sort_of_tree(theories: Theories, tree: &Tree) -> Result<Sort, TermFault>
     ensures { result ≡ sort_named theories (sexp_of tree.now) }
 {
     match tree {
         Tree::Symbol(name) => sort_of_name(theories, name.as_slice()),
-        Tree::List(parts) => Err(list_fault(parts.as_slice())),
+        Tree::List(parts) => sort_of_list(theories, parts.as_slice()),
         _ => Err(TermFault::Form),
     }
 }
@@ -66,49 +68,73 @@ fn integers(theories: Theories) -> Result<Sort, TermFault>
     }
 }
 
-// What is wrong with a list of these parts as a sort.
-fn list_fault(parts: &[Tree]) -> TermFault
-    ensures { result ≡ sorts.list_fault (sexps_of parts.now) }
+// The sort that a list of these parts names.
+fn sort_of_list(theories: Theories, parts: &[Tree]) -> Result<Sort, TermFault>
+    ensures { result ≡ sorts.sort_of_list theories (sexps_of parts.now) }
 {
     match split_first(parts) {
-        Some((Tree::Reserved(Word::Underscore), rest)) => indexed_sort_fault(rest),
+        Some((Tree::Reserved(Word::Underscore), rest)) => indexed_sort(theories, rest),
         Some((Tree::Symbol(name), rest)) => {
             if is_named(name.as_slice(), b"Array") {
-                TermFault::Unsupported
+                Err(TermFault::Unsupported)
             } else if split_first(rest).is_some() {
-                TermFault::Unknown
+                Err(TermFault::Unknown)
             } else {
-                TermFault::Form
+                Err(TermFault::Form)
             }
         }
-        _ => TermFault::Form,
+        _ => Err(TermFault::Form),
     }
 }
 
-// What is wrong with the sort `(_ symbol index ..)`, by what stands behind the `_`.
-fn indexed_sort_fault(parts: &[Tree]) -> TermFault
-    ensures { result ≡ indexed_fault (sexps_of parts.now) }
+// The sort `(_ symbol index ..)`, by what stands behind the `_`.
+fn indexed_sort(theories: Theories, parts: &[Tree]) -> Result<Sort, TermFault>
+    ensures { result ≡ sorts.indexed_sort theories (sexps_of parts.now) }
 {
     let Some((Tree::Symbol(name), rest)) = split_first(parts) else {
-        return TermFault::Form;
+        return Err(TermFault::Form);
     };
     if !are_indexes(rest) {
-        return TermFault::Form;
+        return Err(TermFault::Form);
     }
-    if is_named(name.as_slice(), b"BitVec") && !is_numeral(rest) {
-        TermFault::Form
+    if is_named(name.as_slice(), b"BitVec") {
+        bit_vector_sort(theories, rest)
     } else {
-        TermFault::Unknown
+        Err(TermFault::Unknown)
     }
 }
 
-// Whether this is one numeral.
-fn is_numeral(trees: &[Tree]) -> bool
-    ensures { result ≡ is_one_numeral (sexps_of trees.now) }
+// The sort `(_ BitVec index ..)`, by its indexes.
+fn bit_vector_sort(theories: Theories, indexes: &[Tree]) -> Result<Sort, TermFault>
+    ensures { result ≡ sorts.bit_vector_sort theories (sexps_of indexes.now) }
 {
-    match split_first(trees) {
-        Some((Tree::Numeral(_), rest)) => split_first(rest).is_none(),
-        _ => false,
+    match split_first(indexes) {
+        Some((Tree::Numeral(digits), rest)) if split_first(rest).is_none() => {
+            bit_vectors(theories, numeral_width(digits.as_slice()))
+        }
+        _ => Err(TermFault::Form),
+    }
+}
+
+/// Bit vectors of this width; `None` stands for a number of bits out of range.
+pub(crate) fn bit_vectors(theories: Theories, width: Option<Width>) -> Result<Sort, TermFault>
+    ensures { result ≡ sorts.bit_vectors theories width }
+{
+    if theories.bits {
+        width.map(Sort::Bits).ok_or(TermFault::Index)
+    } else {
+        Err(TermFault::Unknown)
+    }
+}
+
+fn numeral_width(digits: &[u8]) -> Option<Width>
+    ensures { result ≡ width_of (digits_value 10 digits.now) }
+{
+    let bits = number(10, digits)?;
+    if bits <= 128 {
+        Width::new(bits as u64)
+    } else {
+        None
     }
 }
 

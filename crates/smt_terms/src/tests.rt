@@ -20,6 +20,11 @@ const CORE: Theories = Theories {
     bits: false,
 };
 
+const BITS: Theories = Theories {
+    ints: false,
+    bits: true,
+};
+
 // What is answered, and a term, over `x` of sort Int, `p` of sort Bool and `f` from Int and Bool to Int.
 const TERMS: &str = r#"
     Int  x
@@ -147,6 +152,49 @@ const TERMS_WITHOUT_INTEGERS: &str = "
     Bool mod
 ";
 
+// The same of declarations, then of terms over what they declare, where the theory of bit vectors is there.
+const DECLARATIONS_OF_BIT_VECTORS: &str = "
+    done a (_ BitVec 8)
+    done b (_ BitVec 128)
+    done c (_ |BitVec| 1)
+    F5   r (_ BitVec 0)
+    F5   r (_ BitVec 129)
+    F5   r (_ BitVec 18446744073709551617)
+    F5   r (_ BitVec 340282366920938463463374607431768211457)
+    F1   r (_ BitVec)
+    F1   r (_ BitVec 8 8)
+    F1   r (_ BitVec x)
+    F1   r (_ BitVec #x8)
+    F3   r (_ BitVecs 8)
+    F3   r BitVec
+    F3   r Int
+    F7   bvadd Bool
+    F7   concat (_ BitVec 0)
+";
+
+const TERMS_OF_BIT_VECTORS: &str = "
+    Bits8   a
+    Bits8   #xFf
+    Bits8   #b00000001
+    Bits1   #b0
+    Bits128 #x0123456789abcdef0123456789abcdef
+    F5      #x0123456789abcdef0123456789abcdef0
+    F5      (bvnot #x0123456789abcdef0123456789abcdef0)
+    Bits8   (_ bv255 8)
+    F5      (_ bv256 8)
+    Bits8   (bvadd a #x01 a)
+    F4      (bvadd a b)
+    Bits1   (bvcomp b b)
+    Bool    (bvslt a #x80)
+    F4      (= a #b1)
+    Bits8   (concat #b0000 c #b000)
+    Bits8   ((_ extract 7 0) b)
+    F5      ((_ extract 0 7) b)
+    F4      ((_ extract 8 0) a)
+    F3      1
+    F3      (_ bv01 8)
+";
+
 // What is answered, and an item, one behind the other, of a model of `x`, `z` and `v` of sort Int, `p` of sort Bool, and `f` from Int
 // and Bool to Int.
 const ITEMS: &str = r#"
@@ -251,7 +299,12 @@ fn word_of_sort(sort: Sort) -> &'static [u8] {
     match sort {
         Sort::Bool => b"Bool",
         Sort::Int => b"Int",
-        Sort::Bits(_) => b"BitVec",
+        Sort::Bits(width) => match width.bits() {
+            1 => b"Bits1",
+            8 => b"Bits8",
+            128 => b"Bits128",
+            _ => b"BitVec",
+        },
     }
 }
 
@@ -396,6 +449,14 @@ fn without_integers(rt: HostRuntime) -> Result<(), Fail> {
     let mut library = Library::new(alloc, CORE);
     declare_all(&rt, alloc, &mut library, "F3 x Int done mod Bool")?;
     check_all(&rt, alloc, &mut library, TERMS_WITHOUT_INTEGERS)
+}
+
+#[test]
+fn bit_vectors(rt: HostRuntime) -> Result<(), Fail> {
+    let alloc = rt.alloc();
+    let mut library = Library::new(alloc, BITS);
+    declare_all(&rt, alloc, &mut library, DECLARATIONS_OF_BIT_VECTORS)?;
+    check_all(&rt, alloc, &mut library, TERMS_OF_BIT_VECTORS)
 }
 
 #[test]

@@ -1,22 +1,24 @@
 //! The sort checker.
 
-ghost use Rattle.std.specs.Prelude.{◌≡◌, ◌⊎◌, [], MatchResult};
+ghost use Rattle.std.specs.Prelude.{◌≡◌, ◌⊎◌, ◌*◌, [], MatchResult, length};
 ghost use Rattle.smt_text.specs.Sexp.{Items};
 ghost use Rattle.smt_text.specs.Tree.{sexp_of, sexps_of};
 ghost use Rattle.smt_theory.specs.Ranks.{are_exactly};
+ghost use Rattle.smt_theory.specs.Width.{width_of};
 ghost use Rattle.smt_terms.specs.Checking as checking;
 ghost use Rattle.smt_terms.specs.Checking.{is_underscore_tree, sort_in, sorts_in, sort_of_name};
 ghost use Rattle.smt_terms.specs.Identifier.{Plain};
 ghost use Rattle.smt_terms.specs.IdentifierView.{identifier_view};
 ghost use Rattle.smt_terms.specs.Internal.LibraryView.{names_of_library};
-ghost use Rattle.smt_terms.specs.SortTrees.{integers};
+ghost use Rattle.smt_terms.specs.SortTrees.{bit_vectors, integers};
 ghost use Rattle.smt_terms.specs.declared.fault.TermFault.TheVariants.{Memory};
 
 use crate::fault::TermFault;
 use crate::identifier::{Identifier, applied_identifier, indexed_identifier};
 use crate::library::{Entry, Library};
+use crate::sorts;
 use smt_text::{Tree, Trees, Word, split_first};
-use smt_theory::{Op, OpFault, Sort, op_of, rank};
+use smt_theory::{Op, OpFault, Sort, Width, op_of, rank};
 
 impl Library {
     /// The sort of a term over these names, or its first fault.
@@ -29,7 +31,8 @@ impl Library {
             Tree::Symbol(name) => self.sort_of_plain(name.as_slice(), &[]),
             Tree::Numeral(_) => self.sort_of_numeral(),
             Tree::List(parts) => self.sort_of_list(parts),
-            Tree::Hex(_) | Tree::Bin(_) => Err(TermFault::Unknown),
+            Tree::Hex(digits) => self.sort_of_digits(4, digits.as_slice()),
+            Tree::Bin(digits) => self.sort_of_digits(1, digits.as_slice()),
             Tree::Decimal(_) | Tree::Text(_) => Err(TermFault::Unsupported),
             Tree::Keyword(_) | Tree::Reserved(_) => Err(TermFault::Form),
         }
@@ -43,6 +46,13 @@ impl Library {
         } else {
             Err(TermFault::Unknown)
         }
+    }
+
+    // The sort of digits that stand for so many bits each.
+    fn sort_of_digits(&self, bits: u64, digits: &[u8]) -> Result<Sort, TermFault>
+        ensures { result ≡ bit_vectors (names_of_library self.now).theories (width_of (bits * length digits.now)) }
+    {
+        sorts::bit_vectors(self.theories, width_of_digits(bits, digits))
     }
 
     // The sort of the term that is a list of these parts.
@@ -134,4 +144,11 @@ fn is_underscore(tree: &Tree) -> bool
     ensures { result ≡ is_underscore_tree (sexp_of tree.now) }
 {
     matches!(tree, Tree::Reserved(Word::Underscore))
+}
+
+// The width of digits that stand for so many bits each.
+fn width_of_digits(bits: u64, digits: &[u8]) -> Option<Width>
+    ensures { result ≡ width_of (bits * length digits.now) }
+{
+    Width::new(bits.checked_mul(digits.len() as u64)?)
 }

@@ -5,7 +5,7 @@ use Rattle.smt_text.specs.Tree.{sexp_of, sexps_of}
 use Rattle.smt_terms.specs.Internal.LibraryView.{names_of_library}
 use Rattle.smt_terms.specs.Checking.{sort_in, sort_applied}
 use Rattle.smt_terms.specs.IdentifierView.{identifier_view}
-use Rattle.smt_terms.proofs.CheckerLemmas.{applied_ok, fault_of_args, told}
+use Rattle.smt_terms.proofs.CheckerLemmas.{applied_ok, fault_of_args, sorts_behind-next, told}
 use Rattle.smt_terms.proofs.library.Library.+check.Goals as goal
 
 pub sorts_of-sort_of-requires : goal.sorts_of-sort_of-requires
@@ -26,3 +26,11 @@ sort_of_list-returns t c =
     (applied_ok names (sexp_of c.in-Some.head.now) (sexps_of c.in-Some.args.now) c.args.parts.now f c.in_ok-sorts.sorts.items
     (sym c.as_slice.ensures ∙ c.in-Some.ensures) (sym c.if-is_underscore.ensures) c.in_ok-identifier-2.ensures c.in_ok-sorts.ensures
     ∙ ap (λ ss. sort_applied names f ss) (sym c.as_slice-2.ensures.value) ∙ sym c.sort_applied-2.ensures)
+
+pub sorts_of-loop-term-preserved : goal.sorts_of-loop-term-preserved
+sorts_of-loop-term-preserved t c = record {
+  answer = c.loop-term.invariant.answer
+      ∙ sorts_behind-next (names_of_library c.args.self.now) c.loop-term.sorts.items c.push.new.self.items (sexp_of c.in-Some.term.now) (sexps_of c.in-Some.rest.now) (sexps_of c.loop-term.left.now)
+          c.in_ok-sort_of.field-0 c.in-Some.ensures c.in_ok-sort_of.ensures c.in_ok-push.ensures.items;
+  lighter = omega (arith, ap weight_all c.in-Some.ensures, c.loop-term.invariant.lighter);
+}

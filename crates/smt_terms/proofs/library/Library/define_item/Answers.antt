@@ -1,4 +1,4 @@
-use Rattle.std.proofs.Common.{[], ap, sym, ◌∙◌}
+use Rattle.std.proofs.Common.{[], ap, sym, ◌∙◌, rules}
 use Rattle.std.proofs.lemmas.Result.{on_ok_weaker}
 use Rattle.smt_text.specs.Tree.{sexp_of}
 use Rattle.smt_terms.specs.Checking.{sort_in}
@@ -23,3 +23,6 @@ returns-clause-defined c =
       added m form.body (c.in_ok-body.ensures.kept m items) c.in_ok-body.ensures.term,
     ))
     c.add_constant.ensures.added
+
+pub returns-clause-terms : goal.returns-clause-terms
+returns-clause-terms c = search rules
