@@ -1,27 +1,32 @@
 -- The value of a well-sorted term is of the term's sort.
-use Rattle.std.proofs.Common.{◌≡◌, ℕ, Bool, true, false, cond, List, [], ◌∷◌, ◌++◌, Option, Some, None, Result, Ok, Err, ◌&&◌, refl, ap, sym, ◌∙◌, subst, append_assoc, append-nil}
+use Rattle.std.proofs.Common.{◌≡◌, ℕ, Bool, true, false, cond, List, [], ◌∷◌, ◌++◌, Option, Some, None, Result, Ok, Err, ◌&&◌, ◌*◌, ◌≤◌, length, nat_le, refl, ap, sym, ◌∙◌, subst, append_assoc, append-nil, arith, rules}
+use Rattle.std.proofs.Math.Nat.{mod-lt}
+use Rattle.std.proofs.Math.Pow.{pow_pos}
 use Rattle.std.specs.List.{zip}
 use Rattle.std.specs.Option.{option_or}
-use Rattle.std.specs.Prelude.{unwrap_or, bytes_eq}
+use Rattle.std.specs.Prelude.{unwrap_or, bytes_eq, ok_or, option_map}
+use Rattle.std.specs.Str.Parse.{digits_value}
+use Rattle.smt_bits.specs.Literals.{constant}
 use Rattle.smt_text.specs.Sexp.{Sexp, Sexps, Atom, Reserved, Items, Nil, Cons, Symbol, Numeral, Decimal, Hexadecimal, Binary, Text, Keyword}
 use Rattle.smt_text.specs.declared.reserved.Word.TheVariants.{Underscore}
 use Rattle.smt_theory.specs.Ranks.{are_exactly, rank_of}
 use Rattle.smt_theory.specs.Sort.{is_same_sort}
+use Rattle.smt_theory.specs.Width.{width_of}
 use Rattle.smt_theory.specs.Words.{look_up, result_and_then}
 use Rattle.smt_theory.specs.declared.op.Op.{Op}
 use Rattle.smt_theory.specs.declared.op.OpFault.{OpFault}
 use Rattle.smt_theory.specs.declared.op.OpFault.TheVariants as ops
 use Rattle.smt_theory.specs.declared.sort.Sort.{Sort}
-use Rattle.smt_theory.specs.declared.sort.Sort.TheVariants.{Int}
+use Rattle.smt_theory.specs.declared.sort.Sort.TheVariants.{Int, Bits}
 use Rattle.smt_theory.specs.declared.theories.Theories.{Theories}
-use Rattle.smt_values.specs.Element.{Element, IsOfSort, AreOfSorts}
+use Rattle.smt_values.specs.Element.{Element, Vector, IsOfSort, AreOfSorts}
 use Rattle.smt_values.specs.Operations.{DivisionByZero, operate}
 use Rattle.smt_terms.specs.Checking.{is_underscore_tree, sort_applied, sort_in, sorts_in, sort_of_call, sort_of_name, sort_of_operator, sort_of_plain, sort_of_rank, sort_of_symbol, sort_unless_variable}
 use Rattle.smt_terms.specs.Identifier.{Identifier, Plain, Indexed, applied, indexed, operator_of}
 use Rattle.smt_terms.specs.Signature.{AreDistinct, Entry, Origin, Declared, Defined, Names, Rank, Signature, entry_named, names_of, rank_of_entry, ranks_of}
 use Rattle.smt_terms.specs.WellSorted.{AreWellSorted, IsWellSorted, IsWellSortedFrom}
 use Rattle.smt_terms.specs.declared.fault.TermFault.{TermFault}
-use Rattle.smt_terms.specs.declared.fault.TermFault.TheVariants.{IllSorted, Unknown}
+use Rattle.smt_terms.specs.declared.fault.TermFault.TheVariants.{IllSorted, Unknown, Index}
 use Rattle.smt_terms.proofs.NameLemmas.{same_name, same_self, none_step}
 use Rattle.smt_eval.specs.Agreement.{FitsScope, IsOfSorts}
 use Rattle.smt_eval.specs.Meaning.{Meaning, element_by, value_of, values_of, meaning_of_op, operators, defined_value, with_definition, meaning_after, meaning_in}
@@ -77,6 +82,20 @@ numeral-sort : (b : Bool) (sort : Sort) → cond b (Ok Int) (Err Unknown) ≡ Ok
 numeral-sort true sort is = cc
 numeral-sort false sort is = cc
 
+-- a constant is a bit vector of as many bits as its digits have
+constant-fits : (b : Bool) (base bits n : ℕ) (digits : List ℕ) (sort : Sort) → n ≡ bits * length digits → cond b (ok_or (option_map Bits (width_of n)) Index) (Err Unknown) ≡ Ok sort
+    → IsOfSort sort (Vector (constant base bits digits))
+constant-fits false base bits n digits sort e h = cc
+constant-fits true base bits n digits sort e h = by (nat_le 1 n) (nat_le n 128) (λ t. search rules) h
+  where
+    by : (p q : Bool) → (p ≡ true → 1 ≤ n) → ok_or (option_map Bits (cond (p && q) (Some n) None)) Index ≡ Ok sort → IsOfSort sort (Vector (constant base bits digits))
+    by true true some h =
+        let is : Bits n ≡ sort = cc in
+        subst (λ s. IsOfSort s (Vector (constant base bits digits))) is
+        (sym e, (subst (λ k. 1 ≤ k) e (some refl), mod-lt (digits_value base digits) (pow_pos (bits * length digits))))
+    by true false some h = cc
+    by false q some h = cc
+
 -- a list with another head than `_`
 sort-other : (names : Names) (scope : List (List ℕ × Sort)) (head : Sexp) (args : Sexps) → is_underscore_tree head ≡ false
     → sort_in names scope (Items (Cons head args)) ≡ result_and_then (applied head args) (λ f. result_and_then (sorts_in names scope args) (λ ss. sort_of_call names scope f ss))
@@ -108,8 +127,8 @@ module _ (names : Names) (m : Meaning) (fits : Fits names m) (scope : List (List
     term-fits (Atom Symbol x) sort is = variable-fits names m x (look_up scope x) (look_up r x) sort fits (fit x) is
     term-fits (Atom Numeral x) sort is = subst (λ s. IsOfSort s (value_of m r (Atom Numeral x))) (sym (numeral-sort names.theories.ints sort is)) tt
     term-fits (Atom Decimal x) sort is = cc
-    term-fits (Atom Hexadecimal x) sort is = cc
-    term-fits (Atom Binary x) sort is = cc
+    term-fits (Atom Hexadecimal x) sort is = constant-fits names.theories.bits 16 4 (4 * length x) x sort refl is
+    term-fits (Atom Binary x) sort is = constant-fits names.theories.bits 2 1 (length x) x sort (omega arith) is
     term-fits (Atom Text x) sort is = cc
     term-fits (Atom Keyword x) sort is = cc
     term-fits (Reserved word) sort is = cc
