@@ -31,6 +31,6 @@ pub sorts_of-loop-term-preserved : goal.sorts_of-loop-term-preserved
 sorts_of-loop-term-preserved t c = record {
   answer = c.loop-term.invariant.answer
       ∙ sorts_behind-next (names_of_library c.args.self.now) c.loop-term.sorts.items c.push.new.self.items (sexp_of c.in-Some.term.now) (sexps_of c.in-Some.rest.now) (sexps_of c.loop-term.left.now)
-          c.in_ok-sort_of.field-0 c.in-Some.ensures c.in_ok-sort_of.ensures c.in_ok-push.ensures.items;
+      c.in_ok-sort_of.field-0 c.in-Some.ensures c.in_ok-sort_of.ensures c.in_ok-push.ensures.items;
   lighter = omega (arith, ap weight_all c.in-Some.ensures, c.loop-term.invariant.lighter);
 }

@@ -1,4 +1,4 @@
-use Rattle.std.proofs.Common.{[], ap, sym, ◌∙◌, rules}
+use Rattle.std.proofs.Common.{[], ap, sym, ◌∙◌}
 use Rattle.std.proofs.lemmas.Result.{on_ok_weaker}
 use Rattle.smt_text.specs.Tree.{sexp_of}
 use Rattle.smt_terms.specs.Checking.{sort_in}
@@ -25,4 +25,4 @@ returns-clause-defined c =
     c.add_constant.ensures.added
 
 pub returns-clause-terms : goal.returns-clause-terms
-returns-clause-terms c = search rules
+returns-clause-terms c = λ i t is. c.add_constant.ensures.terms i t (c.in_ok-body.ensures.terms i t is)
