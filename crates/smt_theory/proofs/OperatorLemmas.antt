@@ -24,10 +24,10 @@ use Rattle.smt_theory.specs.declared.op.OpFault.TheVariants.{Unknown, Index as W
 use Rattle.smt_theory.specs.declared.theories.Theories.{Theories}
 
 -- with an index
-pub op_by-indexed : (theories : Theories) (symbol : List ℕ) (indexes : List Index) → nat_eq (length indexes) 0 ≡ false
+pub op_by_indexed : (theories : Theories) (symbol : List ℕ) (indexes : List Index) → nat_eq (length indexes) 0 ≡ false
     → op_by theories symbol (map index_view indexes) ≡ indexed_op theories symbol (map index_view indexes)
-op_by-indexed theories symbol [] h = cc
-op_by-indexed theories symbol (index ∷ indexes) h = refl
+op_by_indexed theories symbol [] h = cc
+op_by_indexed theories symbol (index ∷ indexes) h = refl
 
 -- the operator is one of the theories, and these are its name and indexes
 abbrev IsFound : Theories → List ℕ → List IndexView → Op → Type 0

@@ -76,7 +76,7 @@ named_among ops symbol = find (λ op. bytes_eq symbol (bits_name op)) ops
 abbrev pub bits_named : List ℕ → Option BitsOp
 bits_named symbol = named_among bits_plain symbol
 
--- whether a symbol begins as the names of all plain operators but `concat` do
+-- whether a symbol begins with `bv`, as constants do and all plain operators but `concat`
 abbrev pub begins_with_bv : List ℕ → Bool
 begins_with_bv (b ∷ v ∷ rest) = b == 98 && v == 118
 begins_with_bv _ = false

@@ -12,6 +12,7 @@ use crate::theories::Theories;
 /// The operator that these theories have under this symbol (without bars) with these indexes.
 ///
 /// `Unknown` where they have none of that name in that form; `Index` where the indexes are wrong in number, kind or range.
+#[tactic(auto, using(crate::proofs::OperatorLemmas::op_by_indexed))]
 pub fn op_of(theories: Theories, symbol: &[u8], indexes: &[Index]) -> Result<Op, OpFault>
     ensures { result ≡ op_by theories symbol.now (map index_view indexes.now) }
 {
