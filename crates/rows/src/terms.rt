@@ -32,7 +32,7 @@ fn print_term<W: Write>(
     let [term] = trees.as_slice() else {
         bail!("line {}: this is no term", field.line);
     };
-    match library.check(term) {
+    match &library.check(term) {
         Ok((_, Sort::Bool)) => writeln!(out, "{} => Bool", field.text)?,
         Ok((_, Sort::Int)) => writeln!(out, "{} => Int", field.text)?,
         Ok((_, Sort::Bits(width))) => writeln!(out, "{} => (_ BitVec {})", field.text, width.bits())?,

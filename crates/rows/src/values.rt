@@ -52,7 +52,7 @@ fn print_value<W: Write>(
         interpretation,
         tree,
     };
-    match term.known() {
+    match &term.known() {
         Ok(Some(Value::Bool(value))) => writeln!(out, "{} => {value}", field.text)?,
         Ok(Some(Value::Int(value))) => writeln!(out, "{} => {value}", field.text)?,
         Ok(Some(Value::Bits(value))) => writeln!(
