@@ -15,9 +15,9 @@ use Rattle.smt_dialogue.specs.Judgement.{judgement_of}
 use Rattle.smt_dialogue.specs.Lines.{checks_in, confirmed_line, line_of_judgement, lines_of_pair, lines_of_sat, sat_lines, unconfirmed_line}
 use Rattle.smt_dialogue.specs.Pairing.{Pair, answered_by}
 use Rattle.smt_dialogue.specs.Window.{closes, models_from, window}
-use Rattle.smt_dialogue.specs.declared.line.CheckAnswer.TheVariants.{Unsat, Unknown}
-use Rattle.smt_dialogue.specs.declared.line.Line.{Line}
-use Rattle.smt_dialogue.specs.declared.line.Line.TheVariants as lines
+use Rattle.smt_report.specs.declared.line.CheckAnswer.TheVariants.{Unsat, Unknown}
+use Rattle.smt_report.specs.declared.line.Line.{Line}
+use Rattle.smt_report.specs.declared.line.Line.TheVariants as lines
 use Rattle.smt_dialogue.specs.declared.window.PendingCheck.{PendingCheck}
 
 -- ## The window that has not ended does

@@ -11,7 +11,7 @@ use Rattle.smt_dialogue.specs.Validity.{IsConfirmed, IsSatCheck, IsTrueModel}
 use Rattle.smt_dialogue.specs.InForce.{AreFaultless, assertions_after, effective_from, fault_of_pair, signature_after}
 use Rattle.smt_script.specs.Stack.{Assertion, assertions_by, assertions_in_force, fault_of_formula}
 use Rattle.smt_dialogue.specs.Lines.{checks_in, is_empty, line_of_judgement, lines_in, lines_of_answer, lines_of_pair, lines_of_sat, sat_lines, unconfirmed_line}
-use Rattle.smt_dialogue.specs.Verdict.{is_refuted_line, is_undecided_line}
+use Rattle.smt_report.specs.Verdict.{is_refuted_line, is_undecided_line}
 use Rattle.std.specs.Option.{option_or}
 use Rattle.smt_dialogue.specs.Pairing.{Pair, is_effective}
 use Rattle.smt_dialogue.specs.Window.{Printed, models_from, window}
@@ -30,7 +30,7 @@ use Rattle.smt_dialogue.specs.declared.judgement.Judgement.{Judgement}
 use Rattle.smt_dialogue.specs.declared.judgement.Judgement.TheVariants as judgements
 use Rattle.smt_eval.specs.declared.interpretation.ModelFault.{ModelFault}
 use Rattle.smt_eval.specs.declared.interpretation.ModelFault.TheVariants as faults
-use Rattle.smt_dialogue.specs.declared.line.Line.{Line}
+use Rattle.smt_report.specs.declared.line.Line.{Line}
 use Rattle.smt_terms.specs.declared.fault.TermFault.{TermFault}
 use Rattle.smt_theory.specs.declared.sort.Sort.{Sort}
 use Rattle.smt_theory.specs.declared.sort.Sort.TheVariants.{Bool as BooleanSort, Int as IntSort, Bits}

@@ -14,7 +14,7 @@ use Rattle.smt_dialogue.specs.Internal.ChecksState.{ChecksState, checks_after, p
 use Rattle.smt_dialogue.specs.Internal.DialogueState.{State, StandsFor}
 use Rattle.smt_dialogue.specs.Lines.{lines_in, lines_of_pair}
 use Rattle.smt_dialogue.specs.Pairing.{Pair, answered_by}
-use Rattle.smt_dialogue.specs.declared.line.Line.{Line}
+use Rattle.smt_report.specs.declared.line.Line.{Line}
 
 -- a numbered command
 abbrev pub numbered : ℕ → Command → Numbered

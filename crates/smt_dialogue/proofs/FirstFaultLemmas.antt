@@ -5,17 +5,18 @@ use Rattle.smt_text.specs.Sexp.{Sexps, Nil, Cons}
 use Rattle.smt_text.specs.declared.fault.TextFault.{TextFault}
 use Rattle.smt_text.specs.declared.fault.TextFault.TheVariants as texts
 use Rattle.smt_script.specs.Command.{Command, command_of}
-use Rattle.smt_dialogue.specs.FirstFault.{Stop, text_line, step_after, step_of_fault, step_of_tree}
+use Rattle.smt_dialogue.specs.FirstFault.{Stop, step_after, step_of_fault, step_of_tree}
+use Rattle.smt_report.specs.FaultLine.{text_line}
 use Rattle.smt_dialogue.specs.Report.{lines_of_end}
 use Rattle.smt_dialogue.specs.InForce.{fault_of_pair}
-use Rattle.smt_dialogue.specs.Verdict.{is_fault_line, is_refuted_line, is_undecided_line, verdict_of}
+use Rattle.smt_report.specs.Verdict.{is_fault_line, is_refuted_line, is_undecided_line, verdict_of}
 use Rattle.smt_dialogue.specs.Pairing.{Pair, answered_by, answers_taken}
 use Rattle.smt_dialogue.specs.Answers.{takes}
-use Rattle.smt_dialogue.specs.declared.line.Line.{Line}
-use Rattle.smt_dialogue.specs.declared.line.Line.TheVariants as lines
-use Rattle.smt_dialogue.specs.declared.line.Side.{Side}
-use Rattle.smt_dialogue.specs.declared.line.Side.TheVariants.{Script, Answers}
-use Rattle.smt_dialogue.specs.declared.verdict.Verdict.TheVariants as verdicts
+use Rattle.smt_report.specs.declared.line.Line.{Line}
+use Rattle.smt_report.specs.declared.line.Line.TheVariants as lines
+use Rattle.smt_report.specs.declared.line.Side.{Side}
+use Rattle.smt_report.specs.declared.line.Side.TheVariants.{Script, Answers}
+use Rattle.smt_report.specs.declared.verdict.Verdict.TheVariants as verdicts
 use Rattle.smt_script.specs.declared.fault.CommandFault.{CommandFault}
 
 -- ## Verdicts

@@ -13,7 +13,7 @@ use Rattle.smt_dialogue.specs.Answers.{fits, is_effective_with, is_model, is_ref
 use Rattle.smt_dialogue.specs.InForce.{AreFaultless, assertions_after, effective_commands, effective_from, fault_of_pair, signature_after}
 use Rattle.smt_dialogue.specs.Lines.{checks_in, is_check, lines_in, lines_of_pair}
 use Rattle.smt_dialogue.specs.Pairing.{AllFit, Pair, answer_count, answered_by, answers_taken, answers_then, is_effective, with_answer}
-use Rattle.smt_dialogue.specs.declared.line.Line.{Line}
+use Rattle.smt_report.specs.declared.line.Line.{Line}
 
 -- ## Answers that commands take are no refusals
 

@@ -5,17 +5,18 @@ use Rattle.smt_text.specs.Reading.{Reads}
 use Rattle.smt_text.specs.Sexp.{Sexp, Sexps, Nil, Cons}
 use Rattle.smt_text.specs.declared.fault.TextFault.{TextFault}
 use Rattle.smt_script.specs.Command.{Command, command_of}
-use Rattle.smt_dialogue.specs.FirstFault.{Stop, end_without_fault, text_line, step_after, want_of_answer}
+use Rattle.smt_dialogue.specs.FirstFault.{Stop, end_without_fault, step_after, want_of_answer}
+use Rattle.smt_report.specs.FaultLine.{text_line}
 use Rattle.smt_dialogue.specs.Report.{IsReport, lines_of_end}
 use Rattle.smt_text.specs.Grammar.{limit}
 use Rattle.smt_dialogue.specs.InForce.{AreFaultless, fault_of_pair}
 use Rattle.smt_dialogue.specs.Lines.{lines_in}
-use Rattle.smt_dialogue.specs.Verdict.{with_verdict}
+use Rattle.smt_report.specs.Verdict.{with_verdict}
 use Rattle.smt_dialogue.specs.Pairing.{AllFit, AreCommands, Pair, answered_by, answers_taken, answers_then}
 use Rattle.smt_dialogue.specs.Answers.{takes}
-use Rattle.smt_dialogue.specs.declared.line.Line.{Line}
-use Rattle.smt_dialogue.specs.declared.line.Line.TheVariants as lines
-use Rattle.smt_dialogue.specs.declared.line.Side.TheVariants.{Script}
+use Rattle.smt_report.specs.declared.line.Line.{Line}
+use Rattle.smt_report.specs.declared.line.Line.TheVariants as lines
+use Rattle.smt_report.specs.declared.line.Side.TheVariants.{Script}
 use Rattle.smt_script.specs.declared.fault.CommandFault.{CommandFault}
 
 -- the pairs from some on, to the dialogue's end

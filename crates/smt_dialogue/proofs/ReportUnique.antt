@@ -11,10 +11,10 @@ use Rattle.smt_dialogue.specs.Report.{IsReport, lines_of_end}
 use Rattle.smt_text.specs.Grammar.{limit}
 use Rattle.smt_dialogue.specs.InForce.{AreFaultless, fault_of_pair}
 use Rattle.smt_dialogue.specs.Lines.{lines_in}
-use Rattle.smt_dialogue.specs.Verdict.{with_verdict}
+use Rattle.smt_report.specs.Verdict.{with_verdict}
 use Rattle.smt_dialogue.specs.Pairing.{AllFit, AreCommands, Pair, answered_by, answers_then, with_answer}
 use Rattle.smt_dialogue.specs.Answers.{fits, takes}
-use Rattle.smt_dialogue.specs.declared.line.Line.{Line}
+use Rattle.smt_report.specs.declared.line.Line.{Line}
 use Rattle.smt_script.specs.declared.fault.CommandFault.{CommandFault}
 
 ends_same : {f g : Option Line} → Stop f ≡ Stop g → f ≡ g

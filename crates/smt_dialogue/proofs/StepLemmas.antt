@@ -3,7 +3,7 @@ use Rattle.std.proofs.Common.{◌≡◌, ◌≤◌, ◌<◌, ◌+◌, ℕ, true,
 use Rattle.smt_text.specs.Sexp.{Sexp, Sexps, Nil, Cons}
 use Rattle.smt_text.specs.Tree.{sexps_of}
 use Rattle.smt_text.specs.declared.tree.Tree.{Tree}
-use Rattle.smt_dialogue.specs.declared.line.Line.TheVariants.{ExtraAnswer}
+use Rattle.smt_report.specs.declared.line.Line.TheVariants.{ExtraAnswer}
 use Rattle.smt_text.specs.declared.fault.TextFault.{TextFault}
 use Rattle.smt_dialogue.proofs.PairLemmas.{AllFit-append, AreFaultless-append, answers_taken-le, answers_then-append, checks_in-le}
 use Rattle.std.specs.Result.{IfOk}
@@ -14,12 +14,12 @@ use Rattle.smt_script.specs.StackView.{last_of}
 use Rattle.smt_dialogue.specs.FirstFault.{Stop, end_without_fault, step_after}
 use Rattle.smt_dialogue.specs.Report.{lines_of_end}
 use Rattle.smt_dialogue.specs.Lines.{lines_in}
-use Rattle.smt_dialogue.specs.Verdict.{verdict_of, with_verdict}
+use Rattle.smt_report.specs.Verdict.{verdict_of, with_verdict}
 use Rattle.smt_dialogue.specs.Pairing.{AreCommands, Pair, answered_by, answers_taken, answers_then}
 use Rattle.smt_dialogue.specs.Internal.DialogueState.{State, StandsFor}
 use Rattle.smt_dialogue.specs.Internal.Steps.{EndsAt, IsAccepted, IsJudged, IsStep, SoFar, TakesUp}
-use Rattle.smt_dialogue.specs.declared.line.Line.{Line}
-use Rattle.smt_dialogue.specs.declared.verdict.Verdict.{Verdict}
+use Rattle.smt_report.specs.declared.line.Line.{Line}
+use Rattle.smt_report.specs.declared.verdict.Verdict.{Verdict}
 
 -- before the first turn
 pub so_far-start : (s : State) (script answers : Sexps) → StandsFor s [] → SoFar s script script answers answers

@@ -16,7 +16,7 @@ use Rattle.smt_dialogue.specs.Validity.{IsAsserted, IsFullyPaired, IsInvalid, Is
 use Rattle.smt_dialogue.specs.InForce.{AreFaultless, assertions_after, effective_from, signature_after}
 use Rattle.smt_script.specs.Stack.{Assertion, Numbered, assertions_in_force}
 use Rattle.smt_dialogue.specs.Lines.{checks_in, is_empty, line_of_judgement, lines_in, lines_of_pair, lines_of_sat, sat_lines, unconfirmed_line}
-use Rattle.smt_dialogue.specs.Verdict.{is_fault_line, is_refuted_line, is_undecided_line, tally_of, verdict_of}
+use Rattle.smt_report.specs.Verdict.{is_fault_line, is_refuted_line, is_undecided_line, tally_of, verdict_of}
 use Rattle.std.specs.Option.{option_or}
 use Rattle.smt_dialogue.specs.Pairing.{IsPairing, Pair, is_effective}
 use Rattle.smt_dialogue.specs.Internal.Steps.{IsJudged}
@@ -33,13 +33,13 @@ use Rattle.smt_dialogue.specs.declared.judgement.Judgement.{Judgement}
 use Rattle.smt_dialogue.specs.declared.judgement.Judgement.TheVariants as judgements
 use Rattle.smt_eval.specs.declared.interpretation.ModelFault.{ModelFault}
 use Rattle.smt_eval.specs.declared.interpretation.ModelFault.TheVariants as faults
-use Rattle.smt_dialogue.specs.declared.line.CheckAnswer.TheVariants.{Unsat, Unknown}
-use Rattle.smt_dialogue.specs.declared.line.Line.{Line}
-use Rattle.smt_dialogue.specs.declared.line.Line.TheVariants as lines
+use Rattle.smt_report.specs.declared.line.CheckAnswer.TheVariants.{Unsat, Unknown}
+use Rattle.smt_report.specs.declared.line.Line.{Line}
+use Rattle.smt_report.specs.declared.line.Line.TheVariants as lines
 use Rattle.smt_eval.specs.declared.memory.Memory.{Memory}
-use Rattle.smt_dialogue.specs.declared.report.Report.{Report}
-use Rattle.smt_dialogue.specs.declared.verdict.Verdict.{Verdict}
-use Rattle.smt_dialogue.specs.declared.verdict.Verdict.TheVariants.{Valid, Invalid}
+use Rattle.smt_report.specs.declared.report.Report.{Report}
+use Rattle.smt_report.specs.declared.verdict.Verdict.{Verdict}
+use Rattle.smt_report.specs.declared.verdict.Verdict.TheVariants.{Valid, Invalid}
 
 -- ## A dialogue without the line of a fault is paired whole
 

@@ -2,24 +2,15 @@
 use Rattle.std.specs.Prelude.{ℕ, ◌+◌, List, length, Option, Some, None, Result, Ok, Err, if◌then◌else◌}
 use Rattle.smt_text.specs.Sexp.{Sexps, Nil, Cons}
 use Rattle.smt_text.specs.declared.fault.TextFault.{TextFault}
-use Rattle.smt_text.specs.declared.fault.TextFault.TheVariants as texts
 use Rattle.smt_script.specs.Command.{Command, command_of}
 use Rattle.smt_script.specs.declared.fault.CommandFault.{CommandFault}
 use Rattle.smt_dialogue.specs.Answers.{takes}
 use Rattle.smt_dialogue.specs.InForce.{fault_of_pair}
 use Rattle.smt_dialogue.specs.Pairing.{Pair, answers_taken, answered_by}
-use Rattle.smt_dialogue.specs.declared.line.Line.{Line}
-use Rattle.smt_dialogue.specs.declared.line.Line.TheVariants as lines
-use Rattle.smt_dialogue.specs.declared.line.Side.{Side}
-use Rattle.smt_dialogue.specs.declared.line.Side.TheVariants.{Script, Answers}
-use Rattle.smt_dialogue.specs.declared.line.TextFaultKind.TheVariants.{Byte, Deep, End}
-
--- the line on the fault of a text. Want of memory is no fault of a text
-abbrev pub text_line : Side → TextFault → Line
-text_line side (texts.Byte place) = lines.TextFault side Byte place
-text_line side (texts.Deep place) = lines.TextFault side Deep place
-text_line side (texts.End place) = lines.TextFault side End place
-text_line side texts.Memory = lines.TextFault side End 0
+use Rattle.smt_report.specs.FaultLine.{text_line}
+use Rattle.smt_report.specs.declared.line.Line.{Line}
+use Rattle.smt_report.specs.declared.line.Line.TheVariants as lines
+use Rattle.smt_report.specs.declared.line.Side.TheVariants.{Script, Answers}
 
 -- a dialogue goes on with the command in turn, or ends there, with a fault or without one
 pub data Step : Type 0 where

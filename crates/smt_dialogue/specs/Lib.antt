@@ -4,8 +4,6 @@ pub mod InForce
 pub mod Window
 pub mod Judgement
 pub mod Lines
-pub mod Verdict
-pub mod LineText
 pub mod FirstFault
 pub mod Report
 pub mod Validity

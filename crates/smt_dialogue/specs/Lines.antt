@@ -12,9 +12,9 @@ use Rattle.smt_dialogue.specs.Judgement.{judgement_of}
 use Rattle.smt_terms.specs.Signature.{Signature}
 use Rattle.smt_dialogue.specs.declared.judgement.Judgement.{Judgement}
 use Rattle.smt_dialogue.specs.declared.judgement.Judgement.TheVariants as judgements
-use Rattle.smt_dialogue.specs.declared.line.CheckAnswer.TheVariants.{Unsat, Unknown}
-use Rattle.smt_dialogue.specs.declared.line.Line.{Line}
-use Rattle.smt_dialogue.specs.declared.line.Line.TheVariants as lines
+use Rattle.smt_report.specs.declared.line.CheckAnswer.TheVariants.{Unsat, Unknown}
+use Rattle.smt_report.specs.declared.line.Line.{Line}
+use Rattle.smt_report.specs.declared.line.Line.TheVariants as lines
 
 -- the line on check k at command n for a model of command g, if it isn't confirmed
 abbrev pub line_of_judgement : ℕ → ℕ → ℕ → Judgement → Option Line

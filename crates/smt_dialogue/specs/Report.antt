@@ -8,8 +8,8 @@ use Rattle.smt_dialogue.specs.FirstFault.{Stop, step_after}
 use Rattle.smt_dialogue.specs.InForce.{AreFaultless}
 use Rattle.smt_dialogue.specs.Lines.{lines_in}
 use Rattle.smt_dialogue.specs.Pairing.{IsPairing, Pair}
-use Rattle.smt_dialogue.specs.Verdict.{with_verdict}
-use Rattle.smt_dialogue.specs.declared.line.Line.{Line}
+use Rattle.smt_report.specs.Verdict.{with_verdict}
+use Rattle.smt_report.specs.declared.line.Line.{Line}
 
 abbrev pub lines_of_end : Option Line → List Line
 lines_of_end None = []

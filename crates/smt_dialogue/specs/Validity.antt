@@ -15,8 +15,8 @@ use Rattle.smt_dialogue.specs.InForce.{signature_after}
 use Rattle.smt_dialogue.specs.Lines.{checks_in, is_check}
 use Rattle.smt_dialogue.specs.Pairing.{IsPairing, Pair, is_effective}
 use Rattle.smt_dialogue.specs.Window.{Printed, models_from, structure_at, window}
-use Rattle.smt_dialogue.specs.declared.line.Line.{Line}
-use Rattle.smt_dialogue.specs.declared.line.Line.TheVariants.{Refuted}
+use Rattle.smt_report.specs.declared.line.Line.{Line}
+use Rattle.smt_report.specs.declared.line.Line.TheVariants.{Refuted}
 
 -- both texts are of trees, and the pairs pair every command with every answer
 pub record IsFullyPaired (script answers : List ℕ) (pairs : List Pair) : Type 0 where

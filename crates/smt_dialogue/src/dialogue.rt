@@ -10,13 +10,12 @@ ghost use Rattle.smt_dialogue.specs.InForce.{fault_of_pair};
 ghost use Rattle.smt_dialogue.specs.Lines.{lines_in};
 ghost use Rattle.smt_dialogue.specs.Pairing.{Pair, answered_by};
 ghost use Rattle.smt_dialogue.specs.Report.{lines_of_end};
-ghost use Rattle.smt_dialogue.specs.Verdict.{verdict_of, with_verdict};
+ghost use Rattle.smt_report.specs.Verdict.{verdict_of, with_verdict};
 ghost use Rattle.smt_dialogue.specs.Internal.DialogueState.{StandsFor, state_of};
 
-use crate::line::Line;
-use crate::report::Report;
 use crate::window::Checks;
 use smt_eval::Memory;
+use smt_report::{Line, Report};
 use smt_script::{Command, CommandFault, Stack};
 use smt_text::Tree;
 use std::alloc::Global;
@@ -80,6 +79,6 @@ impl Dialogue {
         if let Some(line) = fault {
             self.checks.lines.push(line)?;
         }
-        Report::from_lines(self.checks.lines)
+        Ok(Report::from_lines(self.checks.lines)?)
     }
 }

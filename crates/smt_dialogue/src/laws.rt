@@ -12,7 +12,7 @@ ghost use Rattle.smt_dialogue.specs.Validity.{IsAsserted, IsFullyPaired, IsInval
 ghost use Rattle.smt_dialogue.specs.Window.{Printed, models_from, structure_at, window};
 ghost use Rattle.smt_dialogue.specs.Report.{IsReport};
 ghost use Rattle.smt_dialogue.specs.Pairing.{IsPairing, Pair};
-ghost use Rattle.smt_dialogue.specs.declared.line.Line.{Line};
+ghost use Rattle.smt_report.specs.declared.line.Line.{Line};
 
 use smt_text::laws::{every_text_reads, one_reading};
 

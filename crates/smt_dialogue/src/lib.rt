@@ -8,16 +8,11 @@ mod answer;
 mod dialogue;
 mod judgement;
 pub mod laws;
-mod line;
 mod pairing;
 mod read_text;
-mod report;
 mod validation;
-mod verdict;
 mod window;
 
-pub use line::{CheckAnswer, Line, Side, TextFaultKind};
-pub use report::Report;
 pub use smt_eval::Memory;
+pub use smt_report::{CheckAnswer, Line, Report, Side, Tally, TextFaultKind, Verdict};
 pub use validation::validate;
-pub use verdict::{Tally, Verdict};

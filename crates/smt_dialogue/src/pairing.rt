@@ -12,10 +12,9 @@ ghost use Rattle.smt_dialogue.specs.Internal.Steps.{IsAccepted, IsJudged, IsStep
 
 use crate::answer::takes;
 use crate::dialogue::Dialogue;
-use crate::line::{Line, Side};
 use crate::read_text::ReadText;
-use crate::report::Report;
 use smt_eval::Memory;
+use smt_report::{Line, Report, Side};
 use smt_script::{Command, CommandFault, read_command};
 use smt_text::{TextFault, Tree};
 

@@ -3,15 +3,14 @@
 ghost use Rattle.std.specs.Prelude.{◌≡◌, true, IfOk};
 ghost use Rattle.smt_dialogue.specs.Report.{IsReport};
 ghost use Rattle.smt_dialogue.specs.Validity.{IsValid, IsInvalid};
-ghost use Rattle.smt_dialogue.specs.Verdict.{IsVerdictOf};
+ghost use Rattle.smt_report.specs.Verdict.{IsVerdictOf};
 
 use crate::dialogue::Dialogue;
 use crate::pairing::judge_all;
 use crate::read_text::read_whole;
-use crate::report::Report;
-use crate::verdict::Verdict;
 use smt_eval::Memory;
 use smt_eval::laws::{known_values_are_true, models_are_complete};
+use smt_report::{Report, Verdict};
 use smt_text::laws::one_forest;
 use std::alloc::Global;
 

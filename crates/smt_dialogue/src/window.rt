@@ -9,8 +9,8 @@ ghost use Rattle.smt_dialogue.specs.Lines as check_lines;
 ghost use Rattle.smt_dialogue.specs.Internal.ChecksState.{checks_after, checks_state, with_check, with_model, with_window_ended};
 
 use crate::judgement::{Judgement, judge};
-use crate::line::{CheckAnswer, Line};
 use smt_eval::Memory;
+use smt_report::{CheckAnswer, Line};
 use smt_script::{Command, Stack};
 use smt_text::Tree;
 use std::alloc::Global;

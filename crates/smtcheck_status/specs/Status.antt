@@ -1,7 +1,7 @@
 -- The exit status of a verdict, which is this project's own.
 use Rattle.std.specs.Prelude.{ℕ}
-use Rattle.smt_dialogue.specs.declared.verdict.Verdict.{Verdict}
-use Rattle.smt_dialogue.specs.declared.verdict.Verdict.TheVariants.{Valid, Invalid, NotDecided, Refused}
+use Rattle.smt_report.specs.declared.verdict.Verdict.{Verdict}
+use Rattle.smt_report.specs.declared.verdict.Verdict.TheVariants.{Valid, Invalid, NotDecided, Refused}
 
 abbrev pub status_number : Verdict → ℕ
 status_number Valid = 0

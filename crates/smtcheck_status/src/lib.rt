@@ -7,7 +7,7 @@
 ghost use Rattle.std.specs.Prelude.{◌≡◌};
 ghost use Rattle.smtcheck_status.specs.Status.{status_number};
 
-use smt_dialogue::Verdict;
+use smt_report::Verdict;
 
 /// The status with which the program ends: 0 for valid, 1 for invalid, 2 for not decided, 3 for refused.
 pub fn status_of(verdict: Verdict) -> u8

@@ -9,9 +9,9 @@ use Rattle.smt_dialogue.specs.Judgement.{judgement_of}
 use Rattle.smt_dialogue.specs.Lines.{confirmed_line, is_empty, line_of_judgement, sat_lines, unconfirmed_line}
 use Rattle.smt_dialogue.specs.Pairing.{Pair}
 use Rattle.smt_dialogue.specs.Window.{closes, models_from, window}
-use Rattle.smt_dialogue.specs.declared.line.CheckAnswer.TheVariants.{Unsat, Unknown}
-use Rattle.smt_dialogue.specs.declared.line.Line.{Line}
-use Rattle.smt_dialogue.specs.declared.line.Line.TheVariants as lines
+use Rattle.smt_report.specs.declared.line.CheckAnswer.TheVariants.{Unsat, Unknown}
+use Rattle.smt_report.specs.declared.line.Line.{Line}
+use Rattle.smt_report.specs.declared.line.Line.TheVariants as lines
 use Rattle.smt_dialogue.specs.declared.window.Checks.{Checks}
 use Rattle.smt_dialogue.specs.declared.window.PendingCheck.{PendingCheck}
 

@@ -7,12 +7,12 @@ use Rattle.smt_dialogue.specs.FirstFault.{Stop, step_after, step_of_fault, step_
 use Rattle.smt_dialogue.specs.Report.{lines_of_end}
 use Rattle.smt_dialogue.specs.InForce.{AreFaultless, fault_of_pair}
 use Rattle.smt_dialogue.specs.Lines.{lines_in}
-use Rattle.smt_dialogue.specs.Verdict.{verdict_of, with_verdict}
+use Rattle.smt_report.specs.Verdict.{verdict_of, with_verdict}
 use Rattle.smt_dialogue.specs.Pairing.{IsPairing, Pair, answered_by}
 use Rattle.smt_dialogue.specs.Answers.{takes}
 use Rattle.smt_dialogue.specs.Internal.DialogueState.{State, StandsFor}
-use Rattle.smt_dialogue.specs.declared.line.Line.{Line}
-use Rattle.smt_dialogue.specs.declared.verdict.Verdict.{Verdict}
+use Rattle.smt_report.specs.declared.line.Line.{Line}
+use Rattle.smt_report.specs.declared.verdict.Verdict.{Verdict}
 
 -- the pair was accepted, or its command has a fault, with this line
 abbrev pub IsAccepted : Option Line → List Pair → Command → Sexp → State → Type 0

@@ -5,7 +5,7 @@ use Rattle.smt_text.specs.Tree.{sexp_of, sexps_of}
 use Rattle.smt_dialogue.proofs.StepLemmas.{answers-le, checks-le, commands-push, so_far-push}
 use Rattle.smt_dialogue.specs.Internal.DialogueState.{state_of}
 use Rattle.smt_dialogue.specs.Internal.Steps.{SoFar, TakesUp, IsStep}
-use Rattle.smt_dialogue.specs.declared.line.Line.{Line}
+use Rattle.smt_report.specs.declared.line.Line.{Line}
 use Rattle.smt_dialogue.proofs.pairing.judge_all.Goals as goal
 
 pub take_step-requires-clause-answers : goal.take_step-requires-clause-answers

@@ -1,5 +1,5 @@
 -- What each arm writes is the text of its line.
-use Rattle.smt_dialogue.proofs.line.LineDisplay.fmt.Goals as goal
+use Rattle.smt_report.proofs.line.LineDisplay.fmt.Goals as goal
 
 pub returns-in-Unchecked-clause-writes : goal.returns-in-Unchecked-clause-writes
 returns-in-Unchecked-clause-writes g c = λ plain ok. rw c.in-Unchecked.is (c.write.ensures.writes plain ok)

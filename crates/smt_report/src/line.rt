@@ -1,8 +1,8 @@
 //! The lines of a report.
 
 ghost use Rattle.std.specs.Prelude.{◌≡◌};
-ghost use Rattle.smt_dialogue.specs.FirstFault as first_fault;
-ghost use Rattle.smt_dialogue.specs.Verdict as verdicts;
+ghost use Rattle.smt_report.specs.FaultLine.{text_line};
+ghost use Rattle.smt_report.specs.Verdict as verdicts;
 
 use crate::verdict::{Tally, Verdict};
 use smt_script::CommandFault;
@@ -116,8 +116,8 @@ pub enum Line {
 
 impl Line {
     /// The line on the fault of a text.
-    pub(crate) fn of_text(side: Side, fault: TextFault) -> Line
-        ensures { result ≡ first_fault.text_line side fault }
+    pub fn of_text(side: Side, fault: TextFault) -> Line
+        ensures { result ≡ text_line side fault }
     {
         match fault {
             TextFault::Byte { place } => Line::TextFault {
@@ -191,7 +191,7 @@ impl Line {
 
 impl fmt::Display for CheckAnswer {
     ghost use Rattle.std.specs.Prelude.{Some};
-    ghost use Rattle.smt_dialogue.specs.LineText.{text_of_answer};
+    ghost use Rattle.smt_report.specs.LineText.{text_of_answer};
 
     ghost output = { λ x. Some (text_of_answer x) };
 
@@ -205,7 +205,7 @@ impl fmt::Display for CheckAnswer {
 
 impl fmt::Display for Side {
     ghost use Rattle.std.specs.Prelude.{Some};
-    ghost use Rattle.smt_dialogue.specs.LineText.{text_of_side};
+    ghost use Rattle.smt_report.specs.LineText.{text_of_side};
 
     ghost output = { λ x. Some (text_of_side x) };
 
@@ -219,7 +219,7 @@ impl fmt::Display for Side {
 
 impl fmt::Display for TextFaultKind {
     ghost use Rattle.std.specs.Prelude.{Some};
-    ghost use Rattle.smt_dialogue.specs.LineText.{text_of_kind};
+    ghost use Rattle.smt_report.specs.LineText.{text_of_kind};
 
     ghost output = { λ x. Some (text_of_kind x) };
 
@@ -234,7 +234,7 @@ impl fmt::Display for TextFaultKind {
 
 impl fmt::Display for Line {
     ghost use Rattle.std.specs.Prelude.{Some};
-    ghost use Rattle.smt_dialogue.specs.LineText.{text_of};
+    ghost use Rattle.smt_report.specs.LineText.{text_of};
 
     ghost output = { λ x. Some (text_of x) };
 

@@ -26,7 +26,7 @@ pub enum Verdict {
 
 impl fmt::Display for Verdict {
     ghost use Rattle.std.specs.Prelude.{Some};
-    ghost use Rattle.smt_dialogue.specs.LineText.{text_of_verdict};
+    ghost use Rattle.smt_report.specs.LineText.{text_of_verdict};
 
     ghost output = { λ x. Some (text_of_verdict x) };
 
@@ -42,7 +42,7 @@ impl fmt::Display for Verdict {
 
 impl fmt::Display for Tally {
     ghost use Rattle.std.specs.Prelude.{Some};
-    ghost use Rattle.smt_dialogue.specs.LineText.{text_of_tally};
+    ghost use Rattle.smt_report.specs.LineText.{text_of_tally};
 
     ghost output = { λ x. Some (text_of_tally x) };
 

@@ -2,11 +2,11 @@
 
 ghost use Rattle.std.specs.Prelude.{◌≡◌, IfOk, count_by};
 ghost use Rattle.std.specs.List.{list_any};
-ghost use Rattle.smt_dialogue.specs.Verdict as verdicts;
+ghost use Rattle.smt_report.specs.Verdict as verdicts;
 
 use crate::line::Line;
 use crate::verdict::{Tally, Verdict};
-use smt_eval::Memory;
+use std::alloc::AllocError;
 
 /// A report: the lines, the last of them that of the verdict.
 #[derive(Drop)]
@@ -17,7 +17,7 @@ pub struct Report {
 
 impl Report {
     /// The report with these lines, and the line of its verdict behind them.
-    pub(crate) fn from_lines(lines: Vec<Line>) -> Result<Report, Memory>
+    pub fn from_lines(lines: Vec<Line>) -> Result<Report, AllocError>
         ensures lines { IfOk result (λ r. r.lines.items ≡ verdicts.with_verdict lines.items) }
         ensures verdict { IfOk result (λ r. r.verdict ≡ verdicts.verdict_of lines.items) }
     {

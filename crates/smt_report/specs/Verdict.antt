@@ -1,11 +1,11 @@
 -- What the lines of a report come to. These are this project's rules.
 use Rattle.std.specs.Prelude.{◌≡◌, List, [], ◌∷◌, ◌++◌, Bool, true, false, count_by, if◌then◌else◌}
 use Rattle.std.specs.List.{list_any}
-use Rattle.smt_dialogue.specs.declared.line.Line.{Line}
-use Rattle.smt_dialogue.specs.declared.line.Line.TheVariants as lines
-use Rattle.smt_dialogue.specs.declared.verdict.Tally.{Tally}
-use Rattle.smt_dialogue.specs.declared.verdict.Verdict.{Verdict}
-use Rattle.smt_dialogue.specs.declared.verdict.Verdict.TheVariants as verdicts
+use Rattle.smt_report.specs.declared.line.Line.{Line}
+use Rattle.smt_report.specs.declared.line.Line.TheVariants as lines
+use Rattle.smt_report.specs.declared.verdict.Tally.{Tally}
+use Rattle.smt_report.specs.declared.verdict.Verdict.{Verdict}
+use Rattle.smt_report.specs.declared.verdict.Verdict.TheVariants as verdicts
 
 abbrev pub is_confirmed_line : Line → Bool
 is_confirmed_line (lines.Confirmed k n) = true

@@ -1,17 +1,17 @@
 -- The text of the report, which is this project's own. A line's end, byte 10, is no part of it.
 use Rattle.std.specs.Prelude.{ℕ, List, ◌++◌, codes}
 use Rattle.std.specs.Fmt.{decimal}
-use Rattle.smt_dialogue.specs.declared.line.CheckAnswer.{CheckAnswer}
-use Rattle.smt_dialogue.specs.declared.line.CheckAnswer.TheVariants.{Unsat, Unknown}
-use Rattle.smt_dialogue.specs.declared.line.Line.{Line}
-use Rattle.smt_dialogue.specs.declared.line.Line.TheVariants.{Unchecked, Confirmed, NoModel, ItemFault, Lacks, Refuted, NotDecided, TextFault, CommandFault, MissingAnswer, UnexpectedAnswer, ExtraAnswer, Verdict as VerdictLine}
-use Rattle.smt_dialogue.specs.declared.line.Side.{Side}
-use Rattle.smt_dialogue.specs.declared.line.Side.TheVariants.{Script, Answers}
-use Rattle.smt_dialogue.specs.declared.verdict.Tally.{Tally}
-use Rattle.smt_dialogue.specs.declared.line.TextFaultKind.{TextFaultKind}
-use Rattle.smt_dialogue.specs.declared.line.TextFaultKind.TheVariants.{Byte, Deep, End}
-use Rattle.smt_dialogue.specs.declared.verdict.Verdict.{Verdict}
-use Rattle.smt_dialogue.specs.declared.verdict.Verdict.TheVariants as verdicts
+use Rattle.smt_report.specs.declared.line.CheckAnswer.{CheckAnswer}
+use Rattle.smt_report.specs.declared.line.CheckAnswer.TheVariants.{Unsat, Unknown}
+use Rattle.smt_report.specs.declared.line.Line.{Line}
+use Rattle.smt_report.specs.declared.line.Line.TheVariants.{Unchecked, Confirmed, NoModel, ItemFault, Lacks, Refuted, NotDecided, TextFault, CommandFault, MissingAnswer, UnexpectedAnswer, ExtraAnswer, Verdict as VerdictLine}
+use Rattle.smt_report.specs.declared.line.Side.{Side}
+use Rattle.smt_report.specs.declared.line.Side.TheVariants.{Script, Answers}
+use Rattle.smt_report.specs.declared.verdict.Tally.{Tally}
+use Rattle.smt_report.specs.declared.line.TextFaultKind.{TextFaultKind}
+use Rattle.smt_report.specs.declared.line.TextFaultKind.TheVariants.{Byte, Deep, End}
+use Rattle.smt_report.specs.declared.verdict.Verdict.{Verdict}
+use Rattle.smt_report.specs.declared.verdict.Verdict.TheVariants as verdicts
 use Rattle.smt_script.specs.FaultText.{text_of_command_fault}
 use Rattle.smt_terms.specs.FaultText.{text_of_term_fault}
 

@@ -1,0 +1,3 @@
+pub mod FaultLine
+pub mod Verdict
+pub mod LineText
