@@ -1,12 +1,13 @@
 -- The digits of a constant, read modulo a power of two.
-use Rattle.std.proofs.Common.{◌≡◌, ℕ, ◌+◌, ◌-◌, ◌*◌, ◌%◌, ◌^◌, ◌<◌, ◌≤◌, Bool, true, false, cond, List, [], ◌∷◌, Option, Some, None, length, drop, get_or, refl, sym, ap, ◌∙◌, add-one, drop-cons, arith, rules}
-use Rattle.std.proofs.Math.Nat.{mod-add-mod, mod-mod}
+use Rattle.std.proofs.Common.{◌≡◌, ℕ, zero, suc, ◌+◌, ◌-◌, ◌*◌, ◌%◌, ◌^◌, ◌<◌, ◌≤◌, Bool, true, false, cond, List, [], ◌∷◌, Some, None, length, drop, get_or, refl, sym, ap, ◌∙◌, subst, add-one, drop-cons, arith, rules}
+use Rattle.std.proofs.Math.Nat.{mod-add-mod, mod-eq_of_lt, mod-mod, mul-suc, pow-suc, pow-zero}
+use Rattle.std.proofs.lemmas.Int.Digits.{digits_value-lt}
 use Rattle.std.proofs.Math.Pow.{mod-mod-pow}
-use Rattle.std.proofs.lemmas.Nat.{mul-mod_first}
+use Rattle.std.proofs.lemmas.Nat.{mul-mod_first, pow-add}
 use Rattle.std.specs.Char.{digit_value}
 use Rattle.std.proofs.Math.Nat.{mul-le-mul_right}
 use Rattle.std.specs.Prelude.{is_some, nat_le, ◌&&◌}
-use Rattle.std.specs.Str.Parse.{digits_value, digits_value_after}
+use Rattle.std.specs.Str.Parse.{AllDigits, digits_value, digits_value_after}
 use Rattle.smt_theory.specs.Width.{width_of}
 use Rattle.smt_bits.specs.BitVector.{vector}
 use Rattle.smt_bits.specs.Literals.{constant, known_constant}
@@ -55,3 +56,22 @@ of_width bits digits base w v h e = by (nat_le 1 (bits * length digits)) (nat_le
         ∙ ap (λ n. Some (vector (bits * length digits) n)) (shorter (digits_value base digits) (bits * length digits) (within refl))
     by true false within h = cc
     by false q within h = cc
+
+-- ---- the number of a constant
+
+power : (bits n : ℕ) → (2 ^ bits) ^ n ≡ 2 ^ (bits * n)
+power bits zero = pow-zero (2 ^ bits) ∙ sym (pow-zero 2) ∙ ap (λ k. 2 ^ k) (zero_is bits)
+  where
+    zero_is : (bits : ℕ) → 0 ≡ bits * 0
+    zero_is bits = omega arith
+power bits (suc n) =
+    pow-suc (2 ^ bits) n ∙ ap (λ k. k * 2 ^ bits) (power bits n) ∙ sym (pow-add 2 (bits * n) bits) ∙ ap (λ k. 2 ^ k) (next bits n)
+  where
+    next : (bits n : ℕ) → bits * n + bits ≡ bits * suc n
+    next bits n = sym (mul-suc bits n)
+
+-- digits in base 2 ^ bits spell a number of so many bits each
+pub spelled : (bits : ℕ) (digits : List ℕ) → AllDigits (2 ^ bits) digits → constant (2 ^ bits) bits digits ≡ vector (bits * length digits) (digits_value (2 ^ bits) digits)
+spelled bits digits all =
+    ap (vector (bits * length digits))
+    (mod-eq_of_lt (subst (λ k. digits_value (2 ^ bits) digits < k) (power bits (length digits)) (digits_value-lt (2 ^ bits) digits all)))

@@ -2,5 +2,6 @@
 
 pub mod arithmetic;
 pub mod bitwise;
+pub mod literals;
 pub mod parts;
 pub mod signed;

@@ -1,5 +1,5 @@
 -- What is known of bit vectors as arguments, by their number.
-use Rattle.std.proofs.Common.{◌≡◌, ◌≢◌, ℕ, ◌≤◌, List, [], ◌∷◌, Option, Some, None, length, drop, get_or, refl, sym, ap, ◌∙◌, arith}
+use Rattle.std.proofs.Common.{◌≡◌, ◌≢◌, ◌≤◌, List, [], ◌∷◌, Option, Some, None, length, drop, get_or, refl, sym, ap, ◌∙◌, arith}
 use Rattle.std.specs.Prelude.{map, option_map, option_and_then}
 use Rattle.smt_bits.specs.BitVector.{BitVector}
 use Rattle.smt_values.specs.declared.value.Value.{Value}

@@ -1,7 +1,7 @@
 -- What is known of the results of operators on bit vectors is true.
-use Rattle.std.proofs.Common.{◌≡◌, ℕ, Bool, true, false, cond, List, [], ◌∷◌, Option, Some, None, nat_le, nat_lt, refl, sym, subst}
+use Rattle.std.proofs.Common.{◌≡◌, Bool, true, false, cond, List, [], ◌∷◌, Option, Some, None, nat_le, nat_lt, refl, sym, subst}
 use Rattle.std.specs.Prelude.{fold, option_map, option_and_then, ◌==◌, ◌&&◌, ◌+◌, ◌*◌}
-use Rattle.smt_bits.specs.BitVector.{BitVector, vector}
+use Rattle.smt_bits.specs.BitVector.{BitVector}
 use Rattle.smt_bits.specs.Parts.{concatenation}
 use Rattle.smt_theory.specs.declared.op.BitsFolded.{BitsFolded}
 use Rattle.smt_theory.specs.declared.op.BitsOp.{BitsOp}

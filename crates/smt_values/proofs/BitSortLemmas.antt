@@ -1,5 +1,5 @@
 -- Results of operators on bit vectors are of the sorts that ranks give.
-use Rattle.std.proofs.Common.{◌≡◌, ℕ, ◌+◌, ◌-◌, ◌*◌, ◌%◌, ◌^◌, ◌<◌, ◌≤◌, List, [], ◌∷◌, length, refl, sym, ap, ◌∙◌, subst, arith, rules}
+use Rattle.std.proofs.Common.{◌≡◌, ℕ, ◌+◌, ◌-◌, ◌*◌, ◌%◌, ◌^◌, ◌<◌, ◌≤◌, List, [], ◌∷◌, length, refl, sym, ap, ◌∙◌, subst, arith}
 use Rattle.std.proofs.Math.Nat.{mod-lt, one-le-mul}
 use Rattle.std.proofs.Math.Pow.{pow_mono, pow_pos}
 use Rattle.std.proofs.lemmas.List.Sums.{sum_by-cons}
@@ -17,7 +17,7 @@ use Rattle.smt_theory.specs.declared.op.BitsOp.TheVariants.{Constant, Concat, Ex
 use Rattle.smt_theory.specs.declared.op.BitsUnary.{BitsUnary}
 use Rattle.smt_theory.specs.declared.op.BitsUnary.TheVariants.{Not, Negate}
 use Rattle.smt_theory.specs.declared.sort.Sort.{Sort}
-use Rattle.smt_theory.specs.declared.sort.Sort.TheVariants.{Bool as BoolSort, Int as IntSort, Bits as BitsSort}
+use Rattle.smt_theory.specs.declared.sort.Sort.TheVariants.{Bool as BoolSort, Bits as BitsSort}
 use Rattle.smt_values.specs.BitOperations.{binary, concatenated, folded, folded_vector, operate_bits, unary}
 use Rattle.smt_values.specs.Element.{Element, Truth, Integer, Vector, IsOfSort, AreOfSorts}
 use Rattle.smt_values.specs.Operations.{vector_of}

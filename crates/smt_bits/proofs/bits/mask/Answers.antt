@@ -1,4 +1,4 @@
-use Rattle.std.proofs.Common.{◌≡◌, ◌-◌, ◌^◌, ◌≤◌, ap, arith, ◌∙◌}
+use Rattle.std.proofs.Common.{◌≡◌, ◌-◌, ◌^◌, ap, arith, ◌∙◌}
 use Rattle.std.proofs.lemmas.Nat.Bits.{ones_shr}
 use Rattle.smt_bits.proofs.bits.mask.Goals as goal
 

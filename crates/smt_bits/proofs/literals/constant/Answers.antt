@@ -1,4 +1,4 @@
-use Rattle.std.proofs.Common.{◌≡◌, ◌*◌, length, sym, ◌∙◌, ap, refl, Some}
+use Rattle.std.proofs.Common.{◌*◌, length, sym, ◌∙◌, ap, refl, Some}
 use Rattle.smt_theory.specs.Width.{width_of}
 use Rattle.smt_bits.proofs.LiteralLemmas.{of_width, too_wide}
 use Rattle.smt_bits.proofs.literals.constant.Goals as goal

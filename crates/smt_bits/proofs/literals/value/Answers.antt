@@ -1,4 +1,4 @@
-use Rattle.std.proofs.Common.{◌≡◌, ◌%◌, ◌^◌, ◌∙◌, rules}
+use Rattle.std.proofs.Common.{◌^◌, ◌∙◌, rules}
 use Rattle.smt_bits.proofs.LiteralLemmas.{digit_read}
 use Rattle.smt_bits.proofs.literals.value.Goals as goal
 

@@ -1,4 +1,4 @@
-use Rattle.std.proofs.Common.{◌≡◌, ◌%◌, ◌^◌, ap, ◌∙◌, bit_and}
+use Rattle.std.proofs.Common.{ap, ◌∙◌, bit_and}
 use Rattle.std.proofs.lemmas.Nat.{and_mask}
 use Rattle.smt_bits.specs.BitVector.{vector}
 use Rattle.smt_bits.proofs.bits.Bits.new.Goals as goal
