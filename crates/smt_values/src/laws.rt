@@ -1,10 +1,12 @@
 //! What holds of the definitions that the contracts name. Nothing here does anything: each contract is a law, and
 //! a body but calls the laws that it rests on.
 
-ghost use Rattle.std.specs.Prelude.{◌≡◌, ◌≢◌, ◌≤ℤ◌, ◌<ℤ◌, ℤ, pos, ◌+ℤ◌, ◌*ℤ◌, unsigned_abs, List, Option};
+ghost use Rattle.std.specs.Prelude.{◌≡◌, ◌≢◌, not, ℕ, ◌≤ℤ◌, ◌<ℤ◌, ℤ, pos, ◌+ℤ◌, ◌*ℤ◌, unsigned_abs, List, Option};
 ghost use Rattle.smt_theory.specs.Ranks.{HasRank};
 ghost use Rattle.smt_theory.specs.declared.op.Op.{Op};
 ghost use Rattle.smt_theory.specs.declared.sort.Sort.{Sort};
+ghost use Rattle.smt_theory.specs.declared.op.BitsComparison.TheVariants.{SignedAtLeast, SignedLess, UnsignedAtLeast, UnsignedLess};
+ghost use Rattle.smt_values.specs.BitOperations.{compares_bits};
 ghost use Rattle.smt_values.specs.Element.{Agrees, AllAgree, AreOfSorts, Element, IsOfSort};
 ghost use Rattle.smt_values.specs.KnownOperations.{known_step};
 ghost use Rattle.smt_values.specs.Operations.{DivisionByZero, operate, quotient, remainder};
@@ -38,4 +40,10 @@ pub fn division_is_by_the_law()
     ensures high { (z : DivisionByZero) (a n : ℤ) → n ≢ pos 0 → remainder z a n <ℤ pos (unsigned_abs n) }
     ensures one { (z : DivisionByZero) (a n q r : ℤ) → n ≢ pos 0 → a ≡ n *ℤ q +ℤ r → pos 0 ≤ℤ r → r <ℤ pos (unsigned_abs n)
         → (q ≡ quotient z a n) × (r ≡ remainder z a n) }
+{}
+
+/// Of two bit vectors of one width the first is less exactly where it is not at least the second, as numbers and read as signed.
+pub fn comparisons_are_opposites()
+    ensures unsigned { (m s t : ℕ) → compares_bits UnsignedLess m s t ≡ not (compares_bits UnsignedAtLeast m s t) }
+    ensures signed { (m s t : ℕ) → compares_bits SignedLess m s t ≡ not (compares_bits SignedAtLeast m s t) }
 {}
