@@ -5,6 +5,11 @@ use crate::{apply, numeral};
 use smt_theory::{Index, Theories, op_of};
 use std::test::Fail;
 
+const THEORIES: Theories = Theories {
+    ints: true,
+    bits: true,
+};
+
 const OPEN: Option<Value> = None;
 
 const GREATEST: i128 = i128::MAX;
@@ -21,11 +26,7 @@ fn truth(b: bool) -> Option<Value> {
 
 // What the plain operator of this name gives.
 fn of(name: &[u8], args: &[Option<Value>]) -> Result<Option<Value>, Fail> {
-    let theories = Theories {
-        ints: true,
-        bits: false,
-    };
-    let op = op_of(theories, name, &[])
+    let op = op_of(THEORIES, name, &[])
         .ok()
         .ok_or("no operator has this name")?;
     Ok(apply(op, args))
@@ -101,17 +102,18 @@ fn neighbours_and_pairs(rt: HostRuntime) -> Result<(), Fail> {
     Ok(())
 }
 
-#[test]
-fn divisibility(rt: HostRuntime) -> Result<(), Fail> {
-    let theories = Theories {
-        ints: true,
-        bits: false,
-    };
-    let by_three = op_of(theories, b"divisible", &[Index::Number(3)])
+// What `(_ divisible 3)` gives.
+fn by_three(args: &[Option<Value>]) -> Result<Option<Value>, Fail> {
+    let op = op_of(THEORIES, b"divisible", &[Index::Number(3)])
         .ok()
         .ok_or("no operator")?;
-    assert_eq!(rt; apply(by_three, &[int(-9)]), truth(true));
-    assert_eq!(rt; apply(by_three, &[int(10)]), truth(false));
-    assert_eq!(rt; apply(by_three, &[OPEN]), OPEN);
+    Ok(apply(op, args))
+}
+
+#[test]
+fn divisibility(rt: HostRuntime) -> Result<(), Fail> {
+    assert_eq!(rt; by_three(&[int(-9)])?, truth(true));
+    assert_eq!(rt; by_three(&[int(10)])?, truth(false));
+    assert_eq!(rt; by_three(&[OPEN])?, OPEN);
     Ok(())
 }
