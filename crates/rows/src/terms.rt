@@ -35,7 +35,12 @@ fn print_term<W: Write>(
     match &library.check(term) {
         Ok((_, Sort::Bool)) => writeln!(out, "{} => Bool", field.text)?,
         Ok((_, Sort::Int)) => writeln!(out, "{} => Int", field.text)?,
-        Ok((_, Sort::Bits(width))) => writeln!(out, "{} => (_ BitVec {})", field.text, width.bits())?,
+        Ok((_, Sort::Bits(width))) => writeln!(
+            out,
+            "{} => (_ BitVec {})",
+            field.text,
+            width.bits()
+        )?,
         Err(fault) => writeln!(out, "{} => {fault}", field.text)?,
     }
     Ok(())
