@@ -1,5 +1,5 @@
--- SMT-LIB 2.6, theories Core, Ints and FixedSizeBitVectors: the meaning of the operators on elements. Integers have no bounds here. What an operator
--- gives for arguments that it has no rank for is of no interest.
+-- SMT-LIB 2.6, theories Core, Ints and FixedSizeBitVectors: the meaning of the operators on elements. Integers and widths have no
+-- bounds here. What an operator gives for arguments that it has no rank for is of no interest.
 use Rattle.std.specs.Prelude.{ℕ, ◌%◌, ℤ, pos, ◌+ℤ◌, ◌-ℤ◌, ◌*ℤ◌, neg_ℤ, unsigned_abs, int_le, int_lt, List, [], ◌∷◌, Bool, true, false, not, ◌&&◌, ◌||◌, ◌==◌, map, fold, if◌then◌else◌}
 use Rattle.std.specs.Bool.{beq}
 use Rattle.std.specs.Int.{int_div_euclid, int_rem_euclid}
