@@ -1,7 +1,7 @@
 -- SMT-LIB 2.6, section 4.1: which answers a command takes, and which answers say that a command took no effect.
 use Rattle.std.specs.Prelude.{Bool, true, false, not, ◌||◌, Option, Some, None, codes}
 use Rattle.smt_text.specs.Sexp.{Sexp, Atom, Items, Nil, Cons, Text, is_symbol}
-use Rattle.smt_script.specs.Command.{Command, SetLogic, DeclareConst, Assert, CheckSat, GetModel}
+use Rattle.smt_script.specs.Command.{Command, SetLogic, DeclareConst, DeclareFun, DefineFun, Assert, CheckSat, GetModel}
 
 -- whether an answer is an error: the symbol `error` and a string
 abbrev pub is_error : Sexp → Bool
@@ -17,6 +17,8 @@ is_model _ = false
 abbrev pub takes : Command → Sexp → Bool
 takes (SetLogic name) answer = is_symbol (codes "success") answer
 takes (DeclareConst x sort) answer = is_symbol (codes "success") answer
+takes (DeclareFun x parameters sort) answer = is_symbol (codes "success") answer
+takes (DefineFun x parameters sort body) answer = is_symbol (codes "success") answer
 takes (Assert term) answer = is_symbol (codes "success") answer
 takes CheckSat answer = is_symbol (codes "sat") answer || is_symbol (codes "unsat") answer || is_symbol (codes "unknown") answer
 takes GetModel answer = is_model answer

@@ -6,6 +6,7 @@ use Rattle.smt_terms.specs.Signature.{Signature}
 use Rattle.smt_terms.specs.declared.fault.TermFault.TheVariants as terms
 use Rattle.smt_eval.specs.Known.{known_over}
 use Rattle.smt_eval.specs.Model.{model_in}
+use Rattle.smt_eval.specs.Structure.{structure_of}
 use Rattle.smt_eval.specs.declared.interpretation.ModelFault.{ModelFault}
 use Rattle.smt_eval.specs.declared.interpretation.ModelFault.TheVariants as faults
 use Rattle.smt_script.specs.Stack.{Assertion}
@@ -32,14 +33,18 @@ abbrev pub refuted_or : Option ℕ → Option ℕ → Judgement
 refuted_or (Some command) open' = Refuted command
 refuted_or None open' = open_or_confirmed open'
 
--- what is found of the definitions of a model: the first assertion that is false, else the first that is open
-abbrev pub judged_over : List Assertion → Result Signature ModelFault → Judgement
-judged_over assertions (Ok definitions) =
-    refuted_or (first_assertion (is_false_over definitions) assertions) (first_assertion (is_open_over definitions) assertions)
-judged_over assertions (Err (faults.Item number fault)) = ItemFault number fault
-judged_over assertions (Err (faults.Lacks command)) = Lacks command
-judged_over assertions (Err faults.Memory) = ItemFault 0 terms.Memory
+-- what is found over the definitions of a structure: the first assertion that is false, else the first that is open
+abbrev pub judged_over : List Assertion → Signature → Judgement
+judged_over assertions structure =
+    refuted_or (first_assertion (is_false_over structure) assertions) (first_assertion (is_open_over structure) assertions)
+
+-- what is found of a model of the script's names, from its definitions or its fault
+abbrev pub judged_in : Signature → List Assertion → Result Signature ModelFault → Judgement
+judged_in script assertions (Ok definitions) = judged_over assertions (structure_of script definitions)
+judged_in script assertions (Err (faults.Item number fault)) = ItemFault number fault
+judged_in script assertions (Err (faults.Lacks command)) = Lacks command
+judged_in script assertions (Err faults.Memory) = ItemFault 0 terms.Memory
 
 -- what is found of a model under the signature and assertions in force
 abbrev pub judgement_of : Signature → List Assertion → Sexps → Judgement
-judgement_of names assertions parts = judged_over assertions (model_in names parts)
+judgement_of script assertions parts = judged_in script assertions (model_in script parts)

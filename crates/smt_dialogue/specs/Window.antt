@@ -2,7 +2,9 @@
 use Rattle.std.specs.Prelude.{ℕ, ◌+◌, List, [], ◌∷◌, ◌++◌, Bool, true, false, Option, Some, if◌then◌else◌}
 use Rattle.smt_text.specs.Sexp.{Sexp, Sexps, Items}
 use Rattle.smt_terms.specs.Signature.{Signature}
-use Rattle.smt_script.specs.Command.{Command, SetLogic, DeclareConst, Assert, CheckSat, GetModel}
+use Rattle.smt_eval.specs.Structure.{structure_of}
+use Rattle.smt_script.specs.Command.{Command, SetLogic, DeclareConst, DeclareFun, DefineFun, Assert, CheckSat, GetModel}
+use Rattle.smt_dialogue.specs.InForce.{signature_after}
 use Rattle.smt_dialogue.specs.Pairing.{Pair, is_effective}
 
 -- whether a command ends the window of an earlier check: a check does, and what changes something where it took effect. (A logic is
@@ -10,6 +12,8 @@ use Rattle.smt_dialogue.specs.Pairing.{Pair, is_effective}
 abbrev pub closes_by : Bool → Command → Bool
 closes_by effective (SetLogic name) = effective
 closes_by effective (DeclareConst x sort) = effective
+closes_by effective (DeclareFun x parameters sort) = effective
+closes_by effective (DefineFun x parameters sort body) = effective
 closes_by effective (Assert term) = effective
 closes_by effective CheckSat = true
 closes_by effective GetModel = false
@@ -17,10 +21,9 @@ closes_by effective GetModel = false
 abbrev pub closes : Pair → Bool
 closes pair = closes_by (is_effective pair) pair.command
 
--- the structure of a check behind these pairs, over the definitions of a model: those, and then the script's definitions in force, of
--- which there are none yet
+-- the structure of a check behind these pairs, over the definitions of a model: those, and then the script's definitions in force
 abbrev pub structure_at : Signature → List Pair → Signature
-structure_at definitions before = definitions
+structure_at definitions before = structure_of (signature_after before) definitions
 
 -- the pairs up to the first that ends the window
 abbrev pub window : List Pair → List Pair

@@ -1,10 +1,16 @@
 -- What a contract sees of an interpretation: the definitions that it was read from.
-use Rattle.smt_terms.specs.Signature.{Signature}
-use Rattle.smt_eval.specs.Internal.DefinitionValues.{Evaluates}
 use Rattle.std.specs.Prelude.{◌≡◌, length}
+use Rattle.smt_values.specs.Element.{known_elements}
+use Rattle.smt_terms.specs.Library.{StandsFor}
+use Rattle.smt_terms.specs.Signature.{AreDistinct, Signature}
+use Rattle.smt_eval.specs.Internal.DefinitionValues.{AllDefined, definition_values}
+use Rattle.smt_eval.specs.Structure.{structure_of}
 use Rattle.smt_eval.specs.declared.interpretation.Interpretation.{Interpretation}
 
--- the interpretation holds these definitions, each of a constant, with what is known of the value of each
-pub record IsInterpretation (interpretation : Interpretation) (definitions : Signature) : Type 0 where
-  pub evaluated : Evaluates interpretation.definitions interpretation.values.items definitions
-  pub whole : length interpretation.values.items ≡ length definitions.entries
+-- the interpretation holds these definitions of a model of the script's names; and what is known of the value of each constant among
+-- them and the script's own definitions, each over those before it, no two of one name
+pub record IsInterpretation (interpretation : Interpretation) (script definitions : Signature) : Type 0 where
+  pub stands : StandsFor interpretation.definitions definitions
+  pub defined : AllDefined definitions.entries
+  pub distinct : AreDistinct (structure_of script definitions).entries
+  pub valued : known_elements interpretation.values.items ≡ definition_values (structure_of script definitions)

@@ -1,9 +1,9 @@
 -- What is known of the value of a term: which element it is, or nothing; then the term is open. Which terms are open is this
 -- project's rule; where the value is known, it is the standard's.
-use Rattle.std.specs.Prelude.{ℕ, List, [], ◌∷◌, Option, None, Result, Ok, Err, if◌then◌else◌, unwrap_or, bytes_eq}
+use Rattle.std.specs.Prelude.{ℕ, List, [], ◌∷◌, ◌++◌, Option, None, Result, Ok, Err, if◌then◌else◌, unwrap_or, bytes_eq}
 use Rattle.std.specs.List.{zip}
 use Rattle.smt_text.specs.Sexp.{Sexp, Sexps, Atom, Reserved, Items, Nil, Cons, Symbol, Numeral, Hexadecimal, Binary}
-use Rattle.smt_text.specs.declared.reserved.Word.TheVariants.{Underscore}
+use Rattle.smt_text.specs.declared.reserved.Word.TheVariants.{Bang, Let, Underscore}
 use Rattle.smt_theory.specs.Words.{look_up}
 use Rattle.smt_theory.specs.declared.op.Op.{Op}
 use Rattle.smt_theory.specs.declared.op.OpFault.{OpFault}
@@ -31,12 +31,19 @@ abbrev mutual
   known_of m r (Atom Hexadecimal digits) = hex_element digits
   known_of m r (Atom Binary digits) = bin_element digits
   known_of m r (Items (Cons (Reserved Underscore) parts)) = known_by (indexed parts) (λ f. m f [])
+  known_of m r (Items (Cons (Reserved Let) (Cons (Items bindings) (Cons body Nil)))) = known_of m (knowns_bound m r bindings ++ r) body
+  known_of m r (Items (Cons (Reserved Bang) (Cons term attributes))) = known_of m r term
   known_of m r (Items (Cons head args)) = known_by (applied head args) (λ f. m f (knowns_of m r args))
   known_of m r _ = None
 
   pub knowns_of : KnownMeaning → List (List ℕ × Option Element) → Sexps → List (Option Element)
   knowns_of m r Nil = []
   knowns_of m r (Cons x xs) = known_of m r x ∷ knowns_of m r xs
+
+  -- the variables that bindings bring, with what is known of each: each term is seen without them
+  pub knowns_bound : KnownMeaning → List (List ℕ × Option Element) → Sexps → List (List ℕ × Option Element)
+  knowns_bound m r (Cons (Items (Cons (Atom Symbol x) (Cons term Nil))) rest) = (x, known_of m r term) ∷ knowns_bound m r rest
+  knowns_bound m r _ = []
 
 abbrev pub known_of_op : Result Op OpFault → List (Option Element) → Option Element
 known_of_op (Ok op) args = known_step op args

@@ -1,10 +1,10 @@
 -- SMT-LIB 2.6, section 5.3: the value of a well-sorted term in a structure, which is given by theories and definitions.
-use Rattle.std.specs.Prelude.{ℕ, pos, List, [], ◌∷◌, false, Result, Ok, Err, if◌then◌else◌, bytes_eq, unwrap_or}
+use Rattle.std.specs.Prelude.{ℕ, pos, List, [], ◌∷◌, ◌++◌, false, Result, Ok, Err, if◌then◌else◌, bytes_eq, unwrap_or}
 use Rattle.std.specs.List.{zip}
 use Rattle.std.specs.Str.Parse.{digits_value}
 use Rattle.smt_bits.specs.Literals.{bin_vector, hex_vector}
 use Rattle.smt_text.specs.Sexp.{Sexp, Sexps, Atom, Reserved, Items, Nil, Cons, Symbol, Numeral, Hexadecimal, Binary}
-use Rattle.smt_text.specs.declared.reserved.Word.TheVariants.{Underscore}
+use Rattle.smt_text.specs.declared.reserved.Word.TheVariants.{Bang, Let, Underscore}
 use Rattle.smt_theory.specs.Words.{look_up}
 use Rattle.smt_theory.specs.declared.op.Op.{Op}
 use Rattle.smt_theory.specs.declared.op.OpFault.{OpFault}
@@ -32,12 +32,19 @@ abbrev mutual
   value_of m r (Atom Hexadecimal digits) = Vector (hex_vector digits)
   value_of m r (Atom Binary digits) = Vector (bin_vector digits)
   value_of m r (Items (Cons (Reserved Underscore) parts)) = element_by (indexed parts) (λ f. m f [])
+  value_of m r (Items (Cons (Reserved Let) (Cons (Items bindings) (Cons body Nil)))) = value_of m (values_bound m r bindings ++ r) body
+  value_of m r (Items (Cons (Reserved Bang) (Cons term attributes))) = value_of m r term
   value_of m r (Items (Cons head args)) = element_by (applied head args) (λ f. m f (values_of m r args))
   value_of m r _ = Truth false
 
   pub values_of : Meaning → List (List ℕ × Element) → Sexps → List Element
   values_of m r Nil = []
   values_of m r (Cons x xs) = value_of m r x ∷ values_of m r xs
+
+  -- the variables that bindings bring, with their values: each term is seen without them
+  pub values_bound : Meaning → List (List ℕ × Element) → Sexps → List (List ℕ × Element)
+  values_bound m r (Cons (Items (Cons (Atom Symbol x) (Cons term Nil))) rest) = (x, value_of m r term) ∷ values_bound m r rest
+  values_bound m r _ = []
 
 -- where no name is defined, identifiers mean the operators of the theories
 abbrev pub meaning_of_op : DivisionByZero → Result Op OpFault → List Element → Element

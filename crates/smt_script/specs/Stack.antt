@@ -9,10 +9,12 @@ use Rattle.smt_theory.specs.declared.sort.Sort.{Sort}
 use Rattle.smt_theory.specs.declared.sort.Sort.TheVariants.{Bool as Boolean}
 use Rattle.smt_theory.specs.declared.theories.Theories.{Theories}
 use Rattle.smt_terms.specs.Checking.{sort_in}
+use Rattle.smt_terms.specs.Definitions.{defined_in, definition, parameters_named}
 use Rattle.smt_terms.specs.Signature.{Entry, Rank, Signature, declaration, declared_in, names_of, no_names, rank_named}
+use Rattle.smt_terms.specs.SortTrees.{sort_named}
 use Rattle.smt_terms.specs.declared.fault.TermFault.{TermFault}
 use Rattle.smt_terms.specs.declared.fault.TermFault.TheVariants as terms
-use Rattle.smt_script.specs.Command.{Command, SetLogic, DeclareConst, Assert, CheckSat, GetModel}
+use Rattle.smt_script.specs.Command.{Command, SetLogic, DeclareConst, DeclareFun, DefineFun, Assert, CheckSat, GetModel}
 use Rattle.smt_script.specs.declared.fault.CommandFault.{CommandFault}
 use Rattle.smt_script.specs.declared.fault.CommandFault.TheVariants.{Logic, Term, Memory}
 
@@ -39,6 +41,8 @@ theories_or theories (Some named) = named
 abbrev pub theories_after : Theories → Command → Theories
 theories_after theories (SetLogic name) = theories_or theories (theories_named name)
 theories_after theories (DeclareConst x sort) = theories
+theories_after theories (DeclareFun x parameters sort) = theories
+theories_after theories (DefineFun x parameters sort body) = theories
 theories_after theories (Assert term) = theories
 theories_after theories CheckSat = theories
 theories_after theories GetModel = theories
@@ -51,10 +55,16 @@ abbrev pub declaration_or_none : List ℕ → ℕ → Result Rank TermFault → 
 declaration_or_none x n (Ok rank) = declaration x n rank ∷ []
 declaration_or_none x n (Err fault) = []
 
+abbrev pub definition_or_none : List ℕ → Sexp → Result (List (List ℕ × Sort)) TermFault → Result Sort TermFault → List Entry
+definition_or_none x body (Ok parameters) (Ok sort) = definition x parameters sort body ∷ []
+definition_or_none x body _ _ = []
+
 -- the names that command n brings in these theories
 abbrev pub names_by : Theories → ℕ → Command → List Entry
 names_by theories n (SetLogic name) = []
 names_by theories n (DeclareConst x sort) = declaration_or_none x n (rank_named (names_of (no_names theories)) Nil sort)
+names_by theories n (DeclareFun x parameters sort) = declaration_or_none x n (rank_named (names_of (no_names theories)) parameters sort)
+names_by theories n (DefineFun x parameters sort body) = definition_or_none x body (parameters_named theories [] parameters) (sort_named theories sort)
 names_by theories n (Assert term) = []
 names_by theories n CheckSat = []
 names_by theories n GetModel = []
@@ -76,6 +86,8 @@ signature_in_force commands = record { theories = theories_in_force commands; en
 abbrev pub assertions_by : ℕ → Command → List Assertion
 assertions_by n (SetLogic name) = []
 assertions_by n (DeclareConst x sort) = []
+assertions_by n (DeclareFun x parameters sort) = []
+assertions_by n (DefineFun x parameters sort body) = []
 assertions_by n (Assert term) = record { command = n; term = term } ∷ []
 assertions_by n CheckSat = []
 assertions_by n GetModel = []
@@ -84,10 +96,12 @@ assertions_by n GetModel = []
 abbrev pub assertions_in_force : List Numbered → List Assertion
 assertions_in_force commands = flat_map (λ c. assertions_by c.number c.command) commands
 
--- whether no logic may be set after the command: one is set once, and before every declaration, assertion and check
+-- whether no logic may be set after the command: one is set once, and before every declaration, definition, assertion and check
 abbrev pub fixes_logic : Command → Bool
 fixes_logic (SetLogic name) = true
 fixes_logic (DeclareConst x sort) = true
+fixes_logic (DeclareFun x parameters sort) = true
+fixes_logic (DefineFun x parameters sort body) = true
 fixes_logic (Assert term) = true
 fixes_logic CheckSat = true
 fixes_logic GetModel = false
@@ -101,9 +115,10 @@ abbrev pub fault_of_formula : Result Sort TermFault → Option CommandFault
 fault_of_formula (Ok sort) = if is_same_sort sort Boolean then None else Some (Term terms.IllSorted)
 fault_of_formula (Err fault) = Some (Term fault)
 
-abbrev pub fault_of_declaration : Result Entry TermFault → Option CommandFault
-fault_of_declaration (Ok entry) = None
-fault_of_declaration (Err fault) = Some (Term fault)
+-- the fault of what a command brings, if it brings none
+abbrev pub fault_of_entry : Result Entry TermFault → Option CommandFault
+fault_of_entry (Ok entry) = None
+fault_of_entry (Err fault) = Some (Term fault)
 
 -- the fault of setting a logic that has these theories, if it is one that is taken
 abbrev pub fault_of_logic : Bool → Option Theories → Option CommandFault
@@ -112,7 +127,9 @@ fault_of_logic is_fixed theories = if is_fixed || not (is_some theories) then So
 -- the fault of the effect of command n after the commands that took effect before it
 abbrev pub fault_of_effect : List Numbered → ℕ → Command → Option CommandFault
 fault_of_effect before n (SetLogic name) = fault_of_logic (is_logic_fixed before) (theories_named name)
-fault_of_effect before n (DeclareConst x sort) = fault_of_declaration (declared_in (names_of (signature_in_force before)) n x Nil sort)
+fault_of_effect before n (DeclareConst x sort) = fault_of_entry (declared_in (names_of (signature_in_force before)) n x Nil sort)
+fault_of_effect before n (DeclareFun x parameters sort) = fault_of_entry (declared_in (names_of (signature_in_force before)) n x parameters sort)
+fault_of_effect before n (DefineFun x parameters sort body) = fault_of_entry (defined_in (names_of (signature_in_force before)) x parameters sort body)
 fault_of_effect before n (Assert term) = fault_of_formula (sort_in (names_of (signature_in_force before)) [] term)
 fault_of_effect before n CheckSat = None
 fault_of_effect before n GetModel = None

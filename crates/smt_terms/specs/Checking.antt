@@ -1,9 +1,9 @@
 -- SMT-LIB 2.6, sections 3.6 and 5.2: the sort of a term, or its first fault. That decimals and strings are not supported as terms is
--- this project's choice for now; so is the order of the faults.
-use Rattle.std.specs.Prelude.{ℕ, ◌*◌, List, [], ◌∷◌, Bool, true, false, Option, Some, None, Result, Ok, Err, length, if◌then◌else◌}
+-- this project's choice for now, and so is that no label is taken; the order of the faults is its own too.
+use Rattle.std.specs.Prelude.{ℕ, ◌*◌, List, [], ◌∷◌, ◌++◌, Bool, true, false, Option, Some, None, is_some, Result, Ok, Err, length, if◌then◌else◌}
 use Rattle.smt_text.specs.Sexp as sexp
 use Rattle.smt_text.specs.Sexp.{Sexp, Sexps, Atom, Reserved, Items, Nil, Cons, Symbol, Keyword, Numeral, Hexadecimal, Binary}
-use Rattle.smt_text.specs.declared.reserved.Word.TheVariants.{Underscore}
+use Rattle.smt_text.specs.declared.reserved.Word.TheVariants.{Bang, Let, Underscore}
 use Rattle.smt_theory.specs.Operators.{op_by}
 use Rattle.smt_theory.specs.Ranks.{are_exactly, rank_of}
 use Rattle.smt_theory.specs.Width.{width_of}
@@ -12,11 +12,12 @@ use Rattle.smt_theory.specs.declared.op.Op.{Op}
 use Rattle.smt_theory.specs.declared.op.OpFault.{OpFault}
 use Rattle.smt_theory.specs.declared.op.OpFault.TheVariants as ops
 use Rattle.smt_theory.specs.declared.sort.Sort.{Sort}
+use Rattle.smt_terms.specs.Bindings.{are_attributes, are_bindings, has_label}
 use Rattle.smt_terms.specs.Identifier.{Identifier, Plain, Indexed, applied, indexed}
 use Rattle.smt_terms.specs.Signature.{Names, Rank}
 use Rattle.smt_terms.specs.SortTrees.{bit_vectors, integers}
 use Rattle.smt_terms.specs.declared.fault.TermFault.{TermFault}
-use Rattle.smt_terms.specs.declared.fault.TermFault.TheVariants.{Form, Unsupported, Unknown, IllSorted, Index}
+use Rattle.smt_terms.specs.declared.fault.TermFault.TheVariants.{Form, Unsupported, Unknown, IllSorted, Index, BoundTwice, Label}
 
 -- the sort of a rank that fits
 abbrev pub sort_of_rank : Option Sort → Result Sort TermFault
@@ -61,6 +62,10 @@ abbrev pub is_underscore_tree : Sexp → Bool
 is_underscore_tree (Reserved Underscore) = true
 is_underscore_tree _ = false
 
+-- the sort of an annotated term, by that of the term: there are no labels
+abbrev pub sort_of_annotated : Sexps → Sort → Result Sort TermFault
+sort_of_annotated attributes sort = if has_label attributes then Err Label else Ok sort
+
 -- the sort of a term over names and variables, the innermost variable first, or the first fault; the sorts of terms, in order
 abbrev mutual
   pub sort_in : Names → List (List ℕ × Sort) → Sexp → Result Sort TermFault
@@ -74,6 +79,10 @@ abbrev mutual
   sort_in names scope (Reserved word) = Err Form
   sort_in names scope (Items Nil) = Err Form
   sort_in names scope (Items (Cons (Reserved Underscore) parts)) = result_and_then (indexed parts) (λ f. sort_applied names f [])
+  sort_in names scope (Items (Cons (Reserved Let) (Cons (Items bindings) (Cons body Nil)))) =
+      if are_bindings bindings then result_and_then (bound_in names scope [] bindings) (λ bound. sort_in names (bound ++ scope) body) else Err Form
+  sort_in names scope (Items (Cons (Reserved Bang) (Cons term attributes))) =
+      if are_attributes attributes then result_and_then (sort_in names scope term) (λ s. sort_of_annotated attributes s) else Err Form
   sort_in names scope (Items (Cons head args)) =
       result_and_then (applied head args) (λ f. result_and_then (sorts_in names scope args) (λ ss. sort_of_call names scope f ss))
 
@@ -81,3 +90,10 @@ abbrev mutual
   sorts_in names scope Nil = Ok []
   sorts_in names scope (Cons x xs) =
       result_and_then (sort_in names scope x) (λ s. result_and_then (sorts_in names scope xs) (λ ss. Ok (s ∷ ss)))
+
+  -- the variables that bindings bring behind those of the earlier ones, with their sorts: each term is seen without them
+  pub bound_in : Names → List (List ℕ × Sort) → List (List ℕ × Sort) → Sexps → Result (List (List ℕ × Sort)) TermFault
+  bound_in names scope bound Nil = Ok bound
+  bound_in names scope bound (Cons (Items (Cons (Atom Symbol x) (Cons term Nil))) rest) =
+      if is_some (look_up bound x) then Err BoundTwice else result_and_then (sort_in names scope term) (λ s. bound_in names scope (bound ++ (x, s) ∷ []) rest)
+  bound_in names scope bound _ = Err Form

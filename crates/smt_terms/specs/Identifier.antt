@@ -1,10 +1,10 @@
--- SMT-LIB 2.6, sections 3.3 and 3.6: identifiers, and what a list applies to its arguments. That `let`, annotations, quantifiers,
--- `match` and `as` are not supported is this project's choice, as are the limit of an index, 2^64 - 1, and which fault is told.
+-- SMT-LIB 2.6, sections 3.3 and 3.6: identifiers, and what a list applies to its arguments. That quantifiers, `match` and `as` are not
+-- supported is this project's choice, as are the limit of an index, 2^64 - 1, and which fault is told.
 use Rattle.std.specs.Prelude.{ℕ, ◌^◌, List, [], ◌∷◌, Option, Some, None, option_map, option_and_then, Result, Ok, Err, ok_or, nat_lt, if◌then◌else◌}
 use Rattle.std.specs.Str.Parse.{digits_value}
 use Rattle.smt_text.specs.Sexp.{Sexp, Sexps, Atom, Reserved, Items, Nil, Cons, Numeral, Symbol}
 use Rattle.smt_text.specs.declared.reserved.Word.{Word}
-use Rattle.smt_text.specs.declared.reserved.Word.TheVariants.{Let, Bang, Underscore, Forall, Exists, Match, As}
+use Rattle.smt_text.specs.declared.reserved.Word.TheVariants.{Underscore, Forall, Exists, Match, As}
 use Rattle.smt_theory.specs.Index.{IndexView, Number, Large, Name}
 use Rattle.smt_theory.specs.Operators.{op_by}
 use Rattle.smt_theory.specs.declared.op.Op.{Op}
@@ -42,8 +42,6 @@ indexed _ = Err Form
 
 -- what is wrong with a list that begins with this word
 abbrev pub word_fault : Word → TermFault
-word_fault Let = Unsupported
-word_fault Bang = Unsupported
 word_fault Forall = Unsupported
 word_fault Exists = Unsupported
 word_fault Match = Unsupported

@@ -1,13 +1,13 @@
--- SMT-LIB 2.6, section 4.2.6: the items of a printed model, which are definitions. The order of the faults is this project's rule, and
--- that items with parameters are not supported is its choice for now.
-use Rattle.std.specs.Prelude.{ℕ, List, [], Bool, true, false, not, ◌&&◌, Option, Some, None, is_some, option_and_then, Result, Ok, Err, if◌then◌else◌}
+-- SMT-LIB 2.6, section 4.2.6: the items of a printed model, which are definitions. The order of the faults is this project's rule.
+use Rattle.std.specs.Prelude.{ℕ, List, [], Bool, true, false, not, ◌&&◌, Option, Some, None, is_some, option_and_then, Result, Ok, Err, map, if◌then◌else◌}
 use Rattle.smt_text.specs.Sexp.{Sexp, Sexps, Atom, Reserved, Items, Nil, Cons, Symbol}
 use Rattle.smt_text.specs.declared.reserved.Word.TheVariants.{DefineFun, DefineFunRec, DefineFunsRec}
 use Rattle.smt_theory.specs.Ranks.{are_exactly}
 use Rattle.smt_theory.specs.Sort.{is_same_sort}
 use Rattle.smt_theory.specs.Words.{result_and_then}
 use Rattle.smt_theory.specs.declared.sort.Sort.{Sort}
-use Rattle.smt_terms.specs.Checking.{sort_in}
+use Rattle.smt_terms.specs.Bindings.{are_named_trees, named_trees}
+use Rattle.smt_terms.specs.Definitions.{definition_in, parameters_named}
 use Rattle.smt_terms.specs.Signature.{Entry, Origin, Declared, Defined, Signature, entry_named, is_taken, names_of}
 use Rattle.smt_terms.specs.SortTrees.{sort_named}
 use Rattle.smt_terms.specs.declared.fault.TermFault.{TermFault}
@@ -16,22 +16,16 @@ use Rattle.smt_terms.specs.declared.fault.TermFault.TheVariants.{Form, Unsupport
 -- the parts of an item: a name, parameters, a sort and a body
 pub record ItemForm : Type 0 where
   pub name : List ℕ
-  pub parameters : Sexps
+  pub parameters : List (List ℕ × Sexp)
   pub sort : Sexp
   pub body : Sexp
-
--- whether each is a parameter: a symbol and a tree that stands for a sort
-abbrev pub are_parameters : Sexps → Bool
-are_parameters Nil = true
-are_parameters (Cons (Items (Cons (Atom Symbol x) (Cons sort Nil))) rest) = are_parameters rest
-are_parameters _ = false
 
 -- the parts of an item, or what is wrong with its form
 abbrev pub item_form : Sexp → Result ItemForm TermFault
 item_form (Items (Cons (Reserved DefineFunRec) rest)) = Err Unsupported
 item_form (Items (Cons (Reserved DefineFunsRec) rest)) = Err Unsupported
 item_form (Items (Cons (Reserved DefineFun) (Cons (Atom Symbol x) (Cons (Items parameters) (Cons sort (Cons body Nil)))))) =
-    if are_parameters parameters then Ok (record { name = x; parameters = parameters; sort = sort; body = body }) else Err Form
+    if are_named_trees parameters then Ok (record { name = x; parameters = named_trees parameters; sort = sort; body = body }) else Err Form
 item_form _ = Err Form
 
 -- the entry, if a command declared it
@@ -55,25 +49,16 @@ abbrev pub has_rank_of : Option Entry → List Sort → Sort → Bool
 has_rank_of None parameters sort = true
 has_rank_of (Some e) parameters sort = are_exactly e.parameters parameters && is_same_sort e.sort sort
 
--- a constant of this sort with this body
-abbrev pub definition : List ℕ → Sort → Sexp → Entry
-definition x s t = record { name = x; parameters = []; sort = s; origin = Defined [] t }
-
 -- the names that a body sees: the earlier items and the theories
 abbrev pub items_before : Signature → List Entry → Signature
 items_before script earlier = record script { entries = earlier }
 
--- what an item defines once its sort is known: its rank fits a declaration of its name, and its body has its sort over the
--- earlier items
-abbrev pub defined_as : Signature → List Entry → ItemForm → Sort → Result Entry TermFault
-defined_as script earlier form sort =
-    if not (has_rank_of (declared_named script.entries form.name) [] sort) then Err IllSorted
-    else result_and_then (sort_in (names_of (items_before script earlier)) [] form.body) (λ found. if is_same_sort found sort then Ok (definition form.name sort form.body) else Err IllSorted)
-
--- items with parameters are not supported
-abbrev pub without_parameters : Sexps → Result Sort TermFault → Result Sort TermFault
-without_parameters Nil sort = sort
-without_parameters (Cons x xs) sort = Err Unsupported
+-- what an item of this rank defines: the rank fits a declaration of its name, and its body has its sort over the earlier items and
+-- its parameters
+abbrev pub defined_as : Signature → List Entry → ItemForm → List (List ℕ × Sort) → Sort → Result Entry TermFault
+defined_as script earlier form parameters sort =
+    if not (has_rank_of (declared_named script.entries form.name) (map (λ p. p.1) parameters) sort) then Err IllSorted
+    else definition_in (names_of (items_before script earlier)) form.name parameters sort form.body
 
 -- a fault, or what comes where there is none
 abbrev pub unless : {A : Type 0} → Option TermFault → Result A TermFault → Result A TermFault
@@ -83,7 +68,8 @@ unless (Some fault) next = Err fault
 -- what an item of these parts defines, or its first fault
 abbrev pub form_in : Signature → List Entry → ItemForm → Result Entry TermFault
 form_in script earlier form =
-    unless (name_fault script earlier form.name) (result_and_then (without_parameters form.parameters (sort_named script.theories form.sort)) (λ sort. defined_as script earlier form sort))
+    unless (name_fault script earlier form.name)
+    (result_and_then (parameters_named script.theories [] form.parameters) (λ ps. result_and_then (sort_named script.theories form.sort) (λ s. defined_as script earlier form ps s)))
 
 -- what an item of a model of the script's names defines behind the earlier items, or its first fault
 abbrev pub item_in : Signature → List Entry → Sexp → Result Entry TermFault

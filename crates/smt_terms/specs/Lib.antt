@@ -1,8 +1,12 @@
+pub mod Bindings
 pub mod Identifier
 pub mod IdentifierView
 pub mod SortTrees
 pub mod Signature
 pub mod Checking
+pub mod Definitions
+pub mod ParamView
+pub mod ScopeView
 pub mod Items
 pub mod WellSorted
 pub mod Library

@@ -1,12 +1,12 @@
 -- What a library stands for: a signature, with its declarations and definitions, and terms by their numbers.
-use Rattle.std.specs.Prelude.{◌≡◌, ℕ, ◌+◌, List, [], ◌∷◌, ◌++◌, Bool, true, false, not, Some, length, map, slice_get}
+use Rattle.std.specs.Prelude.{◌≡◌, ℕ, ◌+◌, List, [], ◌∷◌, ◌++◌, Bool, true, false, not, Option, Some, length, map, slice_get}
 use Rattle.std.specs.List.{filter}
 use Rattle.smt_text.specs.Sexp.{Sexp}
 use Rattle.smt_text.specs.Tree.{sexp_of}
 use Rattle.smt_theory.specs.declared.sort.Sort.{Sort}
 use Rattle.smt_terms.specs.Internal.LibraryView.{places_of_library, ranks_of_library}
 use Rattle.smt_terms.specs.Signature as signature
-use Rattle.smt_terms.specs.Signature.{Entry, Origin, Signature, ranks_of}
+use Rattle.smt_terms.specs.Signature.{AreDistinct, Entry, Origin, Signature, ranks_of}
 use Rattle.smt_terms.specs.declared.library.Declared.{Declared}
 use Rattle.smt_terms.specs.declared.library.Definition.{Definition}
 use Rattle.smt_terms.specs.declared.library.Found.{Found}
@@ -16,9 +16,12 @@ use Rattle.smt_terms.specs.declared.library.TermId.{TermId}
 
 -- ---- terms
 
--- the library's term of this number is t
+-- the library's term of this number, if it has one
+abbrev pub term_at : Library → TermId → Option Sexp
+term_at library id = slice_get (map sexp_of library.terms.items) id.number
+
 abbrev pub IsTerm : Library → TermId → Sexp → Type 0
-IsTerm library id t = slice_get (map sexp_of library.terms.items) id.number ≡ Some t
+IsTerm library id t = term_at library id ≡ Some t
 
 -- ---- declared and defined names
 
@@ -53,6 +56,10 @@ declared_among entries = filter (λ e. is_declared e.origin) entries
 -- those that are defined, in order
 abbrev pub defined_among : List Entry → List Entry
 defined_among entries = filter (λ e. not (is_declared e.origin)) entries
+
+-- the definitions that it holds
+abbrev pub definitions_of : Library → List Definition
+definitions_of library = library.definitions.items
 
 -- this is the definition of the entry, whose body is a term of the library
 pub record IsDefinitionOf (library : Library) (d : Definition) (e : Entry) : Type 0 where
@@ -100,13 +107,14 @@ places_from declared defined (e ∷ es) =
 abbrev pub name_count : Library → ℕ
 name_count library = length (ranks_of_library library)
 
--- the library holds the theories, the names, the declarations and the definitions of the signature
+-- the library holds the theories, the names, the declarations and the definitions of the signature, in which no name stands twice
 pub record StandsFor (library : Library) (s : Signature) : Type 0 where
   pub theories : library.theories ≡ s.theories
+  pub distinct : AreDistinct s.entries
   pub ranks : ranks_of_library library ≡ ranks_of s.entries
   pub places : places_of_library library ≡ places_from 0 0 s.entries
   pub declared : map declaration_view library.declared.items ≡ declarations_from 0 s.entries
-  pub definitions : AreDefinitions library library.definitions.items (defined_among s.entries)
+  pub definitions : AreDefinitions library (definitions_of library) (defined_among s.entries)
 
 -- a library of the same theories
 abbrev pub HasTheoriesOf : Library → Library → Type 0

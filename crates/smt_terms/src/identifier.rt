@@ -142,12 +142,11 @@ fn numeral_index(digits: &[u8]) -> Index<'static>
     }
 }
 
-// What is wrong with a list that begins with this word. `let` and annotations are not supported yet.
+// What is wrong with a list that begins with this word, and is no term in form.
 fn word_fault(word: Word) -> TermFault
     ensures { result ≡ identifiers.word_fault word }
 {
     match word {
-        Word::Let | Word::Bang => TermFault::Unsupported,
         Word::Forall | Word::Exists | Word::Match | Word::As => TermFault::Unsupported,
         _ => TermFault::Form,
     }

@@ -8,6 +8,7 @@ ghost use Rattle.smt_terms.specs.Internal.ItemView.{form_of};
 ghost use Rattle.smt_terms.specs.Items as items;
 ghost use Rattle.smt_terms.specs.declared.fault.TermFault.TheVariants.{Form};
 
+use crate::bindings::are_named;
 use crate::fault::TermFault;
 use smt_text::{Tree, Word, split_first};
 
@@ -57,7 +58,7 @@ fn definition_form(parts: &[Tree]) -> Option<ItemForm<'_>>
     let Some((body, rest)) = split_first(rest) else {
         return None;
     };
-    if split_first(rest).is_some() || !are_parameters(parameters.as_slice()) {
+    if split_first(rest).is_some() || !are_named(parameters.as_slice()) {
         return None;
     }
     Some(ItemForm {
@@ -66,33 +67,4 @@ fn definition_form(parts: &[Tree]) -> Option<ItemForm<'_>>
         sort,
         body,
     })
-}
-
-// Whether each is a symbol and a tree, in a list.
-fn are_parameters(trees: &[Tree]) -> bool
-    ensures { result ≡ items.are_parameters (sexps_of trees.now) }
-{
-    let mut left = trees;
-    while let Some((tree, rest)) = split_first(left) {
-        if !is_parameter(tree) {
-            return false;
-        }
-        left = rest;
-    }
-    true
-}
-
-fn is_parameter(tree: &Tree) -> bool
-    ensures { result ≡ items.are_parameters (Cons (sexp_of tree.now) Nil) }
-{
-    let Tree::List(parts) = tree else {
-        return false;
-    };
-    let Some((Tree::Symbol(_), rest)) = split_first(parts.as_slice()) else {
-        return false;
-    };
-    match split_first(rest) {
-        Some((_, rest)) => split_first(rest).is_none(),
-        None => false,
-    }
 }

@@ -1,0 +1,8 @@
+-- SMT-LIB 2.6, sections 4.2.6 and 5.3: the structure that a model gives to a script.
+use Rattle.std.specs.Prelude.{◌++◌}
+use Rattle.smt_terms.specs.Library.{defined_among}
+use Rattle.smt_terms.specs.Signature.{Signature}
+
+-- the definitions of a model of the script's names, and behind them the script's own, which see them
+abbrev pub structure_of : Signature → Signature → Signature
+structure_of script definitions = record definitions { entries = definitions.entries ++ defined_among script.entries }

@@ -1,0 +1,34 @@
+-- SMT-LIB 2.6, section 4.2.3: definitions by a name, parameters, a sort and a body. The order of the faults is this project's rule.
+use Rattle.std.specs.Prelude.{ℕ, List, [], ◌∷◌, ◌++◌, is_some, Result, Ok, Err, map, if◌then◌else◌}
+use Rattle.smt_text.specs.Sexp.{Sexp}
+use Rattle.smt_theory.specs.Sort.{is_same_sort}
+use Rattle.smt_theory.specs.Words.{look_up, result_and_then}
+use Rattle.smt_theory.specs.declared.sort.Sort.{Sort}
+use Rattle.smt_theory.specs.declared.theories.Theories.{Theories}
+use Rattle.smt_terms.specs.Checking.{sort_in}
+use Rattle.smt_terms.specs.Signature.{Entry, Defined, Names, is_taken}
+use Rattle.smt_terms.specs.SortTrees.{sort_named}
+use Rattle.smt_terms.specs.declared.fault.TermFault.{TermFault}
+use Rattle.smt_terms.specs.declared.fault.TermFault.TheVariants.{IllSorted, BoundTwice, NotFresh}
+
+-- the parameters that names with the trees of their sorts make behind earlier ones; no two have one name
+abbrev pub parameters_named : Theories → List (List ℕ × Sort) → List (List ℕ × Sexp) → Result (List (List ℕ × Sort)) TermFault
+parameters_named theories earlier [] = Ok earlier
+parameters_named theories earlier (p ∷ ps) =
+    result_and_then (sort_named theories p.1) (λ s. if is_some (look_up earlier p.0) then Err BoundTwice else parameters_named theories (earlier ++ (p.0, s) ∷ []) ps)
+
+-- a name with these parameters, of this sort, and with this body
+abbrev pub definition : List ℕ → List (List ℕ × Sort) → Sort → Sexp → Entry
+definition x parameters sort body =
+    record { name = x; parameters = map (λ p. p.1) parameters; sort = sort; origin = Defined (map (λ p. p.0) parameters) body }
+
+-- the same, where the body has that sort over the names and the parameters
+abbrev pub definition_in : Names → List ℕ → List (List ℕ × Sort) → Sort → Sexp → Result Entry TermFault
+definition_in names x parameters sort body =
+    result_and_then (sort_in names parameters body) (λ found. if is_same_sort found sort then Ok (definition x parameters sort body) else Err IllSorted)
+
+-- what the definition of a name with parameters, a sort and a body brings, or its first fault. The body does not see the name
+abbrev pub defined_in : Names → List ℕ → List (List ℕ × Sexp) → Sexp → Sexp → Result Entry TermFault
+defined_in names x parameters tree body =
+    if is_taken names x then Err NotFresh
+    else result_and_then (parameters_named names.theories [] parameters) (λ ps. result_and_then (sort_named names.theories tree) (λ s. definition_in names x ps s body))

@@ -1,0 +1,63 @@
+//! The parameters of definitions.
+
+ghost use Rattle.std.specs.Prelude.{◌≡◌, ◌⊎◌, [], Ok, Err, map, IfErr, IfOk, MatchResult};
+ghost use Rattle.smt_text.specs.Tree.{sexps_of};
+ghost use Rattle.smt_terms.specs.Bindings.{named_trees};
+ghost use Rattle.smt_terms.specs.Definitions.{parameters_named};
+ghost use Rattle.smt_terms.specs.ParamView.{param_view};
+ghost use Rattle.smt_terms.specs.ScopeView.{scope_view};
+ghost use Rattle.smt_terms.specs.declared.fault.TermFault.TheVariants.{Memory};
+
+use crate::bindings::split_named;
+use crate::fault::TermFault;
+use crate::scope::{Variable, find_variable};
+use crate::sorts::sort_of_tree;
+use smt_text::Tree;
+use smt_theory::{Sort, Theories};
+use std::alloc::Global;
+
+/// A parameter of a definition (SMT-LIB 2.6, section 4.2.3): its name, without bars, and the tree of its sort. It borrows both.
+#[derive(Clone, Copy)]
+pub struct Param<'a> {
+    pub name: &'a [u8],
+    pub sort: &'a Tree,
+}
+
+/// The parameters that trees are, each a list of a symbol and the tree of a sort, up to the first that is none. Only want of memory is
+/// refused.
+pub fn params_of(alloc: Global, trees: &[Tree]) -> Result<Vec<Param<'_>>, TermFault>
+    ensures params { IfOk result (λ params. map param_view params.items ≡ named_trees (sexps_of trees.now)) }
+    ensures refused { IfErr result (λ fault. fault ≡ Memory) }
+{
+    let mut params = Vec::new(alloc);
+    let mut left = trees;
+    while let Some((name, sort, rest)) = split_named(left) {
+        params.push(Param { name, sort })?;
+        left = rest;
+    }
+    Ok(params)
+}
+
+// The variables that parameters are, with their sorts; or the first fault: of each parameter that of its sort, and then whether its
+// name has come before.
+pub(crate) fn sorted_params<'a>(
+    alloc: Global,
+    theories: Theories,
+    params: &[Param<'a>],
+) -> Result<Vec<Variable<'a, Sort>>, TermFault>
+    ensures { MatchResult result (λ variables. parameters_named theories [] (map param_view params.now) ≡ Ok (scope_view variables.items))
+        (λ fault. (fault ≡ Memory) ⊎ (parameters_named theories [] (map param_view params.now) ≡ Err fault)) }
+{
+    let mut variables = Vec::new(alloc);
+    for param in params {
+        let value = sort_of_tree(theories, param.sort)?;
+        if find_variable(variables.as_slice(), param.name).is_some() {
+            return Err(TermFault::BoundTwice);
+        }
+        variables.push(Variable {
+            name: param.name,
+            value,
+        })?;
+    }
+    Ok(variables)
+}
