@@ -61,3 +61,34 @@ pub(crate) fn sorted_params<'a>(
     }
     Ok(variables)
 }
+
+// The parameters of a definition that variables are, under names of their own. Only want of memory is refused.
+pub(crate) fn named_parameters(
+    alloc: Global,
+    variables: &[Variable<'_, Sort>],
+) -> Result<Vec<(Vec<u8>, Sort)>, TermFault>
+    ensures named { IfOk result (λ params. map (λ p. (p.0.items, p.1)) params.items ≡ scope_view variables.now) }
+    ensures refused { IfErr result (λ fault. fault ≡ Memory) }
+{
+    let mut params = Vec::new(alloc);
+    for variable in variables {
+        let name = Vec::from_slice(alloc, variable.name)?;
+        params.push((name, variable.value))?;
+    }
+    Ok(params)
+}
+
+// The sorts of variables, in order. Only want of memory is refused.
+pub(crate) fn sorts_of_variables(
+    alloc: Global,
+    variables: &[Variable<'_, Sort>],
+) -> Result<Vec<Sort>, TermFault>
+    ensures sorts { IfOk result (λ sorts. sorts.items ≡ map (λ p. p.1) (scope_view variables.now)) }
+    ensures refused { IfErr result (λ fault. fault ≡ Memory) }
+{
+    let mut sorts = Vec::new(alloc);
+    for variable in variables {
+        sorts.push(variable.value)?;
+    }
+    Ok(sorts)
+}
