@@ -1,6 +1,6 @@
 //! The attributes of annotated terms.
 
-ghost use Rattle.std.specs.Prelude.{◌≡◌, ◌×◌, ◌≤◌, false, None, MatchOption};
+ghost use Rattle.std.specs.Prelude.{◌≡◌, ◌≤◌, false, None, MatchOption};
 ghost use Rattle.smt_text.specs.Sexp.{Atom, Cons, Keyword, weight_all};
 ghost use Rattle.smt_text.specs.Tree.{sexp_of, sexps_of};
 ghost use Rattle.smt_terms.specs.Bindings as bindings;

@@ -10,7 +10,7 @@ ghost use Rattle.smt_terms.specs.declared.fault.TermFault.TheVariants.{Memory};
 
 use crate::bindings::split_named;
 use crate::fault::TermFault;
-use crate::scope::{Variable, find_variable};
+use crate::scope::{Variable, find_variable, push_variable};
 use crate::sorts::sort_of_tree;
 use smt_text::Tree;
 use smt_theory::{Sort, Theories};
@@ -54,12 +54,22 @@ pub(crate) fn sorted_params<'a>(
         if find_variable(variables.as_slice(), param.name).is_some() {
             return Err(TermFault::BoundTwice);
         }
-        variables.push(Variable {
-            name: param.name,
-            value,
-        })?;
+        push_variable(&mut variables, param.name, value)?;
     }
     Ok(variables)
+}
+
+// The same of the parameters that trees are, up to the first that is none.
+pub(crate) fn sorted_params_of<'a>(
+    alloc: Global,
+    theories: Theories,
+    trees: &'a [Tree],
+) -> Result<Vec<Variable<'a, Sort>>, TermFault>
+    ensures { MatchResult result (λ variables. parameters_named theories [] (named_trees (sexps_of trees.now)) ≡ Ok (scope_view variables.items))
+        (λ fault. (fault ≡ Memory) ⊎ (parameters_named theories [] (named_trees (sexps_of trees.now)) ≡ Err fault)) }
+{
+    let params = params_of(alloc, trees)?;
+    sorted_params(alloc, theories, params.as_slice())
 }
 
 // The parameters of a definition that variables are, under names of their own. Only want of memory is refused.

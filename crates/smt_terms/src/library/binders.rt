@@ -14,7 +14,7 @@ use crate::attributes::{are_attributes, has_label};
 use crate::bindings::{are_bindings, split_let, split_named};
 use crate::fault::TermFault;
 use crate::library::Library;
-use crate::scope::{Variable, find_variable};
+use crate::scope::{Variable, find_variable, push_variable};
 use smt_text::{Tree, split_first};
 use smt_theory::Sort;
 
@@ -58,7 +58,7 @@ impl Library {
                 return Err(TermFault::BoundTwice);
             }
             let value = self.sort_of(scope, term)?;
-            bound.push(Variable { name, value })?;
+            push_variable(&mut bound, name, value)?;
             left = rest;
         }
         Ok(bound)

@@ -1,14 +1,15 @@
 //! Items of models.
 
-ghost use Rattle.std.specs.Prelude.{◌≡◌, ◌⊎◌, ◌&&◌, [], not, is_some, option_map, None, Some, Ok, Err, MatchResult, OnOk, OnErr, IfErr, IfOk};
+ghost use Rattle.std.specs.Prelude.{◌≡◌, ◌⊎◌, ◌&&◌, map, not, is_some, option_map, None, Some, Ok, Err, MatchResult, OnOk, OnErr, IfErr, IfOk};
 ghost use Rattle.smt_text.specs.Sexp.{Sexp};
 ghost use Rattle.smt_text.specs.Tree.{sexp_of, sexps_of};
 ghost use Rattle.smt_theory.specs.Ranks.{are_exactly};
 ghost use Rattle.smt_theory.specs.Sort.{is_same_sort};
 ghost use Rattle.smt_theory.specs.Words.{look_up};
 ghost use Rattle.smt_terms.specs.Internal.LibraryView.{names_of_library, rank_of};
-ghost use Rattle.smt_terms.specs.Items.{declared_named, definition, has_rank_of, item_in, name_fault, without_parameters};
+ghost use Rattle.smt_terms.specs.Items.{declared_named, has_rank_of, item_in, name_fault};
 ghost use Rattle.smt_terms.specs.Library.{HasTheoriesOf, IsTerm, StandsFor};
+ghost use Rattle.smt_terms.specs.ScopeView.{scope_view};
 ghost use Rattle.smt_terms.specs.Signature as signature;
 ghost use Rattle.smt_terms.specs.Signature.{Signature, is_taken, names_of, no_names, rank_of_entry, with_entry};
 ghost use Rattle.smt_terms.specs.SortTrees.{sort_named};
@@ -16,10 +17,11 @@ ghost use Rattle.smt_terms.specs.declared.fault.TermFault.TheVariants.{Memory};
 ghost use Rattle.smt_terms.specs.declared.library.TermId as id;
 
 use crate::fault::TermFault;
-use crate::definitions::{params_of, sorted_params, sorts_of_variables};
+use crate::definitions::{sorted_params_of, sorts_of_variables};
 use crate::item_form::item_form;
 use crate::library::checker::are_same;
 use crate::library::{Entry, Found, Library};
+use crate::scope::Variable;
 use crate::sorts::sort_of_tree;
 use smt_text::Tree;
 use smt_theory::Sort;
@@ -56,14 +58,28 @@ impl Library {
     {
         let form = item_form(item)?;
         self.check_name(script, form.name)?;
-        let params = params_of(self.alloc, form.parameters)?;
-        let parameters = sorted_params(self.alloc, script.theories, params.as_slice())?;
+        let parameters = sorted_params_of(self.alloc, script.theories, form.parameters)?;
         let sort = sort_of_tree(script.theories, form.sort)?;
-        let sorts = sorts_of_variables(self.alloc, parameters.as_slice())?;
-        if !script.keeps_rank(form.name, sorts.as_slice(), sort) {
+        if !self.has_declared_rank(script, form.name, parameters.as_slice(), sort)? {
             return Err(TermFault::IllSorted);
         }
         self.add_definition(form.name, parameters.as_slice(), sort, form.body)
+    }
+
+    // Whether the script declares the name with this rank, if it declares it. Only want of memory is refused.
+    fn has_declared_rank(
+        &self,
+        script: &Library,
+        name: &[u8],
+        parameters: &[Variable<'_, Sort>],
+        sort: Sort,
+    ) -> Result<bool, TermFault>
+        ensures rank { IfOk result (λ kept. (s : Signature) → StandsFor script.now s
+            → kept ≡ has_rank_of (declared_named s.entries name.now) (map (λ p. p.1) (scope_view parameters.now)) sort) }
+        ensures refused { IfErr result (λ fault. fault ≡ Memory) }
+    {
+        let sorts = sorts_of_variables(self.alloc, parameters)?;
+        Ok(script.keeps_rank(name, sorts.as_slice(), sort))
     }
 
     // Refuses a name that an earlier item has, and one that the script does not declare and that is taken.
