@@ -3,6 +3,7 @@ pub mod IdentifierLemmas
 pub mod EntryLemmas
 pub mod LibraryLemmas
 pub mod CheckerLemmas
+pub mod BinderLemmas
 pub mod NameLookUps
 pub mod TermLemmas
 pub mod DeclarationLemmas
