@@ -121,11 +121,11 @@ stands_declared old new s x d absent next theories ranks places declared definit
 abbrev pub parameters_of : Definition → List (List ℕ × Sort)
 parameters_of d = map (λ p. (p.0.items, p.1)) d.params.items
 
-sorts_of_own : (ps : List (Vec ℕ × Sort)) → map (λ p. p.1) ps ≡ map (λ p. p.1) (map (λ p. (p.0.items, p.1)) ps)
+sorts_of_own : (ps : List (Vec ℕ × Sort)) → map (λ (p : Vec ℕ × Sort). p.1) ps ≡ map (λ (p : List ℕ × Sort). p.1) (map (λ (p : Vec ℕ × Sort). (p.0.items, p.1)) ps)
 sorts_of_own [] = refl
 sorts_of_own (p ∷ ps) = ap (λ (ss : List Sort). p.1 ∷ ss) (sorts_of_own ps)
 
-names_of_own : (ps : List (Vec ℕ × Sort)) → map (λ p. p.0) (map (λ p. (p.0.items, p.1)) ps) ≡ map (λ p. p.0.items) ps
+names_of_own : (ps : List (Vec ℕ × Sort)) → map (λ (p : List ℕ × Sort). p.0) (map (λ (p : Vec ℕ × Sort). (p.0.items, p.1)) ps) ≡ map (λ (p : Vec ℕ × Sort). p.0.items) ps
 names_of_own [] = refl
 names_of_own (p ∷ ps) = ap (λ (xs : List (List ℕ)). p.0.items ∷ xs) (names_of_own ps)
 
