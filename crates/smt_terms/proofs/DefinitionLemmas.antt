@@ -1,19 +1,19 @@
 -- Definitions, one step at a time.
-use Rattle.std.proofs.Common.{◌≡◌, ◌⊎◌, ℕ, Bool, true, false, cond, List, [], Result, Ok, Err, refl, ap, sym, ◌∙◌, inl, inr, IfErr}
+use Rattle.std.proofs.Common.{◌≡◌, ◌⊎◌, ℕ, Bool, true, false, cond, List, [], Result, Ok, Err, refl, ap, sym, ◌∙◌, inl, inr}
 use Rattle.smt_text.specs.Sexp.{Sexp}
 use Rattle.smt_theory.specs.Sort.{is_same_sort}
 use Rattle.smt_theory.specs.Words.{result_and_then}
 use Rattle.smt_theory.specs.declared.sort.Sort.{Sort}
 use Rattle.smt_terms.specs.Checking.{sort_in}
 use Rattle.smt_terms.specs.Definitions.{defined_in, definition, definition_in, parameters_named}
-use Rattle.smt_terms.specs.Signature.{Entry, Names, is_taken}
+use Rattle.smt_terms.specs.Internal.LibraryView.{names_of_library}
+use Rattle.smt_terms.specs.Library.{StandsFor}
+use Rattle.smt_terms.specs.Signature.{Names, Signature, is_taken, names_of}
 use Rattle.smt_terms.specs.SortTrees.{sort_named}
 use Rattle.smt_terms.specs.declared.fault.TermFault.{TermFault}
 use Rattle.smt_terms.specs.declared.fault.TermFault.TheVariants.{IllSorted, Memory, NotFresh}
-
--- parameters with their sorts
-abbrev pub Params : Type 0
-Params = List (List ℕ × Sort)
+use Rattle.smt_terms.specs.declared.library.Library.{Library}
+use Rattle.smt_terms.proofs.ItemLemmas.{Params, names_as}
 
 -- a definition whose body has a sort
 pub definition_by : (names library : Names) (x : List ℕ) (ps : Params) (sort found : Sort) (body : Sexp) (b : Bool) → library ≡ names → sort_in library ps body ≡ Ok found → is_same_sort found sort ≡ b
@@ -52,7 +52,9 @@ pub same_fault : {A : Type 0} (r s : Result A TermFault) (e : TermFault) → s �
 same_fault r s e h (inl m) = inl m
 same_fault r s e h (inr i) = inr (h ∙ i)
 
--- what follows from what a refusal says
-pub if_err_weaker : {A E : Type 0} {P Q : E → Type 0} (r : Result A E) → ((e : E) → P e → Q e) → IfErr r P → IfErr r Q
-if_err_weaker (Ok a) f h = tt
-if_err_weaker (Err e) f h = f e h
+-- what a definition brings by what a library says of its parts
+pub define_step : (library : Library) (s : Signature) (x : List ℕ) (params : List (List ℕ × Sexp)) (tree body : Sexp) (ps rs : Params) (sort : Sort) → StandsFor library s → is_taken (names_of_library library) x ≡ false
+    → parameters_named library.theories [] params ≡ Ok ps → Ok sort ≡ sort_named library.theories tree → rs ≡ ps → defined_in (names_of s) x params tree body ≡ definition_in (names_of s) x rs sort body
+define_step library s x params tree body ps rs sort stands free bound sorted same =
+    defined-sorted (names_of s) x params tree body ps sort (ap (λ n. is_taken n x) (sym (names_as library s stands)) ∙ free) (ap (λ theories. parameters_named theories [] params) (sym stands.theories) ∙ bound)
+    (ap (λ theories. sort_named theories tree) (sym stands.theories) ∙ sym sorted) ∙ ap (λ (vs : Params). definition_in (names_of s) x vs sort body) (sym same)

@@ -9,7 +9,7 @@ pub mod TermLemmas
 pub mod DeclarationLemmas
 pub mod PlaceLemmas
 pub mod StandsLemmas
-pub mod DefinitionLemmas
 pub mod ItemLemmas
+pub mod DefinitionLemmas
 pub mod ItemSortLemmas
 pub mod NoMemoryLemmas

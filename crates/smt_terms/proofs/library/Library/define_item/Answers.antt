@@ -1,12 +1,12 @@
 use Rattle.std.proofs.Common.{ap, ◌∙◌}
-use Rattle.std.proofs.lemmas.Result.{on_ok_weaker}
+use Rattle.std.proofs.lemmas.Result.{IfErr-weaker, on_ok_weaker}
 use Rattle.smt_text.specs.Tree.{sexp_of}
 use Rattle.smt_terms.specs.Definitions.{definition_in}
 use Rattle.smt_terms.specs.Internal.ItemView.{form_of}
 use Rattle.smt_terms.specs.Items.{item_in}
 use Rattle.smt_terms.specs.ScopeView.{scope_view}
 use Rattle.smt_terms.specs.Signature.{names_of}
-use Rattle.smt_terms.proofs.DefinitionLemmas.{if_err_weaker, same_fault}
+use Rattle.smt_terms.proofs.DefinitionLemmas.{same_fault}
 use Rattle.smt_terms.proofs.ItemLemmas.{item_step}
 use Rattle.smt_terms.proofs.library.Library.define_item.Goals as goal
 
@@ -37,7 +37,7 @@ returns-clause-refused c =
     let ps = scope_view c.in_ok-parameters.parameters.items in
     let rs = scope_view c.as_slice-2.result.now in
     let sort = c.in_ok-sort.sort in
-    if_err_weaker c.add_definition.result
+    IfErr-weaker c.add_definition.result _ _
     (λ fault refused s m stands items.
     same_fault (definition_in (names_of m) form.name rs sort form.body) (item_in s m.entries tree) fault
     (item_step c.args.self.now c.args.script.now s m tree form ps (scope_view c.as_slice.result.now) rs sort c.in_ok-has_declared_rank.field-0 c.requires stands items c.in_ok-form.ensures
