@@ -11,5 +11,6 @@ pub mod PlaceLemmas
 pub mod StandsLemmas
 pub mod ItemLemmas
 pub mod DefinitionLemmas
+pub mod DefinitionSortLemmas
 pub mod ItemSortLemmas
 pub mod NoMemoryLemmas
