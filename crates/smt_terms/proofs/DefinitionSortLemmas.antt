@@ -1,5 +1,5 @@
 -- What a definition brings is well sorted.
-use Rattle.std.proofs.Common.{◌≡◌, ℕ, Bool, true, false, cond, ◌||◌, List, [], ◌∷◌, ◌++◌, length, map, Option, Some, None, is_some, Result, Ok, Err, refl, ap, sym, ◌∙◌, subst}
+use Rattle.std.proofs.Common.{◌≡◌, ℕ, Bool, true, false, cond, ◌||◌, List, [], ◌∷◌, ◌++◌, map, Option, Some, None, is_some, Result, Ok, Err, refl, ap, sym, ◌∙◌, subst}
 use Rattle.std.proofs.lemmas.List.{length-map}
 use Rattle.std.specs.List.{list_any, zip}
 use Rattle.std.specs.Str.{bytes_eq}
@@ -69,11 +69,14 @@ well_sorted theories earlier x ps sort body e different h = by (sort_in names ps
     names = record { theories = theories; ranks = ranks_of earlier }
 
     made : definition x ps sort body ≡ e → sort_in names ps body ≡ Ok sort → (definition x ps sort body ≡ e) × IsWellSorted theories earlier e
-    made is sorted = (is, subst (IsWellSorted theories earlier) is (record {
-      counted = length-map ps (λ p. p.0) ∙ sym (length-map ps (λ p. p.1));
-      different = different;
-      sorted = ap (λ (qs : Params). sort_in names qs body) (zip-parts ps) ∙ sorted;
-    }))
+    made is sorted = (
+      is,
+      subst (IsWellSorted theories earlier) is (record {
+        counted = length-map ps (λ p. p.0) ∙ sym (length-map ps (λ p. p.1));
+        different = different;
+        sorted = ap (λ (qs : Params). sort_in names qs body) (zip-parts ps) ∙ sorted;
+      }),
+    )
 
     found_by : (found : Sort) (b : Bool) → is_same_sort found sort ≡ b → sort_in names ps body ≡ Ok found → cond b (Ok (definition x ps sort body)) (Err IllSorted) ≡ Ok e → (definition x ps sort body ≡ e) × IsWellSorted theories earlier e
     found_by found true same sorted h = made (cc) (sorted ∙ ap (λ (s : Sort). Ok s) ((is_same_sort-Decides found sort).0 same))

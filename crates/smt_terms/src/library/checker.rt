@@ -111,11 +111,7 @@ impl Library {
     }
 
     // The sort of a symbol alone: that of a variable, or else of a name or an operator without arguments.
-    fn sort_of_symbol(
-        &self,
-        scope: &[Variable<'_, Sort>],
-        name: &[u8],
-    ) -> Result<Sort, TermFault>
+    fn sort_of_symbol(&self, scope: &[Variable<'_, Sort>], name: &[u8]) -> Result<Sort, TermFault>
         ensures { result ≡ checking.sort_of_symbol (names_of_library self.now) name.now (look_up (scope_view scope.now) name.now) }
     {
         match find_variable(scope, name) {

@@ -16,8 +16,8 @@ ghost use Rattle.smt_terms.specs.SortTrees.{sort_named};
 ghost use Rattle.smt_terms.specs.declared.fault.TermFault.TheVariants.{Memory};
 ghost use Rattle.smt_terms.specs.declared.library.TermId as id;
 
-use crate::fault::TermFault;
 use crate::definitions::{sorted_params_of, sorts_of_variables};
+use crate::fault::TermFault;
 use crate::item_form::item_form;
 use crate::library::checker::are_same;
 use crate::library::{Entry, Found, Library};

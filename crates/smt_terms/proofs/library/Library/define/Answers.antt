@@ -20,9 +20,12 @@ returns-clause-defined c =
     let rs = scope_view c.as_slice.result.now in
     on_ok_weaker c.add_definition.result
     (λ added s stands.
-    let more = added s stands in
-    (more.0, define_step c.args.self.now s c.args.name.now params tree body (scope_view c.in_ok-parameters.parameters.items) rs c.in_ok-sort.sort stands (sym c.if-is_taken.ensures) c.in_ok-parameters.ensures
-      c.in_ok-sort.ensures (ap scope_view c.as_slice.ensures.value) ∙ more.1, more.2))
+    let more = added s stands in (
+      more.0,
+      define_step c.args.self.now s c.args.name.now params tree body (scope_view c.in_ok-parameters.parameters.items) rs c.in_ok-sort.sort stands (sym c.if-is_taken.ensures) c.in_ok-parameters.ensures
+          c.in_ok-sort.ensures (ap scope_view c.as_slice.ensures.value) ∙ more.1,
+      more.2,
+    ))
     c.add_definition.ensures.added
 
 pub returns-clause-refused : goal.returns-clause-refused
@@ -35,5 +38,5 @@ returns-clause-refused c =
     (λ fault refused s stands.
     same_fault (definition_in (names_of s) c.args.name.now rs c.in_ok-sort.sort body) (defined_in (names_of s) c.args.name.now params tree body) fault
     (define_step c.args.self.now s c.args.name.now params tree body (scope_view c.in_ok-parameters.parameters.items) rs c.in_ok-sort.sort stands (sym c.if-is_taken.ensures) c.in_ok-parameters.ensures
-      c.in_ok-sort.ensures (ap scope_view c.as_slice.ensures.value)) (refused s stands))
+    c.in_ok-sort.ensures (ap scope_view c.as_slice.ensures.value)) (refused s stands))
     c.add_definition.ensures.refused
