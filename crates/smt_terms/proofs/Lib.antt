@@ -14,3 +14,4 @@ pub mod DefinitionLemmas
 pub mod DefinitionSortLemmas
 pub mod ItemSortLemmas
 pub mod NoMemoryLemmas
+pub mod KeptLemmas

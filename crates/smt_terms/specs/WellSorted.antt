@@ -1,11 +1,13 @@
 -- SMT-LIB 2.6, section 5.2: definitions that are well sorted.
-use Rattle.std.specs.Prelude.{◌≡◌, ℕ, List, [], ◌∷◌, ◌++◌, false, length, bytes_eq, Ok}
+use Rattle.std.specs.Prelude.{◌≡◌, ℕ, List, [], ◌∷◌, ◌++◌, true, false, length, bytes_eq, Some, None, is_some, Ok}
 use Rattle.std.specs.List.{list_any, zip}
 use Rattle.smt_text.specs.Sexp.{Sexp}
+use Rattle.smt_theory.specs.Operators.{is_plain_operator}
+use Rattle.smt_theory.specs.Words.{look_up}
 use Rattle.smt_theory.specs.declared.sort.Sort.{Sort}
 use Rattle.smt_theory.specs.declared.theories.Theories.{Theories}
 use Rattle.smt_terms.specs.Checking.{sort_in}
-use Rattle.smt_terms.specs.Signature.{Entry, Names, Origin, Declared, Defined, ranks_of}
+use Rattle.smt_terms.specs.Signature.{Entry, Names, Rank, Origin, Declared, Defined, entry_named, ranks_of}
 
 -- no name stands twice
 abbrev pub AreDifferent : List (List ℕ) → Type 0
@@ -31,3 +33,27 @@ IsWellSorted theories earlier e = IsWellSortedFrom (record { theories = theories
 abbrev pub AreWellSorted : Theories → List Entry → List Entry → Type 0
 AreWellSorted theories earlier [] = Unit {0}
 AreWellSorted theories earlier (e ∷ es) = IsWellSorted theories earlier e × AreWellSorted theories (earlier ++ e ∷ []) es
+
+-- the other names are more: each name keeps its rank, and what is new hides no operator
+pub record Keeps (names more : Names) : Type 0 where
+  pub theories : more.theories ≡ names.theories
+  pub ranks : (x : List ℕ) (rank : Rank) → look_up names.ranks x ≡ Some rank → look_up more.ranks x ≡ Some rank
+  pub free : (x : List ℕ) → look_up names.ranks x ≡ None → is_some (look_up more.ranks x) ≡ true → is_plain_operator names.theories x ≡ false
+
+-- ---- the names of a script
+
+-- a declared name, or a definition that is well sorted over these names
+abbrev pub IsSortedIfDefined : Names → List Sort → Sort → Origin → Type 0
+IsSortedIfDefined names sorts sort (Defined parameters body) = IsDefinition names sorts sort parameters body
+IsSortedIfDefined names sorts sort (Declared command) = Unit {0}
+
+-- the name is new among the earlier ones and no operator's, and a definition is well sorted over the earlier ones
+pub record IsIntroduced (theories : Theories) (earlier : List Entry) (e : Entry) : Type 0 where
+  pub new : entry_named earlier e.name ≡ None
+  pub free : is_plain_operator theories e.name ≡ false
+  pub sorted : IsSortedIfDefined (record { theories = theories; ranks = ranks_of earlier }) e.parameters e.sort e.origin
+
+-- each name is introduced behind the earlier ones
+abbrev pub AreIntroduced : Theories → List Entry → List Entry → Type 0
+AreIntroduced theories earlier [] = Unit {0}
+AreIntroduced theories earlier (e ∷ es) = IsIntroduced theories earlier e × AreIntroduced theories (earlier ++ e ∷ []) es

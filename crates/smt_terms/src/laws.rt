@@ -7,7 +7,7 @@ ghost use Rattle.smt_terms.specs.Checking.{sort_in};
 ghost use Rattle.smt_terms.specs.Definitions.{defined_in};
 ghost use Rattle.smt_terms.specs.Items.{declared_named, item_in};
 ghost use Rattle.smt_terms.specs.Signature.{Entry, KeepsRank, Names, Signature, declared_in, entry_named, is_taken, names_of};
-ghost use Rattle.smt_terms.specs.WellSorted.{IsWellSorted};
+ghost use Rattle.smt_terms.specs.WellSorted.{IsWellSorted, Keeps};
 ghost use Rattle.smt_terms.specs.declared.fault.TermFault.TheVariants.{Memory};
 
 /// No definition answers that memory was refused.
@@ -16,6 +16,11 @@ pub fn faults_are_no_memory()
     ensures declarations { (names : Names) (command : ℕ) (x : List ℕ) (parameters : Sexps) (sort : Sexp) → declared_in names command x parameters sort ≡ Err Memory → ⊥ }
     ensures definitions { (names : Names) (x : List ℕ) (parameters : List (List ℕ × Sexp)) (sort body : Sexp) → defined_in names x parameters sort body ≡ Err Memory → ⊥ }
     ensures items { (script : Signature) (earlier : List Entry) (tree : Sexp) → item_in script earlier tree ≡ Err Memory → ⊥ }
+{}
+
+/// A term keeps its sort over more names, where what is new hides no operator.
+pub fn sorts_are_kept()
+    ensures { (names more : Names) (scope : List (List ℕ × Sort)) (term : Sexp) (sort : Sort) → Keeps names more → sort_in names scope term ≡ Ok sort → sort_in more scope term ≡ Ok sort }
 {}
 
 /// What a definition brings is well sorted over the earlier names (SMT-LIB 2.6, sections 4.2.3 and 5.2), and has the name that was
