@@ -5,16 +5,16 @@ use Rattle.std.specs.List.{list_any}
 use Rattle.std.specs.Option.{option_or}
 use Rattle.smt_text.specs.Sexp.{Sexp, Sexps, Atom, Reserved, Items, is_symbol}
 use Rattle.smt_terms.specs.Signature.{Signature}
-use Rattle.smt_script.specs.Command.{Command, SetLogic, DeclareConst, Assert, CheckSat, GetModel}
+use Rattle.smt_script.specs.Command.{Command, SetLogic, DeclareConst, DeclareFun, DefineFun, Assert, CheckSat, GetModel}
 use Rattle.smt_script.specs.Stack.{Assertion}
 use Rattle.smt_dialogue.proofs.PairLemmas.{assertions_after-push, signature_after-check, signature_after-model, taken_is_effective}
 use Rattle.smt_dialogue.specs.Answers.{is_model, takes}
 use Rattle.smt_dialogue.specs.InForce.{assertions_after, signature_after}
 use Rattle.smt_dialogue.specs.Internal.ChecksState.{ChecksState, checks_after, closing_lines, pending_lines, with_check, with_line, with_model, with_window_ended}
 use Rattle.smt_dialogue.specs.Judgement.{judgement_of}
-use Rattle.smt_dialogue.specs.Lines.{checks_in, confirmed_line, line_of_judgement, lines_of_pair, lines_of_sat, sat_lines, unconfirmed_line}
+use Rattle.smt_dialogue.specs.Lines.{checks_in, confirmed_line, is_check, line_of_judgement, lines_of_pair, lines_of_sat, sat_lines, unconfirmed_line}
 use Rattle.smt_dialogue.specs.Pairing.{Pair, answered_by}
-use Rattle.smt_dialogue.specs.Window.{closes, models_from, window}
+use Rattle.smt_dialogue.specs.Window.{closes, closes_by, models_from, window}
 use Rattle.smt_report.specs.declared.line.CheckAnswer.TheVariants.{Unsat, Unknown}
 use Rattle.smt_report.specs.declared.line.Line.{Line}
 use Rattle.smt_report.specs.declared.line.Line.TheVariants as lines
@@ -50,23 +50,11 @@ closes_with s pairs c a ended after own h is =
     ∙ ap (λ (ls : List Line). s.lines ++ (closing_lines s.pending ++ ls)) is
     ∙ sym (append_assoc s.lines (closing_lines s.pending) own)
 
--- a logic, a declaration and an assertion end the window, and have no line
-logic_goes : (s : ChecksState) (pairs : List Pair) (x : List ℕ) (a : Sexp) → takes (SetLogic x) a ≡ true → GoesOn s pairs (SetLogic x) a (with_window_ended s)
-logic_goes s pairs x a h = record {
-  count = omega arith;
-  lines = λ ended after. closes_with s pairs (SetLogic x) a ended after [] (taken_is_effective (SetLogic x) a h) refl;
-}
-
-declaration_goes : (s : ChecksState) (pairs : List Pair) (x : List ℕ) (sort a : Sexp) → takes (DeclareConst x sort) a ≡ true → GoesOn s pairs (DeclareConst x sort) a (with_window_ended s)
-declaration_goes s pairs x sort a h = record {
-  count = omega arith;
-  lines = λ ended after. closes_with s pairs (DeclareConst x sort) a ended after [] (taken_is_effective (DeclareConst x sort) a h) refl;
-}
-
-assertion_goes : (s : ChecksState) (pairs : List Pair) (t a : Sexp) → takes (Assert t) a ≡ true → GoesOn s pairs (Assert t) a (with_window_ended s)
-assertion_goes s pairs t a h = record {
-  count = omega arith;
-  lines = λ ended after. closes_with s pairs (Assert t) a ended after [] (taken_is_effective (Assert t) a h) refl;
+-- a command that is no check and no model ends the window, and has no line
+ends_window : (s : ChecksState) (pairs : List Pair) (c : Command) (a : Sexp) → closes_by true c ≡ true → is_check c ≡ false → takes c a ≡ true → GoesOn s pairs c a (with_window_ended s)
+ends_window s pairs c a ends other h = record {
+  count = rw other (omega arith);
+  lines = λ ended after. closes_with s pairs c a ended after [] (rw (taken_is_effective c a h) ends) (rw other refl);
 }
 
 -- ## Checks
@@ -186,9 +174,11 @@ model_after s pairs a h =
 
 pub goes_on : (s : ChecksState) (pairs : List Pair) (c : Command) (a : Sexp) → takes c a ≡ true → s.count ≡ checks_in pairs
     → GoesOn s pairs c a (checks_after s (signature_after (pairs ++ answered_by c a ∷ [])) (assertions_after (pairs ++ answered_by c a ∷ [])) (length pairs + 1) c a)
-goes_on s pairs (SetLogic x) a h count = logic_goes s pairs x a h
-goes_on s pairs (DeclareConst x sort) a h count = declaration_goes s pairs x sort a h
-goes_on s pairs (Assert t) a h count = assertion_goes s pairs t a h
+goes_on s pairs (SetLogic x) a h count = ends_window s pairs (SetLogic x) a refl refl h
+goes_on s pairs (DeclareConst x sort) a h count = ends_window s pairs (DeclareConst x sort) a refl refl h
+goes_on s pairs (DeclareFun x parameters sort) a h count = ends_window s pairs (DeclareFun x parameters sort) a refl refl h
+goes_on s pairs (DefineFun x parameters sort body) a h count = ends_window s pairs (DefineFun x parameters sort body) a refl refl h
+goes_on s pairs (Assert t) a h count = ends_window s pairs (Assert t) a refl refl h
 goes_on s pairs CheckSat a h count = check_goes s pairs a h count
 goes_on s pairs GetModel a h count = rw (model_after s pairs a h) (model_goes s pairs s.pending a refl h)
 

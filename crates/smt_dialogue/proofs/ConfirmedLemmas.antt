@@ -14,8 +14,8 @@ use Rattle.smt_dialogue.specs.Lines.{checks_in, is_empty, line_of_judgement, lin
 use Rattle.smt_report.specs.Verdict.{is_refuted_line, is_undecided_line}
 use Rattle.std.specs.Option.{option_or}
 use Rattle.smt_dialogue.specs.Pairing.{Pair, is_effective}
-use Rattle.smt_dialogue.specs.Window.{Printed, models_from, window}
-use Rattle.smt_dialogue.specs.Judgement.{first_assertion, is_false_over, is_open_over, judgement_of, judged_over, refuted_or}
+use Rattle.smt_dialogue.specs.Window.{Printed, models_from, structure_at, window}
+use Rattle.smt_dialogue.specs.Judgement.{first_assertion, is_false_over, is_open_over, judged_in, judgement_of, refuted_or}
 use Rattle.smt_values.specs.Element.{Agrees, Element, Truth, Integer, Vector}
 use Rattle.smt_values.specs.Operations.{DivisionByZero}
 use Rattle.smt_values.specs.KnownOperations.{is_known}
@@ -24,6 +24,7 @@ use Rattle.smt_eval.specs.CompleteModel.{IsModelOf}
 use Rattle.smt_eval.specs.Known.{known_in, known_of, known_over}
 use Rattle.smt_eval.specs.Meaning.{value_over}
 use Rattle.smt_eval.specs.Model.{model_in}
+use Rattle.smt_eval.specs.Structure.{structure_of}
 use Rattle.smt_terms.specs.Checking.{sort_in}
 use Rattle.smt_terms.specs.Signature.{Signature, names_of}
 use Rattle.smt_dialogue.specs.declared.judgement.Judgement.{Judgement}
@@ -121,20 +122,22 @@ refuted_none None (Some n) h = absurd (cc)
 refuted_none None None h = (refl, refl)
 
 -- a model that is confirmed has definitions over which no assertion is false or open
-confirmed_over : (as' : List Assertion) (r : Result Signature ModelFault) → judged_over as' r ≡ judgements.Confirmed → (d : Signature) × (r ≡ Ok d) × (first_assertion (is_false_over d) as' ≡ None) × (first_assertion (is_open_over d) as' ≡ None)
-confirmed_over as' (Ok d) h =
-    let none = refuted_none (first_assertion (is_false_over d) as') (first_assertion (is_open_over d) as') h in
+confirmed_over : (script : Signature) (as' : List Assertion) (r : Result Signature ModelFault) → judged_in script as' r ≡ judgements.Confirmed
+    → (d : Signature) × (r ≡ Ok d) × (first_assertion (is_false_over (structure_of script d)) as' ≡ None) × (first_assertion (is_open_over (structure_of script d)) as' ≡ None)
+confirmed_over script as' (Ok d) h =
+    let s = structure_of script d in
+    let none = refuted_none (first_assertion (is_false_over s) as') (first_assertion (is_open_over s) as') h in
     (d, refl, none.0, none.1)
-confirmed_over as' (Err (faults.Item n f)) h = absurd (cc)
-confirmed_over as' (Err (faults.Lacks n)) h = absurd (cc)
-confirmed_over as' (Err faults.Memory) h = absurd (cc)
+confirmed_over script as' (Err (faults.Item n f)) h = absurd (cc)
+confirmed_over script as' (Err (faults.Lacks n)) h = absurd (cc)
+confirmed_over script as' (Err faults.Memory) h = absurd (cc)
 
 -- ## Models that are confirmed are true
 
 -- a model that is confirmed under what is in force is a true one
 pub true_model : Laws → (pairs before after : List Pair) (p : Pair) (parts : Sexps) → pairs ≡ before ++ p ∷ after → AreFaultless [] pairs → judgement_of (signature_after before) (assertions_after before) parts ≡ judgements.Confirmed → IsTrueModel before parts
 true_model laws pairs before after p parts place faultless h =
-    let confirmed = confirmed_over (assertions_after before) (model_in (signature_after before) parts) h in
+    let confirmed = confirmed_over (signature_after before) (assertions_after before) (model_in (signature_after before) parts) h in
     record {
       definitions = confirmed.0;
       model = laws.complete (signature_after before) parts confirmed.0 confirmed.1;
@@ -146,8 +149,9 @@ true_model laws pairs before after p parts place faultless h =
           let here : Assertion = record { command = length earlier + 1; term = term } in
           let later = assertions_later earlier asserted.between in
           let among : assertions_after before ≡ assertions_after earlier ++ here ∷ later = ap assertions_after asserted.place ∙ asserted_at earlier asserted.between asserted.pair term asserted.command asserted.effective in
-          let not_open = first_none (is_open_over confirmed.0) (assertions_after earlier) here later (ap (first_assertion (is_open_over confirmed.0)) (sym among) ∙ confirmed.3) in
-          closed_value laws z confirmed.0 term (Truth true) (is_true_value (known_over confirmed.0 term) not_open);
+          let structure = structure_at confirmed.0 before in
+          let not_open = first_none (is_open_over structure) (assertions_after earlier) here later (ap (first_assertion (is_open_over structure)) (sym among) ∙ confirmed.3) in
+          closed_value laws z structure term (Truth true) (is_true_value (known_over structure term) not_open);
     }
 
 -- ## The line of a check

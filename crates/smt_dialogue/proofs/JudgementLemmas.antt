@@ -1,5 +1,6 @@
 -- Judging a model assertion by assertion.
-use Rattle.std.proofs.Common.{◌≡◌, ℕ, true, false, not, List, [], ◌∷◌, Option, Some, None, refl, ap}
+use Rattle.std.proofs.Common.{◌≡◌, ℕ, true, false, not, List, [], ◌∷◌, Option, Some, None, is_some, refl, ap, sym, subst, ◌∙◌}
+use Rattle.smt_text.specs.Sexp.{Sexp}
 use Rattle.smt_script.specs.Stack.{Assertion}
 use Rattle.smt_script.specs.StackView.{AreAssertions}
 use Rattle.smt_terms.specs.Library.{IsTerm}
@@ -50,3 +51,32 @@ next_term l a as' (b ∷ bs) h = (b, bs, refl, h.0, h.1, h.2)
 pub none_left : (l : Library) (bs : List Assertion) → AreAssertions l [] bs → bs ≡ []
 none_left l [] h = refl
 none_left l (b ∷ bs) h = absurd h
+
+-- what is left to find of the assertions that are left, behind those so far
+abbrev pub IsLeft : Library → List code.Assertion → Signature → Option ℕ → Judgement → Type 0
+IsLeft l left d first found = (rest : List Assertion) × AreAssertions l left rest × (judged_from d first rest ≡ found)
+
+-- the next assertion is known to be true
+pub left-true : (l : Library) (left as' : List code.Assertion) (a : code.Assertion) (d : Signature) (first : Option ℕ) (found : Judgement) → left ≡ a ∷ as'
+    → ((t : Sexp) → IsTerm l a.term t → known_over d t ≡ Some (Truth true)) → IsLeft l left d first found → IsLeft l as' d first found
+left-true l left as' a d first found here is h =
+    let next = next_term l a as' h.0 (subst (λ ls. AreAssertions l ls h.0) here h.1) in
+    (next.1, next.5, sym (judged_from-true d first next.0 next.1 (is next.0.term next.4)) ∙ ap (judged_from d first) (sym next.2) ∙ h.2)
+
+-- it is open
+abbrev pub IsOpen : Option Element → Type 0
+IsOpen v = (is_known false v ≡ false) × (is_known true v ≡ false)
+
+pub left-open : (l : Library) (left as' : List code.Assertion) (a : code.Assertion) (d : Signature) (first : Option ℕ) (found : Judgement) → left ≡ a ∷ as'
+    → ((t : Sexp) → IsTerm l a.term t → IsOpen (known_over d t)) → is_some first ≡ true → IsLeft l left d first found → IsLeft l as' d first found
+left-open l left as' a d None found here is some h = cc
+left-open l left as' a d (Some n) found here is some h =
+    let next = next_term l a as' h.0 (subst (λ ls. AreAssertions l ls h.0) here h.1) in
+    let open' = is next.0.term next.4 in
+    (next.1, next.5, sym (judged_from-open d (Some n) next.0 next.1 open'.0 open'.1) ∙ ap (judged_from d (Some n)) (sym next.2) ∙ h.2)
+
+-- those that are left behind the next
+pub terms_left : (l : Library) (left as' : List code.Assertion) (a : code.Assertion) → left ≡ a ∷ as' → (all : List Assertion) × AreAssertions l left all → (all : List Assertion) × AreAssertions l as' all
+terms_left l left as' a here h =
+    let next = next_term l a as' h.0 (subst (λ ls. AreAssertions l ls h.0) here h.1) in
+    (next.1, next.5)

@@ -6,7 +6,7 @@ use Rattle.smt_text.specs.Sexp.{Sexp, Sexps, Atom, Reserved, Items, Nil, Cons, i
 use Rattle.smt_text.specs.Sexp as sexp
 use Rattle.smt_terms.proofs.NameLemmas.{same_name}
 use Rattle.smt_terms.specs.Signature.{Entry, Signature}
-use Rattle.smt_script.specs.Command.{Command, SetLogic, DeclareConst, Assert, CheckSat, GetModel}
+use Rattle.smt_script.specs.Command.{Command, SetLogic, DeclareConst, DeclareFun, DefineFun, Assert, CheckSat, GetModel}
 use Rattle.smt_script.specs.Stack.{Assertion, Numbered, assertions_by, assertions_in_force, names_in_force, signature_in_force, theories_in_force}
 use Rattle.smt_script.proofs.InForceLemmas.{signature-push}
 use Rattle.smt_dialogue.specs.Answers.{fits, is_effective_with, is_model, is_refusal, takes}
@@ -47,6 +47,8 @@ or_cases false b P f g h = g h
 pub taken_is_effective : (c : Command) (a : Sexp) → takes c a ≡ true → is_effective_with (Some a) ≡ true
 taken_is_effective (SetLogic name) a h = word_is_effective (codes "success") a refl h
 taken_is_effective (DeclareConst x sort) a h = word_is_effective (codes "success") a refl h
+taken_is_effective (DeclareFun x parameters sort) a h = word_is_effective (codes "success") a refl h
+taken_is_effective (DefineFun x parameters sort body) a h = word_is_effective (codes "success") a refl h
 taken_is_effective (Assert term) a h = word_is_effective (codes "success") a refl h
 taken_is_effective CheckSat a h =
     or_cases (is_symbol (codes "sat") a || is_symbol (codes "unsat") a) (is_symbol (codes "unknown") a) _

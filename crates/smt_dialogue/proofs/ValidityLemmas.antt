@@ -10,7 +10,7 @@ use Rattle.smt_text.specs.declared.fault.TextFault.{TextFault}
 use Rattle.smt_dialogue.proofs.FirstFaultLemmas.{any-append, ends_clean, invalid_lines, none_of, valid_lines}
 use Rattle.smt_dialogue.proofs.PairingUnique.{all_commands, one_pairing}
 use Rattle.smt_dialogue.proofs.ConfirmedLemmas.{Laws, asserted_formula, closed_value, confirmed_at, faultless_at, is_false_value, lines_at, lines_of_sat_at}
-use Rattle.smt_script.specs.Command.{Command, SetLogic, DeclareConst, Assert, CheckSat, GetModel}
+use Rattle.smt_script.specs.Command.{Command, SetLogic, DeclareConst, DeclareFun, DefineFun, Assert, CheckSat, GetModel}
 use Rattle.smt_dialogue.specs.Report.{lines_of_end}
 use Rattle.smt_dialogue.specs.Validity.{IsAsserted, IsFullyPaired, IsInvalid, IsSatCheck, IsTrueModel, IsValid}
 use Rattle.smt_dialogue.specs.InForce.{AreFaultless, assertions_after, effective_from, signature_after}
@@ -21,13 +21,14 @@ use Rattle.std.specs.Option.{option_or}
 use Rattle.smt_dialogue.specs.Pairing.{IsPairing, Pair, is_effective}
 use Rattle.smt_dialogue.specs.Internal.Steps.{IsJudged}
 use Rattle.smt_dialogue.specs.Window.{Printed, models_from, structure_at, window}
-use Rattle.smt_dialogue.specs.Judgement.{first_assertion, is_false_over, is_open_over, judgement_of, judged_over, open_or_confirmed, refuted_or}
+use Rattle.smt_dialogue.specs.Judgement.{first_assertion, is_false_over, is_open_over, judged_in, judgement_of, open_or_confirmed, refuted_or}
 use Rattle.smt_values.specs.Element.{Element, Truth}
 use Rattle.smt_values.specs.Operations.{DivisionByZero}
 use Rattle.smt_eval.specs.CompleteModel.{IsModelOf}
 use Rattle.smt_eval.specs.Meaning.{value_over}
 use Rattle.smt_eval.specs.Known.{known_over}
 use Rattle.smt_eval.specs.Model.{model_in}
+use Rattle.smt_eval.specs.Structure.{structure_of}
 use Rattle.smt_terms.specs.Signature.{Signature}
 use Rattle.smt_dialogue.specs.declared.judgement.Judgement.{Judgement}
 use Rattle.smt_dialogue.specs.declared.judgement.Judgement.TheVariants as judgements
@@ -132,6 +133,8 @@ pub record IsRefutedCheck (before : List Pair) (p : Pair) (after : List Pair) : 
 refuted_check : (before : List Pair) (c : Command) (o : Option Sexp) (after : List Pair) → list_any is_refuted_line (lines_of_pair true before (record { command = c; answer = o }) after) ≡ true → IsRefutedCheck before (record { command = c; answer = o }) after
 refuted_check before (SetLogic x) o after h = absurd (cc)
 refuted_check before (DeclareConst x s) o after h = absurd (cc)
+refuted_check before (DeclareFun x ps s) o after h = absurd (cc)
+refuted_check before (DefineFun x ps s t) o after h = absurd (cc)
 refuted_check before (Assert t) o after h = absurd (cc)
 refuted_check before GetModel o after h = absurd (cc)
 refuted_check before CheckSat None after h = absurd (cc)
@@ -240,12 +243,14 @@ refuted_first (Some m) o n h = cc
 refuted_first None o n h = open_not_refuted o n h
 
 -- a model that is refuted has definitions over which the assertion is false
-refuted_over : (as' : List Assertion) (r : Result Signature ModelFault) (n : ℕ) → judged_over as' r ≡ judgements.Refuted n → (d : Signature) × (r ≡ Ok d) × HasFirst (is_false_over d) as' n
-refuted_over as' (Ok d) n h =
-    (d, refl, first_some (is_false_over d) as' n (refuted_first (first_assertion (is_false_over d) as') (first_assertion (is_open_over d) as') n h))
-refuted_over as' (Err (faults.Item i f)) n h = absurd (cc)
-refuted_over as' (Err (faults.Lacks m)) n h = absurd (cc)
-refuted_over as' (Err faults.Memory) n h = absurd (cc)
+refuted_over : (script : Signature) (as' : List Assertion) (r : Result Signature ModelFault) (n : ℕ) → judged_in script as' r ≡ judgements.Refuted n
+    → (d : Signature) × (r ≡ Ok d) × HasFirst (is_false_over (structure_of script d)) as' n
+refuted_over script as' (Ok d) n h =
+    let s = structure_of script d in
+    (d, refl, first_some (is_false_over s) as' n (refuted_first (first_assertion (is_false_over s) as') (first_assertion (is_open_over s) as') n h))
+refuted_over script as' (Err (faults.Item i f)) n h = absurd (cc)
+refuted_over script as' (Err (faults.Lacks m)) n h = absurd (cc)
+refuted_over script as' (Err faults.Memory) n h = absurd (cc)
 
 -- where an assertion in force comes from
 pub record ComesFrom (n : ℕ) (pairs : List Pair) (a : Assertion) : Type 0 where
@@ -293,6 +298,8 @@ comes_by : (n : ℕ) (p : Pair) (ps : List Pair) (cs : List Numbered) (xs : List
 comes_by n p ps cs xs a ys false c e is later h = comes_later n p ps a (later xs h)
 comes_by n p ps cs xs a ys true (SetLogic x) e is later h = comes_later n p ps a (later xs h)
 comes_by n p ps cs xs a ys true (DeclareConst x s) e is later h = comes_later n p ps a (later xs h)
+comes_by n p ps cs xs a ys true (DeclareFun x qs s) e is later h = comes_later n p ps a (later xs h)
+comes_by n p ps cs xs a ys true (DefineFun x qs s t) e is later h = comes_later n p ps a (later xs h)
 comes_by n p ps cs xs a ys true (Assert t) e is later h = comes_here n p ps t (assertions_in_force cs) xs a ys is e later h
 comes_by n p ps cs xs a ys true CheckSat e is later h = comes_later n p ps a (later xs h)
 comes_by n p ps cs xs a ys true GetModel e is later h = comes_later n p ps a (later xs h)
@@ -325,7 +332,7 @@ invalid_means laws script answers st at' sf af ls v rs ra j h =
     let assertions = assertions_after before in
     let ms = models_from (n + 1) (window at_pair.last) in
     let found = sat_refuted k n names assertions ms (not (is_empty ms)) (unconfirmed_line k n names assertions ms) refl check.line in
-    let over = refuted_over assertions (model_in names found.model.model.parts) found.model.refuted.assertion found.model.refuted.found in
+    let over = refuted_over names assertions (model_in names found.model.model.parts) found.model.refuted.assertion found.model.refuted.found in
     let source = comes_from 1 before over.2.first over.2.assertion over.2.last over.2.place in
     let q = source.pair in
     let l1 = lines_in true [] before ((p ∷ at_pair.last) ++ []) in
@@ -359,7 +366,7 @@ invalid_means laws script answers st at' sf af ls v rs ra j h =
         effective = source.effective;
       };
       sorted = asserted_formula source.earlier q over.2.assertion.term source.command source.effective (faultless_at [] source.earlier q (source.between ++ p ∷ at_pair.last) (subst (AreFaultless []) far j.faultless));
-      false_in = λ z. closed_value laws z over.0 over.2.assertion.term (Truth false) (is_false_value (known_over over.0 over.2.assertion.term) over.2.passes);
+      false_in = λ z. closed_value laws z (structure_at over.0 before) over.2.assertion.term (Truth false) (is_false_value (known_over (structure_at over.0 before) over.2.assertion.term) over.2.passes);
       lines_before = l1;
       lines_after = l2 ++ end;
       line = j.lines_are
@@ -395,7 +402,7 @@ with_false script answers pairs before after p first last m definitions earlier 
     let both : ◌≡◌ {A = Result Signature ModelFault} (Ok one.definitions) (Ok definitions) = sym one.model.read ∙ of.read in
     let same : one.definitions ≡ definitions = cc in
     let z : DivisionByZero = record { quotients = []; remainders = [] } in
-    not_both (value_over z definitions [] term) (ap (λ (d : Signature). value_over z d [] term) (sym same) ∙ one.true_in z earlier term asserted) (is_false z)
+    not_both (value_over z (structure_at definitions before) [] term) (ap (λ (d : Signature). value_over z (structure_at d before) [] term) (sym same) ∙ one.true_in z earlier term asserted) (is_false z)
 
 -- ## What a call answered
 

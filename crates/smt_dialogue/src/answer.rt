@@ -29,7 +29,8 @@ pub(crate) fn takes(command: &Command, answer: &Tree) -> bool
     ensures { result ≡ answering.takes (command_view command.now) (sexp_of answer.now) }
 {
     match command {
-        Command::SetLogic { .. } | Command::DeclareConst { .. } | Command::Assert { .. } => {
+        Command::SetLogic { .. } | Command::Assert { .. } => answer.is_symbol(b"success"),
+        Command::DeclareConst { .. } | Command::DeclareFun { .. } | Command::DefineFun { .. } => {
             answer.is_symbol(b"success")
         }
         Command::CheckSat => {

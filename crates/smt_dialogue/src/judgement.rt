@@ -1,8 +1,12 @@
 //! What is found of a model.
 
-ghost use Rattle.std.specs.Prelude.{◌≡◌, List, IfOk, Ok};
+ghost use Rattle.std.specs.Prelude.{◌≡◌, List, Some, true, false, IfOk, MatchOption};
+ghost use Rattle.smt_values.specs.Element.{Truth, known_element};
+ghost use Rattle.smt_values.specs.KnownOperations.{is_known};
+ghost use Rattle.smt_terms.specs.Library as libraries;
 ghost use Rattle.smt_terms.specs.Signature.{Signature};
-ghost use Rattle.smt_eval.specs.Interpretation.{IsInterpretation};
+ghost use Rattle.smt_eval.specs.Interpretation.{Fits, IsInterpretation};
+ghost use Rattle.smt_eval.specs.Structure.{structure_of};
 ghost use Rattle.smt_script.specs.Stack as stacks;
 ghost use Rattle.smt_script.specs.Stack.{Numbered, assertions_in_force, signature_in_force};
 ghost use Rattle.smt_script.specs.StackView.{AreAssertions, StandsFor};
@@ -48,26 +52,27 @@ pub(crate) fn judge(stack: &Stack, model: &Trees) -> Result<Judgement, Memory>
     }
 }
 
-// The first assertion that is false over the definitions of a model, else the first that is open.
+// The first assertion that is false over the definitions of a model and the script's own, else the first that is open.
 fn judge_assertions(
     library: &Library,
     interpretation: &Interpretation,
     assertions: &[Assertion],
 ) -> Result<Judgement, Memory>
-    requires { (all : List stacks.Assertion) × AreAssertions library.now assertions.now all }
-    ensures { (definitions : Signature) (all : List stacks.Assertion) → IsInterpretation interpretation.now definitions → AreAssertions library.now assertions.now all
-        → IfOk result (λ j. j ≡ judged_over all (Ok definitions)) }
+    requires terms { (all : List stacks.Assertion) × AreAssertions library.now assertions.now all }
+    requires fits { Fits interpretation.now library.now }
+    ensures { (script definitions : Signature) (all : List stacks.Assertion) → libraries.StandsFor library.now script → IsInterpretation interpretation.now script definitions
+        → AreAssertions library.now assertions.now all → IfOk result (λ j. j ≡ judged_over all (structure_of script definitions)) }
 {
     let mut first_open = None;
     let mut left = assertions;
     while let Some((assertion, rest)) = left.split_first() {
-        match eval(library, interpretation, assertion.term)? {
-            Some(Value::Bool(true)) => {}
-            Some(Value::Bool(false)) => {
+        match truth_of(eval(library, interpretation, assertion.term)?) {
+            Some(true) => {}
+            Some(false) => {
                 let assertion = assertion.command;
                 return Ok(Judgement::Refuted { assertion });
             }
-            None | Some(Value::Int(_) | Value::Bits(_)) => {
+            None => {
                 if first_open.is_none() {
                     first_open = Some(assertion.command);
                 }
@@ -79,4 +84,15 @@ fn judge_assertions(
         Some(assertion) => Judgement::NotDecided { assertion },
         None => Judgement::Confirmed,
     })
+}
+
+// Which truth value a formula is known to have; `None` says that it is open.
+fn truth_of(value: Option<Value>) -> Option<bool>
+    ensures { MatchOption result ((is_known false (known_element value) ≡ false) × (is_known true (known_element value) ≡ false))
+        (λ truth. known_element value ≡ Some (Truth truth)) }
+{
+    match value {
+        Some(Value::Bool(truth)) => Some(truth),
+        _ => None,
+    }
 }

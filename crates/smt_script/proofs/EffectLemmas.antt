@@ -1,8 +1,8 @@
 -- What each command does to a stack.
-use Rattle.std.proofs.Common.{◌≡◌, ℕ, List, [], ◌∷◌, ◌++◌, ◌⊎◌, inl, inr, Bool, true, false, cond, ◌||◌, Option, Some, Result, Ok, Err, refl, ap, sym, subst, ◌∙◌}
+use Rattle.std.proofs.Common.{◌≡◌, ℕ, List, [], ◌∷◌, ◌++◌, ◌⊎◌, inl, inr, Bool, true, false, cond, ◌||◌, Option, None, Some, Result, Ok, Err, refl, ap, sym, subst, ◌∙◌}
 use Rattle.std.proofs.lemmas.List.{append-nil}
 use Rattle.std.specs.Global.{Vec}
-use Rattle.smt_text.specs.Sexp.{Sexp, Nil}
+use Rattle.smt_text.specs.Sexp.{Sexp, Sexps, Nil}
 use Rattle.smt_theory.specs.Sort.{is_same_sort}
 use Rattle.smt_theory.specs.Theories.{theories_named}
 use Rattle.smt_theory.specs.Words.{result_and_then}
@@ -10,19 +10,21 @@ use Rattle.smt_theory.specs.declared.sort.Sort.{Sort}
 use Rattle.smt_theory.specs.declared.sort.Sort.TheVariants.{Bool as Boolean}
 use Rattle.smt_theory.specs.declared.theories.Theories.{Theories}
 use Rattle.smt_terms.specs.Checking.{sort_in}
+use Rattle.smt_terms.specs.Definitions.{defined_in, definition, definition_in, parameters_named}
 use Rattle.smt_terms.specs.Library as library
 use Rattle.smt_terms.specs.Library.{IsTerm}
-use Rattle.smt_terms.specs.Signature.{Entry, Rank, Signature, declaration, declared_in, is_taken, names_of, no_names, rank_named, with_entry}
+use Rattle.smt_terms.specs.Signature.{Entry, Names, Rank, Signature, declaration, declared_in, is_taken, names_of, no_names, rank_named, with_entry}
+use Rattle.smt_terms.specs.SortTrees.{sort_named}
 use Rattle.smt_terms.specs.declared.fault.TermFault.{TermFault}
 use Rattle.smt_terms.specs.declared.fault.TermFault.TheVariants as terms
 use Rattle.smt_terms.specs.declared.library.Library.{Library}
 use Rattle.smt_terms.specs.declared.library.TermId.{TermId}
-use Rattle.smt_script.specs.Command.{Command, SetLogic, DeclareConst, Assert, CheckSat, GetModel}
+use Rattle.smt_script.specs.Command.{Command, SetLogic, DeclareConst, DeclareFun, DefineFun, Assert, CheckSat, GetModel}
 use Rattle.smt_script.specs.CommandView.{command_view}
 use Rattle.smt_script.specs.declared.command.Command as code
 use Rattle.smt_script.specs.declared.command.Command.TheVariants as variants
 use Rattle.smt_script.specs.Stack as spec
-use Rattle.smt_script.specs.Stack.{Numbered, assertions_by, assertions_in_force, command_fault, declaration_or_none, fault_of_declaration, fault_of_effect, fault_of_formula, fault_of_logic, fixes_logic, is_logic_fixed, names_in_force, signature_in_force, theories_in_force, theories_or}
+use Rattle.smt_script.specs.Stack.{Numbered, assertions_by, assertions_in_force, command_fault, declaration_or_none, definition_or_none, fault_of_entry, fault_of_effect, fault_of_formula, fault_of_logic, fixes_logic, is_logic_fixed, names_in_force, signature_in_force, theories_in_force, theories_or}
 use Rattle.smt_script.specs.StackView.{AreAssertions, StandsFor}
 use Rattle.smt_script.specs.Internal.Effect.{HasEffect, IsUnchanged, noted}
 use Rattle.smt_script.specs.declared.fault.CommandFault.{CommandFault}
@@ -130,24 +132,90 @@ declared_is_brought true x n rank e h = cc
 declared_is_brought false x n (Ok r) e h = let same : declaration x n r ≡ e = cc in ap (λ (d : Entry). d ∷ []) same
 declared_is_brought false x n (Err fault) e h = cc
 
--- the declaration of a constant
-abbrev pub DeclaresIn : Library → Library → ℕ → List ℕ → Sexp → Type 0
-DeclaresIn old new n x sort =
-    (s : Signature) → library.StandsFor old s → (e : Entry) × (declared_in (names_of s) n x Nil sort ≡ Ok e) × library.StandsFor new (with_entry s e)
+-- what is defined is what the command brings
+definition_made : (found : Result Sort TermFault) (x : List ℕ) (ps : List (List ℕ × Sort)) (sort : Sort) (body : Sexp) (e : Entry)
+    → result_and_then found (λ s. cond (is_same_sort s sort) (Ok (definition x ps sort body)) (Err terms.IllSorted)) ≡ Ok e → definition x ps sort body ≡ e
+definition_made (Err fault) x ps sort body e h = cc
+definition_made (Ok s) x ps sort body e h = by_test (is_same_sort s sort) h
+  where
+    by_test : (b : Bool) → cond b (Ok (definition x ps sort body)) (Err terms.IllSorted) ≡ Ok e → definition x ps sort body ≡ e
+    by_test true g = cc
+    by_test false g = cc
 
-pub declare_effect : (old : Stack) (l : Library) (n : ℕ) (x : List ℕ) (sort : Sexp) → DeclaresIn old.library l n x sort → KeepsTerms old.library l
-    → HasEffect old (record old { library = l }) n (DeclareConst x sort)
-declare_effect old l n x sort declares keeps = record {
-  faultless = λ cs h. ap fault_of_declaration (declares (signature_in_force cs) h.library).1;
+defined_is_brought : (taken : Bool) (names : Names) (x : List ℕ) (ps : Result (List (List ℕ × Sort)) TermFault) (sort : Result Sort TermFault) (body : Sexp) (e : Entry)
+    → cond taken (Err terms.NotFresh) (result_and_then ps (λ qs. result_and_then sort (λ s. definition_in names x qs s body))) ≡ Ok e → definition_or_none x body ps sort ≡ e ∷ []
+defined_is_brought true names x ps sort body e h = cc
+defined_is_brought false names x (Err fault) sort body e h = cc
+defined_is_brought false names x (Ok qs) (Err fault) body e h = cc
+defined_is_brought false names x (Ok qs) (Ok s) body e h =
+    ap (λ (d : Entry). d ∷ []) (definition_made (sort_in names qs body) x qs s body e h)
+
+-- a command without a fault that brings one name
+abbrev pub BringsIn : Library → Library → ℕ → Command → Type 0
+BringsIn old new n command =
+    (cs : List Numbered) → library.StandsFor old (signature_in_force cs)
+    → (e : Entry) × (fault_of_effect cs n command ≡ None) × (signature_after cs (record { number = n; command = command }) ≡ with_entry (signature_in_force cs) e)
+    × library.StandsFor new (with_entry (signature_in_force cs) e)
+
+entry_effect : (old : Stack) (l : Library) (n : ℕ) (command : Command) → BringsIn old.library l n command → assertions_by n command ≡ [] → KeepsTerms old.library l
+    → HasEffect old (record old { library = l }) n command
+entry_effect old l n command brings none keeps = record {
+  faultless = λ cs h. (brings cs h.library).1;
   stands = λ cs h.
-      let made = declares (signature_in_force cs) h.library in
-      let s = signature_in_force cs in
-      let P : List Entry → Type 0 = λ es. library.StandsFor l (record { theories = theories_in_force cs; entries = names_in_force cs ++ es }) in
-      stands_after (noted (DeclareConst x sort) (record old { library = l })) cs (record { number = n; command = DeclareConst x sort })
-      (subst P (sym (declared_is_brought (is_taken (names_of s) x) x n (rank_named (names_of s) Nil sort) made.0 made.1)) made.2)
-      (same_assertions l old.assertions.items cs (assertions_stay old.library l keeps old.assertions.items _ h.assertions))
-      (note_of old (DeclareConst x sort) cs h.fixed);
+      let made = brings cs h.library in
+      let P : Signature → Type 0 = λ s. library.StandsFor l s in
+      let Q : List spec.Assertion → Type 0 = λ bs. AreAssertions l old.assertions.items (assertions_in_force cs ++ bs) in
+      stands_after (noted command (record old { library = l })) cs (record { number = n; command = command })
+      (subst P (sym made.2) made.3)
+      (subst Q (sym none) (same_assertions l old.assertions.items cs (assertions_stay old.library l keeps old.assertions.items _ h.assertions)))
+      (note_of old command cs h.fixed);
 }
+
+-- the names with one more
+one_more_name : (cs : List Numbered) (brought : List Entry) (e : Entry) → brought ≡ e ∷ []
+    → record { theories = theories_in_force cs; entries = names_in_force cs ++ brought } ≡ with_entry (signature_in_force cs) e
+one_more_name cs brought e h = ap (λ (es : List Entry). record { theories = theories_in_force cs; entries = names_in_force cs ++ es }) h
+
+-- the declaration of a name
+abbrev pub DeclaresIn : Library → Library → ℕ → List ℕ → Sexps → Sexp → Type 0
+DeclaresIn old new n x parameters sort =
+    (s : Signature) → library.StandsFor old s → (e : Entry) × (declared_in (names_of s) n x parameters sort ≡ Ok e) × library.StandsFor new (with_entry s e)
+
+pub declare_const_effect : (old : Stack) (l : Library) (n : ℕ) (x : List ℕ) (sort : Sexp) → DeclaresIn old.library l n x Nil sort → KeepsTerms old.library l
+    → HasEffect old (record old { library = l }) n (DeclareConst x sort)
+declare_const_effect old l n x sort declares keeps =
+    entry_effect old l n (DeclareConst x sort)
+    (λ cs h.
+    let made = declares (signature_in_force cs) h in
+    let s = signature_in_force cs in
+    (made.0, ap fault_of_entry made.1, one_more_name cs _ made.0 (declared_is_brought (is_taken (names_of s) x) x n (rank_named (names_of s) Nil sort) made.0 made.1), made.2))
+    refl keeps
+
+pub declare_fun_effect : (old : Stack) (l : Library) (n : ℕ) (x : List ℕ) (parameters : Sexps) (sort : Sexp) → DeclaresIn old.library l n x parameters sort → KeepsTerms old.library l
+    → HasEffect old (record old { library = l }) n (DeclareFun x parameters sort)
+declare_fun_effect old l n x parameters sort declares keeps =
+    entry_effect old l n (DeclareFun x parameters sort)
+    (λ cs h.
+    let made = declares (signature_in_force cs) h in
+    let s = signature_in_force cs in
+    (made.0, ap fault_of_entry made.1, one_more_name cs _ made.0 (declared_is_brought (is_taken (names_of s) x) x n (rank_named (names_of s) parameters sort) made.0 made.1), made.2))
+    refl keeps
+
+-- the definition of a name
+abbrev pub DefinesIn : Library → Library → List ℕ → List (List ℕ × Sexp) → Sexp → Sexp → Type 0
+DefinesIn old new x parameters sort body =
+    (s : Signature) → library.StandsFor old s → (e : Entry) × (defined_in (names_of s) x parameters sort body ≡ Ok e) × library.StandsFor new (with_entry s e)
+
+pub define_effect : (old : Stack) (l : Library) (n : ℕ) (x : List ℕ) (parameters : List (List ℕ × Sexp)) (sort body : Sexp) → DefinesIn old.library l x parameters sort body → KeepsTerms old.library l
+    → HasEffect old (record old { library = l }) n (DefineFun x parameters sort body)
+define_effect old l n x parameters sort body defines keeps =
+    entry_effect old l n (DefineFun x parameters sort body)
+    (λ cs h.
+    let made = defines (signature_in_force cs) h in
+    let s = signature_in_force cs in
+    let ps = parameters_named s.theories [] parameters in
+    (made.0, ap fault_of_entry made.1, one_more_name cs _ made.0 (defined_is_brought (is_taken (names_of s) x) (names_of s) x ps (sort_named s.theories sort) body made.0 made.1), made.2))
+    refl keeps
 
 -- a formula over the names
 abbrev pub ChecksIn : Library → Library → TermId → Sort → Sexp → Type 0
@@ -193,11 +261,11 @@ fault_kept terms.BoundTwice known = refl
 fault_kept terms.NotFresh known = refl
 fault_kept terms.Label known = refl
 
--- what a refused declaration tells
-pub refused_declaration : (r : Result Entry TermFault) (f : TermFault) (fault : CommandFault) → (r ≡ Err terms.Memory → ⊥) → fault ≡ command_fault f → (f ≡ terms.Memory) ⊎ (r ≡ Err f) → (fault ≡ Memory) ⊎ (fault_of_declaration r ≡ Some fault)
-refused_declaration r f fault known made (inl e) = inl (made ∙ ap command_fault e)
-refused_declaration r f fault known made (inr e) =
-    inr (ap fault_of_declaration e ∙ ap (λ (x : CommandFault). Some x) (sym (made ∙ fault_kept f (λ m. known (e ∙ ap (λ (y : TermFault). Err y) m)))))
+-- what a refused declaration or definition tells
+pub refused_entry : (r : Result Entry TermFault) (f : TermFault) (fault : CommandFault) → (r ≡ Err terms.Memory → ⊥) → fault ≡ command_fault f → (f ≡ terms.Memory) ⊎ (r ≡ Err f) → (fault ≡ Memory) ⊎ (fault_of_entry r ≡ Some fault)
+refused_entry r f fault known made (inl e) = inl (made ∙ ap command_fault e)
+refused_entry r f fault known made (inr e) =
+    inr (ap fault_of_entry e ∙ ap (λ (x : CommandFault). Some x) (sym (made ∙ fault_kept f (λ m. known (e ∙ ap (λ (y : TermFault). Err y) m)))))
 
 -- what a refused formula tells
 pub refused_formula : (r : Result Sort TermFault) (f : TermFault) (fault : CommandFault) → (r ≡ Err terms.Memory → ⊥) → fault ≡ command_fault f → (f ≡ terms.Memory) ⊎ (r ≡ Err f) → (fault ≡ Memory) ⊎ (fault_of_formula r ≡ Some fault)

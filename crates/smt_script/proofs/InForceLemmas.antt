@@ -6,7 +6,7 @@ use Rattle.std.proofs.lemmas.List.Folds.{list_any-append}
 use Rattle.std.proofs.lemmas.List.Sums.{fold-append}
 use Rattle.smt_theory.specs.declared.theories.Theories.{Theories}
 use Rattle.smt_terms.specs.Signature.{Entry, Signature}
-use Rattle.smt_script.specs.Command.{Command, SetLogic, DeclareConst, Assert, CheckSat, GetModel}
+use Rattle.smt_script.specs.Command.{Command, SetLogic, DeclareConst, DeclareFun, DefineFun, Assert, CheckSat, GetModel}
 use Rattle.smt_script.specs.Stack.{Numbered, all_theories, assertions_by, assertions_in_force, fixes_logic, is_logic_fixed, names_by, names_from, names_in_force, signature_in_force, theories_after, theories_in_force}
 
 pub theories-push : (cs : List Numbered) (c : Numbered) → theories_in_force (cs ++ c ∷ []) ≡ theories_after (theories_in_force cs) c.command
@@ -46,6 +46,8 @@ unfixed_step : (theories : Theories) (n : ℕ) (command : Command) (rest : Bool)
 unfixed_step theories n GetModel rest h = (refl, refl, h)
 unfixed_step theories n (SetLogic x) rest h = cc
 unfixed_step theories n (DeclareConst x sort) rest h = cc
+unfixed_step theories n (DeclareFun x parameters sort) rest h = cc
+unfixed_step theories n (DefineFun x parameters sort body) rest h = cc
 unfixed_step theories n (Assert term) rest h = cc
 unfixed_step theories n CheckSat rest h = cc
 

@@ -1,3 +1,4 @@
 pub mod FormLemmas
 pub mod InForceLemmas
+pub mod DefinitionFaults
 pub mod EffectLemmas

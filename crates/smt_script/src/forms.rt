@@ -5,10 +5,11 @@ ghost use Rattle.smt_text.specs.Sexp.{Items};
 ghost use Rattle.smt_text.specs.Tree.{sexp_of, sexps_of};
 ghost use Rattle.smt_script.specs.Command as commands;
 ghost use Rattle.smt_script.specs.CommandView.{command_view};
-ghost use Rattle.smt_script.specs.Internal.CommandForm.{HasForm, are_symbol_and_tree, is_one_symbol, is_one_tree};
+ghost use Rattle.smt_script.specs.Internal.CommandForm.{HasForm, are_list_and_tree, are_parameters_and_two, are_symbol_and_tree, are_symbol_list_and_tree, are_symbol_parameters_and_two, are_two_trees, is_one_symbol, is_one_tree};
 
 use crate::command::Command;
 use crate::fault::CommandFault;
+use smt_terms::are_named;
 use smt_text::{Tree, Trees, Word, split_first};
 
 /// The command that a tree is (SMT-LIB 2.6, section 4.2). A tree that is none is refused: as `Unsupported` where it is a list that
@@ -22,7 +23,9 @@ pub fn read_command(tree: Tree) -> Result<Command, CommandFault>
     };
     match form_of(parts.as_slice())? {
         CommandForm::Logic => Ok(logic(parts)),
-        CommandForm::Declaration => Ok(declaration(parts)),
+        CommandForm::Constant => Ok(constant(parts)),
+        CommandForm::Function => Ok(function(parts)),
+        CommandForm::Definition => Ok(definition(parts)),
         CommandForm::Assertion => Ok(assertion(parts)),
         CommandForm::Check => Ok(Command::CheckSat),
         CommandForm::Model => Ok(Command::GetModel),
@@ -33,7 +36,9 @@ pub fn read_command(tree: Tree) -> Result<Command, CommandFault>
 #[derive(Clone, Copy)]
 enum CommandForm {
     Logic,
-    Declaration,
+    Constant,
+    Function,
+    Definition,
     Assertion,
     Check,
     Model,
@@ -49,7 +54,9 @@ fn form_of(parts: &[Tree]) -> Result<CommandForm, CommandFault>
     };
     match word {
         Word::SetLogic if is_symbol(rest) => Ok(CommandForm::Logic),
-        Word::DeclareConst if is_declared(rest) => Ok(CommandForm::Declaration),
+        Word::DeclareConst if is_constant(rest) => Ok(CommandForm::Constant),
+        Word::DeclareFun if is_function(rest) => Ok(CommandForm::Function),
+        Word::DefineFun if is_definition(rest) => Ok(CommandForm::Definition),
         Word::Assert if is_single(rest) => Ok(CommandForm::Assertion),
         Word::CheckSat if split_first(rest).is_none() => Ok(CommandForm::Check),
         Word::GetModel if split_first(rest).is_none() => Ok(CommandForm::Model),
@@ -68,10 +75,60 @@ fn is_symbol(trees: &[Tree]) -> bool
 }
 
 // Whether these are a symbol and one more tree.
-fn is_declared(trees: &[Tree]) -> bool
+fn is_constant(trees: &[Tree]) -> bool
     ensures { result ≡ are_symbol_and_tree (sexps_of trees.now) }
 {
     let Some((Tree::Symbol(_), rest)) = split_first(trees) else {
+        return false;
+    };
+    is_single(rest)
+}
+
+// Whether these are a symbol, a list and one more tree.
+fn is_function(trees: &[Tree]) -> bool
+    ensures { result ≡ are_symbol_list_and_tree (sexps_of trees.now) }
+{
+    let Some((Tree::Symbol(_), rest)) = split_first(trees) else {
+        return false;
+    };
+    is_list_and_single(rest)
+}
+
+// Whether these are a list and one more tree.
+fn is_list_and_single(trees: &[Tree]) -> bool
+    ensures { result ≡ are_list_and_tree (sexps_of trees.now) }
+{
+    let Some((Tree::List(_), rest)) = split_first(trees) else {
+        return false;
+    };
+    is_single(rest)
+}
+
+// Whether these are a symbol, a list of parameters and two more trees.
+fn is_definition(trees: &[Tree]) -> bool
+    ensures { result ≡ are_symbol_parameters_and_two (sexps_of trees.now) }
+{
+    let Some((Tree::Symbol(_), rest)) = split_first(trees) else {
+        return false;
+    };
+    is_parameters_and_two(rest)
+}
+
+// Whether these are a list of parameters and two more trees.
+fn is_parameters_and_two(trees: &[Tree]) -> bool
+    ensures { result ≡ are_parameters_and_two (sexps_of trees.now) }
+{
+    let Some((Tree::List(params), rest)) = split_first(trees) else {
+        return false;
+    };
+    are_named(params.as_slice()) && is_two(rest)
+}
+
+// Whether these are two trees.
+fn is_two(trees: &[Tree]) -> bool
+    ensures { result ≡ are_two_trees (sexps_of trees.now) }
+{
+    let Some((_, rest)) = split_first(trees) else {
         return false;
     };
     is_single(rest)
@@ -97,8 +154,8 @@ fn refused_word(word: Word) -> CommandFault
         Word::Exists | Word::Hexadecimal | Word::Forall | Word::Let | Word::Match =>
             CommandFault::Form,
         Word::Numeral | Word::Par | Word::String => CommandFault::Form,
-        Word::Assert | Word::CheckSat | Word::DeclareConst | Word::GetModel => CommandFault::Form,
-        Word::SetLogic => CommandFault::Form,
+        Word::Assert | Word::CheckSat | Word::DeclareConst | Word::DeclareFun => CommandFault::Form,
+        Word::DefineFun | Word::GetModel | Word::SetLogic => CommandFault::Form,
         _ => CommandFault::Unsupported,
     }
 }
@@ -115,15 +172,53 @@ fn logic(parts: Trees) -> Command
     }
 }
 
-// The declaration that a list is.
-fn declaration(parts: Trees) -> Command
-    requires { HasForm CommandForm.Declaration parts }
+// The declaration of a constant that a list is.
+fn constant(parts: Trees) -> Command
+    requires { HasForm CommandForm.Constant parts }
     ensures { commands.command_of (Items parts) ≡ Ok (command_view result) }
 {
     let mut items = parts.into_vec();
     let sort = pop_tree(&mut items);
     match pop_tree(&mut items) {
         Tree::Symbol(name) => Command::DeclareConst { name, sort },
+        _ => unreachable!(),
+    }
+}
+
+// The declaration of a function that a list is.
+fn function(parts: Trees) -> Command
+    requires { HasForm CommandForm.Function parts }
+    ensures { commands.command_of (Items parts) ≡ Ok (command_view result) }
+{
+    let mut items = parts.into_vec();
+    let sort = pop_tree(&mut items);
+    let Tree::List(params) = pop_tree(&mut items) else {
+        unreachable!();
+    };
+    match pop_tree(&mut items) {
+        Tree::Symbol(name) => Command::DeclareFun { name, params, sort },
+        _ => unreachable!(),
+    }
+}
+
+// The definition that a list is.
+fn definition(parts: Trees) -> Command
+    requires { HasForm CommandForm.Definition parts }
+    ensures { commands.command_of (Items parts) ≡ Ok (command_view result) }
+{
+    let mut items = parts.into_vec();
+    let body = pop_tree(&mut items);
+    let sort = pop_tree(&mut items);
+    let Tree::List(params) = pop_tree(&mut items) else {
+        unreachable!();
+    };
+    match pop_tree(&mut items) {
+        Tree::Symbol(name) => Command::DefineFun {
+            name,
+            params,
+            sort,
+            body,
+        },
         _ => unreachable!(),
     }
 }

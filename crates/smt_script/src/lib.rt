@@ -5,7 +5,7 @@
 //! that took effect a `Stack` holds exactly the theories, names and assertions that are in force, in order. So after
 //! `(set-logic QF_LIA)` as command 1, `(declare-const x Int)` as command 2 and `(assert (< x 1))` as command 3 it holds the theories
 //! Core and Ints, the name `x` and one assertion, of command 3, whose term is one of its `library`. Another `set-logic` is then
-//! refused, with `CommandFault::Logic`: a logic is set once, and before every declaration, assertion and check.
+//! refused, with `CommandFault::Logic`: a logic is set once, and before every declaration, definition, assertion and check.
 #![tactic(auto)]
 
 mod command;

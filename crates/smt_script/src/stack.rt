@@ -1,10 +1,11 @@
 //! The stack: what is in force after the commands that took effect.
 
 ghost use Rattle.std.specs.Prelude.{◌≡◌, ◌<◌, ◌++◌, ◌∷◌, ◌⊎◌, ℕ, List, [], None, Some, IfErr, OnOk, OnErr};
-ghost use Rattle.smt_text.specs.Tree.{sexp_of};
+ghost use Rattle.smt_text.specs.Tree.{sexp_of, sexps_of};
 ghost use Rattle.smt_theory.specs.Sort.{is_same_sort};
+ghost use Rattle.smt_terms.specs.Bindings.{named_trees};
 ghost use Rattle.smt_terms.specs.Library as terms;
-ghost use Rattle.smt_script.specs.Command.{SetLogic, DeclareConst, Assert};
+ghost use Rattle.smt_script.specs.Command.{SetLogic, DeclareConst, DeclareFun, DefineFun, Assert};
 ghost use Rattle.smt_script.specs.CommandView.{command_view};
 ghost use Rattle.smt_script.specs.Stack.{Numbered, assertions_in_force, fault_of_effect, signature_in_force};
 ghost use Rattle.smt_script.specs.Stack as stack;
@@ -15,7 +16,7 @@ ghost use Rattle.smt_script.specs.declared.fault.CommandFault.TheVariants.{Memor
 use crate::command::Command;
 use crate::fault::CommandFault;
 use smt_terms::laws::faults_are_no_memory;
-use smt_terms::{Library, TermFault, TermId};
+use smt_terms::{Library, TermFault, TermId, params_of};
 use smt_text::Tree;
 use smt_theory::{Sort, Theories, theories_of};
 use std::alloc::Global;
@@ -82,10 +83,13 @@ impl Stack {
     /// Applies a command that took effect, the one of this number; commands count from 1, and their numbers grow. Refused are a
     /// command whose effect has a fault, and want of memory; then what is in force stays as it is. The faults of effects are:
     ///
-    /// - `SetLogic`: `Logic` for a name that isn't taken, and after a command that set a logic, declared, asserted or checked
-    ///   (SMT-LIB 2.6, sections 4.1.1 and 4.2.1).
-    /// - `DeclareConst`: `Term` with `NotFresh` for a name that is in use or is a plain operator's, and with the fault of a tree
-    ///   that names no sort of the theories in force (section 4.2.3).
+    /// - `SetLogic`: `Logic` for a name that isn't taken, and after a command that set a logic, declared, defined, asserted or
+    ///   checked (SMT-LIB 2.6, sections 4.1.1 and 4.2.1).
+    /// - `DeclareConst`, `DeclareFun`: `Term` with `NotFresh` for a name that is in use or is a plain operator's, and with the fault of
+    ///   the first tree that names no sort of the theories in force (section 4.2.3).
+    /// - `DefineFun`: the same for its name; then, parameter by parameter, `Term` with the fault of the tree of its sort and with
+    ///   `BoundTwice` for a name that an earlier one has; then with the fault of the tree of the result's sort, with the first fault of
+    ///   the body, which sees the parameters and not the name, and with `IllSorted` for a body of another sort (section 4.2.3).
     /// - `Assert`: `Term` with the first fault of its term, and with `IllSorted` for a term that is no formula (section 4.2.5).
     ///
     /// `CheckSat` and `GetModel` have none.
@@ -113,7 +117,20 @@ impl Stack {
     {
         match command {
             Command::SetLogic { name } => self.set_logic(name.as_slice()),
-            Command::DeclareConst { name, sort } => self.declare(number, name.as_slice(), sort),
+            Command::DeclareConst { name, sort } => self.declare_const(
+                number,
+                name.as_slice(),
+                sort,
+            ),
+            Command::DeclareFun { name, params, sort } => {
+                self.declare_fun(number, name.as_slice(), params.as_slice(), sort)
+            }
+            Command::DefineFun {
+                name,
+                params,
+                sort,
+                body,
+            } => self.define(name.as_slice(), params.as_slice(), sort, body),
             Command::Assert { term } => self.assert(number, term),
             Command::CheckSat | Command::GetModel => Ok(()),
         }
@@ -135,13 +152,44 @@ impl Stack {
         Ok(())
     }
 
-    fn declare(&mut self, number: u64, name: &[u8], sort: &Tree) -> Result<(), CommandFault>
+    fn declare_const(&mut self, number: u64, name: &[u8], sort: &Tree) -> Result<(), CommandFault>
         ensures effect { OnOk result (HasEffect self.old self.new number (DeclareConst name.now (sexp_of sort.now))) }
         ensures refused { IfErr result (λ fault. IsRefused self.old number (DeclareConst name.now (sexp_of sort.now)) fault) }
         ensures unchanged { OnErr result (IsUnchanged self.old self.new) }
     {
         faults_are_no_memory();
         Ok(self.library.declare(number, name, &[], sort)?)
+    }
+
+    fn declare_fun(
+        &mut self,
+        number: u64,
+        name: &[u8],
+        params: &[Tree],
+        sort: &Tree,
+    ) -> Result<(), CommandFault>
+        ensures effect { OnOk result (HasEffect self.old self.new number (DeclareFun name.now (sexps_of params.now) (sexp_of sort.now))) }
+        ensures refused { IfErr result (λ fault. IsRefused self.old number (DeclareFun name.now (sexps_of params.now) (sexp_of sort.now)) fault) }
+        ensures unchanged { OnErr result (IsUnchanged self.old self.new) }
+    {
+        faults_are_no_memory();
+        Ok(self.library.declare(number, name, params, sort)?)
+    }
+
+    fn define(
+        &mut self,
+        name: &[u8],
+        params: &[Tree],
+        sort: &Tree,
+        body: &Tree,
+    ) -> Result<(), CommandFault>
+        ensures effect { OnOk result ((number : ℕ) → HasEffect self.old self.new number (DefineFun name.now (named_trees (sexps_of params.now)) (sexp_of sort.now) (sexp_of body.now))) }
+        ensures refused { IfErr result (λ fault. (number : ℕ) → IsRefused self.old number (DefineFun name.now (named_trees (sexps_of params.now)) (sexp_of sort.now) (sexp_of body.now)) fault) }
+        ensures unchanged { OnErr result (IsUnchanged self.old self.new) }
+    {
+        faults_are_no_memory();
+        let params = params_of(self.alloc, params)?;
+        Ok(self.library.define(name, params.as_slice(), sort, body)?)
     }
 
     fn assert(&mut self, number: u64, term: &Tree) -> Result<(), CommandFault>
@@ -166,6 +214,7 @@ fn fixes_logic(command: &Command) -> bool
 {
     match command {
         Command::SetLogic { .. } | Command::DeclareConst { .. } => true,
+        Command::DeclareFun { .. } | Command::DefineFun { .. } => true,
         Command::Assert { .. } | Command::CheckSat => true,
         Command::GetModel => false,
     }

@@ -24,8 +24,12 @@ const WITH_A_LOGIC: &str = "
     done (assert (< x 1))
     C7   (assert x)
     C7   (assert (< y 1))
+    done (declare-fun f (Int Bool) Int)
+    done (define-fun g ((y Int)) Int (f y (< x y)))
+    C7   (define-fun h ((y Int)) Bool (g y))
+    C7   (define-fun h () Int h)
     done (check-sat)
-    done (assert true)
+    done (assert (= (g 1) x))
 ";
 
 const WITHOUT_INTEGERS: &str = "
@@ -39,6 +43,10 @@ const WITHOUT_INTEGERS: &str = "
 const WITHOUT_A_LOGIC: &str = "
     C2   (push 1)
     C1   (assert)
+    C1   (declare-fun f Int)
+    C1   (declare-fun f () Int Int)
+    C1   (define-fun f ((x Int) y) Int x)
+    C1   (define-fun f ((x Int)) x)
     done (declare-const x Int)
     C5   (set-logic ALL)
     done (assert (< x 1))
@@ -93,8 +101,9 @@ fn answer_of(stack: &mut Stack, number: u64, tree: Tree) -> &'static [u8]
 #[test]
 fn with_a_logic(rt: HostRuntime) -> Result<(), Fail> {
     let stack = run(&rt, rt.alloc(), WITH_A_LOGIC)?;
-    assert_eq!(rt; stack.library().declared().len(), 1);
-    assert!(rt; matches!(stack.assertions(), [a, b] if a.command == 11 && b.command == 15));
+    assert_eq!(rt; stack.library().declared().len(), 2);
+    assert_eq!(rt; stack.library().definitions().len(), 1);
+    assert!(rt; matches!(stack.assertions(), [a, b] if a.command == 11 && b.command == 19));
     Ok(())
 }
 

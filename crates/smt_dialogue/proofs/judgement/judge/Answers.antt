@@ -1,13 +1,22 @@
-use Rattle.std.proofs.Common.{◌≡◌, Ok, ap, sym, ◌∙◌, subst}
+use Rattle.std.proofs.Common.{◌≡◌, ap, sym, ◌∙◌, subst}
 use Rattle.std.proofs.lemmas.Result.{IfOk-weaker}
 use Rattle.smt_script.specs.Stack.{assertions_in_force, signature_in_force}
 use Rattle.smt_script.specs.StackView.{AreAssertions}
-use Rattle.smt_dialogue.specs.Judgement.{judged_over, judgement_of}
+use Rattle.smt_dialogue.specs.Judgement.{judged_in, judgement_of}
 use Rattle.smt_dialogue.proofs.judgement.judge.Goals as goal
 
 pub returns-in-Ok : goal.returns-in-Ok
 returns-in-Ok c = λ commands stands.
+    let script = signature_in_force commands in
     let all = assertions_in_force commands in
-    let read = c.in-Ok.ensures (signature_in_force commands) (c.library-library.ensures.stands commands stands) in
+    let names = c.library-library.ensures.stands commands stands in
+    let read = c.in-Ok.ensures script names in
     let terms = subst (λ l. AreAssertions l c.assertions.result.now all) (sym c.library-library.ensures.view) (c.assertions.ensures commands stands) in
-    IfOk-weaker c.judge_assertions.result _ (λ j. j ≡ judgement_of (signature_in_force commands) all c.args.model.now) (λ j h. h ∙ ap (judged_over all) (sym read.1)) (c.judge_assertions.ensures read.0 all read.2 terms)
+    IfOk-weaker c.judge_assertions.result _ (λ j. j ≡ judgement_of script all c.args.model.now) (λ j h. h ∙ ap (judged_in script all) (sym read.1)) (c.judge_assertions.ensures script read.0 all names read.2 terms)
+
+pub judge_assertions-requires-clause-fits : goal.judge_assertions-requires-clause-fits
+judge_assertions-requires-clause-fits c =
+    let script = signature_in_force c.requires.0 in
+    let names = c.library-library.ensures.stands c.requires.0 c.requires.1 in
+    let read = c.in-Ok.ensures script names in
+    record { script = script; definitions = read.0; names = names; holds = read.2 }

@@ -4,8 +4,8 @@ use Rattle.smt_text.specs.Sexp.{Nil}
 use Rattle.smt_text.specs.Tree.{sexp_of}
 use Rattle.smt_terms.specs.Signature.{declared_in, names_of}
 use Rattle.smt_script.specs.Stack.{signature_in_force}
-use Rattle.smt_script.proofs.EffectLemmas.{declare_effect, refused_declaration, unchanged_by}
-use Rattle.smt_script.proofs.stack.Stack.declare.Goals as goal
+use Rattle.smt_script.proofs.EffectLemmas.{declare_const_effect, refused_entry, unchanged_by}
+use Rattle.smt_script.proofs.stack.Stack.declare_const.Goals as goal
 
 pub returns-in_err-declare-clause-refused : goal.returns-in_err-declare-clause-refused
 returns-in_err-declare-clause-refused c =
@@ -15,7 +15,7 @@ returns-in_err-declare-clause-refused c =
     rw p.1
     (λ cs h.
     let names = names_of (signature_in_force cs) in
-    refused_declaration (declared_in names c.args.number name Nil sort) c.in_err-declare.field-0.0 p.0
+    refused_entry (declared_in names c.args.number name Nil sort) c.in_err-declare.field-0.0 p.0
     (c.faults_are_no_memory.ensures.declarations names c.args.number name Nil sort) p.2 (c.in_err-declare.ensures.refused (signature_in_force cs) h.library))
 
 pub returns-in_err-declare-clause-unchanged : goal.returns-in_err-declare-clause-unchanged
@@ -25,4 +25,4 @@ returns-in_err-declare-clause-unchanged c =
 
 pub returns-clause-effect : goal.returns-clause-effect
 returns-clause-effect c =
-    declare_effect c.args.self.now c.declare.new.self c.args.number c.args.name.now (sexp_of c.args.sort.now) c.in_ok-declare.ensures.declared c.in_ok-declare.ensures.terms
+    declare_const_effect c.args.self.now c.declare.new.self c.args.number c.args.name.now (sexp_of c.args.sort.now) c.in_ok-declare.ensures.declared c.in_ok-declare.ensures.terms
