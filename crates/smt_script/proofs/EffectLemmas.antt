@@ -127,7 +127,7 @@ logic_effect old l theories name free named fresh n = record {
 }
 
 -- what is declared is what the command brings
-declared_is_brought : (taken : Bool) (x : List ℕ) (n : ℕ) (rank : Result Rank TermFault) (e : Entry) → cond taken (Err terms.NotFresh) (result_and_then rank (λ r. Ok (declaration x n r))) ≡ Ok e → declaration_or_none x n rank ≡ e ∷ []
+pub declared_is_brought : (taken : Bool) (x : List ℕ) (n : ℕ) (rank : Result Rank TermFault) (e : Entry) → cond taken (Err terms.NotFresh) (result_and_then rank (λ r. Ok (declaration x n r))) ≡ Ok e → declaration_or_none x n rank ≡ e ∷ []
 declared_is_brought true x n rank e h = cc
 declared_is_brought false x n (Ok r) e h = let same : declaration x n r ≡ e = cc in ap (λ (d : Entry). d ∷ []) same
 declared_is_brought false x n (Err fault) e h = cc
@@ -142,7 +142,7 @@ definition_made (Ok s) x ps sort body e h = by_test (is_same_sort s sort) h
     by_test true g = cc
     by_test false g = cc
 
-defined_is_brought : (taken : Bool) (names : Names) (x : List ℕ) (ps : Result (List (List ℕ × Sort)) TermFault) (sort : Result Sort TermFault) (body : Sexp) (e : Entry)
+pub defined_is_brought : (taken : Bool) (names : Names) (x : List ℕ) (ps : Result (List (List ℕ × Sort)) TermFault) (sort : Result Sort TermFault) (body : Sexp) (e : Entry)
     → cond taken (Err terms.NotFresh) (result_and_then ps (λ qs. result_and_then sort (λ s. definition_in names x qs s body))) ≡ Ok e → definition_or_none x body ps sort ≡ e ∷ []
 defined_is_brought true names x ps sort body e h = cc
 defined_is_brought false names x (Err fault) sort body e h = cc

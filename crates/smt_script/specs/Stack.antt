@@ -1,6 +1,6 @@
 -- SMT-LIB 2.6, sections 4.1.1, 4.1.4 and 4.2: what is in force after commands that took effect, and the fault of a command's effect.
 -- Commands count from 1.
-use Rattle.std.specs.Prelude.{ℕ, List, [], ◌∷◌, ◌++◌, Bool, true, false, not, ◌||◌, Option, Some, None, is_some, Result, Ok, Err, fold, if◌then◌else◌}
+use Rattle.std.specs.Prelude.{◌≡◌, ℕ, List, [], ◌∷◌, ◌++◌, Bool, true, false, not, ◌||◌, Option, Some, None, is_some, Result, Ok, Err, fold, if◌then◌else◌}
 use Rattle.std.specs.List.{flat_map, list_any}
 use Rattle.smt_text.specs.Sexp.{Sexp, Nil}
 use Rattle.smt_theory.specs.Sort.{is_same_sort}
@@ -133,6 +133,11 @@ fault_of_effect before n (DefineFun x parameters sort body) = fault_of_entry (de
 fault_of_effect before n (Assert term) = fault_of_formula (sort_in (names_of (signature_in_force before)) [] term)
 fault_of_effect before n CheckSat = None
 fault_of_effect before n GetModel = None
+
+-- no command's effect has a fault, behind those that come before
+abbrev pub HaveNoFault : List Numbered → List Numbered → Type 0
+HaveNoFault before [] = Unit {0}
+HaveNoFault before (c ∷ commands) = (fault_of_effect before c.number c.command ≡ None) × HaveNoFault (before ++ c ∷ []) commands
 
 -- the fault of a command that a fault of a term makes
 abbrev pub command_fault : TermFault → CommandFault

@@ -11,6 +11,7 @@
 mod command;
 mod fault;
 mod forms;
+pub mod laws;
 mod stack;
 #[cfg(test)]
 mod tests;
