@@ -6,6 +6,6 @@ pub mod EvaluatorLemmas
 pub mod PlaceLemmas
 pub mod DefinitionLemmas
 pub mod FoundLemmas
-pub mod ConstantLemmas
+pub mod ScopeLemmas
 pub mod ReadLemmas
 pub mod ModelFaultLemmas
