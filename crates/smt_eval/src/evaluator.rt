@@ -14,7 +14,10 @@ use crate::calls::{known_applied, known_of_operator, known_plain};
 use crate::definitions::Definitions;
 use crate::memory::Memory;
 use crate::scope::push_variable;
-use smt_terms::{TermFault, Variable, applied_identifier, find_variable, indexed_identifier, split_let, split_named};
+use smt_terms::{
+    TermFault, Variable, applied_identifier, find_variable, indexed_identifier, split_let,
+    split_named,
+};
 use smt_text::{Tree, Trees, Word, split_first};
 use smt_values::{Value, bin, hex, numeral};
 

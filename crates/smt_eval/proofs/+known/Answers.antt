@@ -1,9 +1,8 @@
-use Rattle.std.proofs.Common.{◌≡◌, ◌<◌, ◌++◌, [], Some, None, List, Option, length, map, slice_get, refl, ap, sym, ◌∙◌, subst, arith, MatchOption}
+use Rattle.std.proofs.Common.{◌<◌, [], None, length, map, refl, ap, sym, ◌∙◌, arith}
 use Rattle.std.proofs.lemmas.List.{get_or_default}
-use Rattle.std.specs.List.{zip}
-use Rattle.smt_text.specs.Sexp.{Sexp, Cons, Items, Reserved, weight}
+use Rattle.smt_text.specs.Sexp.{Cons, Items, Reserved}
 use Rattle.smt_text.specs.Tree.{sexp_of, sexps_of}
-use Rattle.smt_text.specs.declared.reserved.Word.TheVariants.{Bang, Let}
+use Rattle.smt_text.specs.declared.reserved.Word.TheVariants.{Bang}
 use Rattle.smt_theory.specs.Index.{index_view}
 use Rattle.smt_theory.specs.Operators.{op_by}
 use Rattle.smt_theory.specs.Words.{look_up}
@@ -11,10 +10,10 @@ use Rattle.smt_values.specs.Element.{known_element, known_elements}
 use Rattle.smt_terms.specs.Identifier.{Plain}
 use Rattle.smt_terms.specs.IdentifierView.{identifier_view}
 use Rattle.smt_terms.specs.ScopeView.{scope_view}
-use Rattle.smt_terms.specs.Signature.{Entry, Origin, Defined}
+use Rattle.smt_terms.specs.Signature.{Defined}
 use Rattle.smt_eval.specs.Internal.DefinitionValues.{first}
-use Rattle.smt_eval.specs.Internal.Evaluation.{bodies_of, bodies_weight, known_scope, meaning_over, seen_weight}
-use Rattle.smt_eval.specs.Known.{known_defined, known_in, known_of, known_of_op, known_operators, knowns_bound}
+use Rattle.smt_eval.specs.Internal.Evaluation.{bodies_of, known_scope, meaning_over}
+use Rattle.smt_eval.specs.Known.{known_defined, known_in, known_of, known_of_op}
 use Rattle.smt_eval.proofs.EvaluatorLemmas.{by_origin, defined_means, empty_list, not_reserved, earlier, if_known, indexed_known, kept, let_known, lighter, list_called, no_variable, not_defined, variable_found}
 use Rattle.smt_eval.proofs.PlaceLemmas.{all_counted, distinct_entries, theories_are}
 use Rattle.smt_eval.proofs.+known.Goals as goal
