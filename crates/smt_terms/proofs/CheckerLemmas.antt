@@ -1,26 +1,31 @@
 -- Sorts of lists, one step at a time.
-use Rattle.std.proofs.Common.{◌≡◌, ◌⊎◌, ℕ, Bool, true, false, cond, List, [], ◌∷◌, ◌++◌, Some, option_map, Result, Ok, Err, refl, sym, ap, ◌∙◌, append_assoc, inl, inr, MatchResult}
+use Rattle.std.proofs.Common.{◌≡◌, ◌⊎◌, ℕ, Bool, true, false, cond, List, [], ◌∷◌, ◌++◌, Option, Some, None, is_some, option_map, Result, Ok, Err, refl, sym, ap, ◌∙◌, append_assoc, inl, inr, MatchResult}
 use Rattle.std.specs.Str.{bytes_eq}
 use Rattle.smt_text.specs.Sexp.{Sexp, Sexps, Reserved, Items, Cons}
-use Rattle.smt_text.specs.declared.reserved.Word.TheVariants.{Underscore}
+use Rattle.smt_text.specs.declared.reserved.Word.TheVariants.{Bang, Let, Underscore}
 use Rattle.smt_theory.specs.Words.{look_up, result_and_then}
 use Rattle.smt_theory.specs.declared.sort.Sort.{Sort}
 use Rattle.smt_theory.specs.declared.theories.Theories.{Theories}
-use Rattle.smt_terms.specs.Checking.{is_underscore_tree, sort_in, sorts_in, sort_applied, sort_of_call}
+use Rattle.smt_terms.specs.Checking.{is_underscore_tree, sort_in, sorts_in, sort_applied, sort_of_call, sort_unless_variable}
 use Rattle.smt_terms.specs.Identifier.{Identifier, Plain, Indexed, applied, indexed}
+use Rattle.smt_terms.specs.Internal.Heads.{is_bang_tree, is_let_tree, names_variable}
 use Rattle.smt_terms.specs.Signature.{Entry, Names, entry_named, rank_of_entry, ranks_of}
 use Rattle.smt_terms.specs.SortTrees.{sorts_named}
 use Rattle.smt_terms.specs.declared.fault.TermFault.{TermFault}
-use Rattle.smt_terms.specs.declared.fault.TermFault.TheVariants.{Memory}
+use Rattle.smt_terms.specs.declared.fault.TermFault.TheVariants.{IllSorted, Memory}
+
+-- variables with their sorts
+abbrev pub Scope : Type 0
+Scope = List (List ℕ × Sort)
 
 -- the sorts of all are those that are done, and then those of the trees that are left
-abbrev pub sorts_behind : Names → List Sort → Sexps → Result (List Sort) TermFault
-sorts_behind names before left = result_and_then (sorts_in names [] left) (λ ss. Ok (before ++ ss))
+abbrev pub sorts_behind : Names → Scope → List Sort → Sexps → Result (List Sort) TermFault
+sorts_behind names scope before left = result_and_then (sorts_in names scope left) (λ ss. Ok (before ++ ss))
 
 -- one sort more
-pub sorts_behind-next : (names : Names) (before after : List Sort) (x : Sexp) (xs left : Sexps) (sort : Sort) → left ≡ Cons x xs → sort_in names [] x ≡ Ok sort → after ≡ before ++ sort ∷ []
-    → sorts_behind names before left ≡ sorts_behind names after xs
-sorts_behind-next names before after x xs left sort split is more = rw (split, is, more) (by (sorts_in names [] xs))
+pub sorts_behind-next : (names : Names) (scope : Scope) (before after : List Sort) (x : Sexp) (xs left : Sexps) (sort : Sort) → left ≡ Cons x xs → sort_in names scope x ≡ Ok sort → after ≡ before ++ sort ∷ []
+    → sorts_behind names scope before left ≡ sorts_behind names scope after xs
+sorts_behind-next names scope before after x xs left sort split is more = rw (split, is, more) (by (sorts_in names scope xs))
   where
     by : (r : Result (List Sort) TermFault) → result_and_then (result_and_then r (λ ss. Ok (sort ∷ ss))) (λ ss. Ok (before ++ ss)) ≡ result_and_then r (λ ss. Ok ((before ++ sort ∷ []) ++ ss))
     by (Ok ss) = ap Ok (sym (append_assoc before (sort ∷ []) ss))
@@ -44,52 +49,88 @@ pub underscore_head : (head : Sexp) → is_underscore_tree head ≡ true → hea
 underscore_head (Reserved Underscore) h = refl
 underscore_head _ h = cc
 
--- a list with another head applies an identifier, or is out of form
-pub other_head : (names : Names) (head : Sexp) (args : Sexps) → is_underscore_tree head ≡ false
-    → sort_in names [] (Items (Cons head args)) ≡ result_and_then (applied head args) (λ f. result_and_then (sorts_in names [] args) (λ ss. sort_of_call names [] f ss))
-other_head names (Reserved Underscore) args h = cc
-other_head names _ args h = refl
+-- so is one that is `let`, and one that is `!`
+pub let_head : (head : Sexp) → is_let_tree head ≡ true → head ≡ Reserved Let
+let_head (Reserved Let) h = refl
+let_head _ h = cc
 
--- without variables a call is an application
-pub call_without_variables : (names : Names) (f : Identifier) (ss : List Sort) → sort_of_call names [] f ss ≡ sort_applied names f ss
-call_without_variables names (Plain f) ss = refl
-call_without_variables names (Indexed f is) ss = refl
+pub bang_head : (head : Sexp) → is_bang_tree head ≡ true → head ≡ Reserved Bang
+bang_head (Reserved Bang) h = refl
+bang_head _ h = cc
+
+-- a head that is none of these
+pub record IsPlainHead (head : Sexp) : Type 0 where
+  pub no_index : is_underscore_tree head ≡ false
+  pub no_let : is_let_tree head ≡ false
+  pub no_bang : is_bang_tree head ≡ false
+
+-- a list with another head applies an identifier, or is out of form
+pub other_head : (names : Names) (scope : Scope) (head : Sexp) (args : Sexps) → is_underscore_tree head ≡ false → is_let_tree head ≡ false → is_bang_tree head ≡ false
+    → sort_in names scope (Items (Cons head args)) ≡ result_and_then (applied head args) (λ f. result_and_then (sorts_in names scope args) (λ ss. sort_of_call names scope f ss))
+other_head names scope (Reserved Underscore) args h i j = cc
+other_head names scope (Reserved Let) args h i j = cc
+other_head names scope (Reserved Bang) args h i j = cc
+other_head names scope _ args h i j = refl
+
+-- a call of a variable is ill sorted
+pub call_of_variable : (names : Names) (scope : Scope) (f : Identifier) (ss : List Sort) → names_variable scope f ≡ true → sort_of_call names scope f ss ≡ Err IllSorted
+call_of_variable names scope (Plain f) ss h = by (look_up scope f) h
+  where
+    by : (o : Option Sort) → is_some o ≡ true → sort_unless_variable o (sort_applied names (Plain f) ss) ≡ Err IllSorted
+    by None g = cc
+    by (Some sort) g = refl
+call_of_variable names scope (Indexed f is) ss h = cc
+
+-- and one of another identifier is an application
+pub call_of_name : (names : Names) (scope : Scope) (f : Identifier) (ss : List Sort) → names_variable scope f ≡ false → sort_of_call names scope f ss ≡ sort_applied names f ss
+call_of_name names scope (Plain f) ss h = by (look_up scope f) h
+  where
+    by : (o : Option Sort) → is_some o ≡ false → sort_unless_variable o (sort_applied names (Plain f) ss) ≡ sort_applied names (Plain f) ss
+    by None g = refl
+    by (Some sort) g = cc
+call_of_name names scope (Indexed f is) ss h = refl
 
 -- the sort of a list of parts, where its identifier and the sorts of its arguments are known
-pub applied_ok : (names : Names) (head : Sexp) (args parts : Sexps) (f : Identifier) (ss : List Sort) → parts ≡ Cons head args → is_underscore_tree head ≡ false → applied head args ≡ Ok f → sorts_in names [] args ≡ Ok ss
-    → sort_in names [] (Items parts) ≡ sort_applied names f ss
-applied_ok names head args parts f ss split other is done =
-    ap (λ ps. sort_in names [] (Items ps)) split ∙ other_head names head args other
-    ∙ ap (λ r. result_and_then r (λ g. result_and_then (sorts_in names [] args) (λ ts. sort_of_call names [] g ts))) is
-    ∙ ap (λ r. result_and_then r (λ ts. sort_of_call names [] f ts)) done ∙ call_without_variables names f ss
+pub applied_ok : (names : Names) (scope : Scope) (head : Sexp) (args parts : Sexps) (f : Identifier) (ss : List Sort) → parts ≡ Cons head args → IsPlainHead head → applied head args ≡ Ok f → sorts_in names scope args ≡ Ok ss
+    → sort_in names scope (Items parts) ≡ sort_of_call names scope f ss
+applied_ok names scope head args parts f ss split other is done =
+    ap (λ ps. sort_in names scope (Items ps)) split ∙ other_head names scope head args other.no_index other.no_let other.no_bang
+    ∙ ap (λ r. result_and_then r (λ g. result_and_then (sorts_in names scope args) (λ ts. sort_of_call names scope g ts))) is
+    ∙ ap (λ r. result_and_then r (λ ts. sort_of_call names scope f ts)) done
 
 -- a fault of the form is the list's
-pub fault_of_form : (names : Names) (head : Sexp) (args parts : Sexps) (e : TermFault) → parts ≡ Cons head args → is_underscore_tree head ≡ false → (e ≡ Memory) ⊎ (applied head args ≡ Err e)
-    → (e ≡ Memory) ⊎ (sort_in names [] (Items parts) ≡ Err e)
-fault_of_form names head args parts e split other (inl m) = inl m
-fault_of_form names head args parts e split other (inr is) =
-    inr (ap (λ ps. sort_in names [] (Items ps)) split ∙ other_head names head args other ∙ ap (λ r. result_and_then r (λ g. result_and_then (sorts_in names [] args) (λ ts. sort_of_call names [] g ts))) is)
+pub fault_of_form : (names : Names) (scope : Scope) (head : Sexp) (args parts : Sexps) (e : TermFault) → parts ≡ Cons head args → IsPlainHead head → (e ≡ Memory) ⊎ (applied head args ≡ Err e)
+    → (e ≡ Memory) ⊎ (sort_in names scope (Items parts) ≡ Err e)
+fault_of_form names scope head args parts e split other (inl m) = inl m
+fault_of_form names scope head args parts e split other (inr is) =
+    inr (ap (λ ps. sort_in names scope (Items ps)) split ∙ other_head names scope head args other.no_index other.no_let other.no_bang ∙ ap (λ r. result_and_then r (λ g. result_and_then (sorts_in names scope args) (λ ts. sort_of_call names scope g ts))) is)
 
 -- and one of the arguments
-pub fault_of_args : (names : Names) (head : Sexp) (args parts : Sexps) (f : Identifier) (e : TermFault) → parts ≡ Cons head args → is_underscore_tree head ≡ false → applied head args ≡ Ok f
-    → (e ≡ Memory) ⊎ (sorts_in names [] args ≡ Err e) → (e ≡ Memory) ⊎ (sort_in names [] (Items parts) ≡ Err e)
-fault_of_args names head args parts f e split other is (inl m) = inl m
-fault_of_args names head args parts f e split other is (inr done) =
-    inr (ap (λ ps. sort_in names [] (Items ps)) split ∙ other_head names head args other
-    ∙ ap (λ r. result_and_then r (λ g. result_and_then (sorts_in names [] args) (λ ts. sort_of_call names [] g ts))) is
-    ∙ ap (λ r. result_and_then r (λ ts. sort_of_call names [] f ts)) done)
+pub fault_of_args : (names : Names) (scope : Scope) (head : Sexp) (args parts : Sexps) (f : Identifier) (e : TermFault) → parts ≡ Cons head args → IsPlainHead head → applied head args ≡ Ok f
+    → (e ≡ Memory) ⊎ (sorts_in names scope args ≡ Err e) → (e ≡ Memory) ⊎ (sort_in names scope (Items parts) ≡ Err e)
+fault_of_args names scope head args parts f e split other is (inl m) = inl m
+fault_of_args names scope head args parts f e split other is (inr done) =
+    inr (ap (λ ps. sort_in names scope (Items ps)) split ∙ other_head names scope head args other.no_index other.no_let other.no_bang
+    ∙ ap (λ r. result_and_then r (λ g. result_and_then (sorts_in names scope args) (λ ts. sort_of_call names scope g ts))) is
+    ∙ ap (λ r. result_and_then r (λ ts. sort_of_call names scope f ts)) done)
 
 -- the sort of an identifier with indexes alone
-pub indexed_ok : (names : Names) (head : Sexp) (args parts : Sexps) (f : Identifier) → parts ≡ Cons head args → is_underscore_tree head ≡ true → indexed args ≡ Ok f → sort_in names [] (Items parts) ≡ sort_applied names f []
-indexed_ok names head args parts f split is_head is =
-    ap (λ ps. sort_in names [] (Items ps)) (split ∙ ap (λ h. Cons h args) (underscore_head head is_head)) ∙ ap (λ r. result_and_then r (λ g. sort_applied names g [])) is
+pub indexed_ok : (names : Names) (scope : Scope) (head : Sexp) (args parts : Sexps) (f : Identifier) → parts ≡ Cons head args → is_underscore_tree head ≡ true → indexed args ≡ Ok f → sort_in names scope (Items parts) ≡ sort_applied names f []
+indexed_ok names scope head args parts f split is_head is =
+    ap (λ ps. sort_in names scope (Items ps)) (split ∙ ap (λ h. Cons h args) (underscore_head head is_head)) ∙ ap (λ r. result_and_then r (λ g. sort_applied names g [])) is
 
-pub fault_of_indexed : (names : Names) (head : Sexp) (args parts : Sexps) (e : TermFault) → parts ≡ Cons head args → is_underscore_tree head ≡ true → (e ≡ Memory) ⊎ (indexed args ≡ Err e) → (e ≡ Memory) ⊎ (sort_in names [] (Items parts) ≡ Err e)
-fault_of_indexed names head args parts e split is_head (inl m) = inl m
-fault_of_indexed names head args parts e split is_head (inr is) =
-    inr (ap (λ ps. sort_in names [] (Items ps)) (split ∙ ap (λ h. Cons h args) (underscore_head head is_head)) ∙ ap (λ r. result_and_then r (λ g. sort_applied names g [])) is)
+pub fault_of_indexed : (names : Names) (scope : Scope) (head : Sexp) (args parts : Sexps) (e : TermFault) → parts ≡ Cons head args → is_underscore_tree head ≡ true → (e ≡ Memory) ⊎ (indexed args ≡ Err e) → (e ≡ Memory) ⊎ (sort_in names scope (Items parts) ≡ Err e)
+fault_of_indexed names scope head args parts e split is_head (inl m) = inl m
+fault_of_indexed names scope head args parts e split is_head (inr is) =
+    inr (ap (λ ps. sort_in names scope (Items ps)) (split ∙ ap (λ h. Cons h args) (underscore_head head is_head)) ∙ ap (λ r. result_and_then r (λ g. sort_applied names g [])) is)
 
 -- what a result says of an answer that it is
 pub told : {A : Type 0} (r s : Result A TermFault) → s ≡ r → MatchResult r (λ v. s ≡ Ok v) (λ f. (f ≡ Memory) ⊎ (s ≡ Err f))
 told (Ok v) s e = e
 told (Err f) s e = inr e
+
+-- and of one that is the same
+pub carried : {A : Type 0} (r s t : Result A TermFault) → t ≡ s → MatchResult r (λ v. s ≡ Ok v) (λ f. (f ≡ Memory) ⊎ (s ≡ Err f)) → MatchResult r (λ v. t ≡ Ok v) (λ f. (f ≡ Memory) ⊎ (t ≡ Err f))
+carried (Ok v) s t e h = e ∙ h
+carried (Err f) s t e (inl m) = inl m
+carried (Err f) s t e (inr h) = inr (e ∙ h)

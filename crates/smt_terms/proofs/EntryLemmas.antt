@@ -1,5 +1,5 @@
 -- Entries by name and by place. Proofs of the crates above cite these too.
-use Rattle.std.proofs.Common.{◌≡◌, ℕ, zero, suc, ◌≤◌, true, false, cond, List, [], ◌∷◌, take, slice_get, Option, Some, None, refl, ap, sym, ◌∙◌, arith}
+use Rattle.std.proofs.Common.{◌≡◌, ℕ, zero, suc, ◌≤◌, true, false, cond, List, [], ◌∷◌, ◌++◌, take, slice_get, Option, Some, None, refl, ap, sym, ◌∙◌, arith}
 use Rattle.std.specs.Str.{bytes_eq}
 use Rattle.smt_terms.proofs.NameLemmas.{none_step, same_flip}
 use Rattle.smt_terms.specs.Signature.{Entry, Rank, entry_named, ranks_of, AreDistinct}
@@ -35,6 +35,20 @@ none_before (c ∷ es) p e zero d at h = refl
 none_before (c ∷ es) zero e (suc n) d at h = absurd (omega arith)
 none_before (c ∷ es) (suc p) e (suc n) d at h =
     entry_named-skip c (take n es) e.name (same_flip c.name e.name (other_at es c.name p e d.0 at)) ∙ none_before es p e n d.1 at (omega arith)
+
+-- a name that is in no place is in none where an entry of another name comes behind all
+entry_named-push : (es : List Entry) (e : Entry) (x : List ℕ) → entry_named es x ≡ None → bytes_eq x e.name ≡ false → entry_named (es ++ e ∷ []) x ≡ None
+entry_named-push [] e x none other = entry_named-skip e [] x other
+entry_named-push (y ∷ es) e x none other =
+    let p = none_step (bytes_eq x y.name) y (entry_named es x) none in
+    entry_named-skip y (es ++ e ∷ []) x p.0 ∙ entry_named-push es e x p.1 other
+
+-- with an entry of a new name behind all, no name stands twice
+pub distinct-push : (es : List Entry) (e : Entry) → AreDistinct es → entry_named es e.name ≡ None → AreDistinct (es ++ e ∷ [])
+distinct-push [] e d none = (refl, tt)
+distinct-push (y ∷ es) e d none =
+    let p = none_step (bytes_eq e.name y.name) y (entry_named es e.name) none in
+    (entry_named-push es e y.name d.0 (same_flip e.name y.name p.0), distinct-push es e d.1 p.1)
 
 abbrev name_or : Option (List ℕ × Rank) → List ℕ
 name_or None = []

@@ -1,5 +1,5 @@
 -- Items, one step at a time.
-use Rattle.std.proofs.Common.{◌≡◌, ℕ, Bool, true, cond, not, ◌&&◌, List, [], Option, Some, None, is_some, option_map, Ok, Err, refl, ap, sym, ◌∙◌}
+use Rattle.std.proofs.Common.{◌≡◌, ℕ, Bool, true, cond, not, ◌&&◌, List, [], map, Option, Some, None, is_some, option_map, Result, Ok, Err, refl, ap, sym, ◌∙◌}
 use Rattle.std.specs.Option.{option_and_then}
 use Rattle.smt_text.specs.Sexp.{Sexp}
 use Rattle.smt_theory.specs.Ranks.{are_exactly}
@@ -7,13 +7,14 @@ use Rattle.smt_theory.specs.Sort.{is_same_sort}
 use Rattle.smt_theory.specs.Words.{look_up, result_and_then}
 use Rattle.smt_theory.specs.declared.sort.Sort.{Sort}
 use Rattle.smt_theory.specs.declared.theories.Theories.{Theories}
-use Rattle.smt_terms.specs.Checking.{sort_in}
+use Rattle.smt_terms.specs.Definitions.{definition_in, parameters_named}
 use Rattle.smt_terms.specs.Internal.LibraryView.{names_of_library, ranks_of_library}
-use Rattle.smt_terms.specs.Items.{ItemForm, declared_named, defined_as, definition, form_in, has_rank_of, if_declared, item_form, item_in, items_before, name_fault, unless, without_parameters}
+use Rattle.smt_terms.specs.Items.{ItemForm, declared_named, defined_as, form_in, has_rank_of, if_declared, item_form, item_in, items_before, name_fault, unless}
 use Rattle.smt_terms.specs.Library.{HasTheoriesOf, StandsFor, is_declared, places_from}
 use Rattle.smt_terms.specs.Signature as signature
 use Rattle.smt_terms.specs.Signature.{Entry, Names, Origin, Rank, Signature, entry_named, is_taken, names_of, rank_of_entry, ranks_of}
 use Rattle.smt_terms.specs.SortTrees.{sort_named}
+use Rattle.smt_terms.specs.declared.fault.TermFault.{TermFault}
 use Rattle.smt_terms.specs.declared.fault.TermFault.TheVariants.{BoundTwice, IllSorted, NotFresh}
 use Rattle.smt_terms.specs.declared.library.Found.{Found}
 use Rattle.smt_terms.specs.declared.library.Library.{Library}
@@ -26,10 +27,9 @@ pub names_as : (library : Library) (s : Signature) → StandsFor library s → n
 names_as library s stands =
     ap (λ (t : Theories). record { theories = t; ranks = ranks_of_library library }) stands.theories ∙ ap (λ (rs : List (List ℕ × Rank)). record { theories = s.theories; ranks = rs }) stands.ranks
 
--- those of a model's library are the ones that a body sees
-pub names_before : (library script : Library) (s m : Signature) → HasTheoriesOf library script → StandsFor script s → StandsFor library m → names_of_library library ≡ names_of (items_before s m.entries)
-names_before library script s m same stands items =
-    ap (λ (t : Theories). record { theories = t; ranks = ranks_of_library library }) (same ∙ stands.theories) ∙ ap (λ (rs : List (List ℕ × Rank)). record { theories = s.theories; ranks = rs }) items.ranks
+-- those of what a model's library stands for are the ones that a body sees
+pub names_before : (library script : Library) (s m : Signature) → HasTheoriesOf library script → StandsFor script s → StandsFor library m → names_of m ≡ names_of (items_before s m.entries)
+names_before library script s m same stands items = ap (λ (t : Theories). record { theories = t; ranks = ranks_of m.entries }) (sym items.theories ∙ same ∙ stands.theories)
 
 -- whether a name has an entry
 pub is_named : (es : List Entry) (x : List ℕ) → is_some (entry_named es x) ≡ is_some (look_up (ranks_of es) x)
@@ -57,26 +57,49 @@ declared_at es x f r place rank = by (entry_named es x) (ap (option_map is_decla
     by None h g = cc
     by (Some e) h g = by_origin e e.origin (cc) g
 
--- whether a rank is that of a constant of this sort
-abbrev pub is_constant_of : Option Rank → Sort → Bool
-is_constant_of None sort = true
-is_constant_of (Some r) sort = are_exactly r.parameters [] && is_same_sort r.sort sort
+-- whether a rank, if there is one, has these sorts
+abbrev pub is_rank_of : Option Rank → List Sort → Sort → Bool
+is_rank_of None ps sort = true
+is_rank_of (Some r) ps sort = are_exactly r.parameters ps && is_same_sort r.sort sort
 
 -- a declared name keeps its rank
-pub keeps : (o : Option Entry) (r : Option Rank) (sort : Sort) → r ≡ option_map rank_of_entry o → is_constant_of r sort ≡ has_rank_of o [] sort
-keeps None r sort h = ap (λ o. is_constant_of o sort) h
-keeps (Some e) r sort h = ap (λ o. is_constant_of o sort) h
+pub keeps : (o : Option Entry) (r : Option Rank) (ps : List Sort) (sort : Sort) → r ≡ option_map rank_of_entry o → is_rank_of r ps sort ≡ has_rank_of o ps sort
+keeps None r ps sort h = ap (λ o. is_rank_of o ps sort) h
+keeps (Some e) r ps sort h = ap (λ o. is_rank_of o ps sort) h
 
--- an item without a fault defines a constant
-pub defined : (s : Signature) (es : List Entry) (t : Sexp) (form : ItemForm) (sort found : Sort) → item_form t ≡ Ok form → name_fault s es form.name ≡ None
-    → without_parameters form.parameters (sort_named s.theories form.sort) ≡ Ok sort → has_rank_of (declared_named s.entries form.name) [] sort ≡ true → sort_in (names_of (items_before s es)) [] form.body ≡ Ok found
-    → is_same_sort found sort ≡ true → item_in s es t ≡ Ok (definition form.name sort form.body)
-defined s es t form sort found is_form free sorted kept checked same =
-    ap (λ r. result_and_then r (λ f. form_in s es f)) is_form ∙ ap (λ o. unless o (result_and_then (without_parameters form.parameters (sort_named s.theories form.sort)) (λ z. defined_as s es form z))) free
-    ∙ ap (λ r. result_and_then r (λ z. defined_as s es form z)) sorted
-    ∙ ap (λ b. cond (not b) (Err IllSorted) (result_and_then (sort_in (names_of (items_before s es)) [] form.body) (λ z. cond (is_same_sort z sort) (Ok (definition form.name sort form.body)) (Err IllSorted)))) kept
-    ∙ ap (λ r. result_and_then r (λ z. cond (is_same_sort z sort) (Ok (definition form.name sort form.body)) (Err IllSorted))) checked
-    ∙ ap (λ b. cond b (Ok (definition form.name sort form.body)) (Err IllSorted)) same
+-- parameters with their sorts
+abbrev pub Params : Type 0
+Params = List (List ℕ × Sort)
+
+-- what is defined by parts with a name that is fit
+abbrev pub item_behind : Signature → List Entry → ItemForm → Result Entry TermFault
+item_behind s es form = result_and_then (parameters_named s.theories [] form.parameters) (λ ps. result_and_then (sort_named s.theories form.sort) (λ sort. defined_as s es form ps sort))
+
+pub item_named : (s : Signature) (es : List Entry) (t : Sexp) (form : ItemForm) → item_form t ≡ Ok form → name_fault s es form.name ≡ None → item_in s es t ≡ item_behind s es form
+item_named s es t form is free = ap (λ r. result_and_then r (λ f. form_in s es f)) is ∙ ap (λ o. unless o (item_behind s es form)) free
+
+-- with parameters that have sorts
+pub item_bound : (s : Signature) (es : List Entry) (t : Sexp) (form : ItemForm) (ps : Params) → item_form t ≡ Ok form → name_fault s es form.name ≡ None → parameters_named s.theories [] form.parameters ≡ Ok ps
+    → item_in s es t ≡ result_and_then (sort_named s.theories form.sort) (λ sort. defined_as s es form ps sort)
+item_bound s es t form ps is free bound =
+    item_named s es t form is free ∙ ap (λ r. result_and_then r (λ qs. result_and_then (sort_named s.theories form.sort) (λ sort. defined_as s es form qs sort))) bound
+
+-- with a sort, and by whether it keeps the rank of its declaration
+pub item_ranked : (s : Signature) (es : List Entry) (t : Sexp) (form : ItemForm) (ps : Params) (sort : Sort) (b : Bool) → item_form t ≡ Ok form → name_fault s es form.name ≡ None → parameters_named s.theories [] form.parameters ≡ Ok ps
+    → sort_named s.theories form.sort ≡ Ok sort → has_rank_of (declared_named s.entries form.name) (map (λ p. p.1) ps) sort ≡ b
+    → item_in s es t ≡ cond (not b) (Err IllSorted) (definition_in (names_of (items_before s es)) form.name ps sort form.body)
+item_ranked s es t form ps sort b is free bound sorted kept =
+    item_bound s es t form ps is free bound ∙ ap (λ r. result_and_then r (λ z. defined_as s es form ps z)) sorted
+    ∙ ap (λ c. cond (not c) (Err IllSorted) (definition_in (names_of (items_before s es)) form.name ps sort form.body)) kept
+
+-- what an item defines, where its name is fit, its sorts are known and it keeps the rank of its declaration
+pub item_step : (library script : Library) (s m : Signature) (t : Sexp) (form : ItemForm) (ps qs rs : Params) (sort : Sort) (b : Bool) → HasTheoriesOf library script → StandsFor script s → StandsFor library m → item_form t ≡ Ok form
+    → name_fault s m.entries form.name ≡ None → parameters_named script.theories [] form.parameters ≡ Ok ps → Ok sort ≡ sort_named script.theories form.sort → b ≡ has_rank_of (declared_named s.entries form.name) (map (λ p. p.1) qs) sort → b ≡ true
+    → qs ≡ ps → rs ≡ ps → item_in s m.entries t ≡ definition_in (names_of m) form.name rs sort form.body
+item_step library script s m t form ps qs rs sort b same stands items is free bound sorted kept true_ first second =
+    item_ranked s m.entries t form ps sort true is free (ap (λ theories. parameters_named theories [] form.parameters) (sym stands.theories) ∙ bound) (ap (λ theories. sort_named theories form.sort) (sym stands.theories) ∙ sym sorted)
+    (ap (λ (vs : Params). has_rank_of (declared_named s.entries form.name) (map (λ p. p.1) vs) sort) (sym first) ∙ sym kept ∙ true_)
+    ∙ ap (λ names. definition_in names form.name ps sort form.body) (sym (names_before library script s m same stands items)) ∙ ap (λ (vs : Params). definition_in (names_of m) form.name vs sort form.body) (sym second)
 
 -- a name that a library holds is a name of what it stands for
 pub in_force : (library : Library) (m : Signature) (x : List ℕ) (b c : Bool) → StandsFor library m → b ≡ is_some (look_up (names_of_library library).ranks x) → b ≡ c → is_some (entry_named m.entries x) ≡ c

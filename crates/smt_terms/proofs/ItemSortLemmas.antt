@@ -1,5 +1,5 @@
 -- What an item defines is well sorted, new among the items, and of the rank with which its name is declared.
-use Rattle.std.proofs.Common.{◌≡◌, ℕ, Bool, true, false, cond, not, ◌&&◌, List, [], Option, Some, None, is_some, Result, Ok, Err, refl, ap, sym, ◌∙◌, subst}
+use Rattle.std.proofs.Common.{◌≡◌, ℕ, Bool, true, false, cond, not, ◌&&◌, List, [], map, Option, Some, None, is_some, Result, Ok, Err, refl, ap, sym, ◌∙◌, subst}
 use Rattle.std.proofs.lemmas.Slice.Eq.{slice_eq-Decides}
 use Rattle.smt_text.specs.Sexp.{Sexp}
 use Rattle.smt_theory.specs.Ranks.{are_exactly}
@@ -7,13 +7,14 @@ use Rattle.smt_theory.specs.Sort.{is_same_sort}
 use Rattle.smt_theory.specs.Words.{result_and_then}
 use Rattle.smt_theory.specs.declared.sort.Sort.{Sort}
 use Rattle.smt_theory.proofs.RankLemmas.{is_same_sort-Decides}
-use Rattle.smt_terms.specs.Checking.{sort_in}
-use Rattle.smt_terms.specs.Items.{ItemForm, declared_named, defined_as, definition, form_in, has_rank_of, item_form, item_in, items_before, name_fault, unless, without_parameters}
+use Rattle.smt_terms.specs.Definitions.{definition, definition_in, parameters_named}
+use Rattle.smt_terms.specs.Items.{ItemForm, declared_named, defined_as, form_in, has_rank_of, item_form, item_in, items_before, name_fault, unless}
 use Rattle.smt_terms.specs.Signature.{Entry, KeepsRank, Signature, entry_named, is_taken, names_of}
 use Rattle.smt_terms.specs.SortTrees.{sort_named}
-use Rattle.smt_terms.specs.WellSorted.{IsWellSorted}
+use Rattle.smt_terms.specs.WellSorted.{AreDifferent, IsWellSorted}
 use Rattle.smt_terms.specs.declared.fault.TermFault.{TermFault}
 use Rattle.smt_terms.specs.declared.fault.TermFault.TheVariants.{BoundTwice, IllSorted, NotFresh}
+use Rattle.smt_terms.proofs.DefinitionSortLemmas.{different, well_sorted}
 
 -- whether no new thing may have the name, and it is not declared
 abbrev pub is_unfit : Signature → List ℕ → Bool
@@ -36,33 +37,34 @@ no_fault script earlier x h = by (entry_named earlier x) (is_unfit script x) h
     by (Some e) b h = cc
 
 -- what is defined as an item is one
-IsItem-definition : (script : Signature) (earlier : List Entry) (form : ItemForm) (sort : Sort) (e : Entry) → entry_named earlier form.name ≡ None → is_unfit script form.name ≡ false → defined_as script earlier form sort ≡ Ok e
-    → IsItem script earlier e
-IsItem-definition script earlier form sort e fresh fit h =
-    by (has_rank_of (declared_named script.entries form.name) [] sort) refl (sort_in (names_of (items_before script earlier)) [] form.body) refl h
+IsItem-definition : (script : Signature) (earlier : List Entry) (form : ItemForm) (ps : List (List ℕ × Sort)) (sort : Sort) (e : Entry) → entry_named earlier form.name ≡ None → is_unfit script form.name ≡ false → AreDifferent (map (λ p. p.0) ps)
+    → defined_as script earlier form ps sort ≡ Ok e → IsItem script earlier e
+IsItem-definition script earlier form ps sort e fresh fit different h = by (has_rank_of (declared_named script.entries form.name) (map (λ p. p.1) ps) sort) refl h
   where
-    made : definition form.name sort form.body ≡ e → has_rank_of (declared_named script.entries form.name) [] sort ≡ true → sort_in (names_of (items_before script earlier)) [] form.body ≡ Ok sort → IsItem script earlier e
-    made is ranked sorted = subst (IsItem script earlier) is (record { fresh = fresh; fit = fit; sorted = record { counted = refl; different = tt; sorted = sorted }; ranked = ranked })
+    made : has_rank_of (declared_named script.entries form.name) (map (λ p. p.1) ps) sort ≡ true → (definition form.name ps sort form.body ≡ e) × IsWellSorted script.theories earlier e → IsItem script earlier e
+    made ranked p = record {
+      fresh = subst (λ (d : Entry). entry_named earlier d.name ≡ None) p.0 fresh;
+      fit = subst (λ (d : Entry). is_unfit script d.name ≡ false) p.0 fit;
+      sorted = p.1;
+      ranked = subst (λ (d : Entry). has_rank_of (declared_named script.entries d.name) d.parameters d.sort ≡ true) p.0 ranked;
+    }
 
-    found_by : (found : Sort) (b : Bool) → is_same_sort found sort ≡ b → has_rank_of (declared_named script.entries form.name) [] sort ≡ true → sort_in (names_of (items_before script earlier)) [] form.body ≡ Ok found
-        → cond b (Ok (definition form.name sort form.body)) (Err IllSorted) ≡ Ok e → IsItem script earlier e
-    found_by found true same ranked sorted h = made (cc) ranked (sorted ∙ ap (λ (s : Sort). Ok s) ((is_same_sort-Decides found sort).0 same))
-    found_by found false same ranked sorted h = cc
-
-    by : (b : Bool) → has_rank_of (declared_named script.entries form.name) [] sort ≡ b → (r : Result Sort TermFault) → sort_in (names_of (items_before script earlier)) [] form.body ≡ r
-        → cond (not b) (Err IllSorted) (result_and_then r (λ found. cond (is_same_sort found sort) (Ok (definition form.name sort form.body)) (Err IllSorted))) ≡ Ok e → IsItem script earlier e
-    by false ranked r sorted h = cc
-    by true ranked (Err f) sorted h = cc
-    by true ranked (Ok found) sorted h = found_by found (is_same_sort found sort) refl ranked sorted h
+    by : (b : Bool) → has_rank_of (declared_named script.entries form.name) (map (λ p. p.1) ps) sort ≡ b → cond (not b) (Err IllSorted) (definition_in (names_of (items_before script earlier)) form.name ps sort form.body) ≡ Ok e → IsItem script earlier e
+    by false ranked h = cc
+    by true ranked h = made ranked (well_sorted script.theories earlier form.name ps sort form.body e different h)
 
 -- so is what parts of the right form define
 IsItem-form : (script : Signature) (earlier : List Entry) (form : ItemForm) (e : Entry) → form_in script earlier form ≡ Ok e → IsItem script earlier e
-IsItem-form script earlier form e h = by (name_fault script earlier form.name) refl (without_parameters form.parameters (sort_named script.theories form.sort)) h
+IsItem-form script earlier form e h = by (name_fault script earlier form.name) refl (parameters_named script.theories [] form.parameters) refl (sort_named script.theories form.sort) h
   where
-    by : (o : Option TermFault) → name_fault script earlier form.name ≡ o → (r : Result Sort TermFault) → unless o (result_and_then r (λ sort. defined_as script earlier form sort)) ≡ Ok e → IsItem script earlier e
-    by (Some f) none r h = cc
-    by None none (Err f) h = cc
-    by None none (Ok sort) h = let free = no_fault script earlier form.name none in IsItem-definition script earlier form sort e free.0 free.1 h
+    by : (o : Option TermFault) → name_fault script earlier form.name ≡ o → (r : Result (List (List ℕ × Sort)) TermFault) → parameters_named script.theories [] form.parameters ≡ r → (q : Result Sort TermFault)
+        → unless o (result_and_then r (λ ps. result_and_then q (λ sort. defined_as script earlier form ps sort))) ≡ Ok e → IsItem script earlier e
+    by (Some f) none r bound q h = cc
+    by None none (Err f) bound q h = cc
+    by None none (Ok ps) bound (Err f) h = cc
+    by None none (Ok ps) bound (Ok sort) h =
+        let free = no_fault script earlier form.name none in
+        IsItem-definition script earlier form ps sort e free.0 free.1 (different script.theories [] form.parameters ps tt bound) h
 
 -- so is what an item defines
 pub IsItem-taken : (script : Signature) (earlier : List Entry) (tree : Sexp) (e : Entry) → item_in script earlier tree ≡ Ok e → IsItem script earlier e

@@ -3,11 +3,14 @@ pub mod IdentifierLemmas
 pub mod EntryLemmas
 pub mod LibraryLemmas
 pub mod CheckerLemmas
+pub mod BinderLemmas
 pub mod NameLookUps
 pub mod TermLemmas
 pub mod DeclarationLemmas
 pub mod PlaceLemmas
 pub mod StandsLemmas
 pub mod ItemLemmas
+pub mod DefinitionLemmas
+pub mod DefinitionSortLemmas
 pub mod ItemSortLemmas
 pub mod NoMemoryLemmas

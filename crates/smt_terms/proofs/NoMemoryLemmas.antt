@@ -1,5 +1,5 @@
 -- Want of memory is no answer of a definition.
-use Rattle.std.proofs.Common.{◌≡◌, ℕ, ◌*◌, length, Bool, true, false, cond, not, ◌&&◌, ◌||◌, List, [], ◌∷◌, Option, Some, None, is_some, option_map, Result, Ok, Err, ok_or}
+use Rattle.std.proofs.Common.{◌≡◌, ℕ, ◌*◌, length, Bool, true, false, cond, not, ◌&&◌, ◌||◌, List, [], ◌∷◌, ◌++◌, map, Option, Some, None, is_some, option_map, Result, Ok, Err, ok_or}
 use Rattle.std.specs.Str.{bytes_eq}
 use Rattle.std.specs.Str.Parse.{digits_value}
 use Rattle.smt_text.specs.Sexp.{Sexp, Sexps, Atom, Reserved, Items, Nil, Cons, Symbol, Numeral, Decimal, Hexadecimal, Binary, Text, Keyword}
@@ -16,14 +16,16 @@ use Rattle.smt_theory.specs.declared.op.OpFault.TheVariants as ops
 use Rattle.smt_theory.specs.declared.sort.Sort.{Sort}
 use Rattle.smt_theory.specs.declared.sort.Sort.TheVariants.{Bits}
 use Rattle.smt_theory.specs.declared.theories.Theories.{Theories}
-use Rattle.smt_terms.specs.Checking.{sort_of_rank, sort_of_operator, sort_of_plain, sort_applied, sort_of_symbol, sort_unless_variable, sort_of_call, sort_in, sorts_in}
+use Rattle.smt_terms.specs.Checking.{sort_of_rank, sort_of_operator, sort_of_plain, sort_applied, sort_of_symbol, sort_unless_variable, sort_of_annotated, sort_of_call, bound_in, sort_in, sorts_in}
+use Rattle.smt_terms.specs.Bindings.{are_attributes, are_bindings, are_named_trees, has_label, named_trees}
+use Rattle.smt_terms.specs.Definitions.{defined_in, definition, definition_in, parameters_named}
 use Rattle.smt_terms.specs.Identifier.{Identifier, Plain, Indexed, all_indexes, applied, indexed, word_fault}
-use Rattle.smt_terms.specs.Items.{ItemForm, are_parameters, declared_named, defined_as, definition, form_in, has_rank_of, item_form, item_in, items_before, name_fault, unless, without_parameters}
+use Rattle.smt_terms.specs.Items.{ItemForm, declared_named, defined_as, form_in, has_rank_of, item_form, item_in, items_before, name_fault, unless}
 use Rattle.smt_terms.specs.Signature.{Entry, Names, Rank, Signature, declaration, declared_in, entry_named, is_taken, names_of, rank_named}
 use Rattle.smt_terms.specs.SortTrees.{bit_vector_sort, bit_vectors, indexed_sort, integers, is_some_tree, sort_named, sort_of_list, sorts_named}
 use Rattle.smt_terms.specs.SortTrees as sorts
 use Rattle.smt_terms.specs.declared.fault.TermFault.{TermFault}
-use Rattle.smt_terms.specs.declared.fault.TermFault.TheVariants.{Form, Unsupported, Unknown, IllSorted, Index, BoundTwice, NotFresh, Memory}
+use Rattle.smt_terms.specs.declared.fault.TermFault.TheVariants.{Form, Unsupported, Unknown, IllSorted, Index, BoundTwice, NotFresh, Label, Memory}
 
 -- an answer that is not want of memory
 abbrev pub IsOther : {A : Type 0} → Result A TermFault → Type 0
@@ -113,10 +115,9 @@ IsOther-application names scope head args i =
     IsOther-and_then (applied head args) (λ f. result_and_then (sorts_in names scope args) (λ ss. sort_of_call names scope f ss)) (IsOther-applied head args)
     (λ f. IsOther-and_then (sorts_in names scope args) (λ ss. sort_of_call names scope f ss) i (λ ss. IsOther-call names scope f ss))
 
--- a list whose head is a reserved word
-IsOther-reserved : (names : Names) (scope : List (List ℕ × Sort)) (word : Word) (args : Sexps) → IsOther (sorts_in names scope args) → IsOther (sort_in names scope (Items (Cons (Reserved word) args)))
-IsOther-reserved names scope Underscore args i h = IsOther-and_then (indexed args) (λ f. sort_applied names f []) (IsOther-indexed args) (λ f. IsOther-sort_applied names f []) h
-IsOther-reserved names scope word args i h = IsOther-application names scope (Reserved word) args i h
+-- an annotated term
+IsOther-annotated : (attributes : Sexps) (sort : Sort) → IsOther (sort_of_annotated attributes sort)
+IsOther-annotated attributes sort = IsOther-test (has_label attributes) (Err Label) (Ok sort) (λ e. cc) (λ e. cc)
 
 -- terms, and terms in order
 mutual
@@ -130,7 +131,16 @@ mutual
   IsOther-sort names scope (Atom Text x) h = cc
   IsOther-sort names scope (Reserved word) h = cc
   IsOther-sort names scope (Items Nil) h = cc
-  IsOther-sort names scope (Items (Cons (Reserved word) args)) h = IsOther-reserved names scope word args (IsOther-sorts names scope args) h
+  IsOther-sort names scope (Items (Cons (Reserved Underscore) args)) h = IsOther-and_then (indexed args) (λ f. sort_applied names f []) (IsOther-indexed args) (λ f. IsOther-sort_applied names f []) h
+  IsOther-sort names scope (Items (Cons (Reserved Let) (Cons (Items bindings) (Cons body Nil)))) h =
+      IsOther-test (are_bindings bindings) (result_and_then (bound_in names scope [] bindings) (λ bound. sort_in names (bound ++ scope) body)) (Err Form)
+      (IsOther-and_then (bound_in names scope [] bindings) (λ bound. sort_in names (bound ++ scope) body) (IsOther-bound names scope [] bindings) (λ bound. IsOther-sort names (bound ++ scope) body)) (λ e. cc) h
+  IsOther-sort names scope (Items (Cons (Reserved Let) args)) h = cc
+  IsOther-sort names scope (Items (Cons (Reserved Bang) (Cons term attributes))) h =
+      IsOther-test (are_attributes attributes) (result_and_then (sort_in names scope term) (λ s. sort_of_annotated attributes s)) (Err Form)
+      (IsOther-and_then (sort_in names scope term) (λ s. sort_of_annotated attributes s) (IsOther-sort names scope term) (λ s. IsOther-annotated attributes s)) (λ e. cc) h
+  IsOther-sort names scope (Items (Cons (Reserved Bang) args)) h = cc
+  IsOther-sort names scope (Items (Cons (Reserved word) args)) h = IsOther-application names scope (Reserved word) args (IsOther-sorts names scope args) h
   IsOther-sort names scope (Items (Cons (Atom kind x) args)) h = IsOther-application names scope (Atom kind x) args (IsOther-sorts names scope args) h
   IsOther-sort names scope (Items (Cons (Items parts) args)) h = IsOther-application names scope (Items parts) args (IsOther-sorts names scope args) h
 
@@ -139,6 +149,13 @@ mutual
   IsOther-sorts names scope (Cons x xs) h =
       IsOther-and_then (sort_in names scope x) (λ s. result_and_then (sorts_in names scope xs) (λ ss. Ok (s ∷ ss))) (IsOther-sort names scope x)
       (λ s. IsOther-and_then (sorts_in names scope xs) (λ ss. Ok (s ∷ ss)) (IsOther-sorts names scope xs) (λ ss e. cc)) h
+
+  pub IsOther-bound : (names : Names) (scope bound : List (List ℕ × Sort)) (bs : Sexps) → IsOther (bound_in names scope bound bs)
+  IsOther-bound names scope bound Nil h = cc
+  IsOther-bound names scope bound (Cons (Items (Cons (Atom Symbol x) (Cons term Nil))) rest) h =
+      IsOther-test (is_some (look_up bound x)) (Err BoundTwice) (result_and_then (sort_in names scope term) (λ s. bound_in names scope (bound ++ (x, s) ∷ []) rest)) (λ e. cc)
+      (IsOther-and_then (sort_in names scope term) (λ s. bound_in names scope (bound ++ (x, s) ∷ []) rest) (IsOther-sort names scope term) (λ s. IsOther-bound names scope (bound ++ (x, s) ∷ []) rest)) h
+  IsOther-bound names scope bound _ h = cc
 
 -- ## Sorts and declarations
 
@@ -183,6 +200,27 @@ IsOther-declared names command x ps t =
     IsOther-test (is_taken names x) (Err NotFresh) (result_and_then (rank_named names ps t) (λ rank. Ok (declaration x command rank))) (λ e. cc)
     (IsOther-and_then (rank_named names ps t) (λ rank. Ok (declaration x command rank)) (IsOther-rank_named names ps t) (λ rank e. cc))
 
+-- ## Definitions
+
+-- parameters
+IsOther-parameters : (theories : Theories) (earlier : List (List ℕ × Sort)) (ps : List (List ℕ × Sexp)) → IsOther (parameters_named theories earlier ps)
+IsOther-parameters theories earlier [] h = cc
+IsOther-parameters theories earlier (p ∷ ps) h =
+    IsOther-and_then (sort_named theories p.1) (λ s. cond (is_some (look_up earlier p.0)) (Err BoundTwice) (parameters_named theories (earlier ++ (p.0, s) ∷ []) ps)) (IsOther-named theories p.1)
+    (λ s. IsOther-test (is_some (look_up earlier p.0)) (Err BoundTwice) (parameters_named theories (earlier ++ (p.0, s) ∷ []) ps) (λ e. cc) (IsOther-parameters theories (earlier ++ (p.0, s) ∷ []) ps)) h
+
+IsOther-definition : (names : Names) (x : List ℕ) (ps : List (List ℕ × Sort)) (sort : Sort) (body : Sexp) → IsOther (definition_in names x ps sort body)
+IsOther-definition names x ps sort body =
+    IsOther-and_then (sort_in names ps body) (λ found. cond (is_same_sort found sort) (Ok (definition x ps sort body)) (Err IllSorted)) (IsOther-sort names ps body)
+    (λ found. IsOther-test (is_same_sort found sort) (Ok (definition x ps sort body)) (Err IllSorted) (λ e. cc) (λ e. cc))
+
+-- definitions
+pub IsOther-defined : (names : Names) (x : List ℕ) (ps : List (List ℕ × Sexp)) (tree body : Sexp) → IsOther (defined_in names x ps tree body)
+IsOther-defined names x ps tree body =
+    IsOther-test (is_taken names x) (Err NotFresh) (result_and_then (parameters_named names.theories [] ps) (λ qs. result_and_then (sort_named names.theories tree) (λ s. definition_in names x qs s body))) (λ e. cc)
+    (IsOther-and_then (parameters_named names.theories [] ps) (λ qs. result_and_then (sort_named names.theories tree) (λ s. definition_in names x qs s body)) (IsOther-parameters names.theories [] ps)
+    (λ qs. IsOther-and_then (sort_named names.theories tree) (λ s. definition_in names x qs s body) (IsOther-named names.theories tree) (λ s. IsOther-definition names x qs s body)))
+
 -- ## Items
 
 -- the form of an item
@@ -190,13 +228,8 @@ IsOther-form : (t : Sexp) → IsOther (item_form t)
 IsOther-form (Items (Cons (Reserved DefineFunRec) rest)) h = cc
 IsOther-form (Items (Cons (Reserved DefineFunsRec) rest)) h = cc
 IsOther-form (Items (Cons (Reserved DefineFun) (Cons (Atom Symbol x) (Cons (Items parameters) (Cons sort (Cons body Nil)))))) h =
-    IsOther-test (are_parameters parameters) (Ok (record { name = x; parameters = parameters; sort = sort; body = body })) (Err Form) (λ e. cc) (λ e. cc) h
+    IsOther-test (are_named_trees parameters) (Ok (record { name = x; parameters = named_trees parameters; sort = sort; body = body })) (Err Form) (λ e. cc) (λ e. cc) h
 IsOther-form _ h = cc
-
--- parameters
-IsOther-without : (ps : Sexps) (r : Result Sort TermFault) → IsOther r → IsOther (without_parameters ps r)
-IsOther-without Nil r h = h
-IsOther-without (Cons x xs) r h = λ e. cc
 
 -- names of items
 IsOther-free : {A : Type 0} (script : Signature) (earlier : List Entry) (x : List ℕ) (r : Result A TermFault) → IsOther r → IsOther (unless (name_fault script earlier x) r)
@@ -207,20 +240,17 @@ IsOther-free script earlier x r h = by (is_some (entry_named earlier x)) (not (i
     by false true e = cc
     by false false e = h e
 
+-- an item of this rank
+IsOther-defined_as : (script : Signature) (earlier : List Entry) (form : ItemForm) (ps : List (List ℕ × Sort)) (sort : Sort) → IsOther (defined_as script earlier form ps sort)
+IsOther-defined_as script earlier form ps sort =
+    IsOther-test (not (has_rank_of (declared_named script.entries form.name) (map (λ p. p.1) ps) sort)) (Err IllSorted) (definition_in (names_of (items_before script earlier)) form.name ps sort form.body) (λ e. cc)
+    (IsOther-definition (names_of (items_before script earlier)) form.name ps sort form.body)
+
 -- items
 pub IsOther-item : (script : Signature) (earlier : List Entry) (t : Sexp) → IsOther (item_in script earlier t)
 IsOther-item script earlier t =
     IsOther-and_then (item_form t) (λ form. form_in script earlier form) (IsOther-form t)
-    (λ form. IsOther-free script earlier form.name (result_and_then (without_parameters form.parameters (sort_named script.theories form.sort)) (λ sort. defined_as script earlier form sort))
-    (IsOther-and_then (without_parameters form.parameters (sort_named script.theories form.sort)) (λ sort. defined_as script earlier form sort)
-    (IsOther-without form.parameters (sort_named script.theories form.sort) (IsOther-named script.theories form.sort)) (λ sort. defined form sort)))
-  where
-    body : (form : ItemForm) (sort found : Sort) → IsOther (cond (is_same_sort found sort) (Ok (definition form.name sort form.body)) (Err IllSorted))
-    body form sort found = IsOther-test (is_same_sort found sort) (Ok (definition form.name sort form.body)) (Err IllSorted) (λ e. cc) (λ e. cc)
-
-    defined : (form : ItemForm) (sort : Sort) → IsOther (defined_as script earlier form sort)
-    defined form sort =
-        IsOther-test (not (has_rank_of (declared_named script.entries form.name) [] sort)) (Err IllSorted)
-        (result_and_then (sort_in (names_of (items_before script earlier)) [] form.body) (λ found. cond (is_same_sort found sort) (Ok (definition form.name sort form.body)) (Err IllSorted))) (λ e. cc)
-        (IsOther-and_then (sort_in (names_of (items_before script earlier)) [] form.body) (λ found. cond (is_same_sort found sort) (Ok (definition form.name sort form.body)) (Err IllSorted))
-        (IsOther-sort (names_of (items_before script earlier)) [] form.body) (λ found. body form sort found))
+    (λ form. IsOther-free script earlier form.name (result_and_then (parameters_named script.theories [] form.parameters) (λ ps. result_and_then (sort_named script.theories form.sort) (λ sort. defined_as script earlier form ps sort)))
+    (IsOther-and_then (parameters_named script.theories [] form.parameters) (λ ps. result_and_then (sort_named script.theories form.sort) (λ sort. defined_as script earlier form ps sort))
+    (IsOther-parameters script.theories [] form.parameters)
+    (λ ps. IsOther-and_then (sort_named script.theories form.sort) (λ sort. defined_as script earlier form ps sort) (IsOther-named script.theories form.sort) (λ sort. IsOther-defined_as script earlier form ps sort))))

@@ -1,23 +1,26 @@
 -- What a library stands for, as terms, declarations and definitions are added.
-use Rattle.std.proofs.Common.{◌≡◌, ℕ, zero, suc, ◌+◌, cond, List, [], ◌∷◌, ◌++◌, length, map, slice_get, Some, refl, ap, sym, ◌∙◌, arith, subst, Result, Ok, Err, OnErr}
+use Rattle.std.proofs.Common.{◌≡◌, ℕ, zero, suc, ◌+◌, cond, List, [], ◌∷◌, ◌++◌, length, map, slice_get, Option, Some, None, option_map, refl, ap, sym, ◌∙◌, arith, subst, Result, Ok, Err, OnErr}
 use Rattle.std.specs.Vec.{vec_len}
 use Rattle.std.specs.Global.{Vec}
 use Rattle.std.proofs.lemmas.List.{append-nil, length-map, map-append}
 use Rattle.std.proofs.lemmas.List.Elements.{filter-append}
 use Rattle.smt_text.specs.Sexp.{Sexp}
+use Rattle.smt_theory.specs.Words.{look_up}
 use Rattle.smt_theory.specs.declared.sort.Sort.{Sort}
+use Rattle.smt_terms.specs.Definitions.{definition}
 use Rattle.smt_terms.specs.Internal.LibraryView.{places_of_library, ranks_of_library}
-use Rattle.smt_terms.specs.Items.{definition}
 use Rattle.smt_terms.specs.Library.{AreDefinitions, Declaration, IsDefinitionOf, IsTerm, StandsFor, declaration_at, declaration_view, declarations_from, declared_among, defined_among, is_declared, name_count, places_from}
 use Rattle.smt_terms.specs.Signature as signature
-use Rattle.smt_terms.specs.Signature.{Entry, Origin, Rank, Signature, declaration, rank_of_entry, ranks_of, with_entry}
+use Rattle.smt_terms.specs.Signature.{Entry, Origin, Rank, Signature, declaration, entry_named, rank_of_entry, ranks_of, with_entry}
 use Rattle.smt_terms.specs.declared.library.Declared.{Declared}
 use Rattle.smt_terms.specs.declared.library.Definition.{Definition}
 use Rattle.smt_terms.specs.declared.library.Found.{Found}
 use Rattle.smt_terms.specs.declared.library.Found.TheVariants as place
 use Rattle.smt_terms.specs.declared.library.Library.{Library}
 use Rattle.smt_terms.specs.declared.library.TermId.{TermId}
+use Rattle.smt_terms.proofs.CheckerLemmas.{look_up-ranks}
 use Rattle.smt_terms.proofs.DeclarationLemmas.{declarations-push, declared-push}
+use Rattle.smt_terms.proofs.EntryLemmas.{distinct-push}
 use Rattle.smt_terms.proofs.PlaceLemmas.{places-push}
 
 -- a fact that holds holds of a refusal
@@ -72,6 +75,7 @@ pub stands_still : (old new : Library) (s : Signature) → new.theories ≡ old.
     → new.declared.items ≡ old.declared.items → new.definitions.items ≡ old.definitions.items → HasTermsOf new old → StandsFor old s → StandsFor new s
 stands_still old new s theories ranks places declared definitions terms stands = record {
   theories = theories ∙ stands.theories;
+  distinct = stands.distinct;
   ranks = ranks ∙ stands.ranks;
   places = places ∙ stands.places;
   declared = ap (map declaration_view) declared ∙ stands.declared;
@@ -82,18 +86,27 @@ stands_still old new s theories ranks places declared definitions terms stands =
 ranks-push : (es : List Entry) (e : Entry) (ranks : List (List ℕ × Rank)) → ranks ≡ ranks_of es → ranks ++ (e.name, rank_of_entry e) ∷ [] ≡ ranks_of (es ++ e ∷ [])
 ranks-push es e ranks is = ap (λ (rs : List (List ℕ × Rank)). rs ++ (e.name, rank_of_entry e) ∷ []) is ∙ sym (map-append (λ d. (d.name, rank_of_entry d)) es (e ∷ []))
 
+-- a name that has no rank has no entry
+absent_entry : (es : List Entry) (x : List ℕ) (ranks : List (List ℕ × Rank)) → ranks ≡ ranks_of es → look_up ranks x ≡ None → entry_named es x ≡ None
+absent_entry es x ranks is none = by (entry_named es x) (sym (look_up-ranks es x) ∙ ap (λ rs. look_up rs x) (sym is) ∙ none)
+  where
+    by : (o : Option Entry) → option_map rank_of_entry o ≡ None → o ≡ None
+    by None h = refl
+    by (Some e) h = cc
+
 -- a declared name has come
-pub stands_declared : (old new : Library) (s : Signature) (x : List ℕ) (d : Declared) → d.name ≡ name_count old → new.theories ≡ old.theories
+pub stands_declared : (old new : Library) (s : Signature) (x : List ℕ) (d : Declared) → look_up (ranks_of_library old) x ≡ None → d.name ≡ name_count old → new.theories ≡ old.theories
     → ranks_of_library new ≡ ranks_of_library old ++ (x, record { parameters = d.params.items; sort = d.result }) ∷ [] → places_of_library new ≡ places_of_library old ++ (x, place.Declared (length old.declared.items)) ∷ []
     → new.declared.items ≡ old.declared.items ++ d ∷ [] → new.definitions.items ≡ old.definitions.items → HasTermsOf new old → StandsFor old s
     → StandsFor new (with_entry s (declaration x d.command (record { parameters = d.params.items; sort = d.result })))
-stands_declared old new s x d next theories ranks places declared definitions terms stands =
+stands_declared old new s x d absent next theories ranks places declared definitions terms stands =
     let e : Entry = declaration x d.command (record { parameters = d.params.items; sort = d.result }) in
     let counted : length old.declared.items ≡ length (declared_among s.entries) = sym (length-map old.declared.items declaration_view) ∙ ap (λ (ds : List Declaration). length ds) stands.declared ∙ length-declarations 0 s.entries in
     let named : name_count old ≡ length s.entries = ap (λ (rs : List (List ℕ × Rank)). length rs) stands.ranks ∙ length-map s.entries (λ d. (d.name, rank_of_entry d)) in
     let same : defined_among (s.entries ++ e ∷ []) ≡ defined_among s.entries = filter-append _ s.entries (e ∷ []) ∙ append-nil (defined_among s.entries) in
     record {
       theories = theories ∙ stands.theories;
+      distinct = distinct-push s.entries e stands.distinct (absent_entry s.entries x (ranks_of_library old) stands.ranks absent);
       ranks = ranks ∙ ranks-push s.entries e (ranks_of_library old) stands.ranks;
       places =
           places ∙ ap (λ (n : ℕ). places_of_library old ++ (x, place.Declared n) ∷ []) counted ∙ ap (λ (ps : List (List ℕ × Found)). ps ++ (x, place.Declared (length (declared_among s.entries))) ∷ []) stands.places
@@ -104,35 +117,46 @@ stands_declared old new s x d next theories ranks places declared definitions te
           subst (λ es. AreDefinitions new new.definitions.items es) (sym same) (subst (λ ds. AreDefinitions new ds (defined_among s.entries)) (sym definitions) (definitions_stay old new old.definitions.items (defined_among s.entries) terms stands.definitions));
     }
 
--- a definition without parameters has come
-pub stands_defined : (old new : Library) (s : Signature) (x : List ℕ) (d : Definition) (t : Sexp) → d.name.items ≡ x → d.params.items ≡ [] → IsTerm old d.body t → new.theories ≡ old.theories
-    → ranks_of_library new ≡ ranks_of_library old ++ (x, record { parameters = []; sort = d.result }) ∷ [] → places_of_library new ≡ places_of_library old ++ (x, place.Defined (length old.definitions.items)) ∷ []
-    → new.declared.items ≡ old.declared.items → new.definitions.items ≡ old.definitions.items ++ d ∷ [] → HasTermsOf new old → StandsFor old s → StandsFor new (with_entry s (definition x d.result t))
-stands_defined old new s x d t named constant body theories ranks places declared definitions terms stands =
-    let e : Entry = definition x d.result t in
+-- the parameters of a definition, as names with their sorts
+abbrev pub parameters_of : Definition → List (List ℕ × Sort)
+parameters_of d = map (λ p. (p.0.items, p.1)) d.params.items
+
+sorts_of_own : (ps : List (Vec ℕ × Sort)) → map (λ (p : Vec ℕ × Sort). p.1) ps ≡ map (λ (p : List ℕ × Sort). p.1) (map (λ (p : Vec ℕ × Sort). (p.0.items, p.1)) ps)
+sorts_of_own [] = refl
+sorts_of_own (p ∷ ps) = ap (λ (ss : List Sort). p.1 ∷ ss) (sorts_of_own ps)
+
+names_of_own : (ps : List (Vec ℕ × Sort)) → map (λ (p : List ℕ × Sort). p.0) (map (λ (p : Vec ℕ × Sort). (p.0.items, p.1)) ps) ≡ map (λ (p : Vec ℕ × Sort). p.0.items) ps
+names_of_own [] = refl
+names_of_own (p ∷ ps) = ap (λ (xs : List (List ℕ)). p.0.items ∷ xs) (names_of_own ps)
+
+-- a definition has come
+pub stands_defined : (old new : Library) (s : Signature) (x : List ℕ) (ps : List (List ℕ × Sort)) (d : Definition) (t : Sexp) → look_up (ranks_of_library old) x ≡ None → d.name.items ≡ x → parameters_of d ≡ ps → IsTerm old d.body t
+    → new.theories ≡ old.theories → ranks_of_library new ≡ ranks_of_library old ++ (x, record { parameters = map (λ p. p.1) ps; sort = d.result }) ∷ []
+    → places_of_library new ≡ places_of_library old ++ (x, place.Defined (length old.definitions.items)) ∷ [] → new.declared.items ≡ old.declared.items → new.definitions.items ≡ old.definitions.items ++ d ∷ []
+    → HasTermsOf new old → StandsFor old s → StandsFor new (with_entry s (definition x ps d.result t))
+stands_defined old new s x ps d t absent named bound body theories ranks places declared definitions terms stands =
+    let e : Entry = definition x ps d.result t in
     let counted : length old.definitions.items ≡ length (defined_among s.entries) = length-definitions old old.definitions.items (defined_among s.entries) stands.definitions in
     let more : defined_among (s.entries ++ e ∷ []) ≡ defined_among s.entries ++ e ∷ [] = filter-append _ s.entries (e ∷ []) in
     let is : IsDefinitionOf new d e = record {
       name = named;
-      parameters = ap (λ (ps : List (Vec ℕ × Sort)). map (λ p. p.1) ps) constant;
+      parameters = sorts_of_own d.params.items ∙ ap (λ (qs : List (List ℕ × Sort)). map (λ p. p.1) qs) bound;
       sort = refl;
-      body = (t, terms d.body t body, ap (λ (ps : List (Vec ℕ × Sort)). signature.Defined (map (λ p. p.0.items) ps) t) (sym constant));
+      body = (t, terms d.body t body, ap (λ (qs : List (List ℕ × Sort)). signature.Defined (map (λ p. p.0) qs) t) (sym bound) ∙ ap (λ (xs : List (List ℕ)). signature.Defined xs t) (names_of_own d.params.items));
     } in
     record {
       theories = theories ∙ stands.theories;
+      distinct = distinct-push s.entries e stands.distinct (absent_entry s.entries x (ranks_of_library old) stands.ranks absent);
       ranks = ranks ∙ ranks-push s.entries e (ranks_of_library old) stands.ranks;
       places =
           places ∙ ap (λ (n : ℕ). places_of_library old ++ (x, place.Defined n) ∷ []) counted ∙ ap (λ (ps : List (List ℕ × Found)). ps ++ (x, place.Defined (length (defined_among s.entries))) ∷ []) stands.places
           ∙ sym (places-push 0 0 s.entries e ∙ ap (λ (n : ℕ). places_from 0 0 s.entries ++ (x, place.Defined n) ∷ []) (omega arith));
-      declared = ap (map declaration_view) declared ∙ stands.declared ∙ sym (declarations_with s.entries x d.result t);
+      declared = ap (map declaration_view) declared ∙ stands.declared ∙ sym (declarations-push 0 s.entries e ∙ append-nil (declarations_from 0 s.entries));
       definitions =
           subst (λ es. AreDefinitions new new.definitions.items es) (sym more)
           (subst (λ ds. AreDefinitions new ds (defined_among s.entries ++ e ∷ [])) (sym definitions)
           (definitions-push new old.definitions.items (defined_among s.entries) d e (definitions_stay old new old.definitions.items (defined_among s.entries) terms stands.definitions) is));
     }
-  where
-    declarations_with : (es : List Entry) (x : List ℕ) (sort : Sort) (t : Sexp) → declarations_from 0 (es ++ definition x sort t ∷ []) ≡ declarations_from 0 es
-    declarations_with es x sort t = declarations-push 0 es (definition x sort t) ∙ append-nil (declarations_from 0 es)
 
 -- at the place of a defined entry stands its definition
 pub definition_at : (library : Library) (ds : List Definition) (es : List Entry) (n : ℕ) (e : Entry) → AreDefinitions library ds es → slice_get es n ≡ Some e → (d : Definition) × (slice_get ds n ≡ Some d) × IsDefinitionOf library d e

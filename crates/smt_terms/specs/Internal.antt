@@ -1,2 +1,4 @@
 pub mod LibraryView
 pub mod ItemView
+pub mod Attributes
+pub mod Heads

@@ -56,3 +56,10 @@ pub fn split_let(args: &[Tree]) -> Option<(&[Tree], &Tree)>
     }
     Some((parts.as_slice(), body))
 }
+
+// Whether these are the bindings of a `let`: one or more.
+pub(crate) fn are_bindings(trees: &[Tree]) -> bool
+    ensures { result ≡ bindings.are_bindings (sexps_of trees.now) }
+{
+    split_first(trees).is_some() && are_named(trees)
+}

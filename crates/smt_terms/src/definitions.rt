@@ -10,7 +10,7 @@ ghost use Rattle.smt_terms.specs.declared.fault.TermFault.TheVariants.{Memory};
 
 use crate::bindings::split_named;
 use crate::fault::TermFault;
-use crate::scope::{Variable, find_variable};
+use crate::scope::{Variable, find_variable, push_variable};
 use crate::sorts::sort_of_tree;
 use smt_text::Tree;
 use smt_theory::{Sort, Theories};
@@ -54,10 +54,51 @@ pub(crate) fn sorted_params<'a>(
         if find_variable(variables.as_slice(), param.name).is_some() {
             return Err(TermFault::BoundTwice);
         }
-        variables.push(Variable {
-            name: param.name,
-            value,
-        })?;
+        push_variable(&mut variables, param.name, value)?;
     }
     Ok(variables)
+}
+
+// The same of the parameters that trees are, up to the first that is none.
+pub(crate) fn sorted_params_of<'a>(
+    alloc: Global,
+    theories: Theories,
+    trees: &'a [Tree],
+) -> Result<Vec<Variable<'a, Sort>>, TermFault>
+    ensures { MatchResult result (λ variables. parameters_named theories [] (named_trees (sexps_of trees.now)) ≡ Ok (scope_view variables.items))
+        (λ fault. (fault ≡ Memory) ⊎ (parameters_named theories [] (named_trees (sexps_of trees.now)) ≡ Err fault)) }
+{
+    let params = params_of(alloc, trees)?;
+    sorted_params(alloc, theories, params.as_slice())
+}
+
+// The parameters of a definition that variables are, under names of their own. Only want of memory is refused.
+pub(crate) fn named_parameters(
+    alloc: Global,
+    variables: &[Variable<'_, Sort>],
+) -> Result<Vec<(Vec<u8>, Sort)>, TermFault>
+    ensures named { IfOk result (λ params. map (λ p. (p.0.items, p.1)) params.items ≡ scope_view variables.now) }
+    ensures refused { IfErr result (λ fault. fault ≡ Memory) }
+{
+    let mut params = Vec::new(alloc);
+    for variable in variables {
+        let name = Vec::from_slice(alloc, variable.name)?;
+        params.push((name, variable.value))?;
+    }
+    Ok(params)
+}
+
+// The sorts of variables, in order. Only want of memory is refused.
+pub(crate) fn sorts_of_variables(
+    alloc: Global,
+    variables: &[Variable<'_, Sort>],
+) -> Result<Vec<Sort>, TermFault>
+    ensures sorts { IfOk result (λ sorts. sorts.items ≡ map (λ p. p.1) (scope_view variables.now)) }
+    ensures refused { IfErr result (λ fault. fault ≡ Memory) }
+{
+    let mut sorts = Vec::new(alloc);
+    for variable in variables {
+        sorts.push(variable.value)?;
+    }
+    Ok(sorts)
 }

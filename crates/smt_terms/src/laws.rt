@@ -4,6 +4,7 @@ ghost use Rattle.std.specs.Prelude.{◌≡◌, ℕ, List, Some, None, false, Ok,
 ghost use Rattle.smt_text.specs.Sexp.{Sexp, Sexps};
 ghost use Rattle.smt_theory.specs.declared.sort.Sort.{Sort};
 ghost use Rattle.smt_terms.specs.Checking.{sort_in};
+ghost use Rattle.smt_terms.specs.Definitions.{defined_in};
 ghost use Rattle.smt_terms.specs.Items.{declared_named, item_in};
 ghost use Rattle.smt_terms.specs.Signature.{Entry, KeepsRank, Names, Signature, declared_in, entry_named, is_taken, names_of};
 ghost use Rattle.smt_terms.specs.WellSorted.{IsWellSorted};
@@ -13,7 +14,16 @@ ghost use Rattle.smt_terms.specs.declared.fault.TermFault.TheVariants.{Memory};
 pub fn faults_are_no_memory()
     ensures sorts { (names : Names) (scope : List (List ℕ × Sort)) (term : Sexp) → sort_in names scope term ≡ Err Memory → ⊥ }
     ensures declarations { (names : Names) (command : ℕ) (x : List ℕ) (parameters : Sexps) (sort : Sexp) → declared_in names command x parameters sort ≡ Err Memory → ⊥ }
+    ensures definitions { (names : Names) (x : List ℕ) (parameters : List (List ℕ × Sexp)) (sort body : Sexp) → defined_in names x parameters sort body ≡ Err Memory → ⊥ }
     ensures items { (script : Signature) (earlier : List Entry) (tree : Sexp) → item_in script earlier tree ≡ Err Memory → ⊥ }
+{}
+
+/// What a definition brings is well sorted over the earlier names (SMT-LIB 2.6, sections 4.2.3 and 5.2), and has the name that was
+/// given, which stood for nothing and is no plain operator's.
+pub fn definitions_are_well_sorted()
+    ensures sorted { (s : Signature) (x : List ℕ) (parameters : List (List ℕ × Sexp)) (sort body : Sexp) (e : Entry) → defined_in (names_of s) x parameters sort body ≡ Ok e → IsWellSorted s.theories s.entries e }
+    ensures named { (s : Signature) (x : List ℕ) (parameters : List (List ℕ × Sexp)) (sort body : Sexp) (e : Entry) → defined_in (names_of s) x parameters sort body ≡ Ok e → e.name ≡ x }
+    ensures free { (s : Signature) (x : List ℕ) (parameters : List (List ℕ × Sexp)) (sort body : Sexp) (e : Entry) → defined_in (names_of s) x parameters sort body ≡ Ok e → is_taken (names_of s) x ≡ false }
 {}
 
 /// What an item of a model defines is well sorted over the earlier items (SMT-LIB 2.6, sections 4.2.6 and 5.2), and its name is new

@@ -7,6 +7,7 @@
 //! `Library::define_item` adds them: after `(define-fun x () Int 2)`, `Library::find` answers `Found::Defined(0)` for `x`.
 #![tactic(auto)]
 
+mod attributes;
 mod bindings;
 mod definitions;
 mod fault;
@@ -23,6 +24,6 @@ pub use bindings::{are_named, split_let, split_named};
 pub use definitions::{Param, params_of};
 pub use fault::TermFault;
 pub use identifier::{Identifier, applied_identifier, indexed_identifier};
-pub use scope::{Variable, find_variable};
 pub use library::{Declared, Definition, Found, Library, TermId};
+pub use scope::{Variable, find_variable};
 pub use sorts::sort_of_tree;

@@ -5,7 +5,9 @@ ghost use Rattle.std.specs.List.{IsDistinct};
 ghost use Rattle.std.proofs.Props.{props};
 ghost use Rattle.indexmap.specs.IndexMap.{keys};
 
+mod binders;
 mod checker;
+mod definitions;
 mod items;
 
 ghost use Rattle.std.specs.Prelude.{◌≡◌};
@@ -53,7 +55,7 @@ pub struct Declared {
 pub struct Definition {
     /// The bytes of its name, without bars.
     pub name: Vec<u8>,
-    /// Its parameters by name, with their sorts. There are none yet: definitions with parameters are not supported.
+    /// Its parameters by name, with their sorts.
     pub params: Vec<(Vec<u8>, Sort)>,
     /// The sort of its result, and of its body.
     pub result: Sort,
@@ -87,7 +89,7 @@ impl Library {
     ghost use Rattle.smt_theory.specs.Words.{look_up};
     ghost use Rattle.smt_terms.specs.Checking.{sort_in};
     ghost use Rattle.smt_terms.specs.Internal.LibraryView.{names_of_library, places_of_library, rank_of, ranks_of_library};
-    ghost use Rattle.smt_terms.specs.Library.{AreDefinitions, HasTheoriesOf, IsFound, IsTerm, StandsFor, declaration_view, declarations_from, defined_among, name_count};
+    ghost use Rattle.smt_terms.specs.Library.{AreDefinitions, HasTheoriesOf, IsFound, IsTerm, StandsFor, declaration_view, declarations_from, defined_among, definitions_of, name_count};
     ghost use Rattle.smt_terms.specs.Signature as signature;
     ghost use Rattle.smt_terms.specs.Signature.{Rank, Signature, declaration, declared_in, entry_named, is_taken, names_of, no_names, rank_named, with_entry};
     ghost use Rattle.smt_terms.specs.declared.fault.TermFault.TheVariants.{Memory};
@@ -128,7 +130,8 @@ impl Library {
 
     /// The definitions, in order.
     pub fn definitions(&self) -> &[Definition]
-        ensures { (s : Signature) → StandsFor self.now s → AreDefinitions self.now result.now (defined_among s.entries) }
+        ensures stands { (s : Signature) → StandsFor self.now s → AreDefinitions self.now result.now (defined_among s.entries) }
+        ensures view { result.now ≡ definitions_of self.now }
     {
         self.definitions.as_slice()
     }
@@ -180,7 +183,7 @@ impl Library {
         ensures kept { (s : Signature) → StandsFor self.old s → StandsFor self.new s }
         ensures terms { (i : id.TermId) (t : Sexp) → IsTerm self.old i t → IsTerm self.new i t }
     {
-        let sort = self.sort_of(term)?;
+        let sort = self.sort_of(&[], term)?;
         Ok((self.add_term(term)?, sort))
     }
 

@@ -1,8 +1,12 @@
 //! The variables that a term sees.
 
-ghost use Rattle.std.specs.Prelude.{◌≡◌, bytes_eq};
+ghost use Rattle.std.specs.Prelude.{◌≡◌, ◌∷◌, ◌++◌, [], bytes_eq, IfErr, OnOk};
 ghost use Rattle.smt_theory.specs.Words.{look_up};
 ghost use Rattle.smt_terms.specs.ScopeView.{scope_view};
+ghost use Rattle.smt_terms.specs.declared.fault.TermFault.TheVariants.{Memory};
+
+use crate::fault::TermFault;
+use smt_theory::Sort;
 
 /// A variable with what stands for it: its sort, or its value. The name is without bars.
 #[derive(Clone, Copy)]
@@ -21,6 +25,21 @@ pub fn find_variable<V: Copy>(scope: &[Variable<'_, V>], name: &[u8]) -> Option<
         }
     }
     None
+}
+
+// Puts a variable with its sort behind others. Only want of memory is refused.
+pub(crate) fn push_variable<'a>(
+    variables: &mut Vec<Variable<'a, Sort>>,
+    name: &'a [u8],
+    value: Sort,
+) -> Result<(), TermFault>
+    ensures pushed { OnOk result (scope_view variables.new.items ≡ scope_view variables.old.items ++ (name.now, value) ∷ []) }
+    ensures refused { IfErr result (λ fault. fault ≡ Memory) }
+{
+    match variables.push(Variable { name, value }) {
+        Ok(()) => Ok(()),
+        Err(_) => Err(TermFault::Memory),
+    }
 }
 
 fn is_same(name: &[u8], other: &[u8]) -> bool

@@ -5,8 +5,11 @@ ghost use Rattle.smt_text.specs.Sexp.{Items};
 ghost use Rattle.smt_text.specs.Tree.{sexp_of, sexps_of};
 ghost use Rattle.smt_theory.specs.Ranks.{are_exactly};
 ghost use Rattle.smt_theory.specs.Width.{width_of};
+ghost use Rattle.smt_theory.specs.Words.{look_up};
 ghost use Rattle.smt_terms.specs.Checking as checking;
 ghost use Rattle.smt_terms.specs.Checking.{is_underscore_tree, sort_in, sorts_in, sort_of_name};
+ghost use Rattle.smt_terms.specs.Internal.Heads.{is_bang_tree, is_let_tree, names_variable};
+ghost use Rattle.smt_terms.specs.ScopeView.{scope_view};
 ghost use Rattle.smt_terms.specs.Identifier.{Plain};
 ghost use Rattle.smt_terms.specs.IdentifierView.{identifier_view};
 ghost use Rattle.smt_terms.specs.Internal.LibraryView.{names_of_library};
@@ -16,21 +19,26 @@ ghost use Rattle.smt_terms.specs.declared.fault.TermFault.TheVariants.{Memory};
 use crate::fault::TermFault;
 use crate::identifier::{Identifier, applied_identifier, indexed_identifier};
 use crate::library::{Entry, Library};
+use crate::scope::{Variable, find_variable};
 use crate::sorts;
 use smt_text::{Tree, Trees, Word, split_first};
 use smt_theory::{Op, OpFault, Sort, Width, op_of, rank};
 
 impl Library {
-    /// The sort of a term over these names, or its first fault.
+    /// The sort of a term over these names and the variables that it sees, the innermost first, or its first fault.
     #[cycle(check)]
-    pub(crate) fn sort_of(&self, term: &Tree) -> Result<Sort, TermFault>
-        ensures { MatchResult result (λ sort. sort_in (names_of_library self.now) [] (sexp_of term.now) ≡ Ok sort)
-            (λ fault. (fault ≡ Memory) ⊎ (sort_in (names_of_library self.now) [] (sexp_of term.now) ≡ Err fault)) }
+    pub(crate) fn sort_of<'a>(
+        &self,
+        scope: &[Variable<'a, Sort>],
+        term: &'a Tree,
+    ) -> Result<Sort, TermFault>
+        ensures { MatchResult result (λ sort. sort_in (names_of_library self.now) (scope_view scope.now) (sexp_of term.now) ≡ Ok sort)
+            (λ fault. (fault ≡ Memory) ⊎ (sort_in (names_of_library self.now) (scope_view scope.now) (sexp_of term.now) ≡ Err fault)) }
     {
         match term {
-            Tree::Symbol(name) => self.sort_of_plain(name.as_slice(), &[]),
+            Tree::Symbol(name) => self.sort_of_symbol(scope, name.as_slice()),
             Tree::Numeral(_) => self.sort_of_numeral(),
-            Tree::List(parts) => self.sort_of_list(parts),
+            Tree::List(parts) => self.sort_of_list(scope, parts),
             Tree::Hex(digits) => self.sort_of_digits(4, digits.as_slice()),
             Tree::Bin(digits) => self.sort_of_digits(1, digits.as_slice()),
             Tree::Decimal(_) | Tree::Text(_) => Err(TermFault::Unsupported),
@@ -57,9 +65,13 @@ impl Library {
 
     // The sort of the term that is a list of these parts.
     #[cycle(check)]
-    fn sort_of_list(&self, parts: &Trees) -> Result<Sort, TermFault>
-        ensures { MatchResult result (λ sort. sort_in (names_of_library self.now) [] (Items parts.now) ≡ Ok sort)
-            (λ fault. (fault ≡ Memory) ⊎ (sort_in (names_of_library self.now) [] (Items parts.now) ≡ Err fault)) }
+    fn sort_of_list<'a>(
+        &self,
+        scope: &[Variable<'a, Sort>],
+        parts: &'a Trees,
+    ) -> Result<Sort, TermFault>
+        ensures { MatchResult result (λ sort. sort_in (names_of_library self.now) (scope_view scope.now) (Items parts.now) ≡ Ok sort)
+            (λ fault. (fault ≡ Memory) ⊎ (sort_in (names_of_library self.now) (scope_view scope.now) (Items parts.now) ≡ Err fault)) }
     {
         let Some((head, args)) = split_first(parts.as_slice()) else {
             return Err(TermFault::Form);
@@ -68,24 +80,59 @@ impl Library {
             let identifier = indexed_identifier(self.alloc, args)?;
             return self.sort_applied(&identifier, &[]);
         }
+        if is_let(head) {
+            return self.sort_of_let(scope, args);
+        }
+        if is_bang(head) {
+            return self.sort_of_annotated(scope, args);
+        }
         let identifier = applied_identifier(self.alloc, head, args)?;
-        let sorts = self.sorts_of(args)?;
-        self.sort_applied(&identifier, sorts.as_slice())
+        let sorts = self.sorts_of(scope, args)?;
+        self.sort_of_call(scope, &identifier, sorts.as_slice())
     }
 
     // The sorts of terms, in order.
     #[cycle(check)]
-    fn sorts_of(&self, terms: &[Tree]) -> Result<Vec<Sort>, TermFault>
-        ensures { MatchResult result (λ sorts. sorts_in (names_of_library self.now) [] (sexps_of terms.now) ≡ Ok sorts.items)
-            (λ fault. (fault ≡ Memory) ⊎ (sorts_in (names_of_library self.now) [] (sexps_of terms.now) ≡ Err fault)) }
+    fn sorts_of<'a>(
+        &self,
+        scope: &[Variable<'a, Sort>],
+        terms: &'a [Tree],
+    ) -> Result<Vec<Sort>, TermFault>
+        ensures { MatchResult result (λ sorts. sorts_in (names_of_library self.now) (scope_view scope.now) (sexps_of terms.now) ≡ Ok sorts.items)
+            (λ fault. (fault ≡ Memory) ⊎ (sorts_in (names_of_library self.now) (scope_view scope.now) (sexps_of terms.now) ≡ Err fault)) }
     {
         let mut sorts = Vec::new(self.alloc);
         let mut left = terms;
         while let Some((term, rest)) = split_first(left) {
-            sorts.push(self.sort_of(term)?)?;
+            sorts.push(self.sort_of(scope, term)?)?;
             left = rest;
         }
         Ok(sorts)
+    }
+
+    // The sort of a symbol alone: that of a variable, or else of a name or an operator without arguments.
+    fn sort_of_symbol(&self, scope: &[Variable<'_, Sort>], name: &[u8]) -> Result<Sort, TermFault>
+        ensures { result ≡ checking.sort_of_symbol (names_of_library self.now) name.now (look_up (scope_view scope.now) name.now) }
+    {
+        match find_variable(scope, name) {
+            Some(sort) => Ok(sort),
+            None => self.sort_of_plain(name, &[]),
+        }
+    }
+
+    // The sort of an identifier applied to arguments of these sorts, where it may be a variable, which takes none.
+    fn sort_of_call(
+        &self,
+        scope: &[Variable<'_, Sort>],
+        identifier: &Identifier<'_>,
+        args: &[Sort],
+    ) -> Result<Sort, TermFault>
+        ensures { result ≡ checking.sort_of_call (names_of_library self.now) (scope_view scope.now) (identifier_view identifier.now) args.now }
+    {
+        if is_variable(scope, identifier) {
+            return Err(TermFault::IllSorted);
+        }
+        self.sort_applied(identifier, args)
     }
 
     // The sort of an identifier applied to arguments of these sorts.
@@ -140,10 +187,32 @@ pub(super) fn are_same(parameters: &[Sort], args: &[Sort]) -> bool
     args == parameters
 }
 
+// Whether an identifier is a plain name of a variable.
+fn is_variable(scope: &[Variable<'_, Sort>], identifier: &Identifier<'_>) -> bool
+    ensures { result ≡ names_variable (scope_view scope.now) (identifier_view identifier.now) }
+{
+    match identifier {
+        Identifier::Plain(name) => find_variable(scope, *name).is_some(),
+        Identifier::Indexed { .. } => false,
+    }
+}
+
 fn is_underscore(tree: &Tree) -> bool
     ensures { result ≡ is_underscore_tree (sexp_of tree.now) }
 {
     matches!(tree, Tree::Reserved(Word::Underscore))
+}
+
+fn is_let(tree: &Tree) -> bool
+    ensures { result ≡ is_let_tree (sexp_of tree.now) }
+{
+    matches!(tree, Tree::Reserved(Word::Let))
+}
+
+fn is_bang(tree: &Tree) -> bool
+    ensures { result ≡ is_bang_tree (sexp_of tree.now) }
+{
+    matches!(tree, Tree::Reserved(Word::Bang))
 }
 
 // The width of digits that stand for so many bits each.

@@ -1,27 +1,30 @@
 //! Items of models.
 
-ghost use Rattle.std.specs.Prelude.{◌≡◌, ◌⊎◌, ◌&&◌, [], not, is_some, option_map, None, Some, Ok, Err, MatchResult, OnOk, OnErr, IfErr, IfOk};
+ghost use Rattle.std.specs.Prelude.{◌≡◌, ◌⊎◌, ◌&&◌, map, not, is_some, option_map, None, Some, Ok, Err, MatchResult, OnOk, OnErr, IfErr, IfOk};
 ghost use Rattle.smt_text.specs.Sexp.{Sexp};
 ghost use Rattle.smt_text.specs.Tree.{sexp_of, sexps_of};
 ghost use Rattle.smt_theory.specs.Ranks.{are_exactly};
 ghost use Rattle.smt_theory.specs.Sort.{is_same_sort};
 ghost use Rattle.smt_theory.specs.Words.{look_up};
 ghost use Rattle.smt_terms.specs.Internal.LibraryView.{names_of_library, rank_of};
-ghost use Rattle.smt_terms.specs.Items.{declared_named, definition, has_rank_of, item_in, name_fault, without_parameters};
+ghost use Rattle.smt_terms.specs.Items.{declared_named, has_rank_of, item_in, name_fault};
 ghost use Rattle.smt_terms.specs.Library.{HasTheoriesOf, IsTerm, StandsFor};
+ghost use Rattle.smt_terms.specs.ScopeView.{scope_view};
 ghost use Rattle.smt_terms.specs.Signature as signature;
 ghost use Rattle.smt_terms.specs.Signature.{Signature, is_taken, names_of, no_names, rank_of_entry, with_entry};
 ghost use Rattle.smt_terms.specs.SortTrees.{sort_named};
 ghost use Rattle.smt_terms.specs.declared.fault.TermFault.TheVariants.{Memory};
 ghost use Rattle.smt_terms.specs.declared.library.TermId as id;
 
+use crate::definitions::{sorted_params_of, sorts_of_variables};
 use crate::fault::TermFault;
-use crate::item_form::{ItemForm, item_form};
+use crate::item_form::item_form;
 use crate::library::checker::are_same;
-use crate::library::{Definition, Entry, Found, Library, TermId};
+use crate::library::{Entry, Found, Library};
+use crate::scope::Variable;
 use crate::sorts::sort_of_tree;
-use smt_text::{Tree, split_first};
-use smt_theory::{Sort, Theories};
+use smt_text::Tree;
+use smt_theory::Sort;
 
 impl Library {
     /// A library for the items of a model of these names (SMT-LIB 2.6, section 4.2.6): of the same theories, and without names. Only
@@ -38,10 +41,11 @@ impl Library {
     /// before. Its body sees these and the theories, and no name of the script.
     ///
     /// Refused are, in this order: an item out of form (`Form`), or a recursive one (`Unsupported`); a name that an earlier item has
-    /// (`BoundTwice`); one that the script does not declare and that is in use or a plain operator's (`NotFresh`); parameters
-    /// (`Unsupported`); a tree that names no sort, with its fault; another rank than the declared one (`IllSorted`); a body with a
-    /// fault, with the first; a body of another sort (`IllSorted`). Then, and where memory is refused (`Memory`), no name is added; a
-    /// term that nothing names may be.
+    /// (`BoundTwice`); one that the script does not declare and that is in use or a plain operator's (`NotFresh`); of each
+    /// parameter a tree that names no sort, with its fault, and then a name that an earlier parameter has (`BoundTwice`); for the result
+    /// a tree that names no sort, with its fault; another rank than the declared one (`IllSorted`); a body with a fault over the earlier
+    /// items and the parameters, with the first; a body of another sort (`IllSorted`). Then, and where memory is refused (`Memory`), no
+    /// name is added; a term that nothing names may be.
     pub fn define_item(&mut self, script: &Library, item: &Tree) -> Result<(), TermFault>
         requires { HasTheoriesOf self.old script.now }
         ensures defined { OnOk result ((s m : Signature) → StandsFor script.now s → StandsFor self.old m
@@ -54,15 +58,28 @@ impl Library {
     {
         let form = item_form(item)?;
         self.check_name(script, form.name)?;
-        let sort = sort_of_item(script.theories, form)?;
-        if !script.keeps_rank(form.name, sort) {
+        let parameters = sorted_params_of(self.alloc, script.theories, form.parameters)?;
+        let sort = sort_of_tree(script.theories, form.sort)?;
+        if !self.has_declared_rank(script, form.name, parameters.as_slice(), sort)? {
             return Err(TermFault::IllSorted);
         }
-        if !are_equal(self.sort_of(form.body)?, sort) {
-            return Err(TermFault::IllSorted);
-        }
-        let body = self.add_term(form.body)?;
-        self.add_constant(form.name, sort, body)
+        self.add_definition(form.name, parameters.as_slice(), sort, form.body)
+    }
+
+    // Whether the script declares the name with this rank, if it declares it. Only want of memory is refused.
+    fn has_declared_rank(
+        &self,
+        script: &Library,
+        name: &[u8],
+        parameters: &[Variable<'_, Sort>],
+        sort: Sort,
+    ) -> Result<bool, TermFault>
+        ensures rank { IfOk result (λ kept. (s : Signature) → StandsFor script.now s
+            → kept ≡ has_rank_of (declared_named s.entries name.now) (map (λ p. p.1) (scope_view parameters.now)) sort) }
+        ensures refused { IfErr result (λ fault. fault ≡ Memory) }
+    {
+        let sorts = sorts_of_variables(self.alloc, parameters)?;
+        Ok(script.keeps_rank(name, sorts.as_slice(), sort))
     }
 
     // Refuses a name that an earlier item has, and one that the script does not declare and that is taken.
@@ -106,66 +123,26 @@ impl Library {
         }
     }
 
-    // Whether the name is declared as a constant of this sort, if it is declared.
-    fn keeps_rank(&self, name: &[u8], sort: Sort) -> bool
-        ensures { (s : Signature) → StandsFor self.now s → result ≡ has_rank_of (declared_named s.entries name.now) [] sort }
+    // Whether the name is declared with this rank, if it is declared.
+    fn keeps_rank(&self, name: &[u8], parameters: &[Sort], sort: Sort) -> bool
+        ensures { (s : Signature) → StandsFor self.now s → result ≡ has_rank_of (declared_named s.entries name.now) parameters.now sort }
     {
         match self.get_declared(name) {
-            Some(entry) => is_constant(entry, sort),
+            Some(entry) => has_rank(entry, parameters, sort),
             None => true,
         }
     }
-
-    // Adds the definition of a constant at the end, or changes no name.
-    fn add_constant(&mut self, name: &[u8], sort: Sort, body: TermId) -> Result<(), TermFault>
-        requires { look_up (names_of_library self.old).ranks name.now ≡ None }
-        ensures added { OnOk result ((s : Signature) (t : Sexp) → StandsFor self.old s → IsTerm self.old body t → StandsFor self.new (with_entry s (definition name.now sort t))) }
-        ensures refused { IfErr result (λ fault. fault ≡ Memory) }
-        ensures unchanged { OnErr result ((s : Signature) → StandsFor self.old s → StandsFor self.new s) }
-        ensures terms { (i : id.TermId) (t : Sexp) → IsTerm self.old i t → IsTerm self.new i t }
-        ensures theories { self.new.theories ≡ self.old.theories }
-    {
-        let definition = Definition {
-            name: Vec::from_slice(self.alloc, name)?,
-            params: Vec::new(self.alloc),
-            result: sort,
-            body,
-        };
-        let entry = Entry {
-            parameters: Vec::new(self.alloc),
-            sort,
-            place: Found::Defined(self.definitions.len()),
-        };
-        self.definitions.push(definition)?;
-        match self.insert(name, entry) {
-            Ok(()) => Ok(()),
-            Err(fault) => {
-                let _ = self.definitions.pop();
-                Err(fault)
-            }
-        }
-    }
 }
 
-// Whether a name stands for a constant of this sort.
-fn is_constant(entry: &Entry, sort: Sort) -> bool
-    ensures { result ≡ are_exactly entry.now.parameters.items [] && is_same_sort entry.now.sort sort }
+// Whether a name stands for a function of this rank.
+fn has_rank(entry: &Entry, parameters: &[Sort], sort: Sort) -> bool
+    ensures { result ≡ are_exactly entry.now.parameters.items parameters.now && is_same_sort entry.now.sort sort }
 {
-    are_same(entry.parameters.as_slice(), &[]) && are_equal(entry.sort, sort)
+    are_same(entry.parameters.as_slice(), parameters) && are_equal(entry.sort, sort)
 }
 
-fn are_equal(found: Sort, sort: Sort) -> bool
+pub(super) fn are_equal(found: Sort, sort: Sort) -> bool
     ensures { result ≡ is_same_sort found sort }
 {
     found == sort
-}
-
-// The sort that an item says. Items with parameters are not supported.
-fn sort_of_item(theories: Theories, form: ItemForm<'_>) -> Result<Sort, TermFault>
-    ensures { result ≡ without_parameters (sexps_of form.entry.parameters.now) (sort_named theories (sexp_of form.entry.sort.now)) }
-{
-    if split_first(form.parameters).is_some() {
-        return Err(TermFault::Unsupported);
-    }
-    sort_of_tree(theories, form.sort)
 }

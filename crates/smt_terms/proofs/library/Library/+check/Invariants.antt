@@ -1,8 +1,10 @@
-use Rattle.std.proofs.Common.{◌≡◌, ◌+◌, ◌*◌, ◌≤◌, []}
+use Rattle.std.proofs.Common.{◌≡◌, ◌+◌, ◌*◌, ◌≤◌, [], true}
 use Rattle.smt_text.specs.Sexp.{weight, weight_all}
 use Rattle.smt_text.specs.Tree.{sexp_of, sexps_of}
-use Rattle.smt_terms.specs.Checking.{sorts_in}
+use Rattle.smt_terms.specs.Bindings.{are_named_trees}
+use Rattle.smt_terms.specs.Checking.{bound_in, sorts_in}
 use Rattle.smt_terms.specs.Internal.LibraryView.{names_of_library}
+use Rattle.smt_terms.specs.ScopeView.{scope_view}
 use Rattle.smt_terms.proofs.CheckerLemmas.{sorts_behind}
 use Rattle.smt_terms.proofs.library.Library.+check.Given as goal
 
@@ -12,12 +14,33 @@ decreases-sort_of l = 2 * weight (sexp_of l.term.now)
 abbrev pub decreases-sort_of_list : goal.decreases-sort_of_list
 decreases-sort_of_list l = 2 * weight_all l.parts.now + 1
 
+abbrev pub decreases-sort_of_let : goal.decreases-sort_of_let
+decreases-sort_of_let l = 2 * weight_all (sexps_of l.args.now) + 2
+
+abbrev pub decreases-sort_of_annotated : goal.decreases-sort_of_annotated
+decreases-sort_of_annotated l = 2 * weight_all (sexps_of l.args.now) + 2
+
 abbrev pub decreases-sorts_of : goal.decreases-sorts_of
 decreases-sorts_of l = 2 * weight_all (sexps_of l.terms.now) + 1
 
+abbrev pub decreases-bound_by : goal.decreases-bound_by
+decreases-bound_by l = 2 * weight_all (sexps_of l.bindings.now) + 1
+
 abbrev pub invariant-sorts_of-loop-term : goal.invariant-sorts_of-loop-term
-invariant-sorts_of-loop-term l =
-    record { answer : sorts_in (names_of_library l.self) [] (sexps_of l.terms) ≡ sorts_behind (names_of_library l.self) l.sorts.items (sexps_of l.left); lighter : weight_all (sexps_of l.left) ≤ weight_all (sexps_of l.terms) }
+invariant-sorts_of-loop-term l = record {
+  answer : sorts_in (names_of_library l.self) (scope_view l.scope) (sexps_of l.terms) ≡ sorts_behind (names_of_library l.self) (scope_view l.scope) l.sorts.items (sexps_of l.left);
+  lighter : weight_all (sexps_of l.left) ≤ weight_all (sexps_of l.terms);
+}
 
 abbrev pub decreases-sorts_of-loop-term : goal.decreases-sorts_of-loop-term
 decreases-sorts_of-loop-term l = weight_all (sexps_of l.left)
+
+abbrev pub invariant-bound_by-loop-name : goal.invariant-bound_by-loop-name
+invariant-bound_by-loop-name l = record {
+  answer : bound_in (names_of_library l.self) (scope_view l.scope) [] (sexps_of l.bindings) ≡ bound_in (names_of_library l.self) (scope_view l.scope) (scope_view l.bound.items) (sexps_of l.left);
+  named : are_named_trees (sexps_of l.left) ≡ true;
+  lighter : weight_all (sexps_of l.left) ≤ weight_all (sexps_of l.bindings);
+}
+
+abbrev pub decreases-bound_by-loop-name : goal.decreases-bound_by-loop-name
+decreases-bound_by-loop-name l = weight_all (sexps_of l.left)

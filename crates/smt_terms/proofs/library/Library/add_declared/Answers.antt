@@ -19,7 +19,7 @@ pub returns-in-Ok-clause-added : goal.returns-in-Ok-clause-added
 returns-in-Ok-clause-added c =
     let params = c.in_ok-from_slice.ensures.items ∙ c.as_slice.ensures.value in
     λ s stands.
-    stands_declared c.args.self.now c.insert.new.self s c.args.name.now c.args.declared c.requires.next c.insert.ensures.theories
+    stands_declared c.args.self.now c.insert.new.self s c.args.name.now c.args.declared c.requires.absent c.requires.next c.insert.ensures.theories
     (c.in-Ok.ensures.ranks ∙ ap (λ (ps : List Sort). ranks_of_library c.args.self.now ++ (c.args.name.now, record { parameters = ps; sort = c.args.declared.result }) ∷ []) params)
     (c.in-Ok.ensures.places ∙ ap (λ (n : ℕ). places_of_library c.args.self.now ++ (c.args.name.now, place.Declared n) ∷ []) (counted c.args.self.now.declared c.len.result c.len.ensures))
     (c.insert.ensures.declared ∙ c.in_ok-push.ensures.items) c.insert.ensures.definitions c.insert.ensures.terms stands

@@ -1,28 +1,45 @@
-use Rattle.std.proofs.Common.{[], ap, sym, ◌∙◌}
-use Rattle.std.proofs.lemmas.Result.{on_ok_weaker}
+use Rattle.std.proofs.Common.{ap, ◌∙◌}
+use Rattle.std.proofs.lemmas.Result.{IfErr-weaker, on_ok_weaker}
 use Rattle.smt_text.specs.Tree.{sexp_of}
-use Rattle.smt_terms.specs.Checking.{sort_in}
+use Rattle.smt_terms.specs.Definitions.{definition_in}
 use Rattle.smt_terms.specs.Internal.ItemView.{form_of}
-use Rattle.smt_terms.specs.Items.{definition, without_parameters}
-use Rattle.smt_terms.specs.SortTrees.{sort_named}
-use Rattle.smt_terms.proofs.ItemLemmas.{defined, names_before}
+use Rattle.smt_terms.specs.Items.{item_in}
+use Rattle.smt_terms.specs.ScopeView.{scope_view}
+use Rattle.smt_terms.specs.Signature.{names_of}
+use Rattle.smt_terms.proofs.DefinitionLemmas.{same_fault}
+use Rattle.smt_terms.proofs.ItemLemmas.{item_step}
 use Rattle.smt_terms.proofs.library.Library.define_item.Goals as goal
 
 pub returns-clause-defined : goal.returns-clause-defined
 returns-clause-defined c =
+    let tree = sexp_of c.args.item.now in
     let form = form_of c.in_ok-form.form in
+    let ps = scope_view c.in_ok-parameters.parameters.items in
+    let rs = scope_view c.as_slice-2.result.now in
     let sort = c.in_ok-sort.sort in
-    on_ok_weaker c.add_constant.result
-    (λ added s m stands items. (
-      definition form.name sort form.body,
-      defined s m.entries (sexp_of c.args.item.now) form sort c.in_ok-sort_of.field-0 c.in_ok-form.ensures (c.in_ok-check_name.ensures.fault s m stands items)
-          (ap (λ theories. without_parameters form.parameters (sort_named theories form.sort)) (sym stands.theories) ∙ sym c.in_ok-sort.ensures)
-          (sym (c.keeps_rank.ensures s stands) ∙ c.if-not-keeps_rank.false)
-          (ap (λ names. sort_in names [] form.body) (sym (names_before c.args.self.now c.args.script.now s m c.requires stands items)) ∙ c.in_ok-sort_of.ensures)
-          (sym c.are_equal.ensures ∙ c.if-not-are_equal.false),
-      added m form.body (c.in_ok-body.ensures.kept m items) c.in_ok-body.ensures.term,
+    on_ok_weaker c.add_definition.result
+    (λ added s m stands items.
+    let more = added m items in (
+      more.0,
+      item_step c.args.self.now c.args.script.now s m tree form ps (scope_view c.as_slice.result.now) rs sort c.in_ok-has_declared_rank.field-0 c.requires stands items c.in_ok-form.ensures
+          (c.in_ok-check_name.ensures.fault s m stands items) c.in_ok-parameters.ensures c.in_ok-sort.ensures (c.in_ok-has_declared_rank.ensures.rank s stands) c.if-not-branch.false (ap scope_view c.as_slice.ensures.value)
+          (ap scope_view c.as_slice-2.ensures.value)
+          ∙ more.1,
+      more.2,
     ))
-    c.add_constant.ensures.added
+    c.add_definition.ensures.added
 
-pub returns-clause-terms : goal.returns-clause-terms
-returns-clause-terms c = λ i t is. c.add_constant.ensures.terms i t (c.in_ok-body.ensures.terms i t is)
+pub returns-clause-refused : goal.returns-clause-refused
+returns-clause-refused c =
+    let tree = sexp_of c.args.item.now in
+    let form = form_of c.in_ok-form.form in
+    let ps = scope_view c.in_ok-parameters.parameters.items in
+    let rs = scope_view c.as_slice-2.result.now in
+    let sort = c.in_ok-sort.sort in
+    IfErr-weaker c.add_definition.result _ _
+    (λ fault refused s m stands items.
+    same_fault (definition_in (names_of m) form.name rs sort form.body) (item_in s m.entries tree) fault
+    (item_step c.args.self.now c.args.script.now s m tree form ps (scope_view c.as_slice.result.now) rs sort c.in_ok-has_declared_rank.field-0 c.requires stands items c.in_ok-form.ensures
+    (c.in_ok-check_name.ensures.fault s m stands items) c.in_ok-parameters.ensures c.in_ok-sort.ensures (c.in_ok-has_declared_rank.ensures.rank s stands) c.if-not-branch.false (ap scope_view c.as_slice.ensures.value)
+    (ap scope_view c.as_slice-2.ensures.value)) (refused m items))
+    c.add_definition.ensures.refused

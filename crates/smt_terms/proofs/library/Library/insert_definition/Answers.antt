@@ -3,9 +3,10 @@ use Rattle.std.proofs.Common.{◌≡◌, ℕ, List, ◌++◌, ◌∷◌, [], ref
 use Rattle.std.proofs.lemmas.Grind.{common_steps}
 use Rattle.smt_theory.specs.declared.sort.Sort.{Sort}
 use Rattle.smt_terms.specs.Internal.LibraryView.{places_of_library, ranks_of_library}
+use Rattle.smt_terms.specs.ScopeView.{scope_view}
 use Rattle.smt_terms.specs.declared.library.Found.TheVariants as place
 use Rattle.smt_terms.proofs.StandsLemmas.{counted, on_err, stands_defined, stands_still}
-use Rattle.smt_terms.proofs.library.Library.add_constant.Goals as goal
+use Rattle.smt_terms.proofs.library.Library.insert_definition.Goals as goal
 
 pub returns-in_err-push-clause-unchanged : goal.returns-in_err-push-clause-unchanged
 returns-in_err-push-clause-unchanged c = on_err c.from_residual-in_err-push.result (λ s stands. stands_still c.args.self.now _ s refl refl refl refl c.in_err-push.ensures.items (λ i t h. h) stands)
@@ -17,7 +18,7 @@ returns-in-Err-clause-unchanged c =
 
 pub returns-in-Ok-clause-added : goal.returns-in-Ok-clause-added
 returns-in-Ok-clause-added c = λ s t stands body.
-    stands_defined c.args.self.now c.insert.new.self s c.args.name.now _ t c.in_ok-from_slice.ensures.items c.new.ensures.items body c.insert.ensures.theories
-    (c.in-Ok.ensures.ranks ∙ ap (λ (ps : List Sort). ranks_of_library c.args.self.now ++ (c.args.name.now, record { parameters = ps; sort = c.args.sort }) ∷ []) c.new-2.ensures.items)
+    stands_defined c.args.self.now c.insert.new.self s c.args.name.now (scope_view c.args.parameters.now) _ t c.requires c.in_ok-from_slice.ensures.items c.in_ok-named_parameters.ensures.named body c.insert.ensures.theories
+    (c.in-Ok.ensures.ranks ∙ ap (λ (ps : List Sort). ranks_of_library c.args.self.now ++ (c.args.name.now, record { parameters = ps; sort = c.args.sort }) ∷ []) c.in_ok-sorts_of_variables.ensures.sorts)
     (c.in-Ok.ensures.places ∙ ap (λ (n : ℕ). places_of_library c.args.self.now ++ (c.args.name.now, place.Defined n) ∷ []) (counted c.args.self.now.definitions c.len.result c.len.ensures)) c.insert.ensures.declared
     (c.insert.ensures.definitions ∙ c.in_ok-push.ensures.items) c.insert.ensures.terms stands

@@ -1,0 +1,11 @@
+use Rattle.std.proofs.Common.{◌≡◌}
+use Rattle.smt_text.specs.Sexp.{weight_all}
+use Rattle.smt_text.specs.Tree.{sexps_of}
+use Rattle.smt_terms.specs.Bindings.{go_on}
+use Rattle.smt_terms.proofs.attributes.go_on.Given as goal
+
+abbrev pub invariant-loop-keyword : goal.invariant-loop-keyword
+invariant-loop-keyword l = go_on (sexps_of l.trees) ≡ go_on (sexps_of l.left)
+
+abbrev pub decreases-loop-keyword : goal.decreases-loop-keyword
+decreases-loop-keyword l = weight_all (sexps_of l.left)

@@ -1,0 +1,26 @@
+use Rattle.std.proofs.Common.{true, sym, ◌∙◌}
+use Rattle.std.proofs.lemmas.Result.{on_ok_weaker}
+use Rattle.smt_text.specs.Tree.{sexp_of}
+use Rattle.smt_terms.specs.Definitions.{definition}
+use Rattle.smt_terms.specs.Internal.LibraryView.{names_of_library}
+use Rattle.smt_terms.specs.ScopeView.{scope_view}
+use Rattle.smt_terms.specs.Signature.{names_of}
+use Rattle.smt_terms.proofs.DefinitionLemmas.{definition_by}
+use Rattle.smt_terms.proofs.ItemLemmas.{names_as}
+use Rattle.smt_terms.proofs.library.Library.add_definition.Goals as goal
+
+pub returns-clause-added : goal.returns-clause-added
+returns-clause-added c =
+    let ps = scope_view c.args.parameters.now in
+    let body = sexp_of c.args.body.now in
+    on_ok_weaker c.insert_definition.result
+    (λ added s stands. (
+      definition c.args.name.now ps c.args.sort body,
+      definition_by (names_of s) (names_of_library c.args.self.now) c.args.name.now ps c.args.sort c.in_ok-sort_of.field-0 body true (names_as c.args.self.now s stands) c.in_ok-sort_of.ensures
+          (sym c.are_equal.ensures ∙ c.if-not-are_equal.false),
+      added s body (c.in_ok-body.ensures.kept s stands) c.in_ok-body.ensures.term,
+    ))
+    c.insert_definition.ensures.added
+
+pub returns-clause-terms : goal.returns-clause-terms
+returns-clause-terms c = λ i t is. c.insert_definition.ensures.terms i t (c.in_ok-body.ensures.terms i t is)

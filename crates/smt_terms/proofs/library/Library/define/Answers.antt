@@ -1,0 +1,42 @@
+use Rattle.std.proofs.Common.{map, ap, sym, ◌∙◌}
+use Rattle.std.proofs.lemmas.Result.{IfErr-weaker, on_ok_weaker}
+use Rattle.smt_text.specs.Tree.{sexp_of}
+use Rattle.smt_terms.specs.Definitions.{defined_in, definition_in}
+use Rattle.smt_terms.specs.ParamView.{param_view}
+use Rattle.smt_terms.specs.ScopeView.{scope_view}
+use Rattle.smt_terms.specs.Signature.{names_of}
+use Rattle.smt_terms.proofs.DefinitionLemmas.{define_step, same_fault}
+use Rattle.smt_terms.proofs.NameLookUps.{not_taken}
+use Rattle.smt_terms.proofs.library.Library.define.Goals as goal
+
+pub add_definition-requires : goal.add_definition-requires
+add_definition-requires c = not_taken _ _ (sym c.if-is_taken.ensures)
+
+pub returns-clause-defined : goal.returns-clause-defined
+returns-clause-defined c =
+    let params = map param_view c.args.params.now in
+    let tree = sexp_of c.args.sort.now in
+    let body = sexp_of c.args.body.now in
+    let rs = scope_view c.as_slice.result.now in
+    on_ok_weaker c.add_definition.result
+    (λ added s stands.
+    let more = added s stands in (
+      more.0,
+      define_step c.args.self.now s c.args.name.now params tree body (scope_view c.in_ok-parameters.parameters.items) rs c.in_ok-sort.sort stands (sym c.if-is_taken.ensures) c.in_ok-parameters.ensures
+          c.in_ok-sort.ensures (ap scope_view c.as_slice.ensures.value) ∙ more.1,
+      more.2,
+    ))
+    c.add_definition.ensures.added
+
+pub returns-clause-refused : goal.returns-clause-refused
+returns-clause-refused c =
+    let params = map param_view c.args.params.now in
+    let tree = sexp_of c.args.sort.now in
+    let body = sexp_of c.args.body.now in
+    let rs = scope_view c.as_slice.result.now in
+    IfErr-weaker c.add_definition.result _ _
+    (λ fault refused s stands.
+    same_fault (definition_in (names_of s) c.args.name.now rs c.in_ok-sort.sort body) (defined_in (names_of s) c.args.name.now params tree body) fault
+    (define_step c.args.self.now s c.args.name.now params tree body (scope_view c.in_ok-parameters.parameters.items) rs c.in_ok-sort.sort stands (sym c.if-is_taken.ensures) c.in_ok-parameters.ensures
+    c.in_ok-sort.ensures (ap scope_view c.as_slice.ensures.value)) (refused s stands))
+    c.add_definition.ensures.refused

@@ -1,0 +1,117 @@
+//! The attributes of annotated terms.
+
+ghost use Rattle.std.specs.Prelude.{◌≡◌, ◌≤◌, false, None, MatchOption};
+ghost use Rattle.smt_text.specs.Sexp.{Atom, Cons, Keyword, weight_all};
+ghost use Rattle.smt_text.specs.Tree.{sexp_of, sexps_of};
+ghost use Rattle.smt_terms.specs.Bindings as bindings;
+ghost use Rattle.smt_terms.specs.Bindings.{is_symbol_tree, go_on_behind};
+ghost use Rattle.smt_terms.specs.Internal.Attributes.{first_keyword, has_value, is_keyword_tree, is_label_tree};
+
+use smt_text::{Tree, split_first};
+
+// Whether these are the attributes of a term: one or more.
+pub(crate) fn are_attributes(trees: &[Tree]) -> bool
+    ensures { result ≡ bindings.are_attributes (sexps_of trees.now) }
+{
+    split_first(trees).is_some() && go_on(trees)
+}
+
+// Whether trees go on as attributes: keywords, each with a value or without one.
+fn go_on(trees: &[Tree]) -> bool
+    ensures { result ≡ bindings.go_on (sexps_of trees.now) }
+{
+    let mut left = trees;
+    while let Some((keyword, rest)) = split_keyword(left) {
+        let Some(behind) = behind_attribute(keyword, rest) else {
+            return false;
+        };
+        left = behind;
+    }
+    split_first(left).is_none()
+}
+
+// What stands behind an attribute of this keyword, by what stands behind the keyword; `None` where a label has no symbol.
+fn behind_attribute<'a>(keyword: &[u8], trees: &'a [Tree]) -> Option<&'a [Tree]>
+    ensures answer { MatchOption result (go_on_behind keyword.now (sexps_of trees.now) ≡ false) (λ left. go_on_behind keyword.now (sexps_of trees.now) ≡ bindings.go_on (sexps_of left.now)) }
+    ensures lighter { MatchOption result (Unit {0}) (λ left. weight_all (sexps_of left.now) ≤ weight_all (sexps_of trees.now)) }
+{
+    match split_value(trees) {
+        Some((value, rest)) => {
+            if is_label(keyword) && !is_symbol(value) {
+                return None;
+            }
+            Some(rest)
+        }
+        None => {
+            if is_label(keyword) {
+                return None;
+            }
+            Some(trees)
+        }
+    }
+}
+
+// The first of these trees if it is a keyword, and the trees behind it.
+fn split_keyword(trees: &[Tree]) -> Option<(&[u8], &[Tree])>
+    ensures { MatchOption result (first_keyword (sexps_of trees.now) ≡ None) (λ p. sexps_of trees.now ≡ Cons (Atom Keyword p.0.now) (sexps_of p.1.now)) }
+{
+    let Some((Tree::Keyword(keyword), rest)) = split_first(trees) else {
+        return None;
+    };
+    Some((keyword.as_slice(), rest))
+}
+
+// The first of these trees if it is no keyword, and the trees behind it.
+fn split_value(trees: &[Tree]) -> Option<(&Tree, &[Tree])>
+    ensures { MatchOption result (has_value (sexps_of trees.now) ≡ false)
+        (λ p. (is_keyword_tree (sexp_of p.0.now) ≡ false) × (sexps_of trees.now ≡ Cons (sexp_of p.0.now) (sexps_of p.1.now))) }
+{
+    let Some((value, rest)) = split_first(trees) else {
+        return None;
+    };
+    if is_keyword(value) {
+        return None;
+    }
+    Some((value, rest))
+}
+
+// Whether one of the attributes is a label.
+pub(crate) fn has_label(attributes: &[Tree]) -> bool
+    ensures { result ≡ bindings.has_label (sexps_of attributes.now) }
+{
+    let mut left = attributes;
+    while let Some((tree, rest)) = split_first(left) {
+        if is_label_word(tree) {
+            return true;
+        }
+        left = rest;
+    }
+    false
+}
+
+fn is_label_word(tree: &Tree) -> bool
+    ensures { result ≡ is_label_tree (sexp_of tree.now) }
+{
+    match tree {
+        Tree::Keyword(keyword) => is_label(keyword.as_slice()),
+        _ => false,
+    }
+}
+
+fn is_label(keyword: &[u8]) -> bool
+    ensures { result ≡ bindings.is_label keyword.now }
+{
+    keyword == b"named".as_slice()
+}
+
+fn is_keyword(tree: &Tree) -> bool
+    ensures { result ≡ is_keyword_tree (sexp_of tree.now) }
+{
+    matches!(tree, Tree::Keyword(_))
+}
+
+fn is_symbol(tree: &Tree) -> bool
+    ensures { result ≡ is_symbol_tree (sexp_of tree.now) }
+{
+    matches!(tree, Tree::Symbol(_))
+}
