@@ -1,17 +1,10 @@
 -- The declarations of a library, one at a time.
-use Rattle.std.proofs.Common.{◌≡◌, ◌≤◌, ℕ, zero, suc, ◌+◌, Bool, true, false, cond, List, [], ◌∷◌, ◌++◌, drop, length, slice_get, Option, Some, None, is_some, refl, ap, sym, ◌∙◌, subst, arith, add-one, length-append}
-use Rattle.std.proofs.lemmas.List.{map-append}
+use Rattle.std.proofs.Common.{◌≡◌, ◌≤◌, ℕ, zero, suc, ◌+◌, Bool, true, false, cond, List, [], ◌∷◌, ◌++◌, length, slice_get, Option, Some, None, is_some, refl, ap, sym, ◌∙◌, arith}
 use Rattle.std.specs.Option.{option_or}
 use Rattle.smt_text.specs.Sexp.{Sexp}
-use Rattle.smt_values.specs.Element.{Element, known_element, known_elements}
-use Rattle.smt_values.specs.declared.value.Value.{Value}
-use Rattle.smt_terms.specs.Library.{AreDefinitions, Declaration, IsDefinitionOf, declaration_at, declarations_from}
-use Rattle.smt_terms.specs.Signature.{Entry, Origin, Declared, Defined, Signature, entry_named}
-use Rattle.smt_terms.specs.declared.library.Definition.{Definition}
-use Rattle.smt_terms.specs.declared.library.Library.{Library}
-use Rattle.smt_eval.specs.Known.{KnownMeaning, known_defined, known_in, known_of, known_operators}
+use Rattle.smt_terms.specs.Library.{Declaration, declaration_at, declarations_from}
+use Rattle.smt_terms.specs.Signature.{Entry, Origin, Declared, Defined, entry_named}
 use Rattle.smt_eval.specs.Model.{command_of_origin, first_lacking, lacking_at}
-use Rattle.smt_eval.proofs.EvaluatorLemmas.{values_more}
 
 -- a place of an entry is within
 pub within : (es : List Entry) (n : ℕ) (e : Entry) → slice_get es n ≡ Some e → n + 1 ≤ length es

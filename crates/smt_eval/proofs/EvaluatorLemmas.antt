@@ -1,5 +1,5 @@
 -- What is known over definitions, one step at a time.
-use Rattle.std.proofs.Common.{◌≡◌, ℕ, zero, suc, ◌+◌, ◌<◌, ◌≤◌, Bool, true, false, cond, List, [], ◌∷◌, ◌++◌, length, take, get_or, slice_get, Option, Some, None, Result, Ok, Err, IfOk, refl, ap, sym, ◌∙◌, subst, arith, add-one}
+use Rattle.std.proofs.Common.{◌≡◌, ℕ, zero, suc, ◌+◌, ◌<◌, ◌≤◌, Bool, true, false, cond, List, [], ◌∷◌, ◌++◌, length, take, get_or, slice_get, Option, Some, None, Result, Ok, IfOk, refl, ap, sym, ◌∙◌, subst, arith, add-one}
 use Rattle.std.proofs.Math.Seq.{take-length}
 use Rattle.std.proofs.lemmas.List.{map-append}
 use Rattle.std.specs.Bool.{◌==◌}
@@ -18,7 +18,7 @@ use Rattle.smt_values.specs.declared.value.Value.{Value}
 use Rattle.smt_terms.specs.Bindings.{let_form}
 use Rattle.smt_terms.specs.Identifier.{Identifier, Plain, Indexed, all_indexes, applied, indexed, operator_of}
 use Rattle.smt_terms.specs.ScopeView.{scope_view}
-use Rattle.smt_terms.specs.Signature.{AreDistinct, Entry, Origin, Declared, Defined, Signature, entry_named}
+use Rattle.smt_terms.specs.Signature.{AreDistinct, Entry, Origin, Defined, Signature, entry_named}
 use Rattle.smt_terms.specs.declared.fault.TermFault.TheVariants.{Form}
 use Rattle.smt_terms.specs.declared.scope.Variable.{Variable}
 use Rattle.smt_terms.proofs.EntryLemmas.{entry_named-take}

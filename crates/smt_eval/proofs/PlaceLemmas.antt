@@ -1,8 +1,7 @@
 -- Where the definitions of a structure stand, and in which library.
-use Rattle.std.proofs.Common.{◌≡◌, ◌≤◌, ◌<◌, ℕ, zero, suc, ◌+◌, true, false, cond, not, Bool, List, [], ◌∷◌, ◌++◌, length, map, take, slice_get, Option, Some, None, refl, ap, sym, ◌∙◌, subst, arith, length-append}
+use Rattle.std.proofs.Common.{◌≡◌, ◌≤◌, ℕ, zero, suc, ◌+◌, true, false, cond, not, Bool, List, [], ◌∷◌, ◌++◌, length, take, slice_get, Some, None, refl, ap, sym, ◌∙◌, subst, arith, length-append}
 use Rattle.std.proofs.lemmas.List.{length-map}
 use Rattle.std.specs.Prelude.{bytes_eq}
-use Rattle.smt_text.specs.Sexp.{Sexp}
 use Rattle.smt_terms.specs.Library.{AreDefinitions, IsDefinitionOf, StandsFor, declared_among, defined_among, definitions_of, is_declared, term_at}
 use Rattle.smt_terms.specs.Signature.{AreDistinct, Entry, Origin, Declared, Defined, IsDeclared, Signature, entry_named}
 use Rattle.smt_terms.specs.declared.library.Definition.{Definition}

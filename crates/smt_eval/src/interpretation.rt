@@ -19,7 +19,7 @@ use crate::calls::kept_value;
 use crate::definitions::Definitions;
 use crate::laws::{models_are_complete, structures_are_distinct};
 use crate::memory::Memory;
-use crate::stand_in::faults_are_no_memory;
+use smt_terms::laws::faults_are_no_memory;
 use smt_terms::{Library, TermFault};
 use smt_text::{Tree, Trees, split_first};
 use smt_values::Value;

@@ -19,8 +19,8 @@ ghost use Rattle.smt_eval.specs.Model.{AreDefined, AreItems, HasFirstFault, IsFi
 ghost use Rattle.smt_eval.specs.Structure.{structure_of};
 ghost use Rattle.smt_eval.specs.declared.interpretation.ModelFault.TheVariants.{Item, Lacks, Memory as OutOfMemory};
 
-use crate::stand_in as terms;
-use crate::stand_in::items_are_well_sorted;
+use smt_terms::laws as terms;
+use smt_terms::laws::items_are_well_sorted;
 use smt_theory::laws::{ranks_are_the_table, sorts_are_compared};
 use smt_values::laws::{known_results_are_true, results_are_of_their_sorts};
 

@@ -15,7 +15,6 @@ pub mod laws;
 mod memory;
 pub mod plain;
 mod scope;
-mod stand_in;
 
 pub use checked::Checked;
 pub use interpretation::{Interpretation, ModelFault};
