@@ -12,3 +12,4 @@ pub mod ValuesLemmas
 pub mod ReadLemmas
 pub mod ClosedLemmas
 pub mod ModelFaultLemmas
+pub mod StructureSortLemmas

@@ -41,7 +41,7 @@ distinct_both [] fs d f apart = f
 distinct_both (e ∷ es) fs d f apart = (none_in_both es fs e.name d.0 apart.0, distinct_both es fs d.1 f apart.1)
 
 -- the rank of a name is that of its entry
-rank_named : (es : List Entry) (x : List ℕ) → look_up (ranks_of es) x ≡ option_map rank_of_entry (entry_named es x)
+pub rank_named : (es : List Entry) (x : List ℕ) → look_up (ranks_of es) x ≡ option_map rank_of_entry (entry_named es x)
 rank_named [] x = refl
 rank_named (e ∷ es) x = by (bytes_eq x e.name) (rank_named es x)
   where

@@ -8,7 +8,7 @@ ghost use Rattle.smt_values.specs.Operations.{DivisionByZero};
 ghost use Rattle.smt_terms.specs.Checking.{sort_in};
 ghost use Rattle.smt_terms.specs.Items.{items_before};
 ghost use Rattle.smt_terms.specs.Signature.{AreDistinct, Entry, Signature, names_of};
-ghost use Rattle.smt_terms.specs.WellSorted.{AreWellSorted};
+ghost use Rattle.smt_terms.specs.WellSorted.{AreIntroduced, AreWellSorted};
 ghost use Rattle.smt_eval.specs.Agreement.{AgreesWith, FitsScope};
 ghost use Rattle.smt_terms.specs.declared.fault.TermFault.{TermFault};
 ghost use Rattle.smt_terms.specs.declared.fault.TermFault.TheVariants.{Memory};
@@ -16,11 +16,11 @@ ghost use Rattle.smt_eval.specs.CompleteModel.{IsModelOf};
 ghost use Rattle.smt_eval.specs.Known.{known_in, known_of};
 ghost use Rattle.smt_eval.specs.Meaning.{value_over};
 ghost use Rattle.smt_eval.specs.Model.{AreDefined, AreItems, HasFirstFault, IsFirstLacking, items_of, model_in};
-ghost use Rattle.smt_eval.specs.Structure.{structure_of};
+ghost use Rattle.smt_eval.specs.Structure.{IsStructure, structure_of};
 ghost use Rattle.smt_eval.specs.declared.interpretation.ModelFault.TheVariants.{Item, Lacks, Memory as OutOfMemory};
 
 use smt_terms::laws as terms;
-use smt_terms::laws::items_are_well_sorted;
+use smt_terms::laws::{items_are_well_sorted, sorts_are_kept};
 use smt_theory::laws::{ranks_are_the_table, sorts_are_compared};
 use smt_values::laws::{known_results_are_true, results_are_of_their_sorts};
 
@@ -59,6 +59,17 @@ pub fn structures_are_distinct()
     ensures { (script : Signature) (parts : Sexps) (definitions : Signature) → model_in script parts ≡ Ok definitions → AreDistinct script.entries
         → AreDistinct (structure_of script definitions).entries }
 {
+    items_are_well_sorted();
+}
+
+/// A model of names that were introduced one behind another gives a structure to the script (SMT-LIB 2.6, section 5.3): its
+/// definitions, and behind them the script's own, are each well sorted over those before it, and no two have one name.
+pub fn models_give_structures()
+    ensures { (script : Signature) (parts : Sexps) (definitions : Signature) → model_in script parts ≡ Ok definitions → AreIntroduced script.theories [] script.entries
+        → IsStructure (structure_of script definitions) }
+{
+    sorts_are_kept();
+    models_are_complete();
     items_are_well_sorted();
 }
 
