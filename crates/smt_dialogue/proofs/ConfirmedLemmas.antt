@@ -5,6 +5,7 @@ use Rattle.std.specs.List.{AllByRecursion, list_any}
 use Rattle.smt_text.specs.Sexp as sexp
 use Rattle.smt_text.specs.Sexp.{Sexp, Sexps, Atom, is_symbol}
 use Rattle.smt_dialogue.proofs.FirstFaultLemmas.{none_of}
+use Rattle.smt_dialogue.proofs.StructureLemmas.{ModelsGiveStructures, NamesAreIntroduced, structure_behind}
 use Rattle.smt_dialogue.proofs.PairLemmas.{assertions_after-append, is_word, lines_in-append}
 use Rattle.smt_script.specs.Command.{Command, Assert}
 use Rattle.smt_dialogue.specs.Validity.{IsConfirmed, IsSatCheck, IsTrueModel}
@@ -97,11 +98,13 @@ is_false_value (Some (Truth false)) h = refl
 is_false_value (Some (Integer z)) h = absurd (cc)
 is_false_value (Some (Vector v)) h = absurd (cc)
 
--- the laws of models and of what is known over them
+-- the laws of models, of what is known over them, and of structures
 pub record Laws : Type 0 where
   pub complete : (script : Signature) (parts : Sexps) (definitions : Signature) → model_in script parts ≡ Ok definitions → IsModelOf script parts definitions
   pub known : (z : DivisionByZero) (definitions : Signature) (known : List (List ℕ × Option Element)) (r : List (List ℕ × Element)) (term : Sexp)
       → AgreesWith known r → Agrees (known_of (known_in definitions) known term) (value_over z definitions r term)
+  pub introduced : NamesAreIntroduced
+  pub structures : ModelsGiveStructures
 
 -- what is known of a closed term is its value
 pub closed_value : Laws → (z : DivisionByZero) (definitions : Signature) (term : Sexp) (e : Element) → known_over definitions term ≡ Some e → value_over z definitions [] term ≡ e
@@ -141,6 +144,7 @@ true_model laws pairs before after p parts place faultless h =
     record {
       definitions = confirmed.0;
       model = laws.complete (signature_after before) parts confirmed.0 confirmed.1;
+      structure = structure_behind laws.introduced laws.structures before (p ∷ after) parts confirmed.0 (subst (AreFaultless []) place faultless) confirmed.1;
       sorted = λ earlier term asserted.
           let q = asserted.pair in
           let far : pairs ≡ earlier ++ q ∷ (asserted.between ++ p ∷ after) = place ∙ ap (λ (b : List Pair). b ++ p ∷ after) asserted.place ∙ append_assoc earlier (q ∷ asserted.between) (p ∷ after) in

@@ -9,3 +9,4 @@ pub mod ReportUnique
 pub mod ReportExists
 pub mod ConfirmedLemmas
 pub mod ValidityLemmas
+pub mod StructureLemmas

@@ -8,6 +8,7 @@ use Rattle.smt_text.specs.Reading.{Reads}
 use Rattle.smt_text.specs.Sexp.{Sexp, Sexps, Nil, is_symbol}
 use Rattle.smt_text.specs.declared.fault.TextFault.{TextFault}
 use Rattle.smt_dialogue.proofs.FirstFaultLemmas.{any-append, ends_clean, invalid_lines, none_of, valid_lines}
+use Rattle.smt_dialogue.proofs.StructureLemmas.{structure_behind}
 use Rattle.smt_dialogue.proofs.PairingUnique.{all_commands, one_pairing}
 use Rattle.smt_dialogue.proofs.ConfirmedLemmas.{Laws, asserted_formula, closed_value, confirmed_at, faultless_at, is_false_value, lines_at, lines_of_sat_at}
 use Rattle.smt_script.specs.Command.{Command, SetLogic, DeclareConst, DeclareFun, DefineFun, Assert, CheckSat, GetModel}
@@ -356,6 +357,7 @@ invalid_means laws script answers st at' sf af ls v rs ra j h =
       models = ap (λ (i : ℕ). models_from i (window at_pair.last)) (omega arith) ∙ found.model.place;
       definitions = over.0;
       model_of = laws.complete names found.model.model.parts over.0 over.1;
+      structure = structure_behind laws.introduced laws.structures before (p ∷ at_pair.last) found.model.model.parts over.0 (subst (AreFaultless []) at_pair.place j.faultless) over.1;
       earlier = source.earlier;
       term = over.2.assertion.term;
       asserted = record {

@@ -10,6 +10,7 @@ use Rattle.smt_terms.specs.Checking.{sort_in}
 use Rattle.smt_terms.specs.Signature.{Signature, names_of}
 use Rattle.smt_eval.specs.CompleteModel.{IsModelOf}
 use Rattle.smt_eval.specs.Meaning.{value_over}
+use Rattle.smt_eval.specs.Structure.{IsStructure}
 use Rattle.smt_script.specs.Command.{Assert}
 use Rattle.smt_dialogue.specs.InForce.{signature_after}
 use Rattle.smt_dialogue.specs.Lines.{checks_in, is_check}
@@ -41,11 +42,13 @@ pub record IsAsserted (before : List Pair) (earlier : List Pair) (term : Sexp) :
   pub command : pair.command ≡ Assert term
   pub effective : is_effective pair ≡ true
 
--- the parts are those of a model of the names in force. And every assertion in force is well sorted under the names in force before
--- its command, and true whatever division by zero gives
+-- the parts are those of a model of the names in force, whose definitions and the script's behind them give a structure. And every
+-- assertion in force is well sorted under the names in force before its command, and true in that structure, whatever division by
+-- zero gives
 pub record IsTrueModel (before : List Pair) (parts : Sexps) : Type 0 where
   pub definitions : Signature
   pub model : IsModelOf (signature_after before) parts definitions
+  pub structure : IsStructure (structure_at definitions before)
   pub sorted : (earlier : List Pair) (term : Sexp) → IsAsserted before earlier term → sort_in (names_of (signature_after earlier)) [] term ≡ Ok Boolean
   pub true_in : (z : DivisionByZero) (earlier : List Pair) (term : Sexp) → IsAsserted before earlier term → value_over z (structure_at definitions before) [] term ≡ Truth true
 
@@ -64,8 +67,9 @@ pub record IsValid (script answers : List ℕ) : Type 0 where
       → IsPairing others script_trees Nil answer_trees rest → (others ≡ pairs) × (rest ≡ Nil)
   pub confirmed : (before after : List Pair) (pair : Pair) → pairs ≡ before ++ pair ∷ after → IsSatCheck pair → IsConfirmed before after
 
--- what an invalid verdict means: in the window of a check that was answered `sat` stands a model of the names in force that makes a
--- well-sorted assertion in force false, whatever division by zero gives, and the report has the line that says so
+-- what an invalid verdict means: in the window of a check that was answered `sat` stands a model of the names in force, which with the
+-- script's definitions gives a structure that makes a well-sorted assertion in force false, whatever division by zero gives, and the
+-- report has the line that says so
 pub record IsInvalid (script answers : List ℕ) (ls : List Line) : Type 0 where
   pub pairs : List Pair
   pub paired : IsFullyPaired script answers pairs
@@ -80,6 +84,7 @@ pub record IsInvalid (script answers : List ℕ) (ls : List Line) : Type 0 where
   pub models : models_from (length before + 2) (window after) ≡ models_before ++ model ∷ models_after
   pub definitions : Signature
   pub model_of : IsModelOf (signature_after before) model.parts definitions
+  pub structure : IsStructure (structure_at definitions before)
   pub earlier : List Pair
   pub term : Sexp
   pub asserted : IsAsserted before earlier term
