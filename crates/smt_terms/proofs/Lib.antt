@@ -13,4 +13,5 @@ pub mod ItemLemmas
 pub mod DefinitionLemmas
 pub mod DefinitionSortLemmas
 pub mod ItemSortLemmas
+pub mod KeptLemmas
 pub mod NoMemoryLemmas

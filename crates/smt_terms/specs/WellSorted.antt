@@ -1,11 +1,13 @@
--- SMT-LIB 2.6, section 5.2: definitions that are well sorted.
-use Rattle.std.specs.Prelude.{◌≡◌, ℕ, List, [], ◌∷◌, ◌++◌, false, length, bytes_eq, Ok}
+-- SMT-LIB 2.6, section 5.2: definitions that are well sorted, and names that keep the sorts of terms.
+use Rattle.std.specs.Prelude.{◌≡◌, ℕ, List, [], ◌∷◌, ◌++◌, false, length, Some, None, bytes_eq, Ok}
 use Rattle.std.specs.List.{list_any, zip}
 use Rattle.smt_text.specs.Sexp.{Sexp}
+use Rattle.smt_theory.specs.Operators.{is_plain_operator}
+use Rattle.smt_theory.specs.Words.{look_up}
 use Rattle.smt_theory.specs.declared.sort.Sort.{Sort}
 use Rattle.smt_theory.specs.declared.theories.Theories.{Theories}
 use Rattle.smt_terms.specs.Checking.{sort_in}
-use Rattle.smt_terms.specs.Signature.{Entry, Names, Origin, Declared, Defined, ranks_of}
+use Rattle.smt_terms.specs.Signature.{Entry, Names, Origin, Rank, Declared, Defined, ranks_of}
 
 -- no name stands twice
 abbrev pub AreDifferent : List (List ℕ) → Type 0
@@ -31,3 +33,10 @@ IsWellSorted theories earlier e = IsWellSortedFrom (record { theories = theories
 abbrev pub AreWellSorted : Theories → List Entry → List Entry → Type 0
 AreWellSorted theories earlier [] = Unit {0}
 AreWellSorted theories earlier (e ∷ es) = IsWellSorted theories earlier e × AreWellSorted theories (earlier ++ e ∷ []) es
+
+-- more names, over which the terms of these keep their sorts: the theories are the same, a name keeps its rank, and no name that is new
+-- is a plain operator's
+pub record Keeps (names more : Names) : Type 0 where
+  pub theories : more.theories ≡ names.theories
+  pub ranks : (x : List ℕ) (rank : Rank) → look_up names.ranks x ≡ Some rank → look_up more.ranks x ≡ Some rank
+  pub fresh : (x : List ℕ) (rank : Rank) → look_up names.ranks x ≡ None → look_up more.ranks x ≡ Some rank → is_plain_operator names.theories x ≡ false

@@ -7,7 +7,7 @@ ghost use Rattle.smt_terms.specs.Checking.{sort_in};
 ghost use Rattle.smt_terms.specs.Definitions.{defined_in};
 ghost use Rattle.smt_terms.specs.Items.{declared_named, item_in};
 ghost use Rattle.smt_terms.specs.Signature.{Entry, KeepsRank, Names, Signature, declared_in, entry_named, is_taken, names_of};
-ghost use Rattle.smt_terms.specs.WellSorted.{IsWellSorted};
+ghost use Rattle.smt_terms.specs.WellSorted.{IsWellSorted, Keeps};
 ghost use Rattle.smt_terms.specs.declared.fault.TermFault.TheVariants.{Memory};
 
 /// No definition answers that memory was refused.
@@ -35,4 +35,9 @@ pub fn items_are_well_sorted()
         → declared_named script.entries e.name ≡ Some d → KeepsRank d (Some e) }
     ensures free { (script : Signature) (earlier : List Entry) (tree : Sexp) (e : Entry) → item_in script earlier tree ≡ Ok e
         → declared_named script.entries e.name ≡ None → is_taken (names_of script) e.name ≡ false }
+{}
+
+/// A term keeps its sort over more names, none of which hides an operator.
+pub fn sorts_are_kept()
+    ensures { (names more : Names) (scope : List (List ℕ × Sort)) (term : Sexp) (sort : Sort) → Keeps names more → sort_in names scope term ≡ Ok sort → sort_in more scope term ≡ Ok sort }
 {}

@@ -1,0 +1,126 @@
+-- A term keeps its sort over more names.
+use Rattle.std.proofs.Common.{◌≡◌, ℕ, ◌*◌, Bool, true, false, cond, List, [], ◌∷◌, ◌++◌, length, Option, Some, None, is_some, ok_or, Result, Ok, Err, refl, ap, sym, ◌∙◌}
+use Rattle.smt_text.specs.Sexp as sexp
+use Rattle.smt_text.specs.Sexp.{Sexp, Sexps, Atom, Reserved, Items, Nil, Cons, Symbol, Keyword, Numeral, Hexadecimal, Binary}
+use Rattle.smt_text.specs.declared.reserved.Word.TheVariants.{Bang, Let, Underscore}
+use Rattle.smt_theory.specs.Operators.{op_by, plain_op}
+use Rattle.smt_theory.specs.Width.{width_of}
+use Rattle.smt_theory.specs.Words.{look_up, result_and_then}
+use Rattle.smt_theory.specs.declared.op.Op.{Op}
+use Rattle.smt_theory.specs.declared.op.OpFault.TheVariants as ops
+use Rattle.smt_theory.specs.declared.sort.Sort.{Sort}
+use Rattle.smt_terms.specs.Bindings.{are_attributes, are_bindings}
+use Rattle.smt_terms.specs.Checking.{bound_in, sort_applied, sort_in, sort_of_annotated, sort_of_call, sort_of_operator, sort_of_plain, sort_of_symbol, sort_unless_variable, sorts_in}
+use Rattle.smt_terms.specs.Identifier.{Identifier, Plain, Indexed, applied, indexed}
+use Rattle.smt_terms.specs.Signature.{Names, Rank}
+use Rattle.smt_terms.specs.SortTrees.{bit_vectors, integers}
+use Rattle.smt_terms.specs.WellSorted.{Keeps}
+use Rattle.smt_terms.specs.declared.fault.TermFault.{TermFault}
+use Rattle.smt_terms.specs.declared.fault.TermFault.TheVariants.{BoundTwice, Form}
+use Rattle.smt_terms.proofs.CheckerLemmas.{Scope}
+
+-- ## Answers
+
+-- where the second of two steps is answered, the first is
+answered : {A B : Type 0} (r : Result A TermFault) (next : A → Result B TermFault) (y : B) → result_and_then r next ≡ Ok y → (x : A) × (r ≡ Ok x) × (next x ≡ Ok y)
+answered (Ok x) next y h = (x, refl, h)
+answered (Err f) next y h = cc
+
+-- two steps that are answered by the same keep the answer
+kept-steps : {A B : Type 0} (r s : Result A TermFault) (next more : A → Result B TermFault) (y : B) → ((x : A) → r ≡ Ok x → s ≡ Ok x) → ((x : A) → next x ≡ Ok y → more x ≡ Ok y) → result_and_then r next ≡ Ok y
+    → result_and_then s more ≡ Ok y
+kept-steps r s next more y first second h =
+    let a = answered r next y h in
+    ap (λ q. result_and_then q more) (first a.0 a.1) ∙ second a.0 a.2
+
+-- so does a test
+kept-then : {A : Type 0} (b : Bool) (x y : Result A TermFault) (e : TermFault) (a : A) → (x ≡ Ok a → y ≡ Ok a) → cond b x (Err e) ≡ Ok a → cond b y (Err e) ≡ Ok a
+kept-then true x y e a f h = f h
+kept-then false x y e a f h = cc
+
+kept-else : {A : Type 0} (b : Bool) (x y : Result A TermFault) (e : TermFault) (a : A) → (x ≡ Ok a → y ≡ Ok a) → cond b (Err e) x ≡ Ok a → cond b (Err e) y ≡ Ok a
+kept-else true x y e a f h = cc
+kept-else false x y e a f h = f h
+
+-- ## Names
+
+-- a name that is no plain operator's has no sort as an operator
+no_operator : (o : Option Op) (args : List Sort) (sort : Sort) → is_some o ≡ false → sort_of_operator (ok_or o ops.Unknown) args ≡ Ok sort → ⊥
+no_operator None args sort h i = cc
+no_operator (Some op) args sort h i = cc
+
+-- a plain name
+kept-plain : (names more : Names) → Keeps names more → (f : List ℕ) (args : List Sort) (sort : Sort) (r q : Option Rank) → look_up names.ranks f ≡ r → look_up more.ranks f ≡ q → sort_of_plain names f r args ≡ Ok sort
+    → sort_of_plain more f q args ≡ Ok sort
+kept-plain names more keeps f args sort (Some rank) q is now h = ap (λ (o : Option Rank). sort_of_plain more f o args) (sym now ∙ keeps.ranks f rank is) ∙ h
+kept-plain names more keeps f args sort None None is now h = ap (λ theories. sort_of_operator (op_by theories f []) args) keeps.theories ∙ h
+kept-plain names more keeps f args sort None (Some rank) is now h = absurd (no_operator (plain_op names.theories f) args sort (keeps.fresh f rank is now) h)
+
+kept-applied : (names more : Names) → Keeps names more → (f : Identifier) (args : List Sort) (sort : Sort) → sort_applied names f args ≡ Ok sort → sort_applied more f args ≡ Ok sort
+kept-applied names more keeps (Plain f) args sort h = kept-plain names more keeps f args sort (look_up names.ranks f) (look_up more.ranks f) refl refl h
+kept-applied names more keeps (Indexed f is) args sort h = ap (λ theories. sort_of_operator (op_by theories f is) args) keeps.theories ∙ h
+
+kept-symbol : (names more : Names) → Keeps names more → (x : List ℕ) (o : Option Sort) (sort : Sort) → sort_of_symbol names x o ≡ Ok sort → sort_of_symbol more x o ≡ Ok sort
+kept-symbol names more keeps x None sort h = kept-applied names more keeps (Plain x) [] sort h
+kept-symbol names more keeps x (Some s) sort h = h
+
+kept-unless : (o : Option Sort) (x y : Result Sort TermFault) (sort : Sort) → (x ≡ Ok sort → y ≡ Ok sort) → sort_unless_variable o x ≡ Ok sort → sort_unless_variable o y ≡ Ok sort
+kept-unless None x y sort f h = f h
+kept-unless (Some s) x y sort f h = cc
+
+kept-call : (names more : Names) → Keeps names more → (scope : Scope) (f : Identifier) (args : List Sort) (sort : Sort) → sort_of_call names scope f args ≡ Ok sort → sort_of_call more scope f args ≡ Ok sort
+kept-call names more keeps scope (Plain f) args sort h =
+    kept-unless (look_up scope f) (sort_applied names (Plain f) args) (sort_applied more (Plain f) args) sort (kept-applied names more keeps (Plain f) args sort) h
+kept-call names more keeps scope (Indexed f is) args sort h = kept-applied names more keeps (Indexed f is) args sort h
+
+-- ## Terms
+
+-- what a list applies
+abbrev application : Names → Scope → Sexp → Sexps → Result Sort TermFault
+application names scope head args = result_and_then (applied head args) (λ f. result_and_then (sorts_in names scope args) (λ ss. sort_of_call names scope f ss))
+
+kept-application : (names more : Names) → Keeps names more → (scope : Scope) (head : Sexp) (args : Sexps) (sort : Sort) → ((ss : List Sort) → sorts_in names scope args ≡ Ok ss → sorts_in more scope args ≡ Ok ss)
+    → application names scope head args ≡ Ok sort → application more scope head args ≡ Ok sort
+kept-application names more keeps scope head args sort sorts h =
+    kept-steps (applied head args) (applied head args) (λ f. result_and_then (sorts_in names scope args) (λ ss. sort_of_call names scope f ss)) (λ f. result_and_then (sorts_in more scope args) (λ ss. sort_of_call more scope f ss)) sort
+    (λ f is. is) (λ f i. kept-steps (sorts_in names scope args) (sorts_in more scope args) (λ ss. sort_of_call names scope f ss) (λ ss. sort_of_call more scope f ss) sort sorts (λ ss. kept-call names more keeps scope f ss sort) i) h
+
+mutual
+  pub kept-sort : (names more : Names) → Keeps names more → (scope : Scope) (t : Sexp) (sort : Sort) → sort_in names scope t ≡ Ok sort → sort_in more scope t ≡ Ok sort
+  kept-sort names more keeps scope (Atom Symbol x) sort h = kept-symbol names more keeps x (look_up scope x) sort h
+  kept-sort names more keeps scope (Atom Numeral x) sort h = ap integers keeps.theories ∙ h
+  kept-sort names more keeps scope (Atom Hexadecimal x) sort h = ap (λ theories. bit_vectors theories (width_of (4 * length x))) keeps.theories ∙ h
+  kept-sort names more keeps scope (Atom Binary x) sort h = ap (λ theories. bit_vectors theories (width_of (length x))) keeps.theories ∙ h
+  kept-sort names more keeps scope (Atom sexp.Decimal x) sort h = cc
+  kept-sort names more keeps scope (Atom sexp.Text x) sort h = cc
+  kept-sort names more keeps scope (Atom Keyword x) sort h = cc
+  kept-sort names more keeps scope (Reserved word) sort h = cc
+  kept-sort names more keeps scope (Items Nil) sort h = cc
+  kept-sort names more keeps scope (Items (Cons (Reserved Underscore) parts)) sort h =
+      kept-steps (indexed parts) (indexed parts) (λ f. sort_applied names f []) (λ f. sort_applied more f []) sort (λ f is. is) (λ f. kept-applied names more keeps f [] sort) h
+  kept-sort names more keeps scope (Items (Cons (Reserved Let) (Cons (Items bindings) (Cons body Nil)))) sort h =
+      kept-then (are_bindings bindings) (result_and_then (bound_in names scope [] bindings) (λ bound. sort_in names (bound ++ scope) body)) (result_and_then (bound_in more scope [] bindings) (λ bound. sort_in more (bound ++ scope) body))
+      Form sort (kept-steps (bound_in names scope [] bindings) (bound_in more scope [] bindings) (λ bound. sort_in names (bound ++ scope) body) (λ bound. sort_in more (bound ++ scope) body) sort
+      (kept-bound names more keeps scope [] bindings) (λ bound. kept-sort names more keeps (bound ++ scope) body sort)) h
+  kept-sort names more keeps scope (Items (Cons (Reserved Let) args)) sort h = cc
+  kept-sort names more keeps scope (Items (Cons (Reserved Bang) (Cons term attributes))) sort h =
+      kept-then (are_attributes attributes) (result_and_then (sort_in names scope term) (λ s. sort_of_annotated attributes s)) (result_and_then (sort_in more scope term) (λ s. sort_of_annotated attributes s)) Form sort
+      (kept-steps (sort_in names scope term) (sort_in more scope term) (λ s. sort_of_annotated attributes s) (λ s. sort_of_annotated attributes s) sort (kept-sort names more keeps scope term) (λ s i. i)) h
+  kept-sort names more keeps scope (Items (Cons (Reserved Bang) args)) sort h = cc
+  kept-sort names more keeps scope (Items (Cons head args)) sort h = kept-application names more keeps scope head args sort (kept-sorts names more keeps scope args) h
+
+  pub kept-sorts : (names more : Names) → Keeps names more → (scope : Scope) (ts : Sexps) (sorts : List Sort) → sorts_in names scope ts ≡ Ok sorts → sorts_in more scope ts ≡ Ok sorts
+  kept-sorts names more keeps scope Nil sorts h = h
+  kept-sorts names more keeps scope (Cons x xs) sorts h =
+      kept-steps (sort_in names scope x) (sort_in more scope x) (λ s. result_and_then (sorts_in names scope xs) (λ ss. Ok (s ∷ ss))) (λ s. result_and_then (sorts_in more scope xs) (λ ss. Ok (s ∷ ss))) sorts
+      (kept-sort names more keeps scope x)
+      (λ s. kept-steps (sorts_in names scope xs) (sorts_in more scope xs) (λ ss. Ok (s ∷ ss)) (λ ss. Ok (s ∷ ss)) sorts (kept-sorts names more keeps scope xs) (λ ss i. i)) h
+
+  kept-bound : (names more : Names) → Keeps names more → (scope bound : Scope) (bs : Sexps) (vs : Scope) → bound_in names scope bound bs ≡ Ok vs → bound_in more scope bound bs ≡ Ok vs
+  kept-bound names more keeps scope bound Nil vs h = h
+  kept-bound names more keeps scope bound (Cons (Items (Cons (Atom Symbol x) (Cons term Nil))) rest) vs h =
+      kept-else (is_some (look_up bound x)) (result_and_then (sort_in names scope term) (λ s. bound_in names scope (bound ++ (x, s) ∷ []) rest))
+      (result_and_then (sort_in more scope term) (λ s. bound_in more scope (bound ++ (x, s) ∷ []) rest)) BoundTwice vs
+      (kept-steps (sort_in names scope term) (sort_in more scope term) (λ s. bound_in names scope (bound ++ (x, s) ∷ []) rest) (λ s. bound_in more scope (bound ++ (x, s) ∷ []) rest) vs
+      (kept-sort names more keeps scope term) (λ s. kept-bound names more keeps scope (bound ++ (x, s) ∷ []) rest vs)) h
+  kept-bound names more keeps scope bound _ vs h = cc
