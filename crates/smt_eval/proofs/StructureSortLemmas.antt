@@ -161,7 +161,7 @@ module _ (law : SortsAreKept) (s d : Signature) (introduced : AreIntroduced s.th
 
   definition_kept : (pre rest : List Entry) → s.entries ≡ pre ++ rest → (sorts : List Sort) (sort : Sort) (ps : List (List ℕ)) (body : Sexp) → IsDefinition (over pre) sorts sort ps body → IsDefinition (over (d.entries ++ defined_among pre)) sorts sort ps body
   definition_kept pre rest all sorts sort ps body h =
-      let keeps : Keeps (over pre) (over (d.entries ++ defined_among pre)) = record { theories = refl; ranks = ranks_stay pre rest all; free = stays_free pre rest all } in
+      let keeps : Keeps (over pre) (over (d.entries ++ defined_among pre)) = record { theories = refl; ranks = ranks_stay pre rest all; fresh = λ x rank none some. stays_free pre rest all x none (ap is_some some) } in
       record { counted = h.counted; different = h.different; sorted = law (over pre) (over (d.entries ++ defined_among pre)) (zip ps sorts) body sort keeps h.sorted }
 
   sorted_behind : (pre rest : List Entry) → s.entries ≡ pre ++ rest → AreIntroduced s.theories pre rest → AreWellSorted s.theories (d.entries ++ defined_among pre) (defined_among rest)

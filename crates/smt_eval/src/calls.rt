@@ -1,8 +1,9 @@
 //! What names mean: operators, and definitions, whose bodies see their parameters and the definitions before them.
 
-ghost use Rattle.std.specs.Prelude.{◌≡◌, ◌<◌, Some, length, map, slice_get, IfOk};
+ghost use Rattle.std.specs.Prelude.{◌≡◌, List, Option, IsTrue, ◌<◌, Some, length, map, slice_get, IfOk};
 ghost use Rattle.std.specs.List.{zip};
-ghost use Rattle.smt_values.specs.Element.{known_element, known_elements};
+ghost use Rattle.smt_values.specs.Element.{Element, known_element, known_elements};
+ghost use Rattle.smt_values.specs.KnownOperations.{known_choice};
 ghost use Rattle.smt_terms.specs.Identifier.{Plain};
 ghost use Rattle.smt_terms.specs.IdentifierView.{identifier_view};
 ghost use Rattle.smt_terms.specs.Signature.{Entry, Signature};
@@ -16,7 +17,7 @@ use crate::evaluator::known_value;
 use crate::memory::Memory;
 use crate::scope::bind;
 use smt_terms::Identifier;
-use smt_theory::{Op, OpFault, op_of};
+use smt_theory::{CoreOp, Op, OpFault, op_of};
 use smt_values::{Value, apply};
 
 /// What is known of an identifier applied to arguments.
@@ -52,6 +53,21 @@ pub(crate) fn known_plain(
         Some(place) => known_at(over, place, args),
         None => Ok(known_of_operator(op_of(over.model.theories(), name, &[]), args)),
     }
+}
+
+/// Whether a name is that of `ite`, and not of a definition.
+pub(crate) fn is_choice(over: Definitions<'_>, name: &[u8]) -> bool
+    requires { (d : Signature) × Evaluates over d }
+    ensures { IsTrue result → (d : Signature) → Evaluates over.entry d
+        → (args : List (Option Element)) → meaning_over over.entry d (Plain name.now) args ≡ known_choice args }
+{
+    if name != b"ite".as_slice() || place_of(over, name).is_some() {
+        return false;
+    }
+    matches!(
+        op_of(over.model.theories(), name, &[]),
+        Ok(Op::Core(CoreOp::Ite))
+    )
 }
 
 // What the definition at a place gives for arguments: a constant its value, and a function that of its body.

@@ -4,19 +4,20 @@ ghost use Rattle.std.specs.Prelude.{◌≡◌, [], Ok, Err, IfOk};
 ghost use Rattle.smt_text.specs.Sexp.{Cons, Items, Reserved};
 ghost use Rattle.smt_text.specs.Tree.{sexp_of, sexps_of};
 ghost use Rattle.smt_text.specs.declared.reserved.Word.TheVariants.{Let};
+ghost use Rattle.smt_values.specs.KnownOperations as operations;
 ghost use Rattle.smt_values.specs.Element.{known_element, known_elements};
 ghost use Rattle.smt_terms.specs.Identifier.{applied, indexed};
 ghost use Rattle.smt_terms.specs.Signature.{Signature};
 ghost use Rattle.smt_eval.specs.Internal.Evaluation.{Evaluates, known_scope, meaning_over};
 ghost use Rattle.smt_eval.specs.Known.{known_by, known_of, knowns_bound, knowns_of};
 
-use crate::calls::{known_applied, known_of_operator, known_plain};
+use crate::calls::{is_choice, known_applied, known_of_operator, known_plain};
 use crate::definitions::Definitions;
 use crate::memory::Memory;
 use crate::scope::push_variable;
 use smt_terms::{
-    TermFault, Variable, applied_identifier, find_variable, indexed_identifier, split_let,
-    split_named,
+    Identifier, TermFault, Variable, applied_identifier, find_variable, indexed_identifier,
+    split_let, split_named,
 };
 use smt_text::{Tree, Trees, Word, split_first};
 use smt_values::{Value, bin, hex, numeral};
@@ -151,12 +152,43 @@ fn known_call<'a>(
         (λ f. meaning_over over.entry d f (knowns_of (meaning_over over.entry d) (known_scope scope.now) (sexps_of args.now)))) }
 {
     match applied_identifier(over.model.alloc(), head, args) {
+        Ok(Identifier::Plain(name)) if is_choice(over, name) => known_choice(over, scope, args),
         Ok(identifier) => {
             let known = known_all(over, scope, args)?;
             known_applied(over, &identifier, known.as_slice())
         }
         Err(TermFault::Memory) => Err(Memory),
         Err(_) => Ok(None),
+    }
+}
+
+// What is known of the choice that `ite` makes between terms: the other branch is not evaluated.
+#[cycle(known)]
+fn known_choice<'a>(
+    over: Definitions<'_>,
+    scope: &[Variable<'a, Option<Value>>],
+    args: &'a [Tree],
+) -> Result<Option<Value>, Memory>
+    requires { (d : Signature) × Evaluates over d }
+    ensures { (d : Signature) → Evaluates over.entry d
+        → IfOk result (λ v. known_element v ≡ operations.known_choice (knowns_of (meaning_over over.entry d) (known_scope scope.now) (sexps_of args.now))) }
+{
+    let Some((condition, branches)) = split_first(args) else {
+        return Ok(None);
+    };
+    let Some((first, rest)) = split_first(branches) else {
+        return Ok(None);
+    };
+    let Some((second, rest)) = split_first(rest) else {
+        return Ok(None);
+    };
+    if split_first(rest).is_some() {
+        return Ok(None);
+    }
+    match known_value(over, scope, condition)? {
+        Some(Value::Bool(true)) => known_value(over, scope, first),
+        Some(Value::Bool(false)) => known_value(over, scope, second),
+        _ => Ok(None),
     }
 }
 

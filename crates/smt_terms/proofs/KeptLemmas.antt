@@ -1,5 +1,5 @@
 -- A term keeps its sort over more names.
-use Rattle.std.proofs.Common.{◌≡◌, ℕ, Bool, true, false, cond, List, [], ◌∷◌, ◌++◌, ◌*◌, length, Option, Some, None, is_some, ok_or, Result, Ok, Err, refl, ap, ◌∙◌}
+use Rattle.std.proofs.Common.{◌≡◌, ℕ, ◌*◌, Bool, true, false, cond, List, [], ◌∷◌, ◌++◌, length, Option, Some, None, is_some, ok_or, Result, Ok, Err, refl, ap, sym, ◌∙◌}
 use Rattle.smt_text.specs.Sexp as sexp
 use Rattle.smt_text.specs.Sexp.{Sexp, Sexps, Atom, Reserved, Items, Nil, Cons, Symbol, Keyword, Numeral, Hexadecimal, Binary}
 use Rattle.smt_text.specs.declared.reserved.Word.TheVariants.{Bang, Let, Underscore}
@@ -7,10 +7,8 @@ use Rattle.smt_theory.specs.Operators.{op_by, plain_op}
 use Rattle.smt_theory.specs.Width.{width_of}
 use Rattle.smt_theory.specs.Words.{look_up, result_and_then}
 use Rattle.smt_theory.specs.declared.op.Op.{Op}
-use Rattle.smt_theory.specs.declared.op.OpFault.{OpFault}
 use Rattle.smt_theory.specs.declared.op.OpFault.TheVariants as ops
 use Rattle.smt_theory.specs.declared.sort.Sort.{Sort}
-use Rattle.smt_theory.specs.declared.theories.Theories.{Theories}
 use Rattle.smt_terms.specs.Bindings.{are_attributes, are_bindings}
 use Rattle.smt_terms.specs.Checking.{bound_in, sort_applied, sort_in, sort_of_annotated, sort_of_call, sort_of_operator, sort_of_plain, sort_of_symbol, sort_unless_variable, sorts_in}
 use Rattle.smt_terms.specs.Identifier.{Identifier, Plain, Indexed, applied, indexed}
@@ -19,119 +17,110 @@ use Rattle.smt_terms.specs.SortTrees.{bit_vectors, integers}
 use Rattle.smt_terms.specs.WellSorted.{Keeps}
 use Rattle.smt_terms.specs.declared.fault.TermFault.{TermFault}
 use Rattle.smt_terms.specs.declared.fault.TermFault.TheVariants.{BoundTwice, Form}
+use Rattle.smt_terms.proofs.CheckerLemmas.{Scope}
 
--- an answer that goes on has a first one
-went_on : {A B : Type 0} (r : Result A TermFault) (next : A → Result B TermFault) (b : B) → result_and_then r next ≡ Ok b → (a : A) × (r ≡ Ok a) × (next a ≡ Ok b)
-went_on (Ok a) next b h = (a, refl, h)
-went_on (Err f) next b h = absurd (cc)
+-- ## Answers
 
--- what is found is some
-not_free : {P : Type 0} {op : Op} (o : Option Op) → ok_or o ops.Unknown ≡ Ok op → is_some o ≡ false → P
-not_free None h free = absurd (cc)
-not_free (Some op) h free = absurd (cc)
+-- where the second of two steps is answered, the first is
+answered : {A B : Type 0} (r : Result A TermFault) (next : A → Result B TermFault) (y : B) → result_and_then r next ≡ Ok y → (x : A) × (r ≡ Ok x) × (next x ≡ Ok y)
+answered (Ok x) next y h = (x, refl, h)
+answered (Err f) next y h = cc
 
-module _ (names more : Names) (keeps : Keeps names more) where
-  -- a name that stands for an operator still does
-  operator_kept : (f : List ℕ) (args : List Sort) (s : Sort) (o : Result Op OpFault) → op_by names.theories f [] ≡ o → sort_of_operator o args ≡ Ok s → look_up names.ranks f ≡ None
-      → (r : Option Rank) → look_up more.ranks f ≡ r → sort_of_plain more f r args ≡ Ok s
-  operator_kept f args s (Err ops.Unknown) is h absent r found = absurd (cc)
-  operator_kept f args s (Err ops.Index) is h absent r found = absurd (cc)
-  operator_kept f args s (Ok op) is h absent None found = ap (λ (t : Theories). sort_of_operator (op_by t f []) args) keeps.theories ∙ ap (λ o. sort_of_operator o args) is ∙ h
-  operator_kept f args s (Ok op) is h absent (Some rank) found = not_free (plain_op names.theories f) is (keeps.free f absent (ap is_some found))
+-- two steps that are answered by the same keep the answer
+kept-steps : {A B : Type 0} (r s : Result A TermFault) (next more : A → Result B TermFault) (y : B) → ((x : A) → r ≡ Ok x → s ≡ Ok x) → ((x : A) → next x ≡ Ok y → more x ≡ Ok y) → result_and_then r next ≡ Ok y
+    → result_and_then s more ≡ Ok y
+kept-steps r s next more y first second h =
+    let a = answered r next y h in
+    ap (λ q. result_and_then q more) (first a.0 a.1) ∙ second a.0 a.2
 
-  plain_kept : (f : List ℕ) (args : List Sort) (s : Sort) (r : Option Rank) → look_up names.ranks f ≡ r → sort_of_plain names f r args ≡ Ok s → sort_of_plain more f (look_up more.ranks f) args ≡ Ok s
-  plain_kept f args s (Some rank) is h = ap (λ r. sort_of_plain more f r args) (keeps.ranks f rank is) ∙ h
-  plain_kept f args s None is h = operator_kept f args s (op_by names.theories f []) refl h is (look_up more.ranks f) refl
+-- so does a test
+kept-then : {A : Type 0} (b : Bool) (x y : Result A TermFault) (e : TermFault) (a : A) → (x ≡ Ok a → y ≡ Ok a) → cond b x (Err e) ≡ Ok a → cond b y (Err e) ≡ Ok a
+kept-then true x y e a f h = f h
+kept-then false x y e a f h = cc
 
-  applied_kept : (f : Identifier) (args : List Sort) (s : Sort) → sort_applied names f args ≡ Ok s → sort_applied more f args ≡ Ok s
-  applied_kept (Plain f) args s h = plain_kept f args s (look_up names.ranks f) refl h
-  applied_kept (Indexed f indexes) args s h = ap (λ (t : Theories). sort_of_operator (op_by t f indexes) args) keeps.theories ∙ h
+kept-else : {A : Type 0} (b : Bool) (x y : Result A TermFault) (e : TermFault) (a : A) → (x ≡ Ok a → y ≡ Ok a) → cond b (Err e) x ≡ Ok a → cond b (Err e) y ≡ Ok a
+kept-else true x y e a f h = cc
+kept-else false x y e a f h = f h
 
-  symbol_kept : (x : List ℕ) (o : Option Sort) (s : Sort) → sort_of_symbol names x o ≡ Ok s → sort_of_symbol more x o ≡ Ok s
-  symbol_kept x None s h = applied_kept (Plain x) [] s h
-  symbol_kept x (Some sort) s h = h
+-- ## Names
 
-  unless_kept : (o : Option Sort) (f : Identifier) (args : List Sort) (s : Sort) → sort_unless_variable o (sort_applied names f args) ≡ Ok s → sort_unless_variable o (sort_applied more f args) ≡ Ok s
-  unless_kept None f args s h = applied_kept f args s h
-  unless_kept (Some sort) f args s h = h
+-- a name that is no plain operator's has no sort as an operator
+no_operator : (o : Option Op) (args : List Sort) (sort : Sort) → is_some o ≡ false → sort_of_operator (ok_or o ops.Unknown) args ≡ Ok sort → ⊥
+no_operator None args sort h i = cc
+no_operator (Some op) args sort h i = cc
 
-  call_kept : (scope : List (List ℕ × Sort)) (f : Identifier) (args : List Sort) (s : Sort) → sort_of_call names scope f args ≡ Ok s → sort_of_call more scope f args ≡ Ok s
-  call_kept scope (Plain f) args s h = unless_kept (look_up scope f) (Plain f) args s h
-  call_kept scope (Indexed f indexes) args s h = applied_kept (Indexed f indexes) args s h
+-- a plain name
+kept-plain : (names more : Names) → Keeps names more → (f : List ℕ) (args : List Sort) (sort : Sort) (r q : Option Rank) → look_up names.ranks f ≡ r → look_up more.ranks f ≡ q → sort_of_plain names f r args ≡ Ok sort
+    → sort_of_plain more f q args ≡ Ok sort
+kept-plain names more keeps f args sort (Some rank) q is now h = ap (λ (o : Option Rank). sort_of_plain more f o args) (sym now ∙ keeps.ranks f rank is) ∙ h
+kept-plain names more keeps f args sort None None is now h = ap (λ theories. sort_of_operator (op_by theories f []) args) keeps.theories ∙ h
+kept-plain names more keeps f args sort None (Some rank) is now h = absurd (no_operator (plain_op names.theories f) args sort (keeps.fresh f rank is now) h)
 
-  -- an application, its arguments being kept
-  list_kept : (scope : List (List ℕ × Sort)) (o : Result Identifier TermFault) (args : Sexps) (s : Sort) → ((ss : List Sort) → sorts_in names scope args ≡ Ok ss → sorts_in more scope args ≡ Ok ss)
-      → result_and_then o (λ f. result_and_then (sorts_in names scope args) (λ ss. sort_of_call names scope f ss)) ≡ Ok s
-      → result_and_then o (λ f. result_and_then (sorts_in more scope args) (λ ss. sort_of_call more scope f ss)) ≡ Ok s
-  list_kept scope (Err f) args s kept h = h
-  list_kept scope (Ok f) args s kept h =
-      let found = went_on (sorts_in names scope args) (λ ss. sort_of_call names scope f ss) s h in
-      ap (λ r. result_and_then r (λ ss. sort_of_call more scope f ss)) (kept found.0 found.1) ∙ call_kept scope f found.0 s found.2
+kept-applied : (names more : Names) → Keeps names more → (f : Identifier) (args : List Sort) (sort : Sort) → sort_applied names f args ≡ Ok sort → sort_applied more f args ≡ Ok sort
+kept-applied names more keeps (Plain f) args sort h = kept-plain names more keeps f args sort (look_up names.ranks f) (look_up more.ranks f) refl refl h
+kept-applied names more keeps (Indexed f is) args sort h = ap (λ theories. sort_of_operator (op_by theories f is) args) keeps.theories ∙ h
 
-  indexed_kept : (o : Result Identifier TermFault) (s : Sort) → result_and_then o (λ f. sort_applied names f []) ≡ Ok s → result_and_then o (λ f. sort_applied more f []) ≡ Ok s
-  indexed_kept (Err f) s h = h
-  indexed_kept (Ok f) s h = applied_kept f [] s h
+kept-symbol : (names more : Names) → Keeps names more → (x : List ℕ) (o : Option Sort) (sort : Sort) → sort_of_symbol names x o ≡ Ok sort → sort_of_symbol more x o ≡ Ok sort
+kept-symbol names more keeps x None sort h = kept-applied names more keeps (Plain x) [] sort h
+kept-symbol names more keeps x (Some s) sort h = h
 
-  -- a `let`, an annotated term and a binding, their parts being kept
-  let_kept : (scope : List (List ℕ × Sort)) (bindings : Sexps) (body : Sexp) (s : Sort)
-      → ((bound : List (List ℕ × Sort)) → bound_in names scope [] bindings ≡ Ok bound → bound_in more scope [] bindings ≡ Ok bound)
-      → ((inner : List (List ℕ × Sort)) → sort_in names inner body ≡ Ok s → sort_in more inner body ≡ Ok s) → (b : Bool)
-      → cond b (result_and_then (bound_in names scope [] bindings) (λ bound. sort_in names (bound ++ scope) body)) (Err Form) ≡ Ok s
-      → cond b (result_and_then (bound_in more scope [] bindings) (λ bound. sort_in more (bound ++ scope) body)) (Err Form) ≡ Ok s
-  let_kept scope bindings body s kept inner false h = absurd (cc)
-  let_kept scope bindings body s kept inner true h =
-      let found = went_on (bound_in names scope [] bindings) (λ bound. sort_in names (bound ++ scope) body) s h in
-      ap (λ r. result_and_then r (λ bound. sort_in more (bound ++ scope) body)) (kept found.0 found.1) ∙ inner (found.0 ++ scope) found.2
+kept-unless : (o : Option Sort) (x y : Result Sort TermFault) (sort : Sort) → (x ≡ Ok sort → y ≡ Ok sort) → sort_unless_variable o x ≡ Ok sort → sort_unless_variable o y ≡ Ok sort
+kept-unless None x y sort f h = f h
+kept-unless (Some s) x y sort f h = cc
 
-  annotated_kept : (scope : List (List ℕ × Sort)) (term : Sexp) (attributes : Sexps) (s : Sort)
-      → ((t : Sort) → sort_in names scope term ≡ Ok t → sort_in more scope term ≡ Ok t) → (b : Bool)
-      → cond b (result_and_then (sort_in names scope term) (λ t. sort_of_annotated attributes t)) (Err Form) ≡ Ok s
-      → cond b (result_and_then (sort_in more scope term) (λ t. sort_of_annotated attributes t)) (Err Form) ≡ Ok s
-  annotated_kept scope term attributes s kept false h = absurd (cc)
-  annotated_kept scope term attributes s kept true h =
-      let found = went_on (sort_in names scope term) (λ t. sort_of_annotated attributes t) s h in
-      ap (λ r. result_and_then r (λ t. sort_of_annotated attributes t)) (kept found.0 found.1) ∙ found.2
+kept-call : (names more : Names) → Keeps names more → (scope : Scope) (f : Identifier) (args : List Sort) (sort : Sort) → sort_of_call names scope f args ≡ Ok sort → sort_of_call more scope f args ≡ Ok sort
+kept-call names more keeps scope (Plain f) args sort h =
+    kept-unless (look_up scope f) (sort_applied names (Plain f) args) (sort_applied more (Plain f) args) sort (kept-applied names more keeps (Plain f) args sort) h
+kept-call names more keeps scope (Indexed f is) args sort h = kept-applied names more keeps (Indexed f is) args sort h
 
-  binding_kept : (scope bound : List (List ℕ × Sort)) (x : List ℕ) (term : Sexp) (rest : Sexps) (out : List (List ℕ × Sort))
-      → ((t : Sort) → sort_in names scope term ≡ Ok t → sort_in more scope term ≡ Ok t)
-      → ((b : List (List ℕ × Sort)) → bound_in names scope b rest ≡ Ok out → bound_in more scope b rest ≡ Ok out) → (twice : Bool)
-      → cond twice (Err BoundTwice) (result_and_then (sort_in names scope term) (λ s. bound_in names scope (bound ++ (x, s) ∷ []) rest)) ≡ Ok out
-      → cond twice (Err BoundTwice) (result_and_then (sort_in more scope term) (λ s. bound_in more scope (bound ++ (x, s) ∷ []) rest)) ≡ Ok out
-  binding_kept scope bound x term rest out kept next true h = absurd (cc)
-  binding_kept scope bound x term rest out kept next false h =
-      let found = went_on (sort_in names scope term) (λ s. bound_in names scope (bound ++ (x, s) ∷ []) rest) out h in
-      ap (λ r. result_and_then r (λ s. bound_in more scope (bound ++ (x, s) ∷ []) rest)) (kept found.0 found.1) ∙ next (bound ++ (x, found.0) ∷ []) found.2
+-- ## Terms
 
-  mutual
-    pub term_kept : (scope : List (List ℕ × Sort)) (t : Sexp) (s : Sort) → sort_in names scope t ≡ Ok s → sort_in more scope t ≡ Ok s
-    term_kept scope (Atom Symbol x) s h = symbol_kept x (look_up scope x) s h
-    term_kept scope (Atom Numeral digits) s h = ap integers keeps.theories ∙ h
-    term_kept scope (Atom Hexadecimal digits) s h = ap (λ (t : Theories). bit_vectors t (width_of (4 * length digits))) keeps.theories ∙ h
-    term_kept scope (Atom Binary digits) s h = ap (λ (t : Theories). bit_vectors t (width_of (length digits))) keeps.theories ∙ h
-    term_kept scope (Atom sexp.Decimal bytes) s h = h
-    term_kept scope (Atom sexp.Text bytes) s h = h
-    term_kept scope (Atom Keyword x) s h = h
-    term_kept scope (Reserved word) s h = h
-    term_kept scope (Items Nil) s h = h
-    term_kept scope (Items (Cons (Reserved Underscore) parts)) s h = indexed_kept (indexed parts) s h
-    term_kept scope (Items (Cons (Reserved Let) (Cons (Items bindings) (Cons body Nil)))) s h =
-        let_kept scope bindings body s (λ bound. bound_kept scope [] bindings bound) (λ inner. term_kept inner body s) (are_bindings bindings) h
-    term_kept scope (Items (Cons (Reserved Bang) (Cons term attributes))) s h =
-        annotated_kept scope term attributes s (λ t. term_kept scope term t) (are_attributes attributes) h
-    term_kept scope (Items (Cons (Atom kind x) args)) s h = list_kept scope (applied (Atom kind x) args) args s (λ ss. terms_kept scope args ss) h
-    term_kept scope (Items (Cons (Items parts) args)) s h = list_kept scope (applied (Items parts) args) args s (λ ss. terms_kept scope args ss) h
-    term_kept scope (Items (Cons (Reserved word) args)) s h = absurd (cc)
+-- what a list applies
+abbrev application : Names → Scope → Sexp → Sexps → Result Sort TermFault
+application names scope head args = result_and_then (applied head args) (λ f. result_and_then (sorts_in names scope args) (λ ss. sort_of_call names scope f ss))
 
-    pub terms_kept : (scope : List (List ℕ × Sort)) (ts : Sexps) (ss : List Sort) → sorts_in names scope ts ≡ Ok ss → sorts_in more scope ts ≡ Ok ss
-    terms_kept scope Nil ss h = h
-    terms_kept scope (Cons t ts) ss h =
-        let one = went_on (sort_in names scope t) (λ s. result_and_then (sorts_in names scope ts) (λ rest. Ok (s ∷ rest))) ss h in
-        let others = went_on (sorts_in names scope ts) (λ rest. Ok (one.0 ∷ rest)) ss one.2 in
-        ap (λ r. result_and_then r (λ s. result_and_then (sorts_in more scope ts) (λ rest. Ok (s ∷ rest)))) (term_kept scope t one.0 one.1)
-        ∙ ap (λ r. result_and_then r (λ rest. Ok (one.0 ∷ rest))) (terms_kept scope ts others.0 others.1) ∙ others.2
+kept-application : (names more : Names) → Keeps names more → (scope : Scope) (head : Sexp) (args : Sexps) (sort : Sort) → ((ss : List Sort) → sorts_in names scope args ≡ Ok ss → sorts_in more scope args ≡ Ok ss)
+    → application names scope head args ≡ Ok sort → application more scope head args ≡ Ok sort
+kept-application names more keeps scope head args sort sorts h =
+    kept-steps (applied head args) (applied head args) (λ f. result_and_then (sorts_in names scope args) (λ ss. sort_of_call names scope f ss)) (λ f. result_and_then (sorts_in more scope args) (λ ss. sort_of_call more scope f ss)) sort
+    (λ f is. is) (λ f i. kept-steps (sorts_in names scope args) (sorts_in more scope args) (λ ss. sort_of_call names scope f ss) (λ ss. sort_of_call more scope f ss) sort sorts (λ ss. kept-call names more keeps scope f ss sort) i) h
 
-    pub bound_kept : (scope bound : List (List ℕ × Sort)) (bindings : Sexps) (out : List (List ℕ × Sort)) → bound_in names scope bound bindings ≡ Ok out → bound_in more scope bound bindings ≡ Ok out
-    bound_kept scope bound Nil out h = h
-    bound_kept scope bound (Cons (Items (Cons (Atom Symbol x) (Cons term Nil))) rest) out h =
-        binding_kept scope bound x term rest out (λ t. term_kept scope term t) (λ b. bound_kept scope b rest out) (is_some (look_up bound x)) h
-    bound_kept scope bound _ out h = absurd (cc)
+mutual
+  pub kept-sort : (names more : Names) → Keeps names more → (scope : Scope) (t : Sexp) (sort : Sort) → sort_in names scope t ≡ Ok sort → sort_in more scope t ≡ Ok sort
+  kept-sort names more keeps scope (Atom Symbol x) sort h = kept-symbol names more keeps x (look_up scope x) sort h
+  kept-sort names more keeps scope (Atom Numeral x) sort h = ap integers keeps.theories ∙ h
+  kept-sort names more keeps scope (Atom Hexadecimal x) sort h = ap (λ theories. bit_vectors theories (width_of (4 * length x))) keeps.theories ∙ h
+  kept-sort names more keeps scope (Atom Binary x) sort h = ap (λ theories. bit_vectors theories (width_of (length x))) keeps.theories ∙ h
+  kept-sort names more keeps scope (Atom sexp.Decimal x) sort h = cc
+  kept-sort names more keeps scope (Atom sexp.Text x) sort h = cc
+  kept-sort names more keeps scope (Atom Keyword x) sort h = cc
+  kept-sort names more keeps scope (Reserved word) sort h = cc
+  kept-sort names more keeps scope (Items Nil) sort h = cc
+  kept-sort names more keeps scope (Items (Cons (Reserved Underscore) parts)) sort h =
+      kept-steps (indexed parts) (indexed parts) (λ f. sort_applied names f []) (λ f. sort_applied more f []) sort (λ f is. is) (λ f. kept-applied names more keeps f [] sort) h
+  kept-sort names more keeps scope (Items (Cons (Reserved Let) (Cons (Items bindings) (Cons body Nil)))) sort h =
+      kept-then (are_bindings bindings) (result_and_then (bound_in names scope [] bindings) (λ bound. sort_in names (bound ++ scope) body)) (result_and_then (bound_in more scope [] bindings) (λ bound. sort_in more (bound ++ scope) body))
+      Form sort (kept-steps (bound_in names scope [] bindings) (bound_in more scope [] bindings) (λ bound. sort_in names (bound ++ scope) body) (λ bound. sort_in more (bound ++ scope) body) sort
+      (kept-bound names more keeps scope [] bindings) (λ bound. kept-sort names more keeps (bound ++ scope) body sort)) h
+  kept-sort names more keeps scope (Items (Cons (Reserved Let) args)) sort h = cc
+  kept-sort names more keeps scope (Items (Cons (Reserved Bang) (Cons term attributes))) sort h =
+      kept-then (are_attributes attributes) (result_and_then (sort_in names scope term) (λ s. sort_of_annotated attributes s)) (result_and_then (sort_in more scope term) (λ s. sort_of_annotated attributes s)) Form sort
+      (kept-steps (sort_in names scope term) (sort_in more scope term) (λ s. sort_of_annotated attributes s) (λ s. sort_of_annotated attributes s) sort (kept-sort names more keeps scope term) (λ s i. i)) h
+  kept-sort names more keeps scope (Items (Cons (Reserved Bang) args)) sort h = cc
+  kept-sort names more keeps scope (Items (Cons head args)) sort h = kept-application names more keeps scope head args sort (kept-sorts names more keeps scope args) h
+
+  pub kept-sorts : (names more : Names) → Keeps names more → (scope : Scope) (ts : Sexps) (sorts : List Sort) → sorts_in names scope ts ≡ Ok sorts → sorts_in more scope ts ≡ Ok sorts
+  kept-sorts names more keeps scope Nil sorts h = h
+  kept-sorts names more keeps scope (Cons x xs) sorts h =
+      kept-steps (sort_in names scope x) (sort_in more scope x) (λ s. result_and_then (sorts_in names scope xs) (λ ss. Ok (s ∷ ss))) (λ s. result_and_then (sorts_in more scope xs) (λ ss. Ok (s ∷ ss))) sorts
+      (kept-sort names more keeps scope x)
+      (λ s. kept-steps (sorts_in names scope xs) (sorts_in more scope xs) (λ ss. Ok (s ∷ ss)) (λ ss. Ok (s ∷ ss)) sorts (kept-sorts names more keeps scope xs) (λ ss i. i)) h
+
+  kept-bound : (names more : Names) → Keeps names more → (scope bound : Scope) (bs : Sexps) (vs : Scope) → bound_in names scope bound bs ≡ Ok vs → bound_in more scope bound bs ≡ Ok vs
+  kept-bound names more keeps scope bound Nil vs h = h
+  kept-bound names more keeps scope bound (Cons (Items (Cons (Atom Symbol x) (Cons term Nil))) rest) vs h =
+      kept-else (is_some (look_up bound x)) (result_and_then (sort_in names scope term) (λ s. bound_in names scope (bound ++ (x, s) ∷ []) rest))
+      (result_and_then (sort_in more scope term) (λ s. bound_in more scope (bound ++ (x, s) ∷ []) rest)) BoundTwice vs
+      (kept-steps (sort_in names scope term) (sort_in more scope term) (λ s. bound_in names scope (bound ++ (x, s) ∷ []) rest) (λ s. bound_in more scope (bound ++ (x, s) ∷ []) rest) vs
+      (kept-sort names more keeps scope term) (λ s. kept-bound names more keeps scope (bound ++ (x, s) ∷ []) rest vs)) h
+  kept-bound names more keeps scope bound _ vs h = cc

@@ -13,5 +13,5 @@ pub mod ItemLemmas
 pub mod DefinitionLemmas
 pub mod DefinitionSortLemmas
 pub mod ItemSortLemmas
-pub mod NoMemoryLemmas
 pub mod KeptLemmas
+pub mod NoMemoryLemmas

@@ -1,5 +1,5 @@
--- SMT-LIB 2.6, section 5.2: definitions that are well sorted.
-use Rattle.std.specs.Prelude.{◌≡◌, ℕ, List, [], ◌∷◌, ◌++◌, true, false, length, bytes_eq, Some, None, is_some, Ok}
+-- SMT-LIB 2.6, section 5.2: definitions that are well sorted, and names that keep the sorts of terms.
+use Rattle.std.specs.Prelude.{◌≡◌, ℕ, List, [], ◌∷◌, ◌++◌, false, length, Some, None, bytes_eq, Ok}
 use Rattle.std.specs.List.{list_any, zip}
 use Rattle.smt_text.specs.Sexp.{Sexp}
 use Rattle.smt_theory.specs.Operators.{is_plain_operator}
@@ -7,7 +7,7 @@ use Rattle.smt_theory.specs.Words.{look_up}
 use Rattle.smt_theory.specs.declared.sort.Sort.{Sort}
 use Rattle.smt_theory.specs.declared.theories.Theories.{Theories}
 use Rattle.smt_terms.specs.Checking.{sort_in}
-use Rattle.smt_terms.specs.Signature.{Entry, Names, Rank, Origin, Declared, Defined, entry_named, ranks_of}
+use Rattle.smt_terms.specs.Signature.{Entry, Names, Origin, Rank, Declared, Defined, entry_named, ranks_of}
 
 -- no name stands twice
 abbrev pub AreDifferent : List (List ℕ) → Type 0
@@ -34,11 +34,12 @@ abbrev pub AreWellSorted : Theories → List Entry → List Entry → Type 0
 AreWellSorted theories earlier [] = Unit {0}
 AreWellSorted theories earlier (e ∷ es) = IsWellSorted theories earlier e × AreWellSorted theories (earlier ++ e ∷ []) es
 
--- the other names are more: each name keeps its rank, and what is new hides no operator
+-- more names, over which the terms of these keep their sorts: the theories are the same, a name keeps its rank, and no name that is new
+-- is a plain operator's
 pub record Keeps (names more : Names) : Type 0 where
   pub theories : more.theories ≡ names.theories
   pub ranks : (x : List ℕ) (rank : Rank) → look_up names.ranks x ≡ Some rank → look_up more.ranks x ≡ Some rank
-  pub free : (x : List ℕ) → look_up names.ranks x ≡ None → is_some (look_up more.ranks x) ≡ true → is_plain_operator names.theories x ≡ false
+  pub fresh : (x : List ℕ) (rank : Rank) → look_up names.ranks x ≡ None → look_up more.ranks x ≡ Some rank → is_plain_operator names.theories x ≡ false
 
 -- ---- the names of a script
 

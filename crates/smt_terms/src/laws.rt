@@ -18,11 +18,6 @@ pub fn faults_are_no_memory()
     ensures items { (script : Signature) (earlier : List Entry) (tree : Sexp) → item_in script earlier tree ≡ Err Memory → ⊥ }
 {}
 
-/// A term keeps its sort over more names, where what is new hides no operator.
-pub fn sorts_are_kept()
-    ensures { (names more : Names) (scope : List (List ℕ × Sort)) (term : Sexp) (sort : Sort) → Keeps names more → sort_in names scope term ≡ Ok sort → sort_in more scope term ≡ Ok sort }
-{}
-
 /// What a definition brings is well sorted over the earlier names (SMT-LIB 2.6, sections 4.2.3 and 5.2), and has the name that was
 /// given, which stood for nothing and is no plain operator's.
 pub fn definitions_are_well_sorted()
@@ -40,4 +35,9 @@ pub fn items_are_well_sorted()
         → declared_named script.entries e.name ≡ Some d → KeepsRank d (Some e) }
     ensures free { (script : Signature) (earlier : List Entry) (tree : Sexp) (e : Entry) → item_in script earlier tree ≡ Ok e
         → declared_named script.entries e.name ≡ None → is_taken (names_of script) e.name ≡ false }
+{}
+
+/// A term keeps its sort over more names, none of which hides an operator.
+pub fn sorts_are_kept()
+    ensures { (names more : Names) (scope : List (List ℕ × Sort)) (term : Sexp) (sort : Sort) → Keeps names more → sort_in names scope term ≡ Ok sort → sort_in more scope term ≡ Ok sort }
 {}

@@ -3,7 +3,10 @@
 
 ghost use Rattle.smt_terms.specs.Library.{HasTheoriesOf};
 
-use crate::{Found, Library, TermFault};
+use crate::{
+    Found, Library, TermFault, Variable, are_named, find_variable, params_of, split_let,
+    split_named,
+};
 use smt_text::{Tree, Trees, split_first};
 use smt_theory::{Sort, Theories};
 use std::alloc::Global;
@@ -96,6 +99,35 @@ const TERMS: &str = r#"
     F1   ((_ divisible) x)
     F1   ((_ divisible #x0) x)
     F1   ((f x) p)
+    Int  (let ((y x)) y)
+    Int  (let ((x p) (p x)) p)
+    Bool (let ((x p)) (let ((y x)) y))
+    Int  (let ((x p)) (let ((x 1)) x))
+    Int  (let ((|y| 1)) (+ y x))
+    Bool (let ((f p)) f)
+    Bool (let ((and p)) and)
+    F4   (let ((f p)) (f x p))
+    F4   (let ((y x)) (y 1))
+    F3   (let ((y x)) z)
+    F3   (let ((y x) (z y)) z)
+    F6   (let ((y x) (y p)) y)
+    F1   (let () x)
+    F1   (let ((y x)))
+    F1   (let ((y)) x)
+    F1   (let ((y x) 1) y)
+    F1   (let ((y x)) y y)
+    F1   (let)
+    Int  (! x :k)
+    Bool (! p :k 1 :l :m (a b) :k)
+    Int  (let ((y (! x :k))) (! y :l))
+    F8   (! x :named y)
+    F8   (! x :k :named y :l)
+    F1   (! x)
+    F1   (!)
+    F1   (! x y)
+    F1   (! x :k 1 2)
+    F1   (! x :named)
+    F1   (! x :named 1)
 "#;
 
 // Terms with two faults or more. The form of the head comes first, then the arguments from the left, then the name of the head, then
@@ -120,6 +152,12 @@ const TERMS_WITH_MORE_FAULTS: &str = r#"
     F1   ((_ divisible) 1.0)
     F2   (exists 1.0 (g ()))
     F1   ((f (and)) 1.0)
+    F6   (let ((y x) (|y| g)) h)
+    F4   (let ((y (+ x)) (y x)) g)
+    F4   (let ((y (+ x))) g)
+    F1   (let ((y g) (z)) h)
+    F3   (! g :named y)
+    F1   (! g :named :k)
 "#;
 
 // What is answered, a name and the sort of which it is declared, one after the other.
@@ -232,8 +270,6 @@ const ITEMS: &str = r#"
     F7   (define-fun and () Bool true)
     F7   (define-fun |+| () Int 1)
     F7   (define-fun mod () Int 1)
-    F2   (define-fun y ((a Int)) Int 1)
-    F2   (define-fun f ((a Int) (b Bool)) Int a)
     F2   (define-fun y () Real 1.0)
     F3   (define-fun y () W 1)
     F3   (define-fun y () (_ BitVec 8) #x00)
@@ -252,6 +288,13 @@ const ITEMS: &str = r#"
     F4   (define-fun y () Bool x)
     done (define-fun z () Int x)
     done (define-fun y () Int z)
+    F4   (define-fun f ((a Int)) Int a)
+    F4   (define-fun f ((a Bool) (b Int)) Int b)
+    F6   (define-fun f ((a Int) (a Bool)) Int 1)
+    F3   (define-fun f ((a Int) (b Bool)) Int (f a b))
+    done (define-fun f ((a Int) (b Bool)) Int (ite b a x))
+    done (define-fun twice ((x Int)) Int (f (+ x x) true))
+    done (define-fun k () Int (twice z))
 "#;
 
 // Items with two faults or more: first the form, then the name, the parameters, the sort, the rank, the body and the body's sort.
@@ -260,10 +303,32 @@ const ITEMS_WITH_MORE_FAULTS: &str = "
     F2   (define-fun-rec and)
     F6   (define-fun x ((a Int)) W g)
     F7   (define-fun and ((a Int)) W g)
-    F2   (define-fun w ((a W)) 1 g)
+    F3   (define-fun w ((a W) (a Int)) 1 g)
+    F3   (define-fun w ((a Int) (a W)) 1 g)
+    F6   (define-fun w ((a Int) (a Int)) 1 g)
+    F1   (define-fun w ((a Int)) 1 g)
     F3   (define-fun v () W g)
     F4   (define-fun v () Bool g)
     F3   (define-fun w () Bool (+ (g x) p))
+";
+
+// What is answered, and a name, parameters, a sort and a body, one behind the other, over `x` of sort Int and `p` of sort Bool.
+const DEFINITIONS: &str = "
+    done c () Int (+ x 1)
+    done twice ((x Int)) Int (+ x x)
+    done pick ((b Bool) (y Int)) Int (ite b y c)
+    done other ((a Bool)) Bool (let ((a (not a))) (! a :k))
+    F7   c () Int 1
+    F7   and ((a W)) Int 1
+    F6   d ((a Int) (a Int)) W g
+    F3   d ((a Int) (a W)) Int g
+    F1   d ((a Int)) 1 g
+    F3   d () Int d
+    F3   d ((a Int)) Int (d a)
+    F4   d ((a Int)) Bool a
+    F4   d ((a Int)) Int (a 1)
+    F4   d () Int (pick c p)
+    done d () Int (pick p (twice c))
 ";
 
 const ITEMS_WITHOUT_INTEGERS: &str = "
@@ -291,7 +356,8 @@ fn word_of_fault(fault: TermFault) -> &'static [u8] {
         TermFault::Index => b"F5",
         TermFault::BoundTwice => b"F6",
         TermFault::NotFresh => b"F7",
-        _ => b"another fault",
+        TermFault::Label => b"F8",
+        TermFault::Memory => b"F0",
     }
 }
 
@@ -363,6 +429,44 @@ fn declare_all(
     Err("there are more than 1,000 rows".into())
 }
 
+// Defines each name of a text of answers, names, parameters, sorts and bodies.
+fn define_names(
+    rt: &impl Abort,
+    alloc: Global,
+    library: &mut Library,
+    text: &str,
+) -> Result<(), Fail> {
+    let rows = trees(alloc, text)?;
+    let mut left = rows.as_slice();
+    for _ in 0..1000 {
+        let Some((answer, rest)) = split_first(left) else {
+            return Ok(());
+        };
+        let Some((Tree::Symbol(name), rest)) = split_first(rest) else {
+            return Err("an answer has no name".into());
+        };
+        let Some((Tree::List(params), rest)) = split_first(rest) else {
+            return Err("a name has no parameters".into());
+        };
+        let Some((sort, rest)) = split_first(rest) else {
+            return Err("a name has no sort".into());
+        };
+        let Some((body, rest)) = split_first(rest) else {
+            return Err("a name has no body".into());
+        };
+        let Ok(params) = params_of(alloc, params.as_slice()) else {
+            return Err("memory was refused".into());
+        };
+        let found = match library.define(name.as_slice(), params.as_slice(), sort, body) {
+            Ok(()) => b"done".as_slice(),
+            Err(fault) => word_of_fault(fault),
+        };
+        assert!(rt; answer.is_symbol(found), "answered {found:?}");
+        left = rest;
+    }
+    Err("there are more than 1,000 rows".into())
+}
+
 // Defines each item of a text of answers and items. A refused one adds no definition.
 fn define_all(
     rt: &impl Abort,
@@ -407,13 +511,21 @@ fn check_places(rt: &impl Abort, library: &Library, rows: &[(&[u8], Option<Found
 fn check_definitions(rt: &impl Abort, script: &Library, model: &Library) -> Result<(), Fail> {
     assert_eq!(rt; script.definitions().len(), 0);
     assert_eq!(rt; model.declared().len(), 0);
-    assert_eq!(rt; model.definitions().len(), 8);
+    assert_eq!(rt; model.definitions().len(), 11);
     let Some(negation) = model.definitions().get(3) else {
         return Err("there are four definitions".into());
     };
     assert_eq!(rt; negation.name.as_slice(), b"define-fun".as_slice());
     assert_eq!(rt; negation.params.len(), 0);
     assert_eq!(rt; negation.result, Sort::Bool);
+    let Some(function) = model.definitions().get(8) else {
+        return Err("there are nine definitions".into());
+    };
+    let [(first, int), (second, truth)] = function.params.as_slice() else {
+        return Err("there are two parameters".into());
+    };
+    assert_eq!(rt; (first.as_slice(), *int), (b"a".as_slice(), Sort::Int));
+    assert_eq!(rt; (second.as_slice(), *truth), (b"b".as_slice(), Sort::Bool));
     Ok(())
 }
 
@@ -460,6 +572,51 @@ fn bit_vectors(rt: HostRuntime) -> Result<(), Fail> {
 }
 
 #[test]
+fn definitions(rt: HostRuntime) -> Result<(), Fail> {
+    let alloc = rt.alloc();
+    let mut library = Library::new(alloc, INTEGERS);
+    declare_all(&rt, alloc, &mut library, "done x Int done p Bool")?;
+    define_names(&rt, alloc, &mut library, DEFINITIONS)?;
+    assert_eq!(rt; library.definitions().len(), 5);
+    Ok(())
+}
+
+#[test]
+fn bindings(rt: HostRuntime) -> Result<(), Fail> {
+    let alloc = rt.alloc();
+    let args = trees(alloc, "((x 1) (|y| 2)) (+ x y)")?;
+    let Some((bindings, Tree::List(_))) = split_let(args.as_slice()) else {
+        return Err("these are bindings and a body".into());
+    };
+    assert!(rt; are_named(bindings));
+    let Some((first, Tree::Numeral(_), rest)) = split_named(bindings) else {
+        return Err("this is a binding".into());
+    };
+    let Some((second, Tree::Numeral(_), rest)) = split_named(rest) else {
+        return Err("this is a binding".into());
+    };
+    assert!(rt; split_named(rest).is_none());
+    let scope = [
+        Variable {
+            name: first,
+            value: 1_u8,
+        },
+        Variable {
+            name: second,
+            value: 2_u8,
+        },
+        Variable {
+            name: first,
+            value: 3_u8,
+        },
+    ];
+    assert_eq!(rt; find_variable(&scope, b"x"), Some(1));
+    assert_eq!(rt; find_variable(&scope, b"y"), Some(2));
+    assert_eq!(rt; find_variable(&scope, b"z"), None);
+    Ok(())
+}
+
+#[test]
 fn items(rt: HostRuntime) -> Result<(), Fail> {
     let alloc = rt.alloc();
     let mut script = Library::new(alloc, INTEGERS);
@@ -483,7 +640,8 @@ fn items(rt: HostRuntime) -> Result<(), Fail> {
             (b"x", Some(Found::Defined(0))),
             (b"U", Some(Found::Defined(5))),
             (b"y", Some(Found::Defined(7))),
-            (b"f", None),
+            (b"f", Some(Found::Defined(8))),
+            (b"a", None),
             (b"and", None),
         ],
     );

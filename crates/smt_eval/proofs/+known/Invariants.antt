@@ -56,3 +56,6 @@ invariant-evaluator::knowns_bound_by-loop-name l = record {
 
 abbrev pub decreases-evaluator::knowns_bound_by-loop-name : goal.decreases-evaluator::knowns_bound_by-loop-name
 decreases-evaluator::knowns_bound_by-loop-name l = weight_all (sexps_of l.left)
+
+abbrev pub decreases-evaluator::known_choice : goal.decreases-evaluator::known_choice
+decreases-evaluator::known_choice l = 8 * (seen_weight l.over + weight_all (sexps_of l.args.now)) + 5

@@ -1,5 +1,5 @@
-use Rattle.smt_terms.proofs.KeptLemmas.{term_kept}
+use Rattle.smt_terms.proofs.KeptLemmas.{kept-sort}
 use Rattle.smt_terms.proofs.laws.sorts_are_kept.Goals as goal
 
 pub returns : goal.returns
-returns c = λ names more scope term sort keeps h. term_kept names more keeps scope term sort h
+returns c = λ names more scope term sort keeps h. kept-sort names more keeps scope term sort h
