@@ -1,4 +1,3 @@
 pub mod FormLemmas
 pub mod InForceLemmas
-pub mod DefinitionFaults
 pub mod EffectLemmas
