@@ -6,7 +6,7 @@ use Rattle.smt_text.specs.Sexp.{Sexp, Sexps, Nil, Cons}
 use Rattle.smt_theory.specs.Words.{result_and_then}
 use Rattle.smt_theory.specs.declared.theories.Theories.{Theories}
 use Rattle.smt_terms.specs.Items.{declared_named, if_declared, item_in, items_before}
-use Rattle.smt_terms.specs.Signature.{AreDistinct, Entry, Origin, Declared, Defined, IsDeclared, KeepsRank, Signature, entry_named}
+use Rattle.smt_terms.specs.Signature.{AreDistinct, Entry, Origin, Declared, Defined, IsDeclared, KeepsRank, Signature, entry_named, is_taken, names_of}
 use Rattle.smt_terms.specs.WellSorted.{AreWellSorted, IsWellSorted}
 use Rattle.smt_terms.specs.declared.fault.TermFault.{TermFault}
 use Rattle.smt_terms.proofs.EntryLemmas.{entry_named-skip}
@@ -19,11 +19,16 @@ use Rattle.smt_eval.specs.declared.interpretation.ModelFault.{ModelFault}
 abbrev pub IsRanked : Signature → Entry → Type 0
 IsRanked script e = (d : Entry) → declared_named script.entries e.name ≡ Some d → KeepsRank d (Some e)
 
+-- its name is free in the script, unless it was declared there
+abbrev pub IsFree : Signature → Entry → Type 0
+IsFree script e = declared_named script.entries e.name ≡ None → is_taken (names_of script) e.name ≡ false
+
 -- what an item that is taken defines
 pub record IsItem (script : Signature) (earlier : List Entry) (e : Entry) : Type 0 where
   pub fresh : entry_named earlier e.name ≡ None
   pub sorted : IsWellSorted script.theories earlier e
   pub ranked : IsRanked script e
+  pub free : IsFree script e
 
 -- the law of items
 abbrev pub TakenAreItems : Type 0
@@ -57,11 +62,21 @@ AreRanked-more : (script : Signature) (es : List Entry) (e : Entry) → AreRanke
 AreRanked-more script [] e h i = (i, tt)
 AreRanked-more script (d ∷ es) e h i = (h.0, AreRanked-more script es e h.1 i)
 
+-- each name is free in the script, unless it was declared there
+abbrev pub AreFree : Signature → List Entry → Type 0
+AreFree script [] = Unit {0}
+AreFree script (e ∷ es) = IsFree script e × AreFree script es
+
+AreFree-more : (script : Signature) (es : List Entry) (e : Entry) → AreFree script es → IsFree script e → AreFree script (es ++ e ∷ [])
+AreFree-more script [] e h i = (i, tt)
+AreFree-more script (d ∷ es) e h i = (h.0, AreFree-more script es e h.1 i)
+
 -- what holds of the items that were read
 pub record AreSound (script : Signature) (items : List Entry) : Type 0 where
   pub sorted : AreWellSorted script.theories [] items
   pub distinct : AreDistinct items
   pub ranked : AreRanked script items
+  pub free : AreFree script items
 
 -- it holds of the items after any more are read
 AreSound-from : TakenAreItems → (script : Signature) (earlier : List Entry) (number : ℕ) (trees : Sexps) (items : List Entry) → AreSound script earlier → items_from script earlier number trees ≡ Ok items → AreSound script items
@@ -73,7 +88,7 @@ AreSound-from law script earlier number (Cons x xs) items so_far h = by (item_in
     by (Err f) is h next = cc
     by (Ok e) is h next =
         let i = law script earlier x e is in
-        next e (record { sorted = AreWellSorted-more script.theories [] earlier e so_far.sorted i.sorted; distinct = AreDistinct-more earlier e so_far.distinct i.fresh; ranked = AreRanked-more script earlier e so_far.ranked i.ranked }) h
+        next e (record { sorted = AreWellSorted-more script.theories [] earlier e so_far.sorted i.sorted; distinct = AreDistinct-more earlier e so_far.distinct i.fresh; ranked = AreRanked-more script earlier e so_far.ranked i.ranked; free = AreFree-more script earlier e so_far.free i.free }) h
 
 -- ---- names that are lacking
 
@@ -134,6 +149,21 @@ declared_found es x e at is = ap (λ o. option_and_then (λ d. if_declared d d.o
     by (Declared command) is = refl
     by (Defined ps body) is = absurd is
 
+-- what holds of the definitions of a model that is read
+pub sound : TakenAreItems → (script : Signature) (parts : Sexps) (definitions : Signature) → model_in script parts ≡ Ok definitions → AreSound script definitions.entries
+sound law script parts definitions whole = by (items_from script [] 1 (items_of parts)) refl whole
+  where
+    lacks : (found : List Entry) (o : Option ℕ) → items_from script [] 1 (items_of parts) ≡ Ok found → complete_or o (items_before script found) ≡ Ok definitions → AreSound script definitions.entries
+    lacks found (Some command) read h = cc
+    lacks found None read h =
+        let is : items_before script found ≡ definitions = cc in
+        subst (λ (d : Signature). AreSound script d.entries) is (AreSound-from law script [] 1 (items_of parts) found (record { sorted = tt; distinct = tt; ranked = tt; free = tt }) read)
+
+    by : (r : Result (List Entry) ModelFault) → items_from script [] 1 (items_of parts) ≡ r
+        → result_and_then r (λ items. complete_or (first_lacking script.entries items) (items_before script items)) ≡ Ok definitions → AreSound script definitions.entries
+    by (Err f) read h = cc
+    by (Ok found) read h = lacks found (first_lacking script.entries found) read h
+
 -- so a model that is read is one of the script's names
 pub complete : TakenAreItems → (script : Signature) (parts : Sexps) (definitions : Signature) → model_in script parts ≡ Ok definitions → IsModelOf script parts definitions
 complete law script parts definitions whole = by (items_from script [] 1 (items_of parts)) refl whole
@@ -142,7 +172,7 @@ complete law script parts definitions whole = by (items_from script [] 1 (items_
     lacks found (Some command) none read h = cc
     lacks found None none read h =
         let is : items_before script found ≡ definitions = cc in
-        let all = AreSound-from law script [] 1 (items_of parts) found (record { sorted = tt; distinct = tt; ranked = tt }) read in
+        let all = AreSound-from law script [] 1 (items_of parts) found (record { sorted = tt; distinct = tt; ranked = tt; free = tt }) read in
         subst (IsModelOf script parts) is (record {
           read = whole ∙ ap (λ (d : Signature). Ok d) (sym is);
           theories = refl;

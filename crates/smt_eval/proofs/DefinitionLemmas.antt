@@ -1,80 +1,16 @@
--- The definitions of a library and its declarations, one at a time.
-use Rattle.std.proofs.Common.{◌≡◌, ◌≤◌, ℕ, zero, suc, ◌+◌, Bool, true, false, cond, List, [], ◌∷◌, ◌++◌, drop, length, slice_get, Option, Some, None, is_some, refl, ap, sym, ◌∙◌, subst, arith, add-one, length-append}
-use Rattle.std.proofs.lemmas.List.{map-append}
+-- The declarations of a library, one at a time.
+use Rattle.std.proofs.Common.{◌≡◌, ◌≤◌, ℕ, zero, suc, ◌+◌, Bool, true, false, cond, List, [], ◌∷◌, ◌++◌, length, slice_get, Option, Some, None, is_some, refl, ap, sym, ◌∙◌, arith}
 use Rattle.std.specs.Option.{option_or}
 use Rattle.smt_text.specs.Sexp.{Sexp}
-use Rattle.smt_values.specs.Element.{Element, known_element, known_elements}
-use Rattle.smt_values.specs.declared.value.Value.{Value}
-use Rattle.smt_terms.specs.Library.{AreDefinitions, Declaration, IsDefinitionOf, declaration_at, declarations_from}
-use Rattle.smt_terms.specs.Signature.{Entry, Origin, Declared, Defined, Signature, entry_named}
-use Rattle.smt_terms.specs.declared.library.Definition.{Definition}
-use Rattle.smt_terms.specs.declared.library.Library.{Library}
-use Rattle.smt_eval.specs.Internal.DefinitionValues.{AreConstants, IsConstant, definition_values, first}
-use Rattle.smt_eval.specs.Known.{KnownMeaning, known_defined, known_in, known_of, known_operators}
+use Rattle.smt_terms.specs.Library.{Declaration, declaration_at, declarations_from}
+use Rattle.smt_terms.specs.Signature.{Entry, Origin, Declared, Defined, entry_named}
 use Rattle.smt_eval.specs.Model.{command_of_origin, first_lacking, lacking_at}
-use Rattle.smt_eval.proofs.EvaluatorLemmas.{values_more}
-
--- ---- definitions
-
--- the next definition is that of the next entry
-next_at : (l : Library) (d : Definition) (ds : List Definition) (es : List Entry) (n : ℕ) → AreDefinitions l (d ∷ ds) (drop n es) → (e : Entry) × (slice_get es n ≡ Some e) × IsDefinitionOf l d e × AreDefinitions l ds (drop (suc n) es)
-next_at l d ds [] zero h = absurd h
-next_at l d ds [] (suc n) h = absurd h
-next_at l d ds (e ∷ es) zero h = (e, refl, h.0, h.1)
-next_at l d ds (e ∷ es) (suc n) h = next_at l d ds es n h
-
-pub next_definition : (l : Library) (d : Definition) (ds : List Definition) (es : List Entry) (n : ℕ) → AreDefinitions l (d ∷ ds) (drop n es) → (e : Entry) × (slice_get es n ≡ Some e) × IsDefinitionOf l d e × AreDefinitions l ds (drop (n + 1) es)
-next_definition l d ds es n h = rw add-one (next_at l d ds es n h)
-
--- from the first on are all
-pub from_none : (l : Library) (ds : List Definition) (es : List Entry) → AreDefinitions l ds es → AreDefinitions l ds (drop 0 es)
-from_none l ds [] h = h
-from_none l ds (e ∷ es) h = h
-
--- where no definition is left, there is none for an entry that is left
-pub no_more : (l : Library) (es : List Entry) (n : ℕ) → n ≤ length es → AreDefinitions l [] (drop n es) → n ≡ length es
-no_more l [] zero h a = refl
-no_more l [] (suc n) h a = omega (arith, h)
-no_more l (e ∷ es) zero h a = absurd a
-no_more l (e ∷ es) (suc n) h a = ap suc (no_more l es n (omega (arith, h)) a)
 
 -- a place of an entry is within
 pub within : (es : List Entry) (n : ℕ) (e : Entry) → slice_get es n ≡ Some e → n + 1 ≤ length es
 within [] n e h = cc
 within (c ∷ es) zero e h = omega arith
 within (c ∷ es) (suc n) e h = let w = within es n e h in omega (arith, w)
-
-constant_at : (es : List Entry) (n : ℕ) (e : Entry) → AreConstants es → slice_get es n ≡ Some e → IsConstant e.origin
-constant_at [] n e k h = cc
-constant_at (c ∷ es) zero e k h = let is : c ≡ e = cc in subst (λ (x : Entry). IsConstant x.origin) is k.0
-constant_at (c ∷ es) (suc n) e k h = constant_at es n e k.1 h
-
--- what is known of a constant's body is what is known of its definition
-of_body : (m : KnownMeaning) (o : Origin) (ps : List (List ℕ)) (t : Sexp) → IsConstant o → o ≡ Defined ps t → known_of m [] t ≡ known_defined m o []
-of_body m (Declared command) ps t k is = absurd k
-of_body m (Defined [] body) ps t k is = let same : body ≡ t = cc in ap (known_of m []) (sym same)
-of_body m (Defined (p ∷ qs) body) ps t k is = absurd k
-
--- one more value
-pub one_more_value : (d : Signature) (vs : List (Option Value)) (v : Option Value) (e : Entry) (ps : List (List ℕ)) (t : Sexp) → AreConstants d.entries → slice_get d.entries (length vs) ≡ Some e → e.origin ≡ Defined ps t
-    → known_elements vs ≡ definition_values (first (length vs) d) → known_element v ≡ known_of (known_in (first (length vs) d)) [] t → known_elements vs ++ known_element v ∷ [] ≡ definition_values (first (length vs + 1) d)
-one_more_value d vs v e ps t k at is before value =
-    let m = known_in (first (length vs) d) in
-    ap (λ (xs : List (Option Element)). xs ++ known_element v ∷ []) before
-    ∙ ap (λ (x : Option Element). definition_values (first (length vs) d) ++ x ∷ []) (value ∙ of_body m e.origin ps t (constant_at d.entries (length vs) e k at) is)
-    ∙ sym (values_more (known_operators d.theories) d.entries (length vs) e at)
-
--- so the values go on
-pub values_go_on : (l : Library) (rest : List Definition) (d : Signature) (vs new : List (Option Value)) (v : Option Value) (e : Entry) (ps : List (List ℕ)) (t : Sexp) → AreDefinitions l rest (drop (length vs + 1) d.entries) → AreConstants d.entries
-    → slice_get d.entries (length vs) ≡ Some e → e.origin ≡ Defined ps t → known_elements vs ≡ definition_values (first (length vs) d) → known_element v ≡ known_of (known_in (first (length vs) d)) [] t → new ≡ vs ++ v ∷ []
-    → AreDefinitions l rest (drop (length new) d.entries) × (length new ≤ length d.entries) × (known_elements new ≡ definition_values (first (length new) d))
-values_go_on l rest d vs new v e ps t next k at origin before value is =
-    let len : length new ≡ length vs + 1 = ap length is ∙ length-append vs (v ∷ []) in
-    let w = within d.entries (length vs) e at in (
-      subst (λ (n : ℕ). AreDefinitions l rest (drop n d.entries)) (sym len) next,
-      omega (arith, len, w),
-      ap known_elements is ∙ map-append known_element vs (v ∷ []) ∙ one_more_value d vs v e ps t k at origin before value ∙ ap (λ (n : ℕ). definition_values (first n d)) (sym len),
-    )
 
 -- ---- declarations
 

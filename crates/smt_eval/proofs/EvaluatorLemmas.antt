@@ -1,21 +1,33 @@
 -- What is known over definitions, one step at a time.
-use Rattle.std.proofs.Common.{◌≡◌, ℕ, zero, suc, ◌+◌, ◌<◌, true, false, cond, List, [], ◌∷◌, ◌++◌, length, take, get_or, slice_get, Option, Some, None, Ok, Err, refl, ap, sym, ◌∙◌, arith, add-one}
+use Rattle.std.proofs.Common.{◌≡◌, ℕ, zero, suc, ◌+◌, ◌<◌, ◌≤◌, Bool, true, false, cond, List, [], ◌∷◌, ◌++◌, length, take, get_or, slice_get, Option, Some, None, Result, Ok, IfOk, refl, ap, sym, ◌∙◌, subst, arith, add-one}
 use Rattle.std.proofs.Math.Seq.{take-length}
-use Rattle.std.specs.Prelude.{bytes_eq}
-use Rattle.smt_text.specs.Sexp.{Sexp, Sexps, Reserved, Items, Cons}
-use Rattle.smt_text.specs.declared.reserved.Word.TheVariants.{Underscore}
+use Rattle.std.proofs.lemmas.List.{map-append}
+use Rattle.std.specs.Bool.{◌==◌}
+use Rattle.std.specs.Prelude.{bytes_eq, ok_or, option_map, unwrap_or}
+use Rattle.smt_text.specs.Sexp.{Sexp, Sexps, Atom, Reserved, Items, Nil, Cons, Symbol, weight}
+use Rattle.smt_text.specs.Tree.{sexp_of}
+use Rattle.smt_text.specs.declared.reserved.Word.{Word}
+use Rattle.smt_text.specs.declared.reserved.Word.TheVariants.{Let}
+use Rattle.smt_text.specs.declared.tree.Tree.{Tree}
+use Rattle.smt_text.specs.declared.tree.Tree.TheVariants as tree
 use Rattle.smt_theory.specs.Index.{IndexView}
+use Rattle.smt_theory.specs.Operators.{op_by}
+use Rattle.smt_theory.specs.Words.{look_up}
 use Rattle.smt_values.specs.Element.{Element, known_element, known_elements}
 use Rattle.smt_values.specs.declared.value.Value.{Value}
-use Rattle.smt_terms.specs.Checking.{is_underscore_tree}
-use Rattle.smt_terms.specs.Identifier.{Identifier, Plain, Indexed, applied, indexed}
-use Rattle.smt_terms.specs.Signature.{AreDistinct, Entry, Origin, Declared, Defined, Signature, entry_named}
-use Rattle.smt_terms.specs.declared.fault.TermFault.{TermFault}
+use Rattle.smt_terms.specs.Bindings.{let_form}
+use Rattle.smt_terms.specs.Identifier.{Identifier, Plain, Indexed, all_indexes, applied, indexed, operator_of}
+use Rattle.smt_terms.specs.ScopeView.{scope_view}
+use Rattle.smt_terms.specs.Signature.{AreDistinct, Entry, Origin, Defined, Signature, entry_named}
+use Rattle.smt_terms.specs.declared.fault.TermFault.TheVariants.{Form}
+use Rattle.smt_terms.specs.declared.scope.Variable.{Variable}
 use Rattle.smt_terms.proofs.EntryLemmas.{entry_named-take}
 use Rattle.smt_terms.proofs.NameLemmas.{none_step, same_self}
-use Rattle.smt_eval.specs.Internal.DefinitionValues.{AreConstants, IsConstant, definition_values, first, values_after}
-use Rattle.smt_eval.specs.Known.{KnownMeaning, known_after, known_by, known_defined, known_in, known_of, known_operators, knowns_of, with_known}
-use Rattle.smt_eval.proofs.MeaningLemmas.{known-other}
+use Rattle.smt_eval.specs.Internal.DefinitionValues.{definition_values, first, kept_value, values_after}
+use Rattle.smt_eval.specs.Internal.Evaluation.{Evaluates, bodies_weight, known_scope, weight_of}
+use Rattle.smt_eval.specs.Known.{KnownMeaning, known_after, known_by, known_defined, known_in, known_of, known_of_op, known_operators, knowns_bound, knowns_of, with_known}
+use Rattle.smt_eval.specs.declared.definitions.Definitions.{Definitions}
+use Rattle.smt_eval.proofs.FoundLemmas.{empty_of}
 
 -- ---- names
 
@@ -31,28 +43,26 @@ pub known_with_indexes : (m : KnownMeaning) (es : List Entry) (x : List ℕ) (in
 known_with_indexes m [] x indexes args = refl
 known_with_indexes m (e ∷ es) x indexes args = known_with_indexes (with_known m e) es x indexes args
 
--- a constant's definition gives for all arguments what it gives for none
-no_parameters : (m : KnownMeaning) (o : Origin) (args : List (Option Element)) → IsConstant o → known_defined m o args ≡ known_defined m o []
-no_parameters m (Declared command) args h = absurd h
-no_parameters m (Defined [] body) args h = refl
-no_parameters m (Defined (p ∷ ps) body) args h = absurd h
-
--- a name that is defined means what its definition gives over the earlier ones, whatever the arguments
-known_at : (m : KnownMeaning) (es : List Entry) (n p : ℕ) (e : Entry) (args : List (Option Element)) → AreConstants es → AreDistinct es → slice_get es p ≡ Some e → p < n
-    → known_after m (take n es) (Plain e.name) args ≡ known_defined (known_after m (take p es)) e.origin []
-known_at m [] n p e args k d at h = cc
-known_at m (c ∷ es) zero p e args k d at h = absurd (omega arith)
-known_at m (c ∷ es) (suc n) zero e args k d at h =
+-- a name that is defined means what its definition gives over the earlier ones
+known_at : (m : KnownMeaning) (es : List Entry) (n p : ℕ) (e : Entry) (args : List (Option Element)) → AreDistinct es → slice_get es p ≡ Some e → p < n
+    → known_after m (take n es) (Plain e.name) args ≡ known_defined (known_after m (take p es)) e.origin args
+known_at m [] n p e args d at h = cc
+known_at m (c ∷ es) zero p e args d at h = absurd (omega arith)
+known_at m (c ∷ es) (suc n) zero e args d at h =
     let is : c ≡ e = cc in
     ap (λ z. known_after (with_known m c) (take n es) (Plain z.name) args) (sym is) ∙ known_absent (with_known m c) (take n es) c.name args (entry_named-take es c.name n d.0)
-    ∙ ap (λ b. cond b (known_defined m c.origin args) (m (Plain c.name) args)) (same_self c.name) ∙ no_parameters m c.origin args k.0 ∙ ap (λ z. known_defined m z.origin []) is
-known_at m (c ∷ es) (suc n) (suc p) e args k d at h = known_at (with_known m c) es n p e args k.1 d.1 at (omega arith)
+    ∙ ap (λ b. cond b (known_defined m c.origin args) (m (Plain c.name) args)) (same_self c.name) ∙ ap (λ z. known_defined m z.origin args) is
+known_at m (c ∷ es) (suc n) (suc p) e args d at h = known_at (with_known m c) es n p e args d.1 at (omega arith)
 
--- the value at a place is that of the definition there over those before it
-value_at : (m : KnownMeaning) (es : List Entry) (n p : ℕ) (e : Entry) (d : Option Element) → slice_get es p ≡ Some e → p < n → get_or (values_after m (take n es)) p d ≡ known_defined (known_after m (take p es)) e.origin []
+pub defined_means : (d : Signature) (n p : ℕ) (e : Entry) (x : List ℕ) (args : List (Option Element)) → AreDistinct d.entries → slice_get d.entries p ≡ Some e → p < n → e.name ≡ x
+    → known_in (first n d) (Plain x) args ≡ known_defined (known_in (first p d)) e.origin args
+defined_means d n p e x args distinct at h is = ap (λ y. known_in (first n d) (Plain y) args) (sym is) ∙ known_at (known_operators d.theories) d.entries n p e args distinct at h
+
+-- the value at a place is what is kept of the definition there over those before it
+value_at : (m : KnownMeaning) (es : List Entry) (n p : ℕ) (e : Entry) (d : Option Element) → slice_get es p ≡ Some e → p < n → get_or (values_after m (take n es)) p d ≡ kept_value (known_after m (take p es)) e.origin
 value_at m [] n p e d at h = cc
 value_at m (c ∷ es) zero p e d at h = absurd (omega arith)
-value_at m (c ∷ es) (suc n) zero e d at h = let is : c ≡ e = cc in ap (λ z. known_defined m z.origin []) is
+value_at m (c ∷ es) (suc n) zero e d at h = let is : c ≡ e = cc in ap (λ z. kept_value m z.origin) is
 value_at m (c ∷ es) (suc n) (suc p) e d at h = value_at (with_known m c) es n p e d at (omega arith)
 
 -- what a value at a place says of an element
@@ -61,40 +71,124 @@ element_at [] p = refl
 element_at (v ∷ vs) zero = refl
 element_at (v ∷ vs) (suc p) = element_at vs p
 
--- so what is kept of a definition is what its name is known to mean
-pub kept : (d : Signature) (vs : List (Option Value)) (p : ℕ) (e : Entry) (x : List ℕ) (args : List (Option Element)) → AreConstants d.entries → AreDistinct d.entries → known_elements vs ≡ definition_values (first (length vs) d)
-    → slice_get d.entries p ≡ Some e → p < length vs → e.name ≡ x → known_element (get_or vs p None) ≡ known_in (first (length vs) d) (Plain x) args
-kept d vs p e x args k distinct valued at h is =
+-- so the value that is kept of a constant is what its definition gives
+pub kept : (d : Signature) (vs : List (Option Value)) (p : ℕ) (e : Entry) (t : Sexp) (args : List (Option Element)) → known_elements vs ≡ definition_values (first (length vs) d)
+    → slice_get d.entries p ≡ Some e → p < length vs → e.origin ≡ Defined [] t → known_element (get_or vs p None) ≡ known_defined (known_in (first p d)) e.origin args
+kept d vs p e t args valued at h is =
     element_at vs p ∙ ap (λ es. get_or es p None) valued ∙ value_at (known_operators d.theories) d.entries (length vs) p e None at h
-    ∙ sym (known_at (known_operators d.theories) d.entries (length vs) p e args k distinct at h) ∙ ap (λ n. known_in (first (length vs) d) (Plain n) args) is
+    ∙ ap (kept_value (known_in (first p d))) is ∙ sym (ap (λ (o : Origin). known_defined (known_in (first p d)) o args) is)
 
 -- ---- values of definitions
 
 -- one more definition, one more value
-values_next : (m : KnownMeaning) (es : List Entry) (n : ℕ) (e : Entry) → slice_get es n ≡ Some e → values_after m (take (suc n) es) ≡ values_after m (take n es) ++ known_defined (known_after m (take n es)) e.origin [] ∷ []
+values_next : (m : KnownMeaning) (es : List Entry) (n : ℕ) (e : Entry) → slice_get es n ≡ Some e → values_after m (take (suc n) es) ≡ values_after m (take n es) ++ kept_value (known_after m (take n es)) e.origin ∷ []
 values_next m [] n e at = cc
-values_next m (c ∷ es) zero e at = let is : c ≡ e = cc in ap (λ z. known_defined m z.origin [] ∷ []) is
-values_next m (c ∷ es) (suc n) e at = ap (λ vs. known_defined m c.origin [] ∷ vs) (values_next (with_known m c) es n e at)
+values_next m (c ∷ es) zero e at = let is : c ≡ e = cc in ap (λ z. kept_value m z.origin ∷ []) is
+values_next m (c ∷ es) (suc n) e at = ap (λ vs. kept_value m c.origin ∷ vs) (values_next (with_known m c) es n e at)
 
-pub values_more : (m : KnownMeaning) (es : List Entry) (n : ℕ) (e : Entry) → slice_get es n ≡ Some e → values_after m (take (n + 1) es) ≡ values_after m (take n es) ++ known_defined (known_after m (take n es)) e.origin [] ∷ []
+pub values_more : (m : KnownMeaning) (es : List Entry) (n : ℕ) (e : Entry) → slice_get es n ≡ Some e → values_after m (take (n + 1) es) ≡ values_after m (take n es) ++ kept_value (known_after m (take n es)) e.origin ∷ []
 values_more m es n e at = rw add-one (values_next m es n e at)
 
 -- the first of as many as there are are all
 pub all_first : (d : Signature) (n : ℕ) → n ≡ length d.entries → first n d ≡ d
 all_first d n is = ap (λ (es : List Entry). record d { entries = es }) (ap (λ k. take k d.entries) is ∙ take-length d.entries)
 
+-- a place has one entry, which comes from there
+pub by_origin : (es : List Entry) (p : ℕ) (e f : Entry) {o : Origin} → slice_get es p ≡ Some e → slice_get es p ≡ Some f → f.origin ≡ o → e.origin ≡ o
+by_origin es p e f at there is = let both : Some e ≡ Some f = sym at ∙ there in let same : e ≡ f = cc in ap (λ (x : Entry). x.origin) same ∙ is
+
+-- what is known, and what that is
+pub if_known : {F : Type 0} (r : Result (Option Value) F) (x y : Option Element) → IfOk r (λ v. known_element v ≡ x) → x ≡ y → IfOk r (λ v. known_element v ≡ y)
+if_known r x y h is = subst (λ z. IfOk r (λ v. known_element v ≡ z)) is h
+
+none_of : (n : ℕ) → true ≡ (n == 0) → n ≡ 0
+none_of n h = grind (arith, h)
+
+-- a list without elements
+pub empty_list : {A : Type 0} (xs : List A) → true ≡ (length xs == 0) → xs ≡ []
+empty_list xs h = empty_of xs (none_of (length xs) h)
+
 -- ---- lists
 
--- what is known of a list with a head that is no identifier's
-pub list_without : (k : KnownMeaning) (head : Sexp) (args parts : Sexps) (f : TermFault) → parts ≡ Cons head args → is_underscore_tree head ≡ false → applied head args ≡ Err f → known_of k [] (Items parts) ≡ None
-list_without k head args parts f split other is = ap (λ ps. known_of k [] (Items ps)) split ∙ known-other k [] head args other ∙ ap (λ o. known_by o (λ g. k g (knowns_of k [] args))) is
+-- whether a list begins with a reserved word
+abbrev pub is_reserved : Sexp → Bool
+is_reserved (Reserved word) = true
+is_reserved _ = false
 
-pub list_applied : (k : KnownMeaning) (head : Sexp) (args parts : Sexps) (f : Identifier) → parts ≡ Cons head args → is_underscore_tree head ≡ false → applied head args ≡ Ok f → known_of k [] (Items parts) ≡ k f (knowns_of k [] args)
-list_applied k head args parts f split other is = ap (λ ps. known_of k [] (Items ps)) split ∙ known-other k [] head args other ∙ ap (λ o. known_by o (λ g. k g (knowns_of k [] args))) is
+pub not_reserved : (t : Tree) → ((word : Word) → t ≡ tree.Reserved word → ⊥) → is_reserved (sexp_of t) ≡ false
+not_reserved (tree.Reserved word) h = absurd (h word refl)
+not_reserved _ h = refl
 
-underscore_head : (head : Sexp) → is_underscore_tree head ≡ true → head ≡ Reserved Underscore
-underscore_head (Reserved Underscore) h = refl
-underscore_head _ h = cc
+-- what is known of a list that applies an identifier, or whose head is none's
+pub list_called : (k : KnownMeaning) (r : List (List ℕ × Option Element)) (head : Sexp) (args parts : Sexps) → parts ≡ Cons head args → is_reserved head ≡ false
+    → known_of k r (Items parts) ≡ known_by (applied head args) (λ f. k f (knowns_of k r args))
+list_called k r (Atom kind bytes) args parts split other = ap (λ ps. known_of k r (Items ps)) split
+list_called k r (Items ts) args parts split other = ap (λ ps. known_of k r (Items ps)) split
+list_called k r (Reserved word) args parts split other = cc
 
-pub list_indexed : (k : KnownMeaning) (head : Sexp) (args parts : Sexps) → parts ≡ Cons head args → is_underscore_tree head ≡ true → known_of k [] (Items parts) ≡ known_by (indexed args) (λ f. k f [])
-list_indexed k head args parts split is = ap (λ ps. known_of k [] (Items ps)) (split ∙ ap (λ h. Cons h args) (underscore_head head is))
+-- what is known of a `let` that is out of form
+pub let_without : (k : KnownMeaning) (r : List (List ℕ × Option Element)) (args : Sexps) → let_form args ≡ None → known_of k r (Items (Cons (Reserved Let) args)) ≡ None
+let_without k r Nil h = refl
+let_without k r (Cons (Atom kind bytes) rest) h = refl
+let_without k r (Cons (Reserved word) rest) h = refl
+let_without k r (Cons (Items bindings) Nil) h = refl
+let_without k r (Cons (Items bindings) (Cons body Nil)) h = cc
+let_without k r (Cons (Items bindings) (Cons body (Cons x xs))) h = refl
+
+-- what is known of a `let` by its bindings, which stand in front of the variables
+pub let_known : (k : KnownMeaning) (r : List (List ℕ × Option Element)) (args bindings : Sexps) (body : Sexp) (all vs ws : List (Variable (Option Value))) → args ≡ Cons (Items bindings) (Cons body Nil)
+    → known_scope vs ≡ knowns_bound k r bindings → all ≡ vs ++ ws → r ≡ known_scope ws → known_of k r (Items (Cons (Reserved Let) args)) ≡ known_of k (known_scope all) body
+let_known k r args bindings body all vs ws split bound whole scope =
+    ap (λ ts. known_of k r (Items (Cons (Reserved Let) ts))) split
+    ∙ sym (ap (λ s. known_of k s body) (ap known_scope whole ∙ map-append (λ v. (v.name.now, known_element v.value)) vs ws ∙ ap (λ s. s ++ known_scope ws) bound ∙ ap (λ s. knowns_bound k r bindings ++ s) (sym scope)))
+
+pub indexed_known : (d : Signature) (n : ℕ) (x : List ℕ) (indexes : List IndexView) (args : List (Option Element)) → known_in (first n d) (Indexed x indexes) args ≡ known_of_op (op_by d.theories x indexes) args
+indexed_known d n x indexes args = known_with_indexes (known_operators d.theories) (take n d.entries) x indexes args
+
+pub not_defined : (d : Signature) (n : ℕ) (x : List ℕ) (args : List (Option Element)) → entry_named (take n d.entries) x ≡ None → known_in (first n d) (Plain x) args ≡ known_of_op (op_by d.theories x []) args
+not_defined d n x args none = known_absent (known_operators d.theories) (take n d.entries) x args none
+
+-- an identifier with indexes is an operator
+pub indexed_means : (d : Signature) (f : Identifier) (parts : Sexps) (n : ℕ) → indexed parts ≡ Ok f → known_in (first n d) f [] ≡ known_of_op (operator_of d.theories f) []
+indexed_means d (Indexed x indexes) parts n is = known_with_indexes (known_operators d.theories) (take n d.entries) x indexes []
+indexed_means d (Plain x) parts n is = absurd (never parts is)
+  where
+    by : (x y : List ℕ) (o : Option (List IndexView)) → ok_or (option_map (λ is. Indexed y is) o) Form ≡ Ok (Plain x) → ⊥
+    by x y None h = cc
+    by x y (Some is) h = cc
+
+    never : (ps : Sexps) → indexed ps ≡ Ok (Plain x) → ⊥
+    never (Cons (Atom Symbol y) (Cons t ts)) h = by x y (all_indexes (Cons t ts)) h
+    never _ h = cc
+
+-- ---- variables
+
+-- what is looked up among variables is looked up among what is known of them
+look_up-known : (vs : List (Variable (Option Value))) (x : List ℕ) → look_up (known_scope vs) x ≡ option_map known_element (look_up (scope_view vs) x)
+look_up-known [] x = refl
+look_up-known (v ∷ vs) x = by (bytes_eq x v.name.now) (look_up-known vs x)
+  where
+    by : (b : Bool) → look_up (known_scope vs) x ≡ option_map known_element (look_up (scope_view vs) x)
+        → cond b (Some (known_element v.value)) (look_up (known_scope vs) x) ≡ option_map known_element (cond b (Some v.value) (look_up (scope_view vs) x))
+    by true rest = refl
+    by false rest = rest
+
+pub variable_found : (k : KnownMeaning) (vs : List (Variable (Option Value))) (x : List ℕ) (r : Option (Option Value)) (v : Option Value) → r ≡ look_up (scope_view vs) x → r ≡ Some v
+    → known_element v ≡ known_of k (known_scope vs) (Atom Symbol x)
+variable_found k vs x r v is at = sym (ap (λ o. unwrap_or o (k (Plain x) [])) (look_up-known vs x ∙ ap (option_map known_element) (sym is ∙ at)))
+
+pub no_variable : (k : KnownMeaning) (vs : List (Variable (Option Value))) (x : List ℕ) (r : Option (Option Value)) → r ≡ look_up (scope_view vs) x → r ≡ None → known_of k (known_scope vs) (Atom Symbol x) ≡ k (Plain x) []
+no_variable k vs x r is at = ap (λ o. unwrap_or o (k (Plain x) [])) (look_up-known vs x ∙ ap (option_map known_element) (sym is ∙ at))
+
+-- ---- weights
+
+-- a body that is called and what it sees are no more than what the call sees
+pub lighter : (bs : List (Option Sexp)) (p n : ℕ) (t : Sexp) → slice_get bs p ≡ Some (Some t) → p < n → bodies_weight (take p bs) + weight t ≤ bodies_weight (take n bs)
+lighter [] p n t at h = cc
+lighter (b ∷ bs) p zero t at h = absurd (omega arith)
+lighter (b ∷ bs) zero (suc n) t at h = let is : b ≡ Some t = cc in let w : weight_of b ≡ weight t = ap weight_of is in omega (arith, w)
+lighter (b ∷ bs) (suc p) (suc n) t at h = let w = lighter bs p n t at (omega (arith, h)) in omega (arith, w)
+
+-- where fewer are seen
+pub earlier : (over : Definitions) (d : Signature) (p : ℕ) → Evaluates over d → p < over.count → Evaluates (record over { count = p }) d
+earlier over d p e h = record { script = e.script; definitions = e.definitions; structure = e.structure; whole = e.whole; valued = e.valued; seen = omega (arith, h, e.seen); within = e.within }

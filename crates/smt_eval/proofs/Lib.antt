@@ -1,11 +1,14 @@
 pub mod MeaningLemmas
 pub mod SortedValueLemmas
 pub mod CompleteModelLemmas
+pub mod StructureLemmas
 pub mod NoMemoryLemmas
 pub mod EvaluatorLemmas
 pub mod PlaceLemmas
+pub mod ScopeLemmas
 pub mod DefinitionLemmas
 pub mod FoundLemmas
-pub mod ConstantLemmas
+pub mod ValuesLemmas
 pub mod ReadLemmas
+pub mod ClosedLemmas
 pub mod ModelFaultLemmas

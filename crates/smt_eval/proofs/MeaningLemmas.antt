@@ -1,10 +1,10 @@
 -- What is known of a term is true of its value.
-use Rattle.std.proofs.Common.{◌≡◌, ℕ, Bool, true, false, cond, List, [], ◌∷◌, Option, Some, None, Result, Ok, Err, refl, sym, subst}
+use Rattle.std.proofs.Common.{◌≡◌, ℕ, Bool, true, false, cond, List, [], ◌∷◌, ◌++◌, Option, Some, None, Result, Ok, Err, refl, sym, subst}
 use Rattle.std.specs.List.{zip}
 use Rattle.std.specs.Prelude.{unwrap_or, bytes_eq, is_some, length, option_map, pos, nat_lt, ◌*◌, ◌^◌}
 use Rattle.std.specs.Str.Parse.{digits_value}
 use Rattle.smt_text.specs.Sexp.{Sexp, Sexps, Atom, Reserved, Items, Nil, Cons, Symbol, Numeral, Decimal, Hexadecimal, Binary, Text, Keyword}
-use Rattle.smt_text.specs.declared.reserved.Word.TheVariants.{Underscore}
+use Rattle.smt_text.specs.declared.reserved.Word.TheVariants.{Bang, Let, Underscore}
 use Rattle.smt_bits.specs.Literals.{constant, known_constant}
 use Rattle.smt_theory.specs.Width.{width_of}
 use Rattle.smt_theory.specs.Words.{look_up}
@@ -20,8 +20,13 @@ use Rattle.smt_terms.specs.Identifier.{Identifier, Plain, Indexed, applied, inde
 use Rattle.smt_terms.specs.Signature.{Entry, Origin, Declared, Defined, Signature}
 use Rattle.smt_terms.specs.declared.fault.TermFault.{TermFault}
 use Rattle.smt_eval.specs.Agreement.{AgreeBoth, AgreesWith}
-use Rattle.smt_eval.specs.Known.{KnownMeaning, known_by, known_of, knowns_of, known_of_op, known_operators, known_defined, with_known, known_after, known_in}
-use Rattle.smt_eval.specs.Meaning.{Meaning, element_by, value_of, values_of, meaning_of_op, operators, defined_value, with_definition, meaning_after, meaning_in}
+use Rattle.smt_eval.specs.Known.{KnownMeaning, known_by, known_of, knowns_bound, knowns_of, known_of_op, known_operators, known_defined, with_known, known_after, known_in}
+use Rattle.smt_eval.specs.Meaning.{Meaning, element_by, value_of, values_bound, values_of, meaning_of_op, operators, defined_value, with_definition, meaning_after, meaning_in}
+
+-- a variable in front agrees
+by_name : (b : Bool) (k : Option Element) (e : Element) (o : Option (Option Element)) (p : Option Element) → Agrees k e → AgreeBoth o p → AgreeBoth (cond b (Some k) o) (cond b (Some e) p)
+by_name true k e o p here rest = here
+by_name false k e o p here rest = rest
 
 -- what identifiers are known to mean is true of what they mean
 abbrev pub Means : KnownMeaning → Meaning → Type 0
@@ -39,16 +44,26 @@ Means-operators law z theories f ks es h = by (operator_of theories f)
     by (Err fault) = tt
     by (Ok op) = law z op ks es h
 
--- a list with another head than `_`
-pub known-other : (k : KnownMeaning) (r : List (List ℕ × Option Element)) (head : Sexp) (args : Sexps) → is_underscore_tree head ≡ false
-    → known_of k r (Items (Cons head args)) ≡ known_by (applied head args) (λ f. k f (knowns_of k r args))
-known-other k r (Reserved Underscore) args h = cc
-known-other k r _ args h = refl
+-- whether a list is no `let` and no annotated term
+abbrev pub is_plain_list : Sexp → Sexps → Bool
+is_plain_list (Reserved Let) (Cons (Items bindings) (Cons body Nil)) = false
+is_plain_list (Reserved Bang) (Cons term attributes) = false
+is_plain_list _ _ = true
 
-pub value-other : (m : Meaning) (r : List (List ℕ × Element)) (head : Sexp) (args : Sexps) → is_underscore_tree head ≡ false
+-- such a list with another head than `_`
+pub known-other : (k : KnownMeaning) (r : List (List ℕ × Option Element)) (head : Sexp) (args : Sexps) → is_plain_list head args ≡ true → is_underscore_tree head ≡ false
+    → known_of k r (Items (Cons head args)) ≡ known_by (applied head args) (λ f. k f (knowns_of k r args))
+known-other k r (Reserved Underscore) args p h = cc
+known-other k r (Reserved Let) (Cons (Items bindings) (Cons body Nil)) p h = cc
+known-other k r (Reserved Bang) (Cons term attributes) p h = cc
+known-other k r _ _ p h = refl
+
+pub value-other : (m : Meaning) (r : List (List ℕ × Element)) (head : Sexp) (args : Sexps) → is_plain_list head args ≡ true → is_underscore_tree head ≡ false
     → value_of m r (Items (Cons head args)) ≡ element_by (applied head args) (λ f. m f (values_of m r args))
-value-other m r (Reserved Underscore) args h = cc
-value-other m r _ args h = refl
+value-other m r (Reserved Underscore) args p h = cc
+value-other m r (Reserved Let) (Cons (Items bindings) (Cons body Nil)) p h = cc
+value-other m r (Reserved Bang) (Cons term attributes) p h = cc
+value-other m r _ _ p h = refl
 
 -- a variable, or else a name
 unwrap_or_true : (a : Option (Option Element)) (b : Option Element) (k : Option Element) (e : Element) → AgreeBoth a b → Agrees k e → Agrees (unwrap_or a k) (unwrap_or b e)
@@ -79,32 +94,40 @@ constant_true base bits digits = by (is_some (width_of (bits * length digits)))
     by false = tt
 
 -- what is known of a term is true of its value
-module _ (k : KnownMeaning) (m : Meaning) (means : Means k m) (known : List (List ℕ × Option Element)) (r : List (List ℕ × Element)) (agrees : AgreesWith known r) where
-  list_true : (head : Sexp) (args : Sexps) → AllAgree (knowns_of k known args) (values_of m r args) → (b : Bool) → is_underscore_tree head ≡ b
-      → Agrees (known_of k known (Items (Cons head args))) (value_of m r (Items (Cons head args)))
-  list_true head args all false other =
-      subst (λ o. Agrees o (value_of m r (Items (Cons head args)))) (sym (known-other k known head args other))
-      (subst (λ e. Agrees (known_by (applied head args) (λ f. k f (knowns_of k known args))) e) (sym (value-other m r head args other))
+module _ (k : KnownMeaning) (m : Meaning) (means : Means k m) where
+  list_true : (known : List (List ℕ × Option Element)) (r : List (List ℕ × Element)) (head : Sexp) (args : Sexps) → AllAgree (knowns_of k known args) (values_of m r args)
+      → is_plain_list head args ≡ true → (b : Bool) → is_underscore_tree head ≡ b → Agrees (known_of k known (Items (Cons head args))) (value_of m r (Items (Cons head args)))
+  list_true known r head args all plain false other =
+      subst (λ o. Agrees o (value_of m r (Items (Cons head args)))) (sym (known-other k known head args plain other))
+      (subst (λ e. Agrees (known_by (applied head args) (λ f. k f (knowns_of k known args))) e) (sym (value-other m r head args plain other))
       (by_true (applied head args) (λ f. k f (knowns_of k known args)) (λ f. m f (values_of m r args)) (λ f. means f (knowns_of k known args) (values_of m r args) all)))
-  list_true (Reserved Underscore) args all true is = by_true (indexed args) (λ f. k f []) (λ f. m f []) (λ f. means f [] [] tt)
-  list_true _ args all true is = cc
+  list_true known r (Reserved Underscore) args all plain true is = by_true (indexed args) (λ f. k f []) (λ f. m f []) (λ f. means f [] [] tt)
+  list_true known r _ args all plain true is = cc
 
   mutual
-    pub term_true : (t : Sexp) → Agrees (known_of k known t) (value_of m r t)
-    term_true (Atom Symbol x) = unwrap_or_true (look_up known x) (look_up r x) (k (Plain x) []) (m (Plain x) []) (agrees x) (means (Plain x) [] [] tt)
-    term_true (Atom Numeral x) = numeral_true x
-    term_true (Atom Decimal x) = tt
-    term_true (Atom Hexadecimal x) = constant_true 16 4 x
-    term_true (Atom Binary x) = constant_true 2 1 x
-    term_true (Atom Text x) = tt
-    term_true (Atom Keyword x) = tt
-    term_true (Reserved word) = tt
-    term_true (Items Nil) = tt
-    term_true (Items (Cons head args)) = list_true head args (terms_true args) (is_underscore_tree head) refl
+    pub term_true : (known : List (List ℕ × Option Element)) (r : List (List ℕ × Element)) → AgreesWith known r → (t : Sexp) → Agrees (known_of k known t) (value_of m r t)
+    term_true known r agrees (Atom Symbol x) = unwrap_or_true (look_up known x) (look_up r x) (k (Plain x) []) (m (Plain x) []) (agrees x) (means (Plain x) [] [] tt)
+    term_true known r agrees (Atom Numeral x) = numeral_true x
+    term_true known r agrees (Atom Decimal x) = tt
+    term_true known r agrees (Atom Hexadecimal x) = constant_true 16 4 x
+    term_true known r agrees (Atom Binary x) = constant_true 2 1 x
+    term_true known r agrees (Atom Text x) = tt
+    term_true known r agrees (Atom Keyword x) = tt
+    term_true known r agrees (Reserved word) = tt
+    term_true known r agrees (Items Nil) = tt
+    term_true known r agrees (Items (Cons (Reserved Let) (Cons (Items bindings) (Cons body Nil)))) =
+        term_true (knowns_bound k known bindings ++ known) (values_bound m r bindings ++ r) (bound_true known r agrees bindings) body
+    term_true known r agrees (Items (Cons (Reserved Bang) (Cons term attributes))) = term_true known r agrees term
+    term_true known r agrees (Items (Cons head args)) = list_true known r head args (terms_true known r agrees args) refl (is_underscore_tree head) refl
 
-    pub terms_true : (ts : Sexps) → AllAgree (knowns_of k known ts) (values_of m r ts)
-    terms_true Nil = tt
-    terms_true (Cons t ts) = (term_true t, terms_true ts)
+    pub terms_true : (known : List (List ℕ × Option Element)) (r : List (List ℕ × Element)) → AgreesWith known r → (ts : Sexps) → AllAgree (knowns_of k known ts) (values_of m r ts)
+    terms_true known r agrees Nil = tt
+    terms_true known r agrees (Cons t ts) = (term_true known r agrees t, terms_true known r agrees ts)
+
+    bound_true : (known : List (List ℕ × Option Element)) (r : List (List ℕ × Element)) → AgreesWith known r → (ts : Sexps) → AgreesWith (knowns_bound k known ts ++ known) (values_bound m r ts ++ r)
+    bound_true known r agrees (Cons (Items (Cons (Atom Symbol y) (Cons t Nil))) rest) x =
+        by_name (bytes_eq x y) (known_of k known t) (value_of m r t) (look_up (knowns_bound k known rest ++ known) x) (look_up (values_bound m r rest ++ r) x) (term_true known r agrees t) (bound_true known r agrees rest x)
+    bound_true known r agrees _ x = agrees x
 
 -- arguments that agree make parameters that agree
 AgreesWith-zip : (ps : List (List ℕ)) (ks : List (Option Element)) (es : List Element) → AllAgree ks es → AgreesWith (zip ps ks) (zip ps es)
@@ -112,11 +135,7 @@ AgreesWith-zip [] ks es h x = tt
 AgreesWith-zip (p ∷ ps) [] [] h x = tt
 AgreesWith-zip (p ∷ ps) [] (e ∷ es) h x = absurd h
 AgreesWith-zip (p ∷ ps) (k ∷ ks) [] h x = absurd h
-AgreesWith-zip (p ∷ ps) (k ∷ ks) (e ∷ es) h x = by (bytes_eq x p) (AgreesWith-zip ps ks es h.1 x)
-  where
-    by : (b : Bool) → AgreeBoth (look_up (zip ps ks) x) (look_up (zip ps es) x) → AgreeBoth (cond b (Some k) (look_up (zip ps ks) x)) (cond b (Some e) (look_up (zip ps es) x))
-    by true rest = h.0
-    by false rest = rest
+AgreesWith-zip (p ∷ ps) (k ∷ ks) (e ∷ es) h x = by_name (bytes_eq x p) k e (look_up (zip ps ks) x) (look_up (zip ps es) x) h.0 (AgreesWith-zip ps ks es h.1 x)
 
 -- one more definition keeps that
 Means-with : (k : KnownMeaning) (m : Meaning) (e : Entry) → Means k m → Means (with_known k e) (with_definition m e)

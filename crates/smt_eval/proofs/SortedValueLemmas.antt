@@ -4,11 +4,11 @@ use Rattle.std.proofs.Math.Nat.{mod-lt}
 use Rattle.std.proofs.Math.Pow.{pow_pos}
 use Rattle.std.specs.List.{zip}
 use Rattle.std.specs.Option.{option_or}
-use Rattle.std.specs.Prelude.{unwrap_or, bytes_eq, ok_or, option_map}
+use Rattle.std.specs.Prelude.{unwrap_or, bytes_eq, is_some, ok_or, option_map}
 use Rattle.std.specs.Str.Parse.{digits_value}
 use Rattle.smt_bits.specs.Literals.{constant}
 use Rattle.smt_text.specs.Sexp.{Sexp, Sexps, Atom, Reserved, Items, Nil, Cons, Symbol, Numeral, Decimal, Hexadecimal, Binary, Text, Keyword}
-use Rattle.smt_text.specs.declared.reserved.Word.TheVariants.{Underscore}
+use Rattle.smt_text.specs.declared.reserved.Word.TheVariants.{Bang, Let, Underscore}
 use Rattle.smt_theory.specs.Ranks.{are_exactly, rank_of}
 use Rattle.smt_theory.specs.Sort.{is_same_sort}
 use Rattle.smt_theory.specs.Width.{width_of}
@@ -21,16 +21,17 @@ use Rattle.smt_theory.specs.declared.sort.Sort.TheVariants.{Int, Bits}
 use Rattle.smt_theory.specs.declared.theories.Theories.{Theories}
 use Rattle.smt_values.specs.Element.{Element, Vector, IsOfSort, AreOfSorts}
 use Rattle.smt_values.specs.Operations.{DivisionByZero, operate}
-use Rattle.smt_terms.specs.Checking.{is_underscore_tree, sort_applied, sort_in, sorts_in, sort_of_call, sort_of_name, sort_of_operator, sort_of_plain, sort_of_rank, sort_of_symbol, sort_unless_variable}
+use Rattle.smt_terms.specs.Bindings.{are_attributes, are_bindings, has_label}
+use Rattle.smt_terms.specs.Checking.{bound_in, is_underscore_tree, sort_applied, sort_in, sorts_in, sort_of_annotated, sort_of_call, sort_of_name, sort_of_operator, sort_of_plain, sort_of_rank, sort_of_symbol, sort_unless_variable}
 use Rattle.smt_terms.specs.Identifier.{Identifier, Plain, Indexed, applied, indexed, operator_of}
 use Rattle.smt_terms.specs.Signature.{AreDistinct, Entry, Origin, Declared, Defined, Names, Rank, Signature, entry_named, names_of, rank_of_entry, ranks_of}
 use Rattle.smt_terms.specs.WellSorted.{AreWellSorted, IsWellSorted, IsWellSortedFrom}
 use Rattle.smt_terms.specs.declared.fault.TermFault.{TermFault}
-use Rattle.smt_terms.specs.declared.fault.TermFault.TheVariants.{IllSorted, Unknown, Index}
+use Rattle.smt_terms.specs.declared.fault.TermFault.TheVariants.{BoundTwice, Form, IllSorted, Label, Unknown, Index}
 use Rattle.smt_terms.proofs.NameLemmas.{same_name, same_self, none_step}
 use Rattle.smt_eval.specs.Agreement.{FitsScope, IsOfSorts}
-use Rattle.smt_eval.specs.Meaning.{Meaning, element_by, value_of, values_of, meaning_of_op, operators, defined_value, with_definition, meaning_after, meaning_in}
-use Rattle.smt_eval.proofs.MeaningLemmas.{value-other}
+use Rattle.smt_eval.specs.Meaning.{Meaning, element_by, value_of, values_bound, values_of, meaning_of_op, operators, defined_value, with_definition, meaning_after, meaning_in}
+use Rattle.smt_eval.proofs.MeaningLemmas.{is_plain_list, value-other}
 
 -- where an identifier has a sort for arguments of some sorts, it gives an element of that sort for elements of those
 abbrev pub Fits : Names → Meaning → Type 0
@@ -96,52 +97,97 @@ constant-fits true base bits n digits sort e h = by (nat_le 1 n) (nat_le n 128) 
     by true false some h = cc
     by false q some h = cc
 
--- a list with another head than `_`
-sort-other : (names : Names) (scope : List (List ℕ × Sort)) (head : Sexp) (args : Sexps) → is_underscore_tree head ≡ false
+-- a list that is no `let` and no annotated term, with another head than `_`
+sort-other : (names : Names) (scope : List (List ℕ × Sort)) (head : Sexp) (args : Sexps) → is_plain_list head args ≡ true → is_underscore_tree head ≡ false
     → sort_in names scope (Items (Cons head args)) ≡ result_and_then (applied head args) (λ f. result_and_then (sorts_in names scope args) (λ ss. sort_of_call names scope f ss))
-sort-other names scope (Reserved Underscore) args h = cc
-sort-other names scope _ args h = refl
+sort-other names scope (Reserved Underscore) args p h = cc
+sort-other names scope (Reserved Let) (Cons (Items bindings) (Cons body Nil)) p h = cc
+sort-other names scope (Reserved Bang) (Cons term attributes) p h = cc
+sort-other names scope _ _ p h = refl
 
--- over names whose meaning fits, and variables whose values fit
-module _ (names : Names) (m : Meaning) (fits : Fits names m) (scope : List (List ℕ × Sort)) (r : List (List ℕ × Element)) (fit : FitsScope scope r) where
-  call-fits : (head : Sexp) (args : Sexps) (sort : Sort) → ((ss : List Sort) → sorts_in names scope args ≡ Ok ss → AreOfSorts ss (values_of m r args))
+-- a variable in front fits
+by_name : (b : Bool) (s : Sort) (e : Element) (o : Option Sort) (p : Option Element) → IsOfSort s e → IsOfSorts o p → IsOfSorts (cond b (Some s) o) (cond b (Some e) p)
+by_name true s e o p here rest = here
+by_name false s e o p here rest = rest
+
+-- where there is a sort, a test was passed
+passed : (b : Bool) (r : Result Sort TermFault) (sort : Sort) → cond b r (Err Form) ≡ Ok sort → r ≡ Ok sort
+passed true r sort is = is
+passed false r sort is = cc
+
+-- and no name was bound before
+new_name : {A : Type 0} (b : Bool) (r : Result A TermFault) (a : A) → cond b (Err BoundTwice) r ≡ Ok a → r ≡ Ok a
+new_name true r a is = cc
+new_name false r a is = is
+
+-- an annotated term has the sort of the term
+annotated : (b : Bool) (s sort : Sort) → cond b (Err Label) (Ok s) ≡ Ok sort → s ≡ sort
+annotated true s sort is = cc
+annotated false s sort is = cc
+
+-- what bindings bring behind variables
+abbrev BoundFit : Meaning → List (List ℕ × Sort) → List (List ℕ × Element) → List (List ℕ × Sort) → List (List ℕ × Sort) → Sexps → Type 0
+BoundFit m scope r before bound ts = (new : List (List ℕ × Sort)) × (bound ≡ before ++ new) × FitsScope (new ++ scope) (values_bound m r ts ++ r)
+
+-- over names whose meaning fits
+module _ (names : Names) (m : Meaning) (fits : Fits names m) where
+  call-fits : (scope : List (List ℕ × Sort)) (r : List (List ℕ × Element)) (head : Sexp) (args : Sexps) (sort : Sort) → ((ss : List Sort) → sorts_in names scope args ≡ Ok ss → AreOfSorts ss (values_of m r args))
       → result_and_then (applied head args) (λ f. result_and_then (sorts_in names scope args) (λ ss. sort_of_call names scope f ss)) ≡ Ok sort
       → IsOfSort sort (element_by (applied head args) (λ f. m f (values_of m r args)))
-  call-fits head args sort all is =
+  call-fits scope r head args sort all is =
       let p = first_ok (applied head args) (λ f. result_and_then (sorts_in names scope args) (λ ss. sort_of_call names scope f ss)) sort is in
       let q = first_ok (sorts_in names scope args) (λ ss. sort_of_call names scope p.0 ss) sort p.2 in
       subst (λ o. IsOfSort sort (element_by o (λ f. m f (values_of m r args)))) (sym p.1)
       (fits p.0 q.0 sort (values_of m r args) (call_applied names scope p.0 q.0 sort q.2) (all q.0 q.1))
 
-  list-fits : (head : Sexp) (args : Sexps) (sort : Sort) → ((ss : List Sort) → sorts_in names scope args ≡ Ok ss → AreOfSorts ss (values_of m r args)) → (b : Bool) → is_underscore_tree head ≡ b
-      → sort_in names scope (Items (Cons head args)) ≡ Ok sort → IsOfSort sort (value_of m r (Items (Cons head args)))
-  list-fits head args sort all false other is =
-      subst (λ e. IsOfSort sort e) (sym (value-other m r head args other)) (call-fits head args sort all (sym (sort-other names scope head args other) ∙ is))
-  list-fits (Reserved Underscore) args sort all true other is =
+  list-fits : (scope : List (List ℕ × Sort)) (r : List (List ℕ × Element)) (head : Sexp) (args : Sexps) (sort : Sort) → ((ss : List Sort) → sorts_in names scope args ≡ Ok ss → AreOfSorts ss (values_of m r args))
+      → is_plain_list head args ≡ true → (b : Bool) → is_underscore_tree head ≡ b → sort_in names scope (Items (Cons head args)) ≡ Ok sort → IsOfSort sort (value_of m r (Items (Cons head args)))
+  list-fits scope r head args sort all plain false other is =
+      subst (λ e. IsOfSort sort e) (sym (value-other m r head args plain other)) (call-fits scope r head args sort all (sym (sort-other names scope head args plain other) ∙ is))
+  list-fits scope r (Reserved Underscore) args sort all plain true other is =
       let p = first_ok (indexed args) (λ f. sort_applied names f []) sort is in
       subst (λ o. IsOfSort sort (element_by o (λ f. m f []))) (sym p.1) (fits p.0 [] sort [] p.2 tt)
-  list-fits _ args sort all true other is = cc
+  list-fits scope r _ args sort all plain true other is = cc
 
   mutual
-    pub term-fits : (t : Sexp) (sort : Sort) → sort_in names scope t ≡ Ok sort → IsOfSort sort (value_of m r t)
-    term-fits (Atom Symbol x) sort is = variable-fits names m x (look_up scope x) (look_up r x) sort fits (fit x) is
-    term-fits (Atom Numeral x) sort is = subst (λ s. IsOfSort s (value_of m r (Atom Numeral x))) (sym (numeral-sort names.theories.ints sort is)) tt
-    term-fits (Atom Decimal x) sort is = cc
-    term-fits (Atom Hexadecimal x) sort is = constant-fits names.theories.bits 16 4 (4 * length x) x sort refl is
-    term-fits (Atom Binary x) sort is = constant-fits names.theories.bits 2 1 (length x) x sort (omega arith) is
-    term-fits (Atom Text x) sort is = cc
-    term-fits (Atom Keyword x) sort is = cc
-    term-fits (Reserved word) sort is = cc
-    term-fits (Items Nil) sort is = cc
-    term-fits (Items (Cons head args)) sort is = list-fits head args sort (λ ss h. terms-fit args ss h) (is_underscore_tree head) refl is
+    pub term-fits : (scope : List (List ℕ × Sort)) (r : List (List ℕ × Element)) → FitsScope scope r → (t : Sexp) (sort : Sort) → sort_in names scope t ≡ Ok sort → IsOfSort sort (value_of m r t)
+    term-fits scope r fit (Atom Symbol x) sort is = variable-fits names m x (look_up scope x) (look_up r x) sort fits (fit x) is
+    term-fits scope r fit (Atom Numeral x) sort is = subst (λ s. IsOfSort s (value_of m r (Atom Numeral x))) (sym (numeral-sort names.theories.ints sort is)) tt
+    term-fits scope r fit (Atom Decimal x) sort is = cc
+    term-fits scope r fit (Atom Hexadecimal x) sort is = constant-fits names.theories.bits 16 4 (4 * length x) x sort refl is
+    term-fits scope r fit (Atom Binary x) sort is = constant-fits names.theories.bits 2 1 (length x) x sort (omega arith) is
+    term-fits scope r fit (Atom Text x) sort is = cc
+    term-fits scope r fit (Atom Keyword x) sort is = cc
+    term-fits scope r fit (Reserved word) sort is = cc
+    term-fits scope r fit (Items Nil) sort is = cc
+    term-fits scope r fit (Items (Cons (Reserved Let) (Cons (Items bindings) (Cons body Nil)))) sort is =
+        let p = first_ok (bound_in names scope [] bindings) (λ bound. sort_in names (bound ++ scope) body) sort (passed (are_bindings bindings) (result_and_then (bound_in names scope [] bindings) (λ bound. sort_in names (bound ++ scope) body)) sort is) in
+        let q = bound-fits scope r fit [] bindings p.0 p.1 in
+        term-fits (q.0 ++ scope) (values_bound m r bindings ++ r) q.2 body sort (ap (λ (b : List (List ℕ × Sort)). sort_in names (b ++ scope) body) (sym q.1) ∙ p.2)
+    term-fits scope r fit (Items (Cons (Reserved Bang) (Cons term attributes))) sort is =
+        let p = first_ok (sort_in names scope term) (λ s. sort_of_annotated attributes s) sort (passed (are_attributes attributes) (result_and_then (sort_in names scope term) (λ s. sort_of_annotated attributes s)) sort is) in
+        subst (λ s. IsOfSort s (value_of m r term)) (annotated (has_label attributes) p.0 sort p.2) (term-fits scope r fit term p.0 p.1)
+    term-fits scope r fit (Items (Cons head args)) sort is = list-fits scope r head args sort (λ ss h. terms-fit scope r fit args ss h) refl (is_underscore_tree head) refl is
 
-    terms-fit : (ts : Sexps) (sorts : List Sort) → sorts_in names scope ts ≡ Ok sorts → AreOfSorts sorts (values_of m r ts)
-    terms-fit Nil sorts is = let none : [] ≡ sorts = cc in subst (λ ss. AreOfSorts ss []) none tt
-    terms-fit (Cons t ts) sorts is =
+    terms-fit : (scope : List (List ℕ × Sort)) (r : List (List ℕ × Element)) → FitsScope scope r → (ts : Sexps) (sorts : List Sort) → sorts_in names scope ts ≡ Ok sorts → AreOfSorts sorts (values_of m r ts)
+    terms-fit scope r fit Nil sorts is = let none : [] ≡ sorts = cc in subst (λ ss. AreOfSorts ss []) none tt
+    terms-fit scope r fit (Cons t ts) sorts is =
         let p = first_ok (sort_in names scope t) (λ s. result_and_then (sorts_in names scope ts) (λ ss. Ok (s ∷ ss))) sorts is in
         let q = first_ok (sorts_in names scope ts) (λ ss. Ok (p.0 ∷ ss)) sorts p.2 in
         let whole : p.0 ∷ q.0 ≡ sorts = cc in
-        subst (λ ss. AreOfSorts ss (values_of m r (Cons t ts))) whole (term-fits t p.0 p.1, terms-fit ts q.0 q.1)
+        subst (λ ss. AreOfSorts ss (values_of m r (Cons t ts))) whole (term-fits scope r fit t p.0 p.1, terms-fit scope r fit ts q.0 q.1)
+
+    bound-fits : (scope : List (List ℕ × Sort)) (r : List (List ℕ × Element)) → FitsScope scope r → (before : List (List ℕ × Sort)) (ts : Sexps) (bound : List (List ℕ × Sort)) → bound_in names scope before ts ≡ Ok bound → BoundFit m scope r before bound ts
+    bound-fits scope r fit before Nil bound is = let same : before ≡ bound = cc in ([], sym same ∙ sym (append-nil before), fit)
+    bound-fits scope r fit before (Cons (Items (Cons (Atom Symbol x) (Cons t Nil))) rest) bound is =
+        let go : Sort → Result (List (List ℕ × Sort)) TermFault = λ s. bound_in names scope (before ++ (x, s) ∷ []) rest in
+        let p = first_ok (sort_in names scope t) go bound (new_name (is_some (look_up before x)) (result_and_then (sort_in names scope t) go) bound is) in
+        let q = bound-fits scope r fit (before ++ (x, p.0) ∷ []) rest bound p.2 in (
+          (x, p.0) ∷ q.0,
+          q.1 ∙ append_assoc before ((x, p.0) ∷ []) q.0,
+          λ y. by_name (bytes_eq y x) p.0 (value_of m r t) (look_up (q.0 ++ scope) y) (look_up (values_bound m r rest ++ r) y) (term-fits scope r fit t p.0 p.1) (q.2 y),
+        )
+    bound-fits scope r fit before _ bound is = cc
 
 -- values of the parameters' sorts make a scope
 FitsScope-zip : (ps : List (List ℕ)) (sorts : List Sort) (es : List Element) → AreOfSorts sorts es → FitsScope (zip ps sorts) (zip ps es)
@@ -149,11 +195,7 @@ FitsScope-zip [] sorts es h x = tt
 FitsScope-zip (p ∷ ps) [] [] h x = tt
 FitsScope-zip (p ∷ ps) [] (e ∷ es) h x = absurd h
 FitsScope-zip (p ∷ ps) (s ∷ sorts) [] h x = absurd h
-FitsScope-zip (p ∷ ps) (s ∷ sorts) (e ∷ es) h x = by (bytes_eq x p) (FitsScope-zip ps sorts es h.1 x)
-  where
-    by : (b : Bool) → IsOfSorts (look_up (zip ps sorts) x) (look_up (zip ps es) x) → IsOfSorts (cond b (Some s) (look_up (zip ps sorts) x)) (cond b (Some e) (look_up (zip ps es) x))
-    by true rest = h.0
-    by false rest = rest
+FitsScope-zip (p ∷ ps) (s ∷ sorts) (e ∷ es) h x = by_name (bytes_eq x p) s e (look_up (zip ps sorts) x) (look_up (zip ps es) x) h.0 (FitsScope-zip ps sorts es h.1 x)
 
 -- ---- definitions
 

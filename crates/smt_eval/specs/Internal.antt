@@ -1,2 +1,4 @@
+pub mod ClosedTerm
 pub mod DefinitionValues
+pub mod Evaluation
 pub mod ItemFault

@@ -3,7 +3,7 @@
 use crate::memory::Memory;
 use smt_values::Value;
 
-/// A closed term, with the definitions that it stands over.
+/// A closed term, with the structure that it stands over.
 pub trait Checked {
     ghost use Rattle.std.specs.Prelude.{◌≡◌, IfOk};
     ghost use Rattle.smt_text.specs.Sexp.{Sexp};
@@ -13,7 +13,8 @@ pub trait Checked {
 
     ghost IsTerm: { Self → Signature → Sexp → Type 0 };
 
-    /// What is known of the term's value, over its definitions; `None` says that it is open.
+    /// What is known of the term's value, over its structure; `None` says that it is open. The value stands for some term.
     fn known(&self) -> Result<Option<Value>, Memory>
-        ensures { IfOk result (λ v. (definitions : Signature) (term : Sexp) → IsTerm self.now definitions term → known_element v ≡ known_over definitions term) };
+        requires { (structure : Signature) × (term : Sexp) × IsTerm self.now structure term }
+        ensures { IfOk result (λ v. (structure : Signature) (term : Sexp) → IsTerm self.now structure term → known_element v ≡ known_over structure term) };
 }

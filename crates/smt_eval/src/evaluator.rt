@@ -1,38 +1,45 @@
-//! Evaluation.
+//! Evaluation of terms.
 
-ghost use Rattle.std.specs.Prelude.{◌≡◌, ◌<◌, [], Some, None, Ok, Err, length, take, slice_get, IfOk, MatchOption};
-ghost use Rattle.smt_text.specs.Sexp.{Items};
+ghost use Rattle.std.specs.Prelude.{◌≡◌, [], Ok, Err, IfOk};
+ghost use Rattle.smt_text.specs.Sexp.{Cons, Items, Reserved};
 ghost use Rattle.smt_text.specs.Tree.{sexp_of, sexps_of};
+ghost use Rattle.smt_text.specs.declared.reserved.Word.TheVariants.{Let};
 ghost use Rattle.smt_values.specs.Element.{known_element, known_elements};
-ghost use Rattle.smt_terms.specs.Checking.{is_underscore_tree};
-ghost use Rattle.smt_terms.specs.Identifier.{Plain, applied, indexed};
-ghost use Rattle.smt_terms.specs.IdentifierView.{identifier_view};
-ghost use Rattle.smt_terms.specs.Library.{StandsFor};
-ghost use Rattle.smt_terms.specs.Signature.{AreDistinct, Entry, Signature, entry_named};
-ghost use Rattle.smt_eval.specs.Known.{known_in, known_of, known_by, known_of_op, knowns_of};
-ghost use Rattle.smt_eval.specs.Internal.DefinitionValues.{AreConstants, Evaluates, first};
+ghost use Rattle.smt_terms.specs.Identifier.{applied, indexed};
+ghost use Rattle.smt_terms.specs.Signature.{Signature};
+ghost use Rattle.smt_eval.specs.Internal.Evaluation.{Evaluates, known_scope, meaning_over};
+ghost use Rattle.smt_eval.specs.Known.{known_by, known_of, knowns_bound, knowns_of};
 
+use crate::calls::{known_applied, known_of_operator, known_plain};
+use crate::definitions::Definitions;
 use crate::memory::Memory;
-use smt_terms::{Found, Identifier, Library, TermFault, applied_identifier, indexed_identifier};
+use crate::scope::push_variable;
+use smt_terms::{
+    TermFault, Variable, applied_identifier, find_variable, indexed_identifier, split_let,
+    split_named,
+};
 use smt_text::{Tree, Trees, Word, split_first};
-use smt_theory::{Op, OpFault, op_of};
-use smt_values::{Value, apply, bin, hex, numeral};
+use smt_values::{Value, bin, hex, numeral};
 
-/// What is known of a term over the first definitions, as many as there are values here.
+/// What is known of a term over the definitions that are seen, where the variables have these values, the innermost first.
 #[cycle(known)]
-pub(crate) fn known_value(
-    definitions: &Library,
-    values: &[Option<Value>],
-    term: &Tree,
+pub(crate) fn known_value<'a>(
+    over: Definitions<'_>,
+    scope: &[Variable<'a, Option<Value>>],
+    term: &'a Tree,
 ) -> Result<Option<Value>, Memory>
-    ensures { (d : Signature) → Evaluates definitions.now values.now d → IfOk result (λ v. known_element v ≡ known_of (known_in (first (length values.now) d)) [] (sexp_of term.now)) }
+    requires { (d : Signature) × Evaluates over d }
+    ensures { (d : Signature) → Evaluates over.entry d → IfOk result (λ v. known_element v ≡ known_of (meaning_over over.entry d) (known_scope scope.now) (sexp_of term.now)) }
 {
     match term {
-        Tree::Symbol(name) => Ok(known_plain(definitions, values, name.as_slice(), &[])),
+        Tree::Symbol(name) => match find_variable(scope, name.as_slice()) {
+            Some(value) => Ok(value),
+            None => known_plain(over, name.as_slice(), &[]),
+        },
         Tree::Numeral(digits) => Ok(numeral(digits.as_slice())),
         Tree::Hex(digits) => Ok(hex(digits.as_slice())),
         Tree::Bin(digits) => Ok(bin(digits.as_slice())),
-        Tree::List(parts) => known_list(definitions, values, parts),
+        Tree::List(parts) => known_list(over, scope, parts),
         Tree::Decimal(_) | Tree::Text(_) => Ok(None),
         Tree::Keyword(_) | Tree::Reserved(_) => Ok(None),
     }
@@ -40,40 +47,114 @@ pub(crate) fn known_value(
 
 // What is known of the term that is a list of these parts.
 #[cycle(known)]
-fn known_list(
-    definitions: &Library,
-    values: &[Option<Value>],
-    parts: &Trees,
+fn known_list<'a>(
+    over: Definitions<'_>,
+    scope: &[Variable<'a, Option<Value>>],
+    parts: &'a Trees,
 ) -> Result<Option<Value>, Memory>
-    ensures { (d : Signature) → Evaluates definitions.now values.now d → IfOk result (λ v. known_element v ≡ known_of (known_in (first (length values.now) d)) [] (Items parts.now)) }
+    requires { (d : Signature) × Evaluates over d }
+    ensures { (d : Signature) → Evaluates over.entry d → IfOk result (λ v. known_element v ≡ known_of (meaning_over over.entry d) (known_scope scope.now) (Items parts.now)) }
 {
     let Some((head, args)) = split_first(parts.as_slice()) else {
         return Ok(None);
     };
-    if is_underscore(head) {
-        return known_indexed(definitions, values, args);
+    match head {
+        Tree::Reserved(word) => known_reserved(over, scope, *word, args),
+        _ => known_call(over, scope, head, args),
     }
-    match applied_identifier(definitions.alloc(), head, args) {
-        Ok(identifier) => {
-            let known = known_all(definitions, values, args)?;
-            Ok(known_applied(definitions, values, &identifier, known.as_slice()))
-        }
+}
+
+// What is known of a list that begins with a reserved word, by what stands behind it.
+#[cycle(known)]
+fn known_reserved<'a>(
+    over: Definitions<'_>,
+    scope: &[Variable<'a, Option<Value>>],
+    word: Word,
+    args: &'a [Tree],
+) -> Result<Option<Value>, Memory>
+    requires { (d : Signature) × Evaluates over d }
+    ensures { (d : Signature) → Evaluates over.entry d
+        → IfOk result (λ v. known_element v ≡ known_of (meaning_over over.entry d) (known_scope scope.now) (Items (Cons (Reserved word) (sexps_of args.now)))) }
+{
+    match word {
+        Word::Underscore => known_indexed(over, args),
+        Word::Let => known_let(over, scope, args),
+        Word::Bang => match split_first(args) {
+            Some((term, _)) => known_value(over, scope, term),
+            None => Ok(None),
+        },
+        _ => Ok(None),
+    }
+}
+
+// What is known of the identifier `(_ symbol index ..)`, by what stands behind the `_`.
+fn known_indexed(over: Definitions<'_>, parts: &[Tree]) -> Result<Option<Value>, Memory>
+    ensures { (d : Signature) → Evaluates over.entry d → IfOk result (λ v. known_element v ≡ known_by (indexed (sexps_of parts.now)) (λ f. meaning_over over.entry d f [])) }
+{
+    match indexed_identifier(over.model.alloc(), parts) {
+        Ok(identifier) => Ok(known_of_operator(identifier.operator(over.model.theories()), &[])),
         Err(TermFault::Memory) => Err(Memory),
         Err(_) => Ok(None),
     }
 }
 
-// What is known of the identifier `(_ symbol index ..)`, by what stands behind the `_`.
-fn known_indexed(
-    definitions: &Library,
-    values: &[Option<Value>],
-    parts: &[Tree],
+// What is known of the term `(let (binding ..) body)`, by what stands behind the `let`.
+#[cycle(known)]
+fn known_let<'a>(
+    over: Definitions<'_>,
+    scope: &[Variable<'a, Option<Value>>],
+    args: &'a [Tree],
 ) -> Result<Option<Value>, Memory>
-    ensures { (d : Signature) → Evaluates definitions.now values.now d
-        → IfOk result (λ v. known_element v ≡ known_by (indexed (sexps_of parts.now)) (λ f. known_in (first (length values.now) d) f [])) }
+    requires { (d : Signature) × Evaluates over d }
+    ensures { (d : Signature) → Evaluates over.entry d
+        → IfOk result (λ v. known_element v ≡ known_of (meaning_over over.entry d) (known_scope scope.now) (Items (Cons (Reserved Let) (sexps_of args.now)))) }
 {
-    match indexed_identifier(definitions.alloc(), parts) {
-        Ok(identifier) => Ok(known_applied(definitions, values, &identifier, &[])),
+    let Some((bindings, body)) = split_let(args) else {
+        return Ok(None);
+    };
+    let mut variables = knowns_bound_by(over, scope, bindings)?;
+    variables.extend_from_slice(scope)?;
+    known_value(over, variables.as_slice(), body)
+}
+
+// The variables that bindings bring, with what is known of each: each term is seen without them.
+#[cycle(known)]
+fn knowns_bound_by<'a>(
+    over: Definitions<'_>,
+    scope: &[Variable<'a, Option<Value>>],
+    bindings: &'a [Tree],
+) -> Result<Vec<Variable<'a, Option<Value>>>, Memory>
+    requires { (d : Signature) × Evaluates over d }
+    ensures { (d : Signature) → Evaluates over.entry d
+        → IfOk result (λ variables. known_scope variables.items ≡ knowns_bound (meaning_over over.entry d) (known_scope scope.now) (sexps_of bindings.now)) }
+{
+    let mut variables = Vec::new(over.model.alloc());
+    let mut left = bindings;
+    while let Some((name, term, rest)) = split_named(left) {
+        let value = known_value(over, scope, term)?;
+        push_variable(&mut variables, name, value)?;
+        left = rest;
+    }
+    Ok(variables)
+}
+
+// What is known of what a head is applied to: the head is no reserved word that begins a term.
+#[cycle(known)]
+fn known_call<'a>(
+    over: Definitions<'_>,
+    scope: &[Variable<'a, Option<Value>>],
+    head: &'a Tree,
+    args: &'a [Tree],
+) -> Result<Option<Value>, Memory>
+    requires { (d : Signature) × Evaluates over d }
+    ensures { (d : Signature) → Evaluates over.entry d → IfOk result (λ v. known_element v ≡ known_by (applied (sexp_of head.now) (sexps_of args.now))
+        (λ f. meaning_over over.entry d f (knowns_of (meaning_over over.entry d) (known_scope scope.now) (sexps_of args.now)))) }
+{
+    match applied_identifier(over.model.alloc(), head, args) {
+        Ok(identifier) => {
+            let known = known_all(over, scope, args)?;
+            known_applied(over, &identifier, known.as_slice())
+        }
         Err(TermFault::Memory) => Err(Memory),
         Err(_) => Ok(None),
     }
@@ -81,83 +162,20 @@ fn known_indexed(
 
 // What is known of terms, in order.
 #[cycle(known)]
-fn known_all(
-    definitions: &Library,
-    values: &[Option<Value>],
-    terms: &[Tree],
+fn known_all<'a>(
+    over: Definitions<'_>,
+    scope: &[Variable<'a, Option<Value>>],
+    terms: &'a [Tree],
 ) -> Result<Vec<Option<Value>>, Memory>
-    ensures { (d : Signature) → Evaluates definitions.now values.now d
-        → IfOk result (λ known. known_elements known.items ≡ knowns_of (known_in (first (length values.now) d)) [] (sexps_of terms.now)) }
+    requires { (d : Signature) × Evaluates over d }
+    ensures { (d : Signature) → Evaluates over.entry d
+        → IfOk result (λ known. known_elements known.items ≡ knowns_of (meaning_over over.entry d) (known_scope scope.now) (sexps_of terms.now)) }
 {
-    let mut known = Vec::new(definitions.alloc());
+    let mut known = Vec::new(over.model.alloc());
     let mut left = terms;
     while let Some((term, rest)) = split_first(left) {
-        known.push(known_value(definitions, values, term)?)?;
+        known.push(known_value(over, scope, term)?)?;
         left = rest;
     }
     Ok(known)
-}
-
-// What is known of an identifier applied to arguments.
-fn known_applied(
-    definitions: &Library,
-    values: &[Option<Value>],
-    identifier: &Identifier<'_>,
-    args: &[Option<Value>],
-) -> Option<Value>
-    ensures { (d : Signature) → Evaluates definitions.now values.now d
-        → known_element result ≡ known_in (first (length values.now) d) (identifier_view identifier.now) (known_elements args.now) }
-{
-    match identifier {
-        Identifier::Plain(name) => known_plain(definitions, values, *name, args),
-        Identifier::Indexed { name, indexes } => known_of_operator(
-            op_of(definitions.theories(), *name, indexes.as_slice()),
-            args,
-        ),
-    }
-}
-
-// What is known of a symbol applied to arguments: the value of its definition, or what the operator gives.
-fn known_plain(
-    definitions: &Library,
-    values: &[Option<Value>],
-    name: &[u8],
-    args: &[Option<Value>],
-) -> Option<Value>
-    ensures { (d : Signature) → Evaluates definitions.now values.now d
-        → known_element result ≡ known_in (first (length values.now) d) (Plain name.now) (known_elements args.now) }
-{
-    match definition_of(definitions, values.len(), name) {
-        Some(place) => values[place],
-        None => known_of_operator(op_of(definitions.theories(), name, &[]), args),
-    }
-}
-
-// The place of the definition of a name among the first so many.
-fn definition_of(definitions: &Library, count: usize, name: &[u8]) -> Option<usize>
-    ensures within { MatchOption result (Unit {0}) (λ place. place < count) }
-    ensures found { (d : Signature) → StandsFor definitions.now d → AreConstants d.entries → AreDistinct d.entries
-        → MatchOption result (entry_named (take count d.entries) name.now ≡ None) (λ place. (e : Entry) × (slice_get d.entries place ≡ Some e) × (e.name ≡ name.now)) }
-{
-    match definitions.find(name) {
-        Some(Found::Defined(place)) if place < count => Some(place),
-        Some(Found::Defined(_)) => None,
-        Some(Found::Declared(_)) => None,
-        None => None,
-    }
-}
-
-fn known_of_operator(op: Result<Op, OpFault>, args: &[Option<Value>]) -> Option<Value>
-    ensures { known_element result ≡ known_of_op op (known_elements args.now) }
-{
-    match op {
-        Ok(op) => apply(op, args),
-        Err(_) => None,
-    }
-}
-
-fn is_underscore(tree: &Tree) -> bool
-    ensures { result ≡ is_underscore_tree (sexp_of tree.now) }
-{
-    matches!(tree, Tree::Reserved(Word::Underscore))
 }

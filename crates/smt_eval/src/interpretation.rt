@@ -5,16 +5,19 @@ ghost use Rattle.smt_text.specs.Tree.{sexps_of};
 ghost use Rattle.smt_values.specs.Element.{known_elements};
 ghost use Rattle.smt_terms.specs.Items.{items_before};
 ghost use Rattle.smt_terms.specs.Library.{StandsFor};
-ghost use Rattle.smt_terms.specs.Signature.{AreDistinct, Entry, Signature};
-ghost use Rattle.smt_eval.specs.Internal.DefinitionValues.{AreConstants, definition_values};
+ghost use Rattle.smt_terms.specs.Signature.{Entry, Signature};
+ghost use Rattle.smt_eval.specs.Internal.DefinitionValues.{definition_values};
+ghost use Rattle.smt_eval.specs.Internal.Evaluation.{IsStructure};
 ghost use Rattle.smt_eval.specs.Internal.ItemFault.{fault_of_item};
 ghost use Rattle.smt_eval.specs.Interpretation.{IsInterpretation};
 ghost use Rattle.smt_eval.specs.Model as model;
 ghost use Rattle.smt_eval.specs.Model.{model_in, items_from, items_of};
+ghost use Rattle.smt_eval.specs.Structure.{structure_of};
 ghost use Rattle.smt_eval.specs.declared.interpretation.ModelFault.TheVariants.{Memory as OutOfMemory};
 
-use crate::evaluator::known_value;
-use crate::laws::models_are_complete;
+use crate::calls::kept_value;
+use crate::definitions::Definitions;
+use crate::laws::{models_are_complete, structures_are_distinct};
 use crate::memory::Memory;
 use smt_terms::laws::faults_are_no_memory;
 use smt_terms::{Library, TermFault};
@@ -43,7 +46,7 @@ impl From<Memory> for ModelFault {
     }
 }
 
-/// The definitions of a model, in order, and what is known of the value of each.
+/// The definitions of a model, and what is known of the value of each constant among them and the script's own definitions behind them.
 #[derive(Drop)]
 pub struct Interpretation {
     pub(crate) definitions: Library,
@@ -51,21 +54,23 @@ pub struct Interpretation {
 }
 
 impl Interpretation {
-    /// Reads a model of the names of a library (SMT-LIB 2.6, section 4.2.6), and evaluates each definition over those before it.
+    /// Reads a model of the names of a library (SMT-LIB 2.6, section 4.2.6), and evaluates each constant of its definitions and of the
+    /// library's own over the definitions before it.
     /// Refused are the first item with a fault, before the first declared name that is lacking, and want of memory. The library
     /// stands for a signature, as every one does that `Library::new` and the calls after it made.
     pub fn read(declared: &Library, model: &Trees) -> Result<Interpretation, ModelFault>
         requires { (s : Signature) × StandsFor declared.now s }
-        ensures { (s : Signature) → StandsFor declared.now s → MatchResult result (λ i. (d : Signature) × (model_in s model.now ≡ Ok d) × IsInterpretation i d)
+        ensures { (s : Signature) → StandsFor declared.now s → MatchResult result (λ i. (d : Signature) × (model_in s model.now ≡ Ok d) × IsInterpretation i s d)
             (λ fault. (fault ≡ OutOfMemory) ⊎ (model_in s model.now ≡ Err fault)) }
     {
         let definitions = read_items(declared, items(model.as_slice()))?;
         if let Some(command) = first_lacking(declared, &definitions) {
             return Err(ModelFault::Lacks { command });
         }
-        // A law: no two definitions have one name.
+        // Laws: no two definitions have one name, nor one of them that of a definition of the script.
         models_are_complete();
-        let values = values_of(&definitions)?;
+        structures_are_distinct();
+        let values = values_of(declared, &definitions)?;
         Ok(Interpretation {
             definitions,
             values,
@@ -127,18 +132,20 @@ fn first_lacking(declared: &Library, definitions: &Library) -> Option<u64>
     None
 }
 
-// What is known of the value of each definition, in order.
-fn values_of(definitions: &Library) -> Result<Vec<Option<Value>>, Memory>
-    requires { (d : Signature) × StandsFor definitions.now d }
-    ensures { (d : Signature) → StandsFor definitions.now d → AreConstants d.entries → AreDistinct d.entries
-        → IfOk result (λ values. known_elements values.items ≡ definition_values d) }
+// What is known of the value of each constant of the structure, in order.
+fn values_of(declared: &Library, definitions: &Library) -> Result<Vec<Option<Value>>, Memory>
+    requires { (s d : Signature) × IsStructure declared.now definitions.now s d }
+    ensures { (s d : Signature) → IsStructure declared.now definitions.now s d → IfOk result (λ values. known_elements values.items ≡ definition_values (structure_of s d)) }
 {
     let mut values = Vec::new(definitions.alloc());
-    let mut left = definitions.definitions();
-    while let Some((definition, rest)) = left.split_first() {
-        let body = definitions.tree(definition.body);
-        values.push(known_value(definitions, values.as_slice(), body)?)?;
-        left = rest;
+    for place in 0..definitions.definitions().len() + declared.definitions().len() {
+        let value = kept_value(Definitions {
+            script: declared,
+            model: definitions,
+            values: values.as_slice(),
+            count: place,
+        })?;
+        values.push(value)?;
     }
     Ok(values)
 }

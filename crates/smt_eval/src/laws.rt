@@ -16,6 +16,7 @@ ghost use Rattle.smt_eval.specs.CompleteModel.{IsModelOf};
 ghost use Rattle.smt_eval.specs.Known.{known_in, known_of};
 ghost use Rattle.smt_eval.specs.Meaning.{value_over};
 ghost use Rattle.smt_eval.specs.Model.{AreDefined, AreItems, HasFirstFault, IsFirstLacking, items_of, model_in};
+ghost use Rattle.smt_eval.specs.Structure.{structure_of};
 ghost use Rattle.smt_eval.specs.declared.interpretation.ModelFault.TheVariants.{Item, Lacks, Memory as OutOfMemory};
 
 use smt_terms::laws as terms;
@@ -48,6 +49,15 @@ pub fn well_sorted_terms_have_values()
 /// with the rank that it was declared with (SMT-LIB 2.6, section 4.2.6).
 pub fn models_are_complete()
     ensures { (script : Signature) (parts : Sexps) (definitions : Signature) → model_in script parts ≡ Ok definitions → IsModelOf script parts definitions }
+{
+    items_are_well_sorted();
+}
+
+/// Where a model is read, no name stands twice in the structure that it gives to the script: no two definitions of the model have one
+/// name, nor one of them that of a definition of the script.
+pub fn structures_are_distinct()
+    ensures { (script : Signature) (parts : Sexps) (definitions : Signature) → model_in script parts ≡ Ok definitions → AreDistinct script.entries
+        → AreDistinct (structure_of script definitions).entries }
 {
     items_are_well_sorted();
 }

@@ -6,12 +6,15 @@
 //! `(= (div x 0) x)` is open.
 #![tactic(auto)]
 
+mod calls;
 mod checked;
+mod definitions;
 mod evaluator;
 mod interpretation;
 pub mod laws;
 mod memory;
 pub mod plain;
+mod scope;
 
 pub use checked::Checked;
 pub use interpretation::{Interpretation, ModelFault};

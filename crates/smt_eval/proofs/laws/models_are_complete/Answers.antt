@@ -6,4 +6,5 @@ returns c = complete (λ script earlier tree e h. record {
   fresh = c.items_are_well_sorted.ensures.fresh script earlier tree e h;
   sorted = c.items_are_well_sorted.ensures.sorted script earlier tree e h;
   ranked = λ d at. c.items_are_well_sorted.ensures.ranked script earlier tree e d h at;
+  free = c.items_are_well_sorted.ensures.free script earlier tree e h;
 })

@@ -1,0 +1,118 @@
+use Rattle.std.proofs.Common.{◌<◌, [], None, length, map, refl, ap, sym, ◌∙◌, arith}
+use Rattle.std.proofs.lemmas.List.{get_or_default}
+use Rattle.smt_text.specs.Sexp.{Cons, Items, Reserved}
+use Rattle.smt_text.specs.Tree.{sexp_of, sexps_of}
+use Rattle.smt_text.specs.declared.reserved.Word.TheVariants.{Bang}
+use Rattle.smt_theory.specs.Index.{index_view}
+use Rattle.smt_theory.specs.Operators.{op_by}
+use Rattle.smt_theory.specs.Words.{look_up}
+use Rattle.smt_values.specs.Element.{known_element, known_elements}
+use Rattle.smt_terms.specs.Identifier.{Plain}
+use Rattle.smt_terms.specs.IdentifierView.{identifier_view}
+use Rattle.smt_terms.specs.ScopeView.{scope_view}
+use Rattle.smt_terms.specs.Signature.{Defined}
+use Rattle.smt_eval.specs.Internal.DefinitionValues.{first}
+use Rattle.smt_eval.specs.Internal.Evaluation.{bodies_of, known_scope, meaning_over}
+use Rattle.smt_eval.specs.Known.{known_defined, known_in, known_of, known_of_op}
+use Rattle.smt_eval.proofs.EvaluatorLemmas.{by_origin, defined_means, empty_list, not_reserved, earlier, if_known, indexed_known, kept, let_known, lighter, list_called, no_variable, not_defined, variable_found}
+use Rattle.smt_eval.proofs.PlaceLemmas.{all_counted, distinct_entries, theories_are}
+use Rattle.smt_eval.proofs.+known.Goals as goal
+
+-- ---- names
+
+pub calls::known_applied-returns-in-Indexed : goal.calls::known_applied-returns-in-Indexed
+calls::known_applied-returns-in-Indexed t c = λ d e.
+    let name = c.in-Indexed.name.now in
+    let indexes = map index_view c.in-Indexed.indexes.items in
+    c.known_of_operator.ensures
+    ∙ ap (λ o. known_of_op o (known_elements c.args.args.now))
+    (c.op_of.ensures ∙ ap (λ is. op_by c.theories.result name (map index_view is)) c.as_slice.ensures.value ∙ ap (λ t. op_by t name indexes) (c.theories.ensures e.definitions e.structure.stands ∙ theories_are c.args.over d e))
+    ∙ sym (indexed_known d c.args.over.count name indexes (known_elements c.args.args.now))
+    ∙ ap (λ i. meaning_over c.args.over d (identifier_view i) (known_elements c.args.args.now)) (sym c.in-Indexed.is)
+
+pub calls::known_plain-returns-in-Some : goal.calls::known_plain-returns-in-Some
+calls::known_plain-returns-in-Some t c = λ d e.
+    let f = c.in-Some.ensures.found d e in
+    if_known c.known_at.result _ _ (c.known_at.ensures d f.0 e f.1)
+    (sym (defined_means d c.args.over.count c.in-Some.place f.0 c.args.name.now (known_elements c.args.args.now) (distinct_entries c.args.over d e) f.1 c.in-Some.ensures.within f.2))
+
+pub calls::known_plain-returns-in-None : goal.calls::known_plain-returns-in-None
+calls::known_plain-returns-in-None t c = λ d e.
+    c.known_of_operator.ensures
+    ∙ ap (λ o. known_of_op o (known_elements c.args.args.now)) (c.op_of.ensures ∙ ap (λ t. op_by t c.args.name.now []) (c.theories.ensures e.definitions e.structure.stands ∙ theories_are c.args.over d e))
+    ∙ sym (not_defined d c.args.over.count c.args.name.now (known_elements c.args.args.now) (c.in-None.ensures.found d e))
+
+-- ---- calls
+
+pub calls::known_at-definition_at-requires-clause-place : goal.calls::known_at-definition_at-requires-clause-place
+calls::known_at-definition_at-requires-clause-place t c =
+    let e = c.requires.over.1 in
+    omega (arith, all_counted c.args.over c.requires.over.0 e, e.seen, e.within, c.requires.seen)
+
+pub calls::known_at-returns-then-is_empty : goal.calls::known_at-returns-then-is_empty
+calls::known_at-returns-then-is_empty t c = λ d f e at.
+    let g = c.definition_at.ensures.defined d e in
+    let body = sexp_of c.definition_at.result.1.now in
+    let origin = by_origin d.entries c.args.place f g.0 at g.1 (g.2 ∙ ap (λ ps. Defined (map (λ p. p.0.items) ps) body) (empty_list c.definition_at.result.0.now c.if-is_empty.ensures)) in
+    let within : c.args.place < length c.args.over.values.now = omega (arith, e.seen, c.requires.seen) in
+    ap known_element (get_or_default c.args.over.values.now c.args.place c.index-over-place.result None within)
+    ∙ kept d c.args.over.values.now c.args.place f (sexp_of c.definition_at.result.1.now) (known_elements c.args.args.now) e.valued at within origin
+
+pub calls::known_at-known_value-requires : goal.calls::known_at-known_value-requires
+calls::known_at-known_value-requires t c =
+    let w = lighter (bodies_of c.args.over) c.args.place c.args.over.count (sexp_of c.definition_at.result.1.now) c.definition_at.ensures.body c.requires.seen in
+    (omega (arith, w, c.decreases), (c.requires.over.0, earlier c.args.over c.requires.over.0 c.args.place c.requires.over.1 c.requires.seen))
+
+pub calls::known_at-returns : goal.calls::known_at-returns
+calls::known_at-returns t c = λ d f e at.
+    let g = c.definition_at.ensures.defined d e in
+    let m = known_in (first c.args.place d) in
+    let body = sexp_of c.definition_at.result.1.now in
+    if_known c.known_value.result _ _ (c.known_value.ensures d (earlier c.args.over d c.args.place e c.requires.seen))
+    (ap (λ r. known_of m r body) (ap known_scope c.as_slice.ensures.value ∙ c.in_ok-variables.ensures) ∙ sym (ap (λ o. known_defined m o (known_elements c.args.args.now)) (by_origin d.entries c.args.place f g.0 at g.1 g.2)))
+
+-- ---- terms
+
+pub evaluator::known_value-returns-in-Some : goal.evaluator::known_value-returns-in-Some
+evaluator::known_value-returns-in-Some t c = λ d e.
+    let m = meaning_over c.args.over d in
+    variable_found m c.args.scope.now c.in-Symbol.name c.find_variable.result c.in-Some.value (c.find_variable.ensures ∙ ap (look_up (scope_view c.args.scope.now)) c.as_slice.ensures) c.in-Some.is
+    ∙ sym (ap (λ x. known_of m (known_scope c.args.scope.now) (sexp_of x)) c.in-Symbol.is)
+
+pub evaluator::known_value-returns-in-None : goal.evaluator::known_value-returns-in-None
+evaluator::known_value-returns-in-None t c = λ d e.
+    let m = meaning_over c.args.over d in
+    if_known c.known_plain.result _ _ (c.known_plain.ensures d e)
+    (ap (λ x. m (Plain x) []) c.as_slice-in-None.ensures
+    ∙ sym (no_variable m c.args.scope.now c.in-Symbol.name c.find_variable.result (c.find_variable.ensures ∙ ap (look_up (scope_view c.args.scope.now)) c.as_slice.ensures) c.in-None.is)
+    ∙ sym (ap (λ x. known_of m (known_scope c.args.scope.now) (sexp_of x)) c.in-Symbol.is))
+
+pub evaluator::known_list-returns-in-Reserved : goal.evaluator::known_list-returns-in-Reserved
+evaluator::known_list-returns-in-Reserved t c = λ d e.
+    if_known c.known_reserved.result _ _ (c.known_reserved.ensures d e)
+    (sym (ap (λ ps. known_of (meaning_over c.args.over d) (known_scope c.args.scope.now) (Items ps)) (sym c.as_slice.ensures ∙ c.in-Some.ensures ∙ ap (λ h. Cons (sexp_of h) (sexps_of c.in-Some.args.now)) c.in-Reserved.is)))
+
+pub evaluator::known_list-returns-in_default-head : goal.evaluator::known_list-returns-in_default-head
+evaluator::known_list-returns-in_default-head t c = λ d e.
+    if_known c.known_call.result _ _ (c.known_call.ensures d e)
+    (sym (list_called (meaning_over c.args.over d) (known_scope c.args.scope.now) (sexp_of c.in-Some.head.now) (sexps_of c.in-Some.args.now) c.args.parts.now (sym c.as_slice.ensures ∙ c.in-Some.ensures) (not_reserved c.in-Some.head.now c.in_default-head.not-Reserved)))
+
+pub evaluator::known_reserved-returns-in-Underscore : goal.evaluator::known_reserved-returns-in-Underscore
+evaluator::known_reserved-returns-in-Underscore t c = λ d e.
+    if_known c.known_indexed.result _ _ (c.known_indexed.ensures d e)
+    (sym (ap (λ w. known_of (meaning_over c.args.over d) (known_scope c.args.scope.now) (Items (Cons (Reserved w) (sexps_of c.args.args.now)))) c.in-Underscore.is))
+
+pub evaluator::known_reserved-returns-in-Some : goal.evaluator::known_reserved-returns-in-Some
+evaluator::known_reserved-returns-in-Some t c = λ d e.
+    if_known c.known_value.result _ _ (c.known_value.ensures d e)
+    (sym (ap (λ w. known_of (meaning_over c.args.over d) (known_scope c.args.scope.now) (Items (Cons (Reserved w) (sexps_of c.args.args.now)))) c.in-Bang.is
+    ∙ ap (λ ts. known_of (meaning_over c.args.over d) (known_scope c.args.scope.now) (Items (Cons (Reserved Bang) ts))) c.in-Some.ensures))
+
+pub evaluator::known_let-returns : goal.evaluator::known_let-returns
+evaluator::known_let-returns t c = λ d e.
+    let m = meaning_over c.args.over d in
+    let scope = known_scope c.args.scope.now in
+    let bindings = sexps_of c.in-Some.bindings.now in
+    if_known c.known_value.result _ _ (c.known_value.ensures d e)
+    (sym (let_known m scope (sexps_of c.args.args.now) bindings (sexp_of c.in-Some.body.now) c.as_slice.result.now c.in_ok-variables.variables.items c.args.scope.now c.in-Some.ensures
+    (c.in_ok-variables.ensures d e) (c.as_slice.ensures.value ∙ c.in_ok-extend_from_slice.ensures.items) refl))

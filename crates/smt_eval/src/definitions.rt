@@ -1,0 +1,95 @@
+//! The definitions that a term is evaluated over.
+
+ghost use Rattle.std.specs.Prelude.{◌≡◌, ◌<◌, Some, None, length, map, take, slice_get, MatchOption};
+ghost use Rattle.smt_text.specs.Tree.{sexp_of};
+ghost use Rattle.smt_terms.specs.Library.{StandsFor, defined_among, definitions_of};
+ghost use Rattle.smt_terms.specs.Signature.{Entry, Defined, Signature, entry_named};
+ghost use Rattle.smt_eval.specs.Internal.Evaluation.{Evaluates, bodies_in, bodies_of};
+
+use smt_terms::{Found, Library};
+use smt_text::Tree;
+use smt_theory::Sort;
+use smt_values::Value;
+
+/// The definitions of a structure: a model's, and behind them the script's own. Of them the first `count` are seen. `values` has what is
+/// known of each constant among the first, and of each function `None`.
+#[derive(Clone, Copy)]
+pub(crate) struct Definitions<'a> {
+    pub(crate) script: &'a Library,
+    pub(crate) model: &'a Library,
+    pub(crate) values: &'a [Option<Value>],
+    pub(crate) count: usize,
+}
+
+/// The place of the definition of a name, if it is seen.
+pub(crate) fn place_of(over: Definitions<'_>, name: &[u8]) -> Option<usize>
+    requires { (d : Signature) × Evaluates over d }
+    ensures within { MatchOption result (Unit {0}) (λ place. place < over.entry.count) }
+    ensures found { (d : Signature) → Evaluates over.entry d
+        → MatchOption result (entry_named (take over.entry.count d.entries) name.now ≡ None) (λ place. (e : Entry) × (slice_get d.entries place ≡ Some e) × (e.name ≡ name.now)) }
+{
+    match place_in_structure(over, name) {
+        Some(place) if place < over.count => Some(place),
+        Some(_) => None,
+        None => None,
+    }
+}
+
+// The place of the definition of a name in the structure.
+fn place_in_structure(over: Definitions<'_>, name: &[u8]) -> Option<usize>
+    requires { (d : Signature) × Evaluates over d }
+    ensures { (d : Signature) → Evaluates over.entry d
+        → MatchOption result (entry_named d.entries name.now ≡ None) (λ place. (e : Entry) × (slice_get d.entries place ≡ Some e) × (e.name ≡ name.now)) }
+{
+    match place_among(over.script, name) {
+        Some(place) => {
+            let scripts = over.script.definitions();
+            prove!(place < scripts.len());
+            Some(over.model.definitions().len() + place)
+        }
+        None => place_among(over.model, name),
+    }
+}
+
+// The place of the definition of a name among those of a library.
+fn place_among(library: &Library, name: &[u8]) -> Option<usize>
+    ensures { (s : Signature) → StandsFor library.now s
+        → MatchOption result (entry_named (defined_among s.entries) name.now ≡ None) (λ place. (e : Entry) × (slice_get (defined_among s.entries) place ≡ Some e) × (e.name ≡ name.now)) }
+{
+    match library.find(name) {
+        Some(Found::Defined(place)) => Some(place),
+        Some(Found::Declared(_)) => None,
+        None => None,
+    }
+}
+
+/// The parameters and the body of the definition at a place.
+pub(crate) fn definition_at<'a>(
+    over: Definitions<'a>,
+    place: usize,
+) -> (&'a [(Vec<u8>, Sort)], &'a Tree)
+    requires over { (d : Signature) × Evaluates over d }
+    requires place { place < length (bodies_of over) }
+    ensures body { slice_get (bodies_of over.entry) place ≡ Some (Some (sexp_of result.1.now)) }
+    ensures defined { (d : Signature) → Evaluates over.entry d
+        → (e : Entry) × (slice_get d.entries place ≡ Some e) × (e.origin ≡ Defined (map (λ p. p.0.items) result.0.now) (sexp_of result.1.now)) }
+{
+    let models = over.model.definitions().len();
+    if place < models {
+        definition_in(over.model, place)
+    } else {
+        definition_in(over.script, place - models)
+    }
+}
+
+// The same of the definitions of one library.
+fn definition_in(library: &Library, place: usize) -> (&[(Vec<u8>, Sort)], &Tree)
+    requires library { (s : Signature) × StandsFor library.now s }
+    requires place { place < length (definitions_of library.now) }
+    ensures body { slice_get (bodies_in library.now) place ≡ Some (Some (sexp_of result.1.now)) }
+    ensures defined { (s : Signature) → StandsFor library.now s
+        → (e : Entry) × (slice_get (defined_among s.entries) place ≡ Some e) × (e.origin ≡ Defined (map (λ p. p.0.items) result.0.now) (sexp_of result.1.now)) }
+{
+    let definition = &library.definitions()[place];
+    (definition.params.as_slice(), library.tree(definition.body))
+}
