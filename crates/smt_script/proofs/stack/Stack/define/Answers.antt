@@ -8,7 +8,6 @@ use Rattle.smt_terms.specs.ParamView.{param_view}
 use Rattle.smt_terms.specs.Signature.{names_of}
 use Rattle.smt_terms.specs.declared.fault.TermFault.TheVariants.{Memory}
 use Rattle.smt_script.specs.Stack.{signature_in_force}
-use Rattle.smt_script.proofs.DefinitionFaults.{definition_other}
 use Rattle.smt_script.proofs.EffectLemmas.{DefinesIn, define_effect, refused_entry, unchanged_by}
 use Rattle.smt_script.proofs.stack.Stack.define.Goals as goal
 
@@ -25,7 +24,7 @@ returns-in_err-define-clause-refused c =
     let names = names_of (signature_in_force cs) in
     let P : List (List ℕ × Sexp) → Type 0 = λ ps. (c.in_err-define.field-0.0 ≡ Memory) ⊎ (defined_in names name ps sort body ≡ Err c.in_err-define.field-0.0) in
     refused_entry (defined_in names name params sort body) c.in_err-define.field-0.0 p.0
-    (definition_other c.faults_are_no_memory.ensures.sorts c.faults_are_no_memory.ensures.declarations names name params sort body) p.2
+    (c.faults_are_no_memory.ensures.definitions names name params sort body) p.2
     (subst P named (c.in_err-define.ensures.refused (signature_in_force cs) h.library)))
 
 pub returns-in_err-define-clause-unchanged : goal.returns-in_err-define-clause-unchanged
