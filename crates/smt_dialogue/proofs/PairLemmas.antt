@@ -5,7 +5,7 @@ use Rattle.std.proofs.lemmas.Grind.{flat_map-append}
 use Rattle.smt_text.specs.Sexp.{Sexp, Sexps, Atom, Reserved, Items, Nil, Cons, is_symbol}
 use Rattle.smt_text.specs.Sexp as sexp
 use Rattle.smt_terms.proofs.NameLemmas.{same_name}
-use Rattle.smt_terms.specs.Signature.{Entry, Signature}
+use Rattle.smt_terms.specs.Signature.{Entry}
 use Rattle.smt_script.specs.Command.{Command, SetLogic, DeclareConst, DeclareFun, DefineFun, Assert, CheckSat, GetModel}
 use Rattle.smt_script.specs.Stack.{Assertion, Numbered, assertions_by, assertions_in_force, names_in_force, signature_in_force, theories_in_force}
 use Rattle.smt_script.proofs.InForceLemmas.{signature-push}

@@ -1,5 +1,5 @@
 -- Behind pairs without a fault a model gives a structure.
-use Rattle.std.proofs.Common.{◌≡◌, ℕ, ◌+◌, Bool, true, false, cond, List, [], ◌∷◌, ◌++◌, length, None, Ok, refl, ap, sym, ◌∙◌, subst, append_assoc, append-nil, arith, length-append}
+use Rattle.std.proofs.Common.{◌≡◌, ℕ, ◌+◌, Bool, true, false, cond, List, [], ◌∷◌, ◌++◌, length, None, Ok, refl, ap, ◌∙◌, subst, append-nil, arith, length-append}
 use Rattle.smt_text.specs.Sexp.{Sexps}
 use Rattle.smt_terms.specs.Signature.{Signature}
 use Rattle.smt_terms.specs.WellSorted.{AreIntroduced}
@@ -35,9 +35,11 @@ no_faults before (p ∷ pairs) h = by (is_effective p) refl h.0 (no_faults (befo
     by : (b : Bool) → is_effective p ≡ b → cond b (fault_of_effect (effective_commands before) (length before + 1) p.command) None ≡ None
         → HaveNoFault (effective_commands (before ++ p ∷ [])) (effective_from (length (before ++ p ∷ []) + 1) pairs)
         → HaveNoFault (effective_commands before) (cond b (record { number = length before + 1; command = p.command } ∷ []) [] ++ effective_from ((length before + 1) + 1) pairs)
-    by true is fault next =
-        (fault, subst (λ (n : ℕ). HaveNoFault (effective_commands before ++ record { number = length before + 1; command = p.command } ∷ []) (effective_from n pairs)) further
-                (subst (λ (cs : List Numbered). HaveNoFault cs (effective_from (length (before ++ p ∷ []) + 1) pairs)) (one_more before p true is) next))
+    by true is fault next = (
+      fault,
+      subst (λ (n : ℕ). HaveNoFault (effective_commands before ++ record { number = length before + 1; command = p.command } ∷ []) (effective_from n pairs)) further
+          (subst (λ (cs : List Numbered). HaveNoFault cs (effective_from (length (before ++ p ∷ []) + 1) pairs)) (one_more before p true is) next),
+    )
     by false is fault next =
         subst (λ (n : ℕ). HaveNoFault (effective_commands before) (effective_from n pairs)) further
         (subst (λ (cs : List Numbered). HaveNoFault cs (effective_from (length (before ++ p ∷ []) + 1) pairs)) (one_more before p false is ∙ append-nil (effective_commands before)) next)

@@ -178,9 +178,10 @@ module _ (law : SortsAreKept) (s d : Signature) (introduced : AreIntroduced s.th
       by : (o : Origin) → e.origin ≡ o → IsSortedIfDefined (over pre) e.parameters e.sort o → AreWellSorted s.theories (d.entries ++ defined_among (pre ++ e ∷ [])) (defined_among rest)
           → AreWellSorted s.theories (d.entries ++ defined_among pre) (cond (not (is_declared o)) (e ∷ defined_among rest) (defined_among rest))
       by (Declared command) is here next = subst (λ (es : List Entry). AreWellSorted s.theories (d.entries ++ es) (defined_among rest)) (more ∙ ap (λ o. defined_among pre ++ one o) is ∙ append-nil (defined_among pre)) next
-      by (Defined ps body) is here next =
-          (subst (IsWellSortedFrom (over (d.entries ++ defined_among pre)) e.parameters e.sort) (sym is) (definition_kept pre (e ∷ rest) all e.parameters e.sort ps body here),
-           subst (λ (es : List Entry). AreWellSorted s.theories es (defined_among rest)) (ap (λ (es : List Entry). d.entries ++ es) (more ∙ ap (λ o. defined_among pre ++ one o) is) ∙ sym (append_assoc d.entries (defined_among pre) (e ∷ []))) next)
+      by (Defined ps body) is here next = (
+        subst (IsWellSortedFrom (over (d.entries ++ defined_among pre)) e.parameters e.sort) (sym is) (definition_kept pre (e ∷ rest) all e.parameters e.sort ps body here),
+        subst (λ (es : List Entry). AreWellSorted s.theories es (defined_among rest)) (ap (λ (es : List Entry). d.entries ++ es) (more ∙ ap (λ o. defined_among pre ++ one o) is) ∙ sym (append_assoc d.entries (defined_among pre) (e ∷ []))) next,
+      )
 
   -- the whole structure
   pub structure_sorted : AreWellSorted s.theories [] (structure_of s d).entries
