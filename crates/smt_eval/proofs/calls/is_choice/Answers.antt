@@ -1,4 +1,4 @@
-use Rattle.std.proofs.Common.{◌≡◌, ℕ, Bool, false, List, Option, Some, None, [], is_some, MatchOption, Ok, ap, sym, ◌∙◌}
+use Rattle.std.proofs.Common.{◌≡◌, ℕ, false, Option, Some, None, [], is_some, MatchOption, Ok, ap, sym, ◌∙◌}
 use Rattle.smt_theory.specs.Operators.{op_by}
 use Rattle.smt_theory.specs.declared.op.CoreOp.TheVariants.{Ite}
 use Rattle.smt_theory.specs.declared.op.Op.TheVariants.{Core}
