@@ -7,7 +7,7 @@ use Rattle.smt_values.specs.declared.value.Value.{Value}
 use Rattle.smt_terms.specs.Signature.{Signature}
 use Rattle.smt_eval.specs.Internal.ClosedTerm.{IsClosed}
 use Rattle.smt_eval.specs.Internal.DefinitionValues.{definition_values, first}
-use Rattle.smt_eval.specs.Internal.Evaluation.{Evaluates, IsStructure}
+use Rattle.smt_eval.specs.Internal.Evaluation.{Evaluates, HaveStructure}
 use Rattle.smt_eval.specs.Known.{known_in, known_of, known_over}
 use Rattle.smt_eval.specs.Structure.{structure_of}
 use Rattle.smt_eval.specs.declared.definitions.Definitions.{Definitions}
@@ -18,11 +18,11 @@ use Rattle.smt_eval.proofs.ReadLemmas.{all_valued}
 use Rattle.smt_eval.proofs.ValuesLemmas.{evaluates}
 
 -- the structure of a closed term
-pub structure_of_closed : (closed : Closed) (structure : Signature) (term : Sexp) (c : IsClosed closed structure term) → IsStructure closed.library.now closed.interpretation.now.definitions c.script c.definitions
+pub structure_of_closed : (closed : Closed) (structure : Signature) (term : Sexp) (c : IsClosed closed structure term) → HaveStructure closed.library.now closed.interpretation.now.definitions c.script c.definitions
 structure_of_closed closed structure term c = record { names = c.names; stands = c.holds.stands; defined = c.holds.defined; distinct = c.holds.distinct }
 
 -- all values are what a term is evaluated over, and then all definitions are seen
-pub all_evaluated : (over : Definitions) (s d : Signature) (vs : List (Option Value)) → IsStructure over.script.now over.model.now s d → over.values.now ≡ vs → over.count ≡ length over.values.now → known_elements vs ≡ definition_values (structure_of s d)
+pub all_evaluated : (over : Definitions) (s d : Signature) (vs : List (Option Value)) → HaveStructure over.script.now over.model.now s d → over.values.now ≡ vs → over.count ≡ length over.values.now → known_elements vs ≡ definition_values (structure_of s d)
     → Evaluates over (structure_of s d) × (first over.count (structure_of s d) ≡ structure_of s d)
 all_evaluated over s d vs h same counted valued =
     let whole = all_valued (structure_of s d) vs valued in

@@ -10,7 +10,7 @@ use Rattle.smt_terms.specs.Library.{defined_among, definitions_of}
 use Rattle.smt_terms.specs.Signature.{Entry, Origin, Defined, Signature}
 use Rattle.smt_terms.specs.declared.library.Library.{Library}
 use Rattle.smt_eval.specs.Internal.DefinitionValues.{definition_values, first, kept_value}
-use Rattle.smt_eval.specs.Internal.Evaluation.{Evaluates, IsStructure}
+use Rattle.smt_eval.specs.Internal.Evaluation.{Evaluates, HaveStructure}
 use Rattle.smt_eval.specs.Known.{KnownMeaning, known_in, known_operators}
 use Rattle.smt_eval.specs.Structure.{structure_of}
 use Rattle.smt_eval.specs.declared.definitions.Definitions.{Definitions}
@@ -18,13 +18,13 @@ use Rattle.smt_eval.proofs.EvaluatorLemmas.{values_more}
 use Rattle.smt_eval.proofs.PlaceLemmas.{all_defined, definitions_counted}
 
 -- as many definitions as the libraries have
-pub structure_counted : (script model : Library) (s d : Signature) → IsStructure script model s d → length (definitions_of model) + length (definitions_of script) ≡ length (structure_of s d).entries
+pub structure_counted : (script model : Library) (s d : Signature) → HaveStructure script model s d → length (definitions_of model) + length (definitions_of script) ≡ length (structure_of s d).entries
 structure_counted script model s d h =
     ap (λ (n : ℕ). n + length (definitions_of script)) (definitions_counted model d h.stands ∙ ap (λ (es : List Entry). length es) (all_defined d.entries h.defined))
     ∙ ap (λ (n : ℕ). length d.entries + n) (definitions_counted script s h.names) ∙ sym (length-append d.entries (defined_among s.entries))
 
 -- values of the first definitions are what a term is evaluated over
-pub evaluates : (over : Definitions) (s d : Signature) (vs : List (Option Value)) → IsStructure over.script.now over.model.now s d → over.values.now ≡ vs → over.count ≡ length vs
+pub evaluates : (over : Definitions) (s d : Signature) (vs : List (Option Value)) → HaveStructure over.script.now over.model.now s d → over.values.now ≡ vs → over.count ≡ length vs
     → known_elements vs ≡ definition_values (first (length vs) (structure_of s d)) → length vs ≤ length (structure_of s d).entries → Evaluates over (structure_of s d)
 evaluates over s d vs h same counted valued within = record {
   script = s;

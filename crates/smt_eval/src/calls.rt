@@ -1,7 +1,6 @@
 //! What names mean: operators, and definitions, whose bodies see their parameters and the definitions before them.
 
-ghost use Rattle.std.specs.Prelude.{◌≡◌, List, Option, IsTrue, ◌<◌, Some, length, map, slice_get, IfOk};
-ghost use Rattle.std.specs.List.{zip};
+ghost use Rattle.std.specs.Prelude.{◌≡◌, List, Option, IsTrue, ◌<◌, Some, length, slice_get, IfOk};
 ghost use Rattle.smt_values.specs.Element.{Element, known_element, known_elements};
 ghost use Rattle.smt_values.specs.KnownOperations.{known_choice};
 ghost use Rattle.smt_terms.specs.Identifier.{Plain};
@@ -9,7 +8,7 @@ ghost use Rattle.smt_terms.specs.IdentifierView.{identifier_view};
 ghost use Rattle.smt_terms.specs.Signature.{Entry, Signature};
 ghost use Rattle.smt_eval.specs.Internal.DefinitionValues as values;
 ghost use Rattle.smt_eval.specs.Internal.DefinitionValues.{first};
-ghost use Rattle.smt_eval.specs.Internal.Evaluation.{Evaluates, bodies_of, known_scope, meaning_over};
+ghost use Rattle.smt_eval.specs.Internal.Evaluation.{Evaluates, bodies_of, meaning_over};
 ghost use Rattle.smt_eval.specs.Known.{known_defined, known_in, known_of_op};
 
 use crate::definitions::{Definitions, definition_at, place_of};

@@ -1,6 +1,6 @@
 //! Evaluation of terms.
 
-ghost use Rattle.std.specs.Prelude.{◌≡◌, [], Ok, Err, IfOk};
+ghost use Rattle.std.specs.Prelude.{◌≡◌, [], IfOk};
 ghost use Rattle.smt_text.specs.Sexp.{Cons, Items, Reserved};
 ghost use Rattle.smt_text.specs.Tree.{sexp_of, sexps_of};
 ghost use Rattle.smt_text.specs.declared.reserved.Word.TheVariants.{Let};

@@ -7,7 +7,7 @@ ghost use Rattle.smt_terms.specs.Items.{items_before};
 ghost use Rattle.smt_terms.specs.Library.{StandsFor};
 ghost use Rattle.smt_terms.specs.Signature.{Entry, Signature};
 ghost use Rattle.smt_eval.specs.Internal.DefinitionValues.{definition_values};
-ghost use Rattle.smt_eval.specs.Internal.Evaluation.{IsStructure};
+ghost use Rattle.smt_eval.specs.Internal.Evaluation.{HaveStructure};
 ghost use Rattle.smt_eval.specs.Internal.ItemFault.{fault_of_item};
 ghost use Rattle.smt_eval.specs.Interpretation.{IsInterpretation};
 ghost use Rattle.smt_eval.specs.Model as model;
@@ -134,8 +134,8 @@ fn first_lacking(declared: &Library, definitions: &Library) -> Option<u64>
 
 // What is known of the value of each constant of the structure, in order.
 fn values_of(declared: &Library, definitions: &Library) -> Result<Vec<Option<Value>>, Memory>
-    requires { (s d : Signature) × IsStructure declared.now definitions.now s d }
-    ensures { (s d : Signature) → IsStructure declared.now definitions.now s d → IfOk result (λ values. known_elements values.items ≡ definition_values (structure_of s d)) }
+    requires { (s d : Signature) × HaveStructure declared.now definitions.now s d }
+    ensures { (s d : Signature) → HaveStructure declared.now definitions.now s d → IfOk result (λ values. known_elements values.items ≡ definition_values (structure_of s d)) }
 {
     let mut values = Vec::new(definitions.alloc());
     for place in 0..definitions.definitions().len() + declared.definitions().len() {

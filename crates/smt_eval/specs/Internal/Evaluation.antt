@@ -13,7 +13,7 @@ use Rattle.smt_eval.specs.Structure.{structure_of}
 use Rattle.smt_eval.specs.declared.definitions.Definitions.{Definitions}
 
 -- the libraries hold the script's names and the definitions of a model of them, and in the structure of both no name stands twice
-pub record IsStructure (script model : Library) (s definitions : Signature) : Type 0 where
+pub record HaveStructure (script model : Library) (s definitions : Signature) : Type 0 where
   pub names : StandsFor script s
   pub stands : StandsFor model definitions
   pub defined : AllDefined definitions.entries
@@ -23,7 +23,7 @@ pub record IsStructure (script model : Library) (s definitions : Signature) : Ty
 pub record Evaluates (over : Definitions) (d : Signature) : Type 0 where
   pub script : Signature
   pub definitions : Signature
-  pub structure : IsStructure over.script.now over.model.now script definitions
+  pub structure : HaveStructure over.script.now over.model.now script definitions
   pub whole : d ≡ structure_of script definitions
   pub valued : known_elements over.values.now ≡ definition_values (first (length over.values.now) d)
   pub seen : over.count ≤ length over.values.now

@@ -1,7 +1,7 @@
 use Rattle.std.proofs.Common.{ℕ, inr, [], Option, ap, sym, ◌∙◌}
 use Rattle.smt_text.specs.Tree.{sexps_of}
 use Rattle.smt_terms.specs.Items.{items_before}
-use Rattle.smt_eval.specs.Internal.Evaluation.{IsStructure}
+use Rattle.smt_eval.specs.Internal.Evaluation.{HaveStructure}
 use Rattle.smt_eval.specs.Model.{complete_or, items_of}
 use Rattle.smt_eval.proofs.ReadLemmas.{model_whole}
 use Rattle.smt_eval.proofs.StructureLemmas.{sorted_defined}
@@ -31,5 +31,5 @@ returns c = λ s stands.
     ∙ ap (λ (o : Option ℕ). complete_or o d) (sym (c.in_default.ensures s d stands read.2)) in
     let defined = sorted_defined d.theories [] d.entries (c.models_are_complete.ensures s c.args.model.now d whole).well_sorted in
     let distinct = c.structures_are_distinct.ensures s c.args.model.now d whole stands.distinct in
-    let structure : IsStructure c.args.declared.now c.in_ok-definitions.definitions s d = record { names = stands; stands = read.2; defined = defined; distinct = distinct } in
+    let structure : HaveStructure c.args.declared.now c.in_ok-definitions.definitions s d = record { names = stands; stands = read.2; defined = defined; distinct = distinct } in
     (d, whole, record { stands = read.2; defined = defined; distinct = distinct; valued = c.in_ok-values.ensures s d structure })
