@@ -1,5 +1,7 @@
 //! Rows of values: terms over the definitions of a model, each with its known value.
 
+ghost use Rattle.smt_eval.specs.Interpretation.{Fits};
+
 use crate::models::print_model;
 use crate::rows::Field;
 use crate::trees::{refuse, split_logic, trees_of};
@@ -31,7 +33,7 @@ pub(crate) fn print<W: Write>(
     };
     for field in terms {
         match field.key {
-            "term" => print_value(alloc, out, &model, field)?,
+            "term" => print_value(alloc, out, &declared, &model, field)?,
             _ => return refuse(field),
         }
     }
@@ -41,14 +43,18 @@ pub(crate) fn print<W: Write>(
 fn print_value<W: Write>(
     alloc: Global,
     out: &mut W,
+    library: &Library,
     interpretation: &Interpretation,
     field: &Field,
-) -> Result<()> {
+) -> Result<()>
+    requires { Fits interpretation.now library.now }
+{
     let trees = trees_of(alloc, field)?;
     let [tree] = trees.as_slice() else {
         bail!("line {}: this is no term", field.line);
     };
     let term = Closed {
+        library,
         interpretation,
         tree,
     };
