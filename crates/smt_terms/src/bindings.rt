@@ -1,4 +1,4 @@
-//! Lists of a symbol and a tree, as bindings and parameters are, and the parts of a `let` and of an annotated term.
+//! Lists of a symbol and a tree, as bindings and parameters are, and the parts of a `let`.
 
 ghost use Rattle.std.specs.Prelude.{◌≡◌, None, MatchOption};
 ghost use Rattle.smt_text.specs.Sexp.{Atom, Cons, Items, Nil, Symbol};
