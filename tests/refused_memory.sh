@@ -64,6 +64,7 @@ data=$top/crates/smtcheck/data
 program 'a valid dialogue' "$data/script.smt2" "$data/answers.txt"
 program 'checks of every kind' "$top/tests/every_kind.smt2" "$top/tests/every_kind.txt"
 program 'functions and variables' "$top/tests/functions.smt2" "$top/tests/functions.txt"
+program 'levels, abbreviations and labels' "$top/tests/levels.smt2" "$top/tests/levels.txt"
 program 'the texts swapped' "$data/answers.txt" "$data/script.smt2"
 program 'a missing file' "$data/script.smt2" "$work/none"
 program 'a word too many' "$data/script.smt2" "$data/answers.txt" "$data/script.smt2"

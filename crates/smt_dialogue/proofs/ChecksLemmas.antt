@@ -5,9 +5,9 @@ use Rattle.std.specs.List.{list_any}
 use Rattle.std.specs.Option.{option_or}
 use Rattle.smt_text.specs.Sexp.{Sexp, Sexps, Atom, Reserved, Items, is_symbol}
 use Rattle.smt_terms.specs.Signature.{Signature}
-use Rattle.smt_script.specs.Command.{Command, SetLogic, DeclareConst, DeclareFun, DefineFun, Assert, CheckSat, GetModel}
+use Rattle.smt_script.specs.Command.{Command, SetLogic, SetPrintSuccess, SetOption, SetInfo, DeclareConst, DeclareFun, DefineFun, DefineSort, Assert, Push, Pop, Reset, ResetAssertions, Exit, CheckSat, GetModel, Echo, Get}
 use Rattle.smt_script.specs.Stack.{Assertion}
-use Rattle.smt_dialogue.proofs.PairLemmas.{assertions_after-push, signature_after-check, signature_after-model, taken_is_effective}
+use Rattle.smt_dialogue.proofs.PairLemmas.{assertions_after-check, assertions_after-model, signature_after-check, signature_after-model, taken_is_effective}
 use Rattle.smt_dialogue.specs.Answers.{is_model, takes}
 use Rattle.smt_dialogue.specs.InForce.{assertions_after, signature_after}
 use Rattle.smt_dialogue.specs.Internal.ChecksState.{ChecksState, checks_after, closing_lines, pending_lines, with_check, with_line, with_model, with_window_ended}
@@ -75,7 +75,7 @@ begun_goes s pairs a k n is_k is_n h own =
     let new = pairs ++ answered_by CheckSat a ∷ [] in
     let len : length new ≡ length pairs + 1 = length-append pairs (answered_by CheckSat a ∷ []) ∙ omega arith in
     let names : signature_after new ≡ signature_after pairs = signature_after-check pairs a h in
-    let assertions : assertions_after new ≡ assertions_after pairs = assertions_after-push pairs CheckSat a h ∙ append-nil (assertions_after pairs) in
+    let assertions : assertions_after new ≡ assertions_after pairs = assertions_after-check pairs a h in
     record {
       count = omega arith;
       lines = λ ended after.
@@ -138,7 +138,7 @@ model_line s pairs c parts None is_pending h is =
     let noted : PendingCheck = record c { some_model = true } in
     let len : length new ≡ length pairs + 1 = length-append pairs (answered_by GetModel (Items parts) ∷ []) ∙ omega arith in
     let names : signature_after new ≡ signature_after pairs = signature_after-model pairs (Items parts) h in
-    let assertions : assertions_after new ≡ assertions_after pairs = assertions_after-push pairs GetModel (Items parts) h ∙ append-nil (assertions_after pairs) in
+    let assertions : assertions_after new ≡ assertions_after pairs = assertions_after-model pairs (Items parts) h in
     record {
       count = omega arith;
       lines = λ ended after.
@@ -170,15 +170,26 @@ model_after : (s : ChecksState) (pairs : List Pair) (a : Sexp) → takes GetMode
 model_after s pairs a h =
     let new = pairs ++ answered_by GetModel a ∷ [] in
     ap (λ (es : Signature). with_model s s.pending es (assertions_after new) (length pairs + 1) a) (signature_after-model pairs a h)
-    ∙ ap (λ (es : List Assertion). with_model s s.pending (signature_after pairs) es (length pairs + 1) a) (assertions_after-push pairs GetModel a h ∙ append-nil (assertions_after pairs))
+    ∙ ap (λ (es : List Assertion). with_model s s.pending (signature_after pairs) es (length pairs + 1) a) (assertions_after-model pairs a h)
 
 pub goes_on : (s : ChecksState) (pairs : List Pair) (c : Command) (a : Sexp) → takes c a ≡ true → s.count ≡ checks_in pairs
     → GoesOn s pairs c a (checks_after s (signature_after (pairs ++ answered_by c a ∷ [])) (assertions_after (pairs ++ answered_by c a ∷ [])) (length pairs + 1) c a)
-goes_on s pairs (SetLogic x) a h count = ends_window s pairs (SetLogic x) a refl refl h
+goes_on s pairs (SetLogic name) a h count = ends_window s pairs (SetLogic name) a refl refl h
+goes_on s pairs (SetPrintSuccess on) a h count = absurd (cc)
+goes_on s pairs (SetOption keyword value) a h count = absurd (cc)
+goes_on s pairs (SetInfo keyword value) a h count = absurd (cc)
 goes_on s pairs (DeclareConst x sort) a h count = ends_window s pairs (DeclareConst x sort) a refl refl h
 goes_on s pairs (DeclareFun x parameters sort) a h count = ends_window s pairs (DeclareFun x parameters sort) a refl refl h
 goes_on s pairs (DefineFun x parameters sort body) a h count = ends_window s pairs (DefineFun x parameters sort body) a refl refl h
-goes_on s pairs (Assert t) a h count = ends_window s pairs (Assert t) a refl refl h
+goes_on s pairs (DefineSort x sort) a h count = ends_window s pairs (DefineSort x sort) a refl refl h
+goes_on s pairs (Assert term) a h count = ends_window s pairs (Assert term) a refl refl h
+goes_on s pairs (Push levels) a h count = ends_window s pairs (Push levels) a refl refl h
+goes_on s pairs (Pop levels) a h count = ends_window s pairs (Pop levels) a refl refl h
+goes_on s pairs Reset a h count = ends_window s pairs Reset a refl refl h
+goes_on s pairs ResetAssertions a h count = ends_window s pairs ResetAssertions a refl refl h
+goes_on s pairs Exit a h count = absurd (cc)
+goes_on s pairs (Echo text) a h count = absurd (cc)
+goes_on s pairs (Get query) a h count = absurd (cc)
 goes_on s pairs CheckSat a h count = check_goes s pairs a h count
 goes_on s pairs GetModel a h count = rw (model_after s pairs a h) (model_goes s pairs s.pending a refl h)
 

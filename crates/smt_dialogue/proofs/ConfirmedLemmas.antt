@@ -6,11 +6,12 @@ use Rattle.smt_text.specs.Sexp as sexp
 use Rattle.smt_text.specs.Sexp.{Sexp, Sexps, Atom, is_symbol}
 use Rattle.smt_dialogue.proofs.FirstFaultLemmas.{none_of}
 use Rattle.smt_dialogue.proofs.StructureLemmas.{ModelsGiveStructures, NamesAreIntroduced, structure_behind}
-use Rattle.smt_dialogue.proofs.PairLemmas.{assertions_after-append, is_word, lines_in-append}
-use Rattle.smt_script.specs.Command.{Command, Assert}
+use Rattle.smt_dialogue.proofs.PairLemmas.{is_word, lines_in-append}
+use Rattle.smt_dialogue.proofs.AssertedLemmas.{AssertionsAreFound, AssertionsStand, asserted_stands}
+use Rattle.smt_script.specs.Command.{Assert}
 use Rattle.smt_dialogue.specs.Validity.{IsConfirmed, IsSatCheck, IsTrueModel}
-use Rattle.smt_dialogue.specs.InForce.{AreFaultless, assertions_after, effective_from, fault_of_pair, signature_after}
-use Rattle.smt_script.specs.Stack.{Assertion, assertions_by, assertions_in_force, fault_of_formula}
+use Rattle.smt_dialogue.specs.InForce.{AreFaultless, assertions_after, effective_commands, fault_of_pair, signature_after}
+use Rattle.smt_script.specs.Stack.{Assertion, fault_of}
 use Rattle.smt_dialogue.specs.Lines.{checks_in, is_empty, line_of_judgement, lines_in, lines_of_answer, lines_of_pair, lines_of_sat, sat_lines, unconfirmed_line}
 use Rattle.smt_report.specs.Verdict.{is_refuted_line, is_undecided_line}
 use Rattle.std.specs.Option.{option_or}
@@ -27,29 +28,22 @@ use Rattle.smt_eval.specs.Meaning.{value_over}
 use Rattle.smt_eval.specs.Model.{model_in}
 use Rattle.smt_eval.specs.Structure.{structure_of}
 use Rattle.smt_terms.specs.Checking.{sort_in}
-use Rattle.smt_terms.specs.Signature.{Signature, names_of}
+use Rattle.smt_terms.specs.Assertions.{label_entries}
+use Rattle.smt_terms.specs.Labels.{labels_in}
+use Rattle.smt_terms.specs.Signature.{Entry, Signature, in_assertion, names_of}
 use Rattle.smt_dialogue.specs.declared.judgement.Judgement.{Judgement}
 use Rattle.smt_dialogue.specs.declared.judgement.Judgement.TheVariants as judgements
 use Rattle.smt_eval.specs.declared.interpretation.ModelFault.{ModelFault}
 use Rattle.smt_eval.specs.declared.interpretation.ModelFault.TheVariants as faults
 use Rattle.smt_report.specs.declared.line.Line.{Line}
 use Rattle.smt_terms.specs.declared.fault.TermFault.{TermFault}
+use Rattle.smt_terms.specs.declared.fault.TermFault.TheVariants.{IllSorted}
+use Rattle.smt_theory.specs.Sort.{is_same_sort}
+use Rattle.smt_theory.specs.Words.{result_and_then}
 use Rattle.smt_theory.specs.declared.sort.Sort.{Sort}
 use Rattle.smt_theory.specs.declared.sort.Sort.TheVariants.{Bool as BooleanSort, Int as IntSort, Bits}
 
 -- ## What stands behind what
-
--- the assertions that come behind the next command
-abbrev pub assertions_later : List Pair → List Pair → List Assertion
-assertions_later earlier between = assertions_in_force (effective_from ((1 + length earlier) + 1) between)
-
--- an assertion that took effect is among those in force
-pub asserted_at : (earlier between : List Pair) (p : Pair) (term : Sexp) → p.command ≡ Assert term → is_effective p ≡ true → assertions_after (earlier ++ p ∷ between) ≡ assertions_after earlier ++ record { command = length earlier + 1; term = term } ∷ assertions_later earlier between
-asserted_at earlier between p term is effective =
-    assertions_after-append earlier (p ∷ between)
-    ∙ ap (λ (b : Bool). assertions_after earlier ++ assertions_in_force (cond b (record { number = 1 + length earlier; command = p.command } ∷ []) [] ++ effective_from ((1 + length earlier) + 1) between)) effective
-    ∙ ap (λ (c : Command). assertions_after earlier ++ (assertions_by (1 + length earlier) c ++ assertions_later earlier between)) is
-    ∙ ap (λ (n : ℕ). assertions_after earlier ++ record { command = n; term = term } ∷ assertions_later earlier between) (omega arith)
 
 -- a pair among faultless ones has no fault
 pub faultless_at : (before xs : List Pair) (p : Pair) (ys : List Pair) → AreFaultless before (xs ++ p ∷ ys) → fault_of_pair (before ++ xs) p ≡ None
@@ -57,16 +51,18 @@ faultless_at before [] p ys h = ap (λ (b : List Pair). fault_of_pair b p) (appe
 faultless_at before (x ∷ xs) p ys h =
     ap (λ (b : List Pair). fault_of_pair b p) (sym (append_assoc before (x ∷ []) xs)) ∙ faultless_at (before ++ x ∷ []) xs p ys h.1
 
-formula_sort : (r : Result Sort TermFault) → fault_of_formula r ≡ None → r ≡ Ok BooleanSort
-formula_sort (Ok BooleanSort) h = refl
-formula_sort (Ok IntSort) h = absurd (cc)
-formula_sort (Ok (Bits w)) h = absurd (cc)
-formula_sort (Err f) h = absurd (cc)
+-- what is asserted without a fault is a formula, whatever labels it brings
+formula_sort : (r : Result Sort TermFault) (labels : List Entry) → fault_of (result_and_then {B = List Entry} r (λ sort. cond (is_same_sort sort BooleanSort) (Ok labels) (Err IllSorted))) ≡ None → r ≡ Ok BooleanSort
+formula_sort (Ok BooleanSort) labels h = refl
+formula_sort (Ok IntSort) labels h = absurd (cc)
+formula_sort (Ok (Bits w)) labels h = absurd (cc)
+formula_sort (Err f) labels h = absurd (cc)
 
 -- an assertion that took effect, without a fault, is a formula
-pub asserted_formula : (earlier : List Pair) (p : Pair) (term : Sexp) → p.command ≡ Assert term → is_effective p ≡ true → fault_of_pair earlier p ≡ None → sort_in (names_of (signature_after earlier)) [] term ≡ Ok BooleanSort
+pub asserted_formula : (earlier : List Pair) (p : Pair) (term : Sexp) → p.command ≡ Assert term → is_effective p ≡ true → fault_of_pair earlier p ≡ None → sort_in (in_assertion (names_of (signature_after earlier))) [] term ≡ Ok BooleanSort
 asserted_formula earlier p term is effective h =
-    formula_sort (sort_in (names_of (signature_after earlier)) [] term) (rw (effective, is) at h)
+    let names = names_of (signature_after earlier) in
+    formula_sort (sort_in (in_assertion names) [] term) (label_entries names (labels_in term)) (rw (effective, is) at h)
 
 -- the lines of a pair are among those of all pairs
 pub lines_at : (before : List Pair) (p : Pair) (after : List Pair) → lines_in true [] (before ++ p ∷ after) [] ≡ lines_in true [] before ((p ∷ after) ++ []) ++ (lines_of_pair true before p after ++ lines_in true (before ++ p ∷ []) after [])
@@ -98,13 +94,15 @@ is_false_value (Some (Truth false)) h = refl
 is_false_value (Some (Integer z)) h = absurd (cc)
 is_false_value (Some (Vector v)) h = absurd (cc)
 
--- the laws of models, of what is known over them, and of structures
+-- the laws of models, of what is known over them, of structures, and of the assertions in force
 pub record Laws : Type 0 where
   pub complete : (script : Signature) (parts : Sexps) (definitions : Signature) → model_in script parts ≡ Ok definitions → IsModelOf script parts definitions
   pub known : (z : DivisionByZero) (definitions : Signature) (known : List (List ℕ × Option Element)) (r : List (List ℕ × Element)) (term : Sexp)
       → AgreesWith known r → Agrees (known_of (known_in definitions) known term) (value_over z definitions r term)
   pub introduced : NamesAreIntroduced
   pub structures : ModelsGiveStructures
+  pub stand : AssertionsStand
+  pub found : AssertionsAreFound
 
 -- what is known of a closed term is its value
 pub closed_value : Laws → (z : DivisionByZero) (definitions : Signature) (term : Sexp) (e : Element) → known_over definitions term ≡ Some e → value_over z definitions [] term ≡ e
@@ -151,10 +149,9 @@ true_model laws pairs before after p parts place faultless h =
           asserted_formula earlier q term asserted.command asserted.effective (faultless_at [] earlier q (asserted.between ++ p ∷ after) (subst (AreFaultless []) far faultless));
       true_in = λ z earlier term asserted.
           let here : Assertion = record { command = length earlier + 1; term = term } in
-          let later = assertions_later earlier asserted.between in
-          let among : assertions_after before ≡ assertions_after earlier ++ here ∷ later = ap assertions_after asserted.place ∙ asserted_at earlier asserted.between asserted.pair term asserted.command asserted.effective in
+          let among = laws.stand (effective_commands before) (effective_commands earlier) (record { number = length earlier + 1; command = Assert term }) term (asserted_stands before earlier term asserted) refl in
           let structure = structure_at confirmed.0 before in
-          let not_open = first_none (is_open_over structure) (assertions_after earlier) here later (ap (first_assertion (is_open_over structure)) (sym among) ∙ confirmed.3) in
+          let not_open = first_none (is_open_over structure) among.0 here among.1 (ap (first_assertion (is_open_over structure)) (sym among.2) ∙ confirmed.3) in
           closed_value laws z structure term (Truth true) (is_true_value (known_over structure term) not_open);
     }
 

@@ -1,10 +1,12 @@
 -- How the state of a dialogue goes on with one more pair.
-use Rattle.std.proofs.Common.{◌≡◌, ◌+◌, ℕ, Bool, true, List, [], ◌∷◌, ◌++◌, length, ap, sym, ◌∙◌, subst, arith, append_assoc, length-append}
+use Rattle.std.proofs.Common.{◌≡◌, ◌⊎◌, inl, inr, ◌+◌, ℕ, Bool, true, List, [], ◌∷◌, ◌++◌, length, Some, ap, sym, ◌∙◌, subst, arith, append_assoc, length-append}
 use Rattle.std.proofs.lemmas.List.{append-nil}
 use Rattle.smt_text.specs.Sexp.{Sexp}
 use Rattle.smt_script.specs.Command.{Command}
 use Rattle.smt_script.specs.Stack.{Numbered, assertions_in_force, fault_of_effect, signature_in_force}
 use Rattle.smt_script.specs.StackView as stacks
+use Rattle.smt_script.specs.declared.fault.CommandFault.{CommandFault}
+use Rattle.smt_script.specs.declared.fault.CommandFault.TheVariants.{Memory as OutOfMemory}
 use Rattle.smt_script.specs.StackView.{last_of}
 use Rattle.smt_dialogue.proofs.ChecksLemmas.{GoesOn, goes_on, pending-end}
 use Rattle.smt_dialogue.proofs.PairLemmas.{answers_taken-append, checks_in-append, effective_commands-push, lines_in-append, taken_is_effective}
@@ -80,6 +82,12 @@ refused_stands s t pairs before stack last checks commands answers = record {
   lines = λ ended after. before.lines ended after
       ∙ ap (λ (c : ChecksState). c.lines ++ pending_lines ended c.pending (signature_after pairs) (assertions_after pairs) (length pairs + 1) after) (sym checks);
 }
+
+-- so a refused command has the fault that the stack told, or there was no memory
+pub refused_fault : (s t : State) (pairs : List Pair) (c : Command) (a : Sexp) (fault : CommandFault) → takes c a ≡ true → StandsFor s pairs → (fault ≡ OutOfMemory) ⊎ (fault_of_effect (effective_commands pairs) (s.commands + 1) c ≡ Some fault) → StandsFor t pairs
+    → (fault ≡ OutOfMemory) ⊎ ((fault_of_pair pairs (answered_by c a) ≡ Some fault) × StandsFor t pairs)
+refused_fault s t pairs c a fault h before (inl memory) after = inl memory
+refused_fault s t pairs c a fault h before (inr told) after = inr (fault_of_taken s pairs c a h before ∙ told, after)
 
 -- at the end the window that has not ended does
 pub ended_lines : (s : State) (pairs : List Pair) → StandsFor s pairs → lines_in true [] pairs [] ≡ (with_window_ended s.checks).lines

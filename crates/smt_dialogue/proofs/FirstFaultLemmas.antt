@@ -4,14 +4,14 @@ use Rattle.std.specs.List.{list_any}
 use Rattle.smt_text.specs.Sexp.{Sexps, Nil, Cons}
 use Rattle.smt_text.specs.declared.fault.TextFault.{TextFault}
 use Rattle.smt_text.specs.declared.fault.TextFault.TheVariants as texts
-use Rattle.smt_script.specs.Command.{Command, command_of}
+use Rattle.smt_script.specs.Command.{Command}
 use Rattle.smt_dialogue.specs.FirstFault.{Stop, step_after, step_of_fault, step_of_tree}
 use Rattle.smt_report.specs.FaultLine.{text_line}
 use Rattle.smt_dialogue.specs.Report.{lines_of_end}
 use Rattle.smt_dialogue.specs.InForce.{fault_of_pair}
 use Rattle.smt_report.specs.Verdict.{is_fault_line, is_refuted_line, is_undecided_line, verdict_of}
 use Rattle.smt_dialogue.specs.Pairing.{Pair, answered_by, answers_taken}
-use Rattle.smt_dialogue.specs.Answers.{takes}
+use Rattle.smt_dialogue.specs.Answers.{answered_command, takes}
 use Rattle.smt_report.specs.declared.line.Line.{Line}
 use Rattle.smt_report.specs.declared.line.Line.TheVariants as lines
 use Rattle.smt_report.specs.declared.line.Side.{Side}
@@ -103,7 +103,7 @@ command_line pairs (Ok c) (Cons a rest) af fault e h =
     chosen_line (takes c a) (length pairs + 1) (fault_of_pair pairs (answered_by c a)) (lines.UnexpectedAnswer (length pairs + 1) (answers_taken pairs + 1)) fault refl e h
 
 pub ends_clean : (pairs : List Pair) (later : Sexps) (sf : Option TextFault) (rest : Sexps) (af : Option TextFault) (fault : Option Line) → step_after pairs later sf rest af ≡ Stop fault → list_any is_fault_line (lines_of_end fault) ≡ false → IsClean later sf rest af fault
-ends_clean pairs (Cons t ts) sf rest af fault e h = command_line pairs (command_of t) rest af fault e h
+ends_clean pairs (Cons t ts) sf rest af fault e h = command_line pairs (answered_command t) rest af fault e h
 ends_clean pairs Nil (Some f) rest af fault e h = no_line (text_line Script f) fault (text_line_is_fault Script f) e h
 ends_clean pairs Nil None (Cons a rest) af fault e h = no_line (lines.ExtraAnswer (answers_taken pairs + 1)) fault refl e h
 ends_clean pairs Nil None Nil (Some f) fault e h = no_line (text_line Answers f) fault (text_line_is_fault Answers f) e h

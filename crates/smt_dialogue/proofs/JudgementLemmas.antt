@@ -3,8 +3,8 @@ use Rattle.std.proofs.Common.{◌≡◌, ℕ, true, false, not, List, [], ◌∷
 use Rattle.smt_text.specs.Sexp.{Sexp}
 use Rattle.smt_script.specs.Stack.{Assertion}
 use Rattle.smt_script.specs.StackView.{AreAssertions}
-use Rattle.smt_terms.specs.Library.{IsTerm}
-use Rattle.smt_terms.specs.declared.library.Library.{Library}
+use Rattle.smt_terms.specs.Contents.{Contents}
+use Rattle.smt_terms.specs.Library.{IsTermOf}
 use Rattle.smt_dialogue.specs.Judgement.{first_assertion, is_false_over, is_open_over, refuted_or}
 use Rattle.smt_values.specs.KnownOperations.{is_known}
 use Rattle.smt_eval.specs.Known.{known_over}
@@ -43,22 +43,22 @@ judged_from-open d None a rest e1 e =
 judged_from-open d (Some n) a rest e1 e = rw e1 refl
 
 -- the assertions that are left, where the first is known
-pub next_term : (l : Library) (a : code.Assertion) (as' : List code.Assertion) (bs : List Assertion) → AreAssertions l (a ∷ as') bs
-    → (b : Assertion) × (rest : List Assertion) × (bs ≡ b ∷ rest) × (a.command ≡ b.command) × IsTerm l a.term b.term × AreAssertions l as' rest
+pub next_term : (l : Contents) (a : code.Assertion) (as' : List code.Assertion) (bs : List Assertion) → AreAssertions l (a ∷ as') bs
+    → (b : Assertion) × (rest : List Assertion) × (bs ≡ b ∷ rest) × (a.command ≡ b.command) × IsTermOf l a.term b.term × AreAssertions l as' rest
 next_term l a as' [] h = absurd h
 next_term l a as' (b ∷ bs) h = (b, bs, refl, h.0, h.1, h.2)
 
-pub none_left : (l : Library) (bs : List Assertion) → AreAssertions l [] bs → bs ≡ []
+pub none_left : (l : Contents) (bs : List Assertion) → AreAssertions l [] bs → bs ≡ []
 none_left l [] h = refl
 none_left l (b ∷ bs) h = absurd h
 
 -- what is left to find of the assertions that are left, behind those so far
-abbrev pub IsLeft : Library → List code.Assertion → Signature → Option ℕ → Judgement → Type 0
+abbrev pub IsLeft : Contents → List code.Assertion → Signature → Option ℕ → Judgement → Type 0
 IsLeft l left d first found = (rest : List Assertion) × AreAssertions l left rest × (judged_from d first rest ≡ found)
 
 -- the next assertion is known to be true
-pub left-true : (l : Library) (left as' : List code.Assertion) (a : code.Assertion) (d : Signature) (first : Option ℕ) (found : Judgement) → left ≡ a ∷ as'
-    → ((t : Sexp) → IsTerm l a.term t → known_over d t ≡ Some (Truth true)) → IsLeft l left d first found → IsLeft l as' d first found
+pub left-true : (l : Contents) (left as' : List code.Assertion) (a : code.Assertion) (d : Signature) (first : Option ℕ) (found : Judgement) → left ≡ a ∷ as'
+    → ((t : Sexp) → IsTermOf l a.term t → known_over d t ≡ Some (Truth true)) → IsLeft l left d first found → IsLeft l as' d first found
 left-true l left as' a d first found here is h =
     let next = next_term l a as' h.0 (subst (λ ls. AreAssertions l ls h.0) here h.1) in
     (next.1, next.5, sym (judged_from-true d first next.0 next.1 (is next.0.term next.4)) ∙ ap (judged_from d first) (sym next.2) ∙ h.2)
@@ -67,8 +67,8 @@ left-true l left as' a d first found here is h =
 abbrev pub IsOpen : Option Element → Type 0
 IsOpen v = (is_known false v ≡ false) × (is_known true v ≡ false)
 
-pub left-open : (l : Library) (left as' : List code.Assertion) (a : code.Assertion) (d : Signature) (first : Option ℕ) (found : Judgement) → left ≡ a ∷ as'
-    → ((t : Sexp) → IsTerm l a.term t → IsOpen (known_over d t)) → is_some first ≡ true → IsLeft l left d first found → IsLeft l as' d first found
+pub left-open : (l : Contents) (left as' : List code.Assertion) (a : code.Assertion) (d : Signature) (first : Option ℕ) (found : Judgement) → left ≡ a ∷ as'
+    → ((t : Sexp) → IsTermOf l a.term t → IsOpen (known_over d t)) → is_some first ≡ true → IsLeft l left d first found → IsLeft l as' d first found
 left-open l left as' a d None found here is some h = cc
 left-open l left as' a d (Some n) found here is some h =
     let next = next_term l a as' h.0 (subst (λ ls. AreAssertions l ls h.0) here h.1) in
@@ -76,7 +76,7 @@ left-open l left as' a d (Some n) found here is some h =
     (next.1, next.5, sym (judged_from-open d (Some n) next.0 next.1 open'.0 open'.1) ∙ ap (judged_from d (Some n)) (sym next.2) ∙ h.2)
 
 -- those that are left behind the next
-pub terms_left : (l : Library) (left as' : List code.Assertion) (a : code.Assertion) → left ≡ a ∷ as' → (all : List Assertion) × AreAssertions l left all → (all : List Assertion) × AreAssertions l as' all
+pub terms_left : (l : Contents) (left as' : List code.Assertion) (a : code.Assertion) → left ≡ a ∷ as' → (all : List Assertion) × AreAssertions l left all → (all : List Assertion) × AreAssertions l as' all
 terms_left l left as' a here h =
     let next = next_term l a as' h.0 (subst (λ ls. AreAssertions l ls h.0) here h.1) in
     (next.1, next.5)

@@ -1,3 +1,5 @@
+pub mod InForceLemmas
+pub mod AssertedLemmas
 pub mod PairLemmas
 pub mod ChecksLemmas
 pub mod DialogueLemmas

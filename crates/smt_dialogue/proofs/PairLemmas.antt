@@ -1,14 +1,12 @@
 -- Laws of pairs side by side: what they bring, take and print.
 use Rattle.std.proofs.Common.{◌≡◌, ◌≤◌, ◌+◌, ℕ, suc, Bool, true, false, not, ◌||◌, List, [], ◌∷◌, ◌++◌, length, Option, Some, None, cond, codes, refl, ap, sym, ◌∙◌, arith, append_assoc}
 use Rattle.std.proofs.lemmas.List.{append-nil}
-use Rattle.std.proofs.lemmas.Grind.{flat_map-append}
 use Rattle.smt_text.specs.Sexp.{Sexp, Sexps, Atom, Reserved, Items, Nil, Cons, is_symbol}
 use Rattle.smt_text.specs.Sexp as sexp
 use Rattle.smt_terms.proofs.NameLemmas.{same_name}
-use Rattle.smt_terms.specs.Signature.{Entry}
-use Rattle.smt_script.specs.Command.{Command, SetLogic, DeclareConst, DeclareFun, DefineFun, Assert, CheckSat, GetModel}
-use Rattle.smt_script.specs.Stack.{Assertion, Numbered, assertions_by, assertions_in_force, names_in_force, signature_in_force, theories_in_force}
-use Rattle.smt_script.proofs.InForceLemmas.{signature-push}
+use Rattle.smt_script.specs.Command.{Command, SetLogic, SetPrintSuccess, SetOption, SetInfo, DeclareConst, DeclareFun, DefineFun, DefineSort, Assert, Push, Pop, Reset, ResetAssertions, Exit, CheckSat, GetModel, Echo, Get}
+use Rattle.smt_script.specs.Stack.{Numbered, assertions_in_force, signature_in_force}
+use Rattle.smt_dialogue.proofs.InForceLemmas.{assertions-quiet, check_is_quiet, model_is_quiet, signature-quiet}
 use Rattle.smt_dialogue.specs.Answers.{fits, is_effective_with, is_model, is_refusal, takes}
 use Rattle.smt_dialogue.specs.InForce.{AreFaultless, assertions_after, effective_commands, effective_from, fault_of_pair, signature_after}
 use Rattle.smt_dialogue.specs.Lines.{checks_in, is_check, lines_in, lines_of_pair}
@@ -46,10 +44,21 @@ or_cases false b P f g h = g h
 
 pub taken_is_effective : (c : Command) (a : Sexp) → takes c a ≡ true → is_effective_with (Some a) ≡ true
 taken_is_effective (SetLogic name) a h = word_is_effective (codes "success") a refl h
+taken_is_effective (SetPrintSuccess on) a h = cc
+taken_is_effective (SetOption keyword value) a h = cc
+taken_is_effective (SetInfo keyword value) a h = cc
 taken_is_effective (DeclareConst x sort) a h = word_is_effective (codes "success") a refl h
 taken_is_effective (DeclareFun x parameters sort) a h = word_is_effective (codes "success") a refl h
 taken_is_effective (DefineFun x parameters sort body) a h = word_is_effective (codes "success") a refl h
+taken_is_effective (DefineSort x sort) a h = word_is_effective (codes "success") a refl h
 taken_is_effective (Assert term) a h = word_is_effective (codes "success") a refl h
+taken_is_effective (Push levels) a h = word_is_effective (codes "success") a refl h
+taken_is_effective (Pop levels) a h = word_is_effective (codes "success") a refl h
+taken_is_effective Reset a h = word_is_effective (codes "success") a refl h
+taken_is_effective ResetAssertions a h = word_is_effective (codes "success") a refl h
+taken_is_effective Exit a h = cc
+taken_is_effective (Echo text) a h = cc
+taken_is_effective (Get query) a h = cc
 taken_is_effective CheckSat a h =
     or_cases (is_symbol (codes "sat") a || is_symbol (codes "unsat") a) (is_symbol (codes "unknown") a) _
     (or_cases (is_symbol (codes "sat") a) (is_symbol (codes "unsat") a) _ (word_is_effective (codes "sat") a refl) (word_is_effective (codes "unsat") a refl))
@@ -65,13 +74,6 @@ effective_from-append n (x ∷ xs) ys =
     ap (λ (cs : List Numbered). here ++ cs) (effective_from-append (n + 1) xs ys ∙ ap (λ (k : ℕ). effective_from (n + 1) xs ++ effective_from k ys) (omega arith))
     ∙ sym (append_assoc here (effective_from (n + 1) xs) (effective_from (n + suc (length xs)) ys))
 
--- the commands that took effect behind some pairs
-abbrev pub effective_behind : List Pair → List Pair → List Numbered
-effective_behind before pairs = effective_from (1 + length before) pairs
-
-pub assertions_after-append : (xs ys : List Pair) → assertions_after (xs ++ ys) ≡ assertions_after xs ++ assertions_in_force (effective_behind xs ys)
-assertions_after-append xs ys = ap assertions_in_force (effective_from-append 1 xs ys) ∙ flat_map-append (λ (c : Numbered). assertions_by c.number c.command) (effective_commands xs) (effective_behind xs ys)
-
 effective_here : (b : Bool) (c : Numbered) → b ≡ true → cond b (c ∷ []) [] ++ [] ≡ c ∷ []
 effective_here b c h = rw h refl
 
@@ -82,22 +84,22 @@ effective_commands-push pairs c a h =
     ∙ ap (λ (cs : List Numbered). effective_commands pairs ++ cs) (effective_here (is_effective (answered_by c a)) (record { number = 1 + length pairs; command = c }) (taken_is_effective c a h))
     ∙ ap (λ (n : ℕ). effective_commands pairs ++ record { number = n; command = c } ∷ []) (omega arith)
 
--- a check and a model bring no names
+-- a check and a model change nothing that is in force
 pub signature_after-check : (pairs : List Pair) (a : Sexp) → takes CheckSat a ≡ true → signature_after (pairs ++ answered_by CheckSat a ∷ []) ≡ signature_after pairs
 signature_after-check pairs a h =
-    ap signature_in_force (effective_commands-push pairs CheckSat a h) ∙ signature-push (effective_commands pairs) (record { number = length pairs + 1; command = CheckSat })
-    ∙ ap (λ (es : List Entry). record { theories = theories_in_force (effective_commands pairs); entries = es }) (append-nil (names_in_force (effective_commands pairs)))
+    ap signature_in_force (effective_commands-push pairs CheckSat a h) ∙ signature-quiet (effective_commands pairs) (record { number = length pairs + 1; command = CheckSat }) check_is_quiet
 
 pub signature_after-model : (pairs : List Pair) (a : Sexp) → takes GetModel a ≡ true → signature_after (pairs ++ answered_by GetModel a ∷ []) ≡ signature_after pairs
 signature_after-model pairs a h =
-    ap signature_in_force (effective_commands-push pairs GetModel a h) ∙ signature-push (effective_commands pairs) (record { number = length pairs + 1; command = GetModel })
-    ∙ ap (λ (es : List Entry). record { theories = theories_in_force (effective_commands pairs); entries = es }) (append-nil (names_in_force (effective_commands pairs)))
+    ap signature_in_force (effective_commands-push pairs GetModel a h) ∙ signature-quiet (effective_commands pairs) (record { number = length pairs + 1; command = GetModel }) model_is_quiet
 
-pub assertions_after-push : (pairs : List Pair) (c : Command) (a : Sexp) → takes c a ≡ true → assertions_after (pairs ++ answered_by c a ∷ []) ≡ assertions_after pairs ++ assertions_by (length pairs + 1) c
-assertions_after-push pairs c a h =
-    ap assertions_in_force (effective_commands-push pairs c a h)
-    ∙ flat_map-append (λ (d : Numbered). assertions_by d.number d.command) (effective_commands pairs) (record { number = length pairs + 1; command = c } ∷ [])
-    ∙ ap (λ (es : List Assertion). assertions_after pairs ++ es) (append-nil (assertions_by (length pairs + 1) c))
+pub assertions_after-check : (pairs : List Pair) (a : Sexp) → takes CheckSat a ≡ true → assertions_after (pairs ++ answered_by CheckSat a ∷ []) ≡ assertions_after pairs
+assertions_after-check pairs a h =
+    ap assertions_in_force (effective_commands-push pairs CheckSat a h) ∙ assertions-quiet (effective_commands pairs) (record { number = length pairs + 1; command = CheckSat }) check_is_quiet
+
+pub assertions_after-model : (pairs : List Pair) (a : Sexp) → takes GetModel a ≡ true → assertions_after (pairs ++ answered_by GetModel a ∷ []) ≡ assertions_after pairs
+assertions_after-model pairs a h =
+    ap assertions_in_force (effective_commands-push pairs GetModel a h) ∙ assertions-quiet (effective_commands pairs) (record { number = length pairs + 1; command = GetModel }) model_is_quiet
 
 pub checks_in-append : (xs ys : List Pair) → checks_in (xs ++ ys) ≡ checks_in xs + checks_in ys
 checks_in-append [] ys = omega arith

@@ -4,8 +4,8 @@ use Rattle.std.proofs.lemmas.List.{append-nil}
 use Rattle.smt_text.specs.Reading.{Reads}
 use Rattle.smt_text.specs.Sexp.{Sexp, Sexps, Nil, Cons}
 use Rattle.smt_text.specs.declared.fault.TextFault.{TextFault}
-use Rattle.smt_script.specs.Command.{Command, command_of}
-use Rattle.smt_dialogue.specs.FirstFault.{Stop, end_without_fault, step_after, want_of_answer}
+use Rattle.smt_script.specs.Command.{Command}
+use Rattle.smt_dialogue.specs.FirstFault.{Stop, end_without_fault, step_after, step_of_tree, want_of_answer}
 use Rattle.smt_report.specs.FaultLine.{text_line}
 use Rattle.smt_dialogue.specs.Report.{IsReport, lines_of_end}
 use Rattle.smt_text.specs.Grammar.{limit}
@@ -13,7 +13,7 @@ use Rattle.smt_dialogue.specs.InForce.{AreFaultless, fault_of_pair}
 use Rattle.smt_dialogue.specs.Lines.{lines_in}
 use Rattle.smt_report.specs.Verdict.{with_verdict}
 use Rattle.smt_dialogue.specs.Pairing.{AllFit, AreCommands, Pair, answered_by, answers_taken, answers_then}
-use Rattle.smt_dialogue.specs.Answers.{takes}
+use Rattle.smt_dialogue.specs.Answers.{answered_command, takes}
 use Rattle.smt_report.specs.declared.line.Line.{Line}
 use Rattle.smt_report.specs.declared.line.Line.TheVariants as lines
 use Rattle.smt_report.specs.declared.line.Side.TheVariants.{Script}
@@ -46,8 +46,8 @@ stop_here before trees answers sf af fault h = record {
 }
 
 -- a command with an answer that it takes: its fault ends the dialogue, or there is a way on
-by_effect : (before : List Pair) (t : Sexp) (ts : Sexps) (c : Command) (a : Sexp) (more : Sexps) (sf af : Option TextFault) (o : Option CommandFault) → command_of t ≡ Ok c → takes c a ≡ true → fault_of_pair before (answered_by c a) ≡ o → ((b : List Pair) (as' : Sexps) → Way b ts as' sf af) → Way before (Cons t ts) (Cons a more) sf af
-by_effect before t ts c a more sf af (Some fault) read taken h on = stop_here before (Cons t ts) (Cons a more) sf af (Some (lines.CommandFault (length before + 1) fault)) (rw (read, taken, h) refl)
+by_effect : (before : List Pair) (t : Sexp) (ts : Sexps) (c : Command) (a : Sexp) (more : Sexps) (sf af : Option TextFault) (o : Option CommandFault) → answered_command t ≡ Ok c → takes c a ≡ true → fault_of_pair before (answered_by c a) ≡ o → ((b : List Pair) (as' : Sexps) → Way b ts as' sf af) → Way before (Cons t ts) (Cons a more) sf af
+by_effect before t ts c a more sf af (Some fault) read taken h on = stop_here before (Cons t ts) (Cons a more) sf af (Some (lines.CommandFault (length before + 1) fault)) (ap (λ (r : Result Command CommandFault). step_of_tree before r (Cons a more) af) read ∙ rw (taken, h) refl)
 by_effect before t ts c a more sf af None read taken h on =
     let p : Pair = answered_by c a in
     let way = on (before ++ p ∷ []) more in
@@ -63,19 +63,19 @@ by_effect before t ts c a more sf af None read taken h on =
       ends = ap (λ (bs : List Pair). step_after bs way.later sf way.rest af) (sym (append_assoc before (p ∷ []) way.pairs)) ∙ way.ends;
     }
 
-by_answer : (before : List Pair) (t : Sexp) (ts : Sexps) (c : Command) (a : Sexp) (more : Sexps) (sf af : Option TextFault) (b : Bool) → command_of t ≡ Ok c → takes c a ≡ b → ((b : List Pair) (as' : Sexps) → Way b ts as' sf af) → Way before (Cons t ts) (Cons a more) sf af
-by_answer before t ts c a more sf af false read h on = stop_here before (Cons t ts) (Cons a more) sf af (Some (lines.UnexpectedAnswer (length before + 1) (answers_taken before + 1))) (rw (read, h) refl)
+by_answer : (before : List Pair) (t : Sexp) (ts : Sexps) (c : Command) (a : Sexp) (more : Sexps) (sf af : Option TextFault) (b : Bool) → answered_command t ≡ Ok c → takes c a ≡ b → ((b : List Pair) (as' : Sexps) → Way b ts as' sf af) → Way before (Cons t ts) (Cons a more) sf af
+by_answer before t ts c a more sf af false read h on = stop_here before (Cons t ts) (Cons a more) sf af (Some (lines.UnexpectedAnswer (length before + 1) (answers_taken before + 1))) (ap (λ (r : Result Command CommandFault). step_of_tree before r (Cons a more) af) read ∙ rw h refl)
 by_answer before t ts c a more sf af true read h on = by_effect before t ts c a more sf af (fault_of_pair before (answered_by c a)) read h refl on
 
-by_tree : (before : List Pair) (t : Sexp) (ts answers : Sexps) (sf af : Option TextFault) (r : Result Command CommandFault) → command_of t ≡ r → ((b : List Pair) (as' : Sexps) → Way b ts as' sf af) → Way before (Cons t ts) answers sf af
-by_tree before t ts answers sf af (Err fault) h on = stop_here before (Cons t ts) answers sf af (Some (lines.CommandFault (length before + 1) fault)) (rw h refl)
-by_tree before t ts Nil sf af (Ok c) h on = stop_here before (Cons t ts) Nil sf af (Some (want_of_answer (length before + 1) af)) (rw h refl)
+by_tree : (before : List Pair) (t : Sexp) (ts answers : Sexps) (sf af : Option TextFault) (r : Result Command CommandFault) → answered_command t ≡ r → ((b : List Pair) (as' : Sexps) → Way b ts as' sf af) → Way before (Cons t ts) answers sf af
+by_tree before t ts answers sf af (Err fault) h on = stop_here before (Cons t ts) answers sf af (Some (lines.CommandFault (length before + 1) fault)) (ap (λ (r : Result Command CommandFault). step_of_tree before r answers af) h)
+by_tree before t ts Nil sf af (Ok c) h on = stop_here before (Cons t ts) Nil sf af (Some (want_of_answer (length before + 1) af)) (ap (λ (r : Result Command CommandFault). step_of_tree before r Nil af) h)
 by_tree before t ts (Cons a more) sf af (Ok c) h on = by_answer before t ts c a more sf af (takes c a) h refl on
 
 way_through : (trees : Sexps) (before : List Pair) (answers : Sexps) (sf af : Option TextFault) → Way before trees answers sf af
 way_through Nil before answers None af = stop_here before Nil answers None af (end_without_fault before answers af) refl
 way_through Nil before answers (Some fault) af = stop_here before Nil answers (Some fault) af (Some (text_line Script fault)) refl
-way_through (Cons t ts) before answers sf af = by_tree before t ts answers sf af (command_of t) refl (λ b as'. way_through ts b as' sf af)
+way_through (Cons t ts) before answers sf af = by_tree before t ts answers sf af (answered_command t) refl (λ b as'. way_through ts b as' sf af)
 
 -- of every text something is read: a law of the reader's crate
 abbrev pub EveryTextReads : Type 0

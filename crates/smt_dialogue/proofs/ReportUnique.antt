@@ -5,7 +5,7 @@ use Rattle.smt_text.specs.Reading.{Reads}
 use Rattle.smt_text.specs.Sexp.{Sexp, Sexps, Nil, Cons}
 use Rattle.smt_text.specs.declared.fault.TextFault.{TextFault}
 use Rattle.smt_dialogue.proofs.PairingUnique.{pair_same, some_answer}
-use Rattle.smt_script.specs.Command.{Command, command_of}
+use Rattle.smt_script.specs.Command.{Command}
 use Rattle.smt_dialogue.specs.FirstFault.{Stop, Continue, step_after, step_of_tree}
 use Rattle.smt_dialogue.specs.Report.{IsReport, lines_of_end}
 use Rattle.smt_text.specs.Grammar.{limit}
@@ -13,7 +13,7 @@ use Rattle.smt_dialogue.specs.InForce.{AreFaultless, fault_of_pair}
 use Rattle.smt_dialogue.specs.Lines.{lines_in}
 use Rattle.smt_report.specs.Verdict.{with_verdict}
 use Rattle.smt_dialogue.specs.Pairing.{AllFit, AreCommands, Pair, answered_by, answers_then, with_answer}
-use Rattle.smt_dialogue.specs.Answers.{fits, takes}
+use Rattle.smt_dialogue.specs.Answers.{answered_command, fits, takes}
 use Rattle.smt_report.specs.declared.line.Line.{Line}
 use Rattle.smt_script.specs.declared.fault.CommandFault.{CommandFault}
 
@@ -21,8 +21,8 @@ ends_same : {f g : Option Line} → Stop f ≡ Stop g → f ≡ g
 ends_same h = cc
 
 -- where a command is taken up without a fault, the dialogue goes on
-goes_on_at : (before : List Pair) (t : Sexp) (c : Command) (a : Sexp) (more : Sexps) (af : Option TextFault) → command_of t ≡ Ok c → takes c a ≡ true → fault_of_pair before (answered_by c a) ≡ None → step_of_tree before (command_of t) (Cons a more) af ≡ Continue
-goes_on_at before t c a more af read taken fault = rw (read, taken, fault) refl
+goes_on_at : (before : List Pair) (t : Sexp) (c : Command) (a : Sexp) (more : Sexps) (af : Option TextFault) → answered_command t ≡ Ok c → takes c a ≡ true → fault_of_pair before (answered_by c a) ≡ None → step_of_tree before (answered_command t) (Cons a more) af ≡ Continue
+goes_on_at before t c a more af read taken fault = ap (λ (r : Result Command CommandFault). step_of_tree before r (Cons a more) af) read ∙ rw (taken, fault) refl
 
 -- so it does not end there
 no_end : {P : Type 0} (before : List Pair) (y : Pair) (ys : List Pair) (trees later later' answers rest rest' : Sexps) (sf af : Option TextFault) (f : Option Line) → trees ≡ later → AreCommands (y ∷ ys) trees later' → answers ≡ rest → answers ≡ answers_then (y ∷ ys) rest' → AllFit (y ∷ ys) → AreFaultless before (y ∷ ys) → step_after before later sf rest af ≡ Stop f → P

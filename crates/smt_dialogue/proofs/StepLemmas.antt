@@ -8,10 +8,11 @@ use Rattle.smt_text.specs.declared.fault.TextFault.{TextFault}
 use Rattle.smt_dialogue.proofs.PairLemmas.{AllFit-append, AreFaultless-append, answers_taken-le, answers_then-append, checks_in-le}
 use Rattle.std.specs.Result.{IfOk}
 use Rattle.smt_eval.specs.declared.memory.Memory.{Memory}
-use Rattle.smt_script.specs.Command.{Command, command_of}
-use Rattle.smt_dialogue.specs.Answers.{takes}
+use Rattle.smt_script.specs.Command.{Command}
+use Rattle.smt_script.specs.declared.fault.CommandFault.{CommandFault}
+use Rattle.smt_dialogue.specs.Answers.{answered_command, takes}
 use Rattle.smt_script.specs.StackView.{last_of}
-use Rattle.smt_dialogue.specs.FirstFault.{Stop, end_without_fault, step_after}
+use Rattle.smt_dialogue.specs.FirstFault.{Stop, end_without_fault, step_after, step_of_tree}
 use Rattle.smt_dialogue.specs.Report.{lines_of_end}
 use Rattle.smt_dialogue.specs.Lines.{lines_in}
 use Rattle.smt_report.specs.Verdict.{verdict_of, with_verdict}
@@ -30,9 +31,9 @@ so_far-start s script answers stands = record {
   faultless = tt;
 }
 
-pub AreCommands-push : (pairs : List Pair) (p : Pair) (trees : Sexps) (tree : Sexp) (later : Sexps) → AreCommands pairs trees (Cons tree later) → command_of tree ≡ Ok p.command → AreCommands (pairs ++ p ∷ []) trees later
+pub AreCommands-push : (pairs : List Pair) (p : Pair) (trees : Sexps) (tree : Sexp) (later : Sexps) → AreCommands pairs trees (Cons tree later) → answered_command tree ≡ Ok p.command → AreCommands (pairs ++ p ∷ []) trees later
 AreCommands-push [] p Nil tree later h read = cc
-AreCommands-push [] p (Cons t ts) tree later h read = (let same : t ≡ tree = cc in ap command_of same ∙ read, cc)
+AreCommands-push [] p (Cons t ts) tree later h read = (let same : t ≡ tree = cc in ap answered_command same ∙ read, cc)
 AreCommands-push (q ∷ qs) p Nil tree later h read = absurd h
 AreCommands-push (q ∷ qs) p (Cons t ts) tree later h read = (h.0, AreCommands-push qs p ts tree later h.1 read)
 
@@ -97,7 +98,7 @@ pub last-le : (s : State) (script later answers rest : Sexps) → SoFar s script
 last-le s script later answers rest g = g.stands.last
 
 -- a step of a tree that is a command, with an answer that it takes
-pub step_taken : (r : Result (Option Line) Memory) (s t : State) (tree : Sexp) (answers left : Sexps) (fault : Option TextFault) (c : Command) (a : Sexp) → command_of tree ≡ Ok c → answers ≡ Cons a left → takes c a ≡ true
+pub step_taken : (r : Result (Option Line) Memory) (s t : State) (tree : Sexp) (answers left : Sexps) (fault : Option TextFault) (c : Command) (a : Sexp) → answered_command tree ≡ Ok c → answers ≡ Cons a left → takes c a ≡ true
     → IfOk r (λ line. (pairs : List Pair) → StandsFor s pairs → IsAccepted line pairs c a t) → IfOk r (λ line. (pairs : List Pair) → StandsFor s pairs → IsStep line pairs tree answers fault left t)
 step_taken (Err e) s t tree answers left fault c a read next taken h = tt
 step_taken (Ok None) s t tree answers left fault c a read next taken h = λ pairs stands.
@@ -114,6 +115,6 @@ step_taken (Ok None) s t tree answers left fault c a read next taken h = λ pair
 step_taken (Ok (Some line)) s t tree answers left fault c a read next taken h = λ pairs stands.
     let accepted = h pairs stands in
     record {
-      ends = rw (read, next, taken) accepted.0;
+      ends = ap (λ (r : Result Command CommandFault). step_of_tree pairs r answers fault) read ∙ rw (next, taken) accepted.0;
       stands = accepted.1;
     }

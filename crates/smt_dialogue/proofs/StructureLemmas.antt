@@ -17,7 +17,7 @@ faultless_first before [] ys h = tt
 faultless_first before (x ∷ xs) ys h = (h.0, faultless_first (before ++ x ∷ []) xs ys h.1)
 
 -- one more pair brings its command, where it took effect
-one_more : (before : List Pair) (p : Pair) (b : Bool) → is_effective p ≡ b → effective_commands (before ++ p ∷ []) ≡ effective_commands before ++ cond b (record { number = length before + 1; command = p.command } ∷ []) []
+pub one_more : (before : List Pair) (p : Pair) (b : Bool) → is_effective p ≡ b → effective_commands (before ++ p ∷ []) ≡ effective_commands before ++ cond b (record { number = length before + 1; command = p.command } ∷ []) []
 one_more before p b is =
     effective_from-append 1 before (p ∷ [])
     ∙ ap (λ c. effective_commands before ++ (cond c (record { number = 1 + length before; command = p.command } ∷ []) [] ++ [])) is

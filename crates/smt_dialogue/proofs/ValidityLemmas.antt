@@ -8,18 +8,19 @@ use Rattle.smt_text.specs.Reading.{Reads}
 use Rattle.smt_text.specs.Sexp.{Sexp, Sexps, Nil, is_symbol}
 use Rattle.smt_text.specs.declared.fault.TextFault.{TextFault}
 use Rattle.smt_dialogue.proofs.FirstFaultLemmas.{any-append, ends_clean, invalid_lines, none_of, valid_lines}
+use Rattle.smt_dialogue.proofs.AssertedLemmas.{comes_from}
 use Rattle.smt_dialogue.proofs.StructureLemmas.{structure_behind}
 use Rattle.smt_dialogue.proofs.PairingUnique.{all_commands, one_pairing}
 use Rattle.smt_dialogue.proofs.ConfirmedLemmas.{Laws, asserted_formula, closed_value, confirmed_at, faultless_at, is_false_value, lines_at, lines_of_sat_at}
-use Rattle.smt_script.specs.Command.{Command, SetLogic, DeclareConst, DeclareFun, DefineFun, Assert, CheckSat, GetModel}
+use Rattle.smt_script.specs.Command.{Command, SetLogic, SetPrintSuccess, SetOption, SetInfo, DeclareConst, DeclareFun, DefineFun, DefineSort, Assert, Push, Pop, Reset, ResetAssertions, Exit, CheckSat, GetModel, Echo, Get}
 use Rattle.smt_dialogue.specs.Report.{lines_of_end}
 use Rattle.smt_dialogue.specs.Validity.{IsAsserted, IsFullyPaired, IsInvalid, IsSatCheck, IsTrueModel, IsValid}
-use Rattle.smt_dialogue.specs.InForce.{AreFaultless, assertions_after, effective_from, signature_after}
-use Rattle.smt_script.specs.Stack.{Assertion, Numbered, assertions_in_force}
+use Rattle.smt_dialogue.specs.InForce.{AreFaultless, assertions_after, effective_commands, signature_after}
+use Rattle.smt_script.specs.Stack.{Assertion}
 use Rattle.smt_dialogue.specs.Lines.{checks_in, is_empty, line_of_judgement, lines_in, lines_of_pair, lines_of_sat, sat_lines, unconfirmed_line}
 use Rattle.smt_report.specs.Verdict.{is_fault_line, is_refuted_line, is_undecided_line, tally_of, verdict_of}
 use Rattle.std.specs.Option.{option_or}
-use Rattle.smt_dialogue.specs.Pairing.{IsPairing, Pair, is_effective}
+use Rattle.smt_dialogue.specs.Pairing.{IsPairing, Pair}
 use Rattle.smt_dialogue.specs.Internal.Steps.{IsJudged}
 use Rattle.smt_dialogue.specs.Window.{Printed, models_from, structure_at, window}
 use Rattle.smt_dialogue.specs.Judgement.{first_assertion, is_false_over, is_open_over, judged_in, judgement_of, open_or_confirmed, refuted_or}
@@ -132,11 +133,22 @@ pub record IsRefutedCheck (before : List Pair) (p : Pair) (after : List Pair) : 
   pub line : list_any is_refuted_line (lines_of_sat true (checks_in before + 1) (length before + 1) (signature_after before) (assertions_after before) ((length before + 1) + 1) after) ≡ true
 
 refuted_check : (before : List Pair) (c : Command) (o : Option Sexp) (after : List Pair) → list_any is_refuted_line (lines_of_pair true before (record { command = c; answer = o }) after) ≡ true → IsRefutedCheck before (record { command = c; answer = o }) after
-refuted_check before (SetLogic x) o after h = absurd (cc)
-refuted_check before (DeclareConst x s) o after h = absurd (cc)
-refuted_check before (DeclareFun x ps s) o after h = absurd (cc)
-refuted_check before (DefineFun x ps s t) o after h = absurd (cc)
-refuted_check before (Assert t) o after h = absurd (cc)
+refuted_check before (SetLogic name) o after h = absurd (cc)
+refuted_check before (SetPrintSuccess on) o after h = absurd (cc)
+refuted_check before (SetOption keyword value) o after h = absurd (cc)
+refuted_check before (SetInfo keyword value) o after h = absurd (cc)
+refuted_check before (DeclareConst x sort) o after h = absurd (cc)
+refuted_check before (DeclareFun x parameters sort) o after h = absurd (cc)
+refuted_check before (DefineFun x parameters sort body) o after h = absurd (cc)
+refuted_check before (DefineSort x sort) o after h = absurd (cc)
+refuted_check before (Assert term) o after h = absurd (cc)
+refuted_check before (Push levels) o after h = absurd (cc)
+refuted_check before (Pop levels) o after h = absurd (cc)
+refuted_check before Reset o after h = absurd (cc)
+refuted_check before ResetAssertions o after h = absurd (cc)
+refuted_check before Exit o after h = absurd (cc)
+refuted_check before (Echo text) o after h = absurd (cc)
+refuted_check before (Get query) o after h = absurd (cc)
 refuted_check before GetModel o after h = absurd (cc)
 refuted_check before CheckSat None after h = absurd (cc)
 refuted_check before CheckSat (Some a) after h =
@@ -253,64 +265,6 @@ refuted_over script as' (Err (faults.Item i f)) n h = absurd (cc)
 refuted_over script as' (Err (faults.Lacks m)) n h = absurd (cc)
 refuted_over script as' (Err faults.Memory) n h = absurd (cc)
 
--- where an assertion in force comes from
-pub record ComesFrom (n : ℕ) (pairs : List Pair) (a : Assertion) : Type 0 where
-  pub earlier : List Pair
-  pub pair : Pair
-  pub between : List Pair
-  pub place : pairs ≡ earlier ++ pair ∷ between
-  pub command : pair.command ≡ Assert a.term
-  pub effective : is_effective pair ≡ true
-  pub number : a.command ≡ n + length earlier
-
-comes_later : (n : ℕ) (p : Pair) (ps : List Pair) (a : Assertion) → ComesFrom (n + 1) ps a → ComesFrom n (p ∷ ps) a
-comes_later n p ps a g = record {
-  earlier = p ∷ g.earlier;
-  pair = g.pair;
-  between = g.between;
-  place = ap (λ (xs : List Pair). p ∷ xs) g.place;
-  command = g.command;
-  effective = g.effective;
-  number = g.number ∙ omega arith;
-}
-
-head_same : {A : Type 0} {x y : A} {xs ys : List A} → x ∷ xs ≡ y ∷ ys → x ≡ y
-head_same h = cc
-
-tail_same : {A : Type 0} {x y : A} {xs ys : List A} → x ∷ xs ≡ y ∷ ys → xs ≡ ys
-tail_same h = cc
-
-comes_here : (n : ℕ) (p : Pair) (ps : List Pair) (t : Sexp) (rest xs : List Assertion) (a : Assertion) (ys : List Assertion) → p.command ≡ Assert t → is_effective p ≡ true → ((zs : List Assertion) → rest ≡ zs ++ a ∷ ys → ComesFrom (n + 1) ps a) → record { command = n; term = t } ∷ rest ≡ xs ++ a ∷ ys → ComesFrom n (p ∷ ps) a
-comes_here n p ps t rest [] a ys is e later h =
-    let same : record { command = n; term = t } ≡ a = head_same h in
-    record {
-      earlier = [];
-      pair = p;
-      between = ps;
-      place = refl;
-      command = is ∙ ap (λ (b : Assertion). Assert b.term) same;
-      effective = e;
-      number = sym (ap (λ (b : Assertion). b.command) same) ∙ omega arith;
-    }
-comes_here n p ps t rest (x ∷ xs) a ys is e later h = comes_later n p ps a (later xs (tail_same h))
-
-comes_by : (n : ℕ) (p : Pair) (ps : List Pair) (cs : List Numbered) (xs : List Assertion) (a : Assertion) (ys : List Assertion) (b : Bool) (c : Command) → is_effective p ≡ b → p.command ≡ c → ((zs : List Assertion) → assertions_in_force cs ≡ zs ++ a ∷ ys → ComesFrom (n + 1) ps a)
-    → assertions_in_force (cond b (record { number = n; command = c } ∷ []) [] ++ cs) ≡ xs ++ a ∷ ys → ComesFrom n (p ∷ ps) a
-comes_by n p ps cs xs a ys false c e is later h = comes_later n p ps a (later xs h)
-comes_by n p ps cs xs a ys true (SetLogic x) e is later h = comes_later n p ps a (later xs h)
-comes_by n p ps cs xs a ys true (DeclareConst x s) e is later h = comes_later n p ps a (later xs h)
-comes_by n p ps cs xs a ys true (DeclareFun x qs s) e is later h = comes_later n p ps a (later xs h)
-comes_by n p ps cs xs a ys true (DefineFun x qs s t) e is later h = comes_later n p ps a (later xs h)
-comes_by n p ps cs xs a ys true (Assert t) e is later h = comes_here n p ps t (assertions_in_force cs) xs a ys is e later h
-comes_by n p ps cs xs a ys true CheckSat e is later h = comes_later n p ps a (later xs h)
-comes_by n p ps cs xs a ys true GetModel e is later h = comes_later n p ps a (later xs h)
-
-comes_from : (n : ℕ) (pairs : List Pair) (xs : List Assertion) (a : Assertion) (ys : List Assertion) → assertions_in_force (effective_from n pairs) ≡ xs ++ a ∷ ys → ComesFrom n pairs a
-comes_from n [] [] a ys h = absurd (cc)
-comes_from n [] (x ∷ xs) a ys h = absurd (cc)
-comes_from n (p ∷ ps) xs a ys h =
-    comes_by n p ps (effective_from (n + 1) ps) xs a ys (is_effective p) p.command refl refl (λ zs e. comes_from (n + 1) ps zs a ys e) h
-
 -- ## The meaning of an invalid verdict
 
 -- where the line stands in the report
@@ -334,13 +288,15 @@ invalid_means laws script answers st at' sf af ls v rs ra j h =
     let ms = models_from (n + 1) (window at_pair.last) in
     let found = sat_refuted k n names assertions ms (not (is_empty ms)) (unconfirmed_line k n names assertions ms) refl check.line in
     let over = refuted_over names assertions (model_in names found.model.model.parts) found.model.refuted.assertion found.model.refuted.found in
-    let source = comes_from 1 before over.2.first over.2.assertion over.2.last over.2.place in
-    let q = source.pair in
+    let standing = laws.found (effective_commands before) over.2.first over.2.last over.2.assertion over.2.place in
+    let source = comes_from before standing.0 standing.1 over.2.assertion standing.2 standing.3 standing.4 in
+    let asserted = source.asserted in
+    let q = asserted.pair in
     let l1 = lines_in true [] before ((p ∷ at_pair.last) ++ []) in
     let l2 = lines_in true (before ++ p ∷ []) at_pair.last [] in
     let line = lines.Refuted k n found.model.model.command (length source.earlier + 1) in
-    let number : found.model.refuted.assertion ≡ length source.earlier + 1 = sym over.2.command ∙ source.number ∙ omega arith in
-    let far : j.pairs ≡ source.earlier ++ q ∷ (source.between ++ p ∷ at_pair.last) = at_pair.place ∙ ap (λ (b : List Pair). b ++ p ∷ at_pair.last) source.place ∙ append_assoc source.earlier (q ∷ source.between) (p ∷ at_pair.last) in
+    let number : found.model.refuted.assertion ≡ length source.earlier + 1 = sym over.2.command ∙ source.number in
+    let far : j.pairs ≡ source.earlier ++ q ∷ (asserted.between ++ p ∷ at_pair.last) = at_pair.place ∙ ap (λ (b : List Pair). b ++ p ∷ at_pair.last) asserted.place ∙ append_assoc source.earlier (q ∷ asserted.between) (p ∷ at_pair.last) in
     let here : lines_of_pair true before p at_pair.last ≡ line ∷ [] = lines_of_sat_at before at_pair.last p check.sat ∙ found.lines_are ∙ ap (λ (l : Line). l ∷ []) found.model.refuted.line_is ∙ ap (λ (i : ℕ). lines.Refuted k n found.model.model.command i ∷ []) number in
     let end : List Line = lines.Verdict (verdict_of (mine ++ lines_of_end j.fault)) (tally_of (mine ++ lines_of_end j.fault)) ∷ [] in
     record {
@@ -360,14 +316,8 @@ invalid_means laws script answers st at' sf af ls v rs ra j h =
       structure = structure_behind laws.introduced laws.structures before (p ∷ at_pair.last) found.model.model.parts over.0 (subst (AreFaultless []) at_pair.place j.faultless) over.1;
       earlier = source.earlier;
       term = over.2.assertion.term;
-      asserted = record {
-        pair = q;
-        between = source.between;
-        place = source.place;
-        command = source.command;
-        effective = source.effective;
-      };
-      sorted = asserted_formula source.earlier q over.2.assertion.term source.command source.effective (faultless_at [] source.earlier q (source.between ++ p ∷ at_pair.last) (subst (AreFaultless []) far j.faultless));
+      asserted = asserted;
+      sorted = asserted_formula source.earlier q over.2.assertion.term asserted.command asserted.effective (faultless_at [] source.earlier q (asserted.between ++ p ∷ at_pair.last) (subst (AreFaultless []) far j.faultless));
       false_in = λ z. closed_value laws z (structure_at over.0 before) over.2.assertion.term (Truth false) (is_false_value (known_over (structure_at over.0 before) over.2.assertion.term) over.2.passes);
       lines_before = l1;
       lines_after = l2 ++ end;

@@ -2,9 +2,9 @@
 use Rattle.std.specs.Prelude.{ℕ, ◌+◌, List, length, Option, Some, None, Result, Ok, Err, if◌then◌else◌}
 use Rattle.smt_text.specs.Sexp.{Sexps, Nil, Cons}
 use Rattle.smt_text.specs.declared.fault.TextFault.{TextFault}
-use Rattle.smt_script.specs.Command.{Command, command_of}
+use Rattle.smt_script.specs.Command.{Command}
 use Rattle.smt_script.specs.declared.fault.CommandFault.{CommandFault}
-use Rattle.smt_dialogue.specs.Answers.{takes}
+use Rattle.smt_dialogue.specs.Answers.{answered_command, takes}
 use Rattle.smt_dialogue.specs.InForce.{fault_of_pair}
 use Rattle.smt_dialogue.specs.Pairing.{Pair, answers_taken, answered_by}
 use Rattle.smt_report.specs.FaultLine.{text_line}
@@ -46,6 +46,6 @@ step_of_tree pairs (Ok command) answers answers_fault = step_of_command pairs co
 
 -- the turn behind pairs: of the trees that are left of the script, then its fault, and of the answers that are left, then theirs
 abbrev pub step_after : List Pair → Sexps → Option TextFault → Sexps → Option TextFault → Step
-step_after pairs (Cons tree trees) script_fault answers answers_fault = step_of_tree pairs (command_of tree) answers answers_fault
+step_after pairs (Cons tree trees) script_fault answers answers_fault = step_of_tree pairs (answered_command tree) answers answers_fault
 step_after pairs Nil (Some fault) answers answers_fault = Stop (Some (text_line Script fault))
 step_after pairs Nil None answers answers_fault = Stop (end_without_fault pairs answers answers_fault)

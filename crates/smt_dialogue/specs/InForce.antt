@@ -1,8 +1,8 @@
 -- SMT-LIB 2.6, sections 4.1 and 4.2: what is in force after pairs of commands and answers, and the faults of pairs. A command that was
 -- answered by `unsupported` or an error took no effect. Commands count from 1.
-use Rattle.std.specs.Prelude.{◌≡◌, ℕ, ◌+◌, List, [], ◌∷◌, ◌++◌, length, Option, None, if◌then◌else◌}
+use Rattle.std.specs.Prelude.{◌≡◌, ◌≤◌, ℕ, ◌+◌, List, [], ◌∷◌, ◌++◌, length, Bool, ◌&&◌, Option, None, if◌then◌else◌}
 use Rattle.smt_terms.specs.Signature.{Signature}
-use Rattle.smt_script.specs.Stack.{Assertion, Numbered, assertions_in_force, fault_of_effect, signature_in_force}
+use Rattle.smt_script.specs.Stack.{Assertion, Numbered, assertions_in_force, depth_in_force, fault_of_effect, is_reset, signature_in_force}
 use Rattle.smt_script.specs.declared.fault.CommandFault.{CommandFault}
 use Rattle.smt_dialogue.specs.Pairing.{Pair, is_effective}
 
@@ -22,6 +22,19 @@ signature_after pairs = signature_in_force (effective_commands pairs)
 -- the assertions in force after pairs
 abbrev pub assertions_after : List Pair → List Assertion
 assertions_after pairs = assertions_in_force (effective_commands pairs)
+
+-- how many assertion levels there are after pairs
+abbrev pub levels_after : List Pair → ℕ
+levels_after pairs = depth_in_force (effective_commands pairs)
+
+-- pairs behind others leave so many levels, each of them
+abbrev pub KeepLevels : ℕ → List Pair → List Pair → Type 0
+KeepLevels level before [] = Unit {0}
+KeepLevels level before (pair ∷ pairs) = (level ≤ levels_after (before ++ pair ∷ [])) × KeepLevels level (before ++ pair ∷ []) pairs
+
+-- whether a pair removed all that was in force
+abbrev pub removes_all : Pair → Bool
+removes_all pair = is_effective pair && is_reset pair.command
 
 -- the fault of a pair behind others: a command that took no effect has none
 abbrev pub fault_of_pair : List Pair → Pair → Option CommandFault

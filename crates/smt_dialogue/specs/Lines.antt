@@ -3,7 +3,7 @@ use Rattle.std.specs.Prelude.{ℕ, ◌+◌, List, [], ◌∷◌, ◌++◌, lengt
 use Rattle.std.specs.List.{list_any}
 use Rattle.std.specs.Option.{option_or}
 use Rattle.smt_text.specs.Sexp.{Sexp, is_symbol}
-use Rattle.smt_script.specs.Command.{Command, SetLogic, DeclareConst, DeclareFun, DefineFun, Assert, CheckSat, GetModel}
+use Rattle.smt_script.specs.Command.{Command, CheckSat}
 use Rattle.smt_script.specs.Stack.{Assertion}
 use Rattle.smt_dialogue.specs.InForce.{signature_after, assertions_after}
 use Rattle.smt_dialogue.specs.Pairing.{Pair}
@@ -58,13 +58,8 @@ lines_of_answer ended before k (Some answer) after =
     if is_symbol (codes "unsat") answer then lines.Unchecked k n Unsat ∷ [] else if is_symbol (codes "unknown") answer then lines.Unchecked k n Unknown ∷ [] else if is_symbol (codes "sat") answer then lines_of_sat ended k n (signature_after before) (assertions_after before) (n + 1) after else []
 
 abbrev pub is_check : Command → Bool
-is_check (SetLogic name) = false
-is_check (DeclareConst x sort) = false
-is_check (DeclareFun x parameters sort) = false
-is_check (DefineFun x parameters sort body) = false
-is_check (Assert term) = false
 is_check CheckSat = true
-is_check GetModel = false
+is_check _ = false
 
 -- how many checks there are among pairs
 abbrev pub checks_in : List Pair → ℕ

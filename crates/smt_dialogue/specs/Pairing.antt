@@ -2,8 +2,8 @@
 -- rule.
 use Rattle.std.specs.Prelude.{◌≡◌, ℕ, List, [], ◌∷◌, Bool, true, ◌+◌, Option, Some, None, Ok}
 use Rattle.smt_text.specs.Sexp.{Sexp, Sexps, Nil, Cons}
-use Rattle.smt_script.specs.Command.{Command, command_of}
-use Rattle.smt_dialogue.specs.Answers.{fits, is_effective_with}
+use Rattle.smt_script.specs.Command.{Command}
+use Rattle.smt_dialogue.specs.Answers.{answered_command, fits, is_effective_with}
 
 -- a command with the answer that it took, if it took one
 pub record Pair : Type 0 where
@@ -21,7 +21,7 @@ answered_by command answer = record { command = command; answer = Some answer }
 abbrev pub AreCommands : List Pair → Sexps → Sexps → Type 0
 AreCommands [] trees later = trees ≡ later
 AreCommands (pair ∷ pairs) Nil later = ⊥
-AreCommands (pair ∷ pairs) (Cons tree trees) later = (command_of tree ≡ Ok pair.command) × AreCommands pairs trees later
+AreCommands (pair ∷ pairs) (Cons tree trees) later = (answered_command tree ≡ Ok pair.command) × AreCommands pairs trees later
 
 -- the answers that the pairs took, and then the rest
 abbrev pub with_answer : Option Sexp → Sexps → Sexps

@@ -1,18 +1,18 @@
 -- What a valid and an invalid verdict mean, in the words of the standard and beside the report.
 use Rattle.std.specs.Prelude.{◌≡◌, ℕ, ◌+◌, List, [], ◌∷◌, ◌++◌, length, true, false, Some, Ok, codes}
-use Rattle.std.specs.List.{AllByRecursion}
+use Rattle.std.specs.List.{AllByRecursion, list_any}
 use Rattle.smt_text.specs.Grammar.{Forest, limit}
 use Rattle.smt_text.specs.Sexp.{Sexp, Sexps, Nil, is_symbol}
 use Rattle.smt_theory.specs.declared.sort.Sort.TheVariants.{Bool as Boolean}
 use Rattle.smt_values.specs.Element.{Truth}
 use Rattle.smt_values.specs.Operations.{DivisionByZero}
 use Rattle.smt_terms.specs.Checking.{sort_in}
-use Rattle.smt_terms.specs.Signature.{Signature, names_of}
+use Rattle.smt_terms.specs.Signature.{Signature, in_assertion, names_of}
 use Rattle.smt_eval.specs.CompleteModel.{IsModelOf}
 use Rattle.smt_eval.specs.Meaning.{value_over}
 use Rattle.smt_eval.specs.Structure.{IsStructure}
 use Rattle.smt_script.specs.Command.{Assert}
-use Rattle.smt_dialogue.specs.InForce.{signature_after}
+use Rattle.smt_dialogue.specs.InForce.{KeepLevels, levels_after, removes_all, signature_after}
 use Rattle.smt_dialogue.specs.Lines.{checks_in, is_check}
 use Rattle.smt_dialogue.specs.Pairing.{IsPairing, Pair, is_effective}
 use Rattle.smt_dialogue.specs.Window.{Printed, models_from, structure_at, window}
@@ -34,13 +34,16 @@ pub record IsSatCheck (pair : Pair) : Type 0 where
   pub answered : pair.answer ≡ Some answer
   pub sat : is_symbol (codes "sat") answer ≡ true
 
--- an assertion of this term that took effect stands behind the earlier pairs
+-- an assertion of this term that took effect stands behind the earlier pairs, and is in force: no pair between removed all, and none left
+-- fewer levels than there were behind the assertion
 pub record IsAsserted (before : List Pair) (earlier : List Pair) (term : Sexp) : Type 0 where
   pub pair : Pair
   pub between : List Pair
   pub place : before ≡ earlier ++ pair ∷ between
   pub command : pair.command ≡ Assert term
   pub effective : is_effective pair ≡ true
+  pub no_reset : list_any removes_all between ≡ false
+  pub levels : KeepLevels (levels_after (earlier ++ pair ∷ [])) (earlier ++ pair ∷ []) between
 
 -- the parts are those of a model of the names in force, whose definitions and the script's behind them give a structure. And every
 -- assertion in force is well sorted under the names in force before its command, and true in that structure, whatever division by
@@ -49,7 +52,7 @@ pub record IsTrueModel (before : List Pair) (parts : Sexps) : Type 0 where
   pub definitions : Signature
   pub model : IsModelOf (signature_after before) parts definitions
   pub structure : IsStructure (structure_at definitions before)
-  pub sorted : (earlier : List Pair) (term : Sexp) → IsAsserted before earlier term → sort_in (names_of (signature_after earlier)) [] term ≡ Ok Boolean
+  pub sorted : (earlier : List Pair) (term : Sexp) → IsAsserted before earlier term → sort_in (in_assertion (names_of (signature_after earlier))) [] term ≡ Ok Boolean
   pub true_in : (z : DivisionByZero) (earlier : List Pair) (term : Sexp) → IsAsserted before earlier term → value_over z (structure_at definitions before) [] term ≡ Truth true
 
 -- a check that was answered `sat`, behind the pairs before it, has a model in its window, and each model there is a true one
@@ -88,7 +91,7 @@ pub record IsInvalid (script answers : List ℕ) (ls : List Line) : Type 0 where
   pub earlier : List Pair
   pub term : Sexp
   pub asserted : IsAsserted before earlier term
-  pub sorted : sort_in (names_of (signature_after earlier)) [] term ≡ Ok Boolean
+  pub sorted : sort_in (in_assertion (names_of (signature_after earlier))) [] term ≡ Ok Boolean
   pub false_in : (z : DivisionByZero) → value_over z (structure_at definitions before) [] term ≡ Truth false
   pub lines_before : List Line
   pub lines_after : List Line

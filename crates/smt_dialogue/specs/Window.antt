@@ -3,7 +3,7 @@ use Rattle.std.specs.Prelude.{ℕ, ◌+◌, List, [], ◌∷◌, ◌++◌, Bool,
 use Rattle.smt_text.specs.Sexp.{Sexp, Sexps, Items}
 use Rattle.smt_terms.specs.Signature.{Signature}
 use Rattle.smt_eval.specs.Structure.{structure_of}
-use Rattle.smt_script.specs.Command.{Command, SetLogic, DeclareConst, DeclareFun, DefineFun, Assert, CheckSat, GetModel}
+use Rattle.smt_script.specs.Command.{Command, SetLogic, DeclareConst, DeclareFun, DefineFun, DefineSort, Assert, Push, Pop, Reset, ResetAssertions, CheckSat, GetModel}
 use Rattle.smt_dialogue.specs.InForce.{signature_after}
 use Rattle.smt_dialogue.specs.Pairing.{Pair, is_effective}
 
@@ -14,9 +14,14 @@ closes_by effective (SetLogic name) = effective
 closes_by effective (DeclareConst x sort) = effective
 closes_by effective (DeclareFun x parameters sort) = effective
 closes_by effective (DefineFun x parameters sort body) = effective
+closes_by effective (DefineSort x sort) = effective
 closes_by effective (Assert term) = effective
+closes_by effective (Push levels) = effective
+closes_by effective (Pop levels) = effective
+closes_by effective Reset = effective
+closes_by effective ResetAssertions = effective
 closes_by effective CheckSat = true
-closes_by effective GetModel = false
+closes_by effective _ = false
 
 abbrev pub closes : Pair → Bool
 closes pair = closes_by (is_effective pair) pair.command

@@ -36,7 +36,7 @@ impl Dialogue {
         ensures { StandsFor (state_of result) [] }
     {
         Dialogue {
-            stack: Stack::new(alloc),
+            stack: Stack::new(alloc, true),
             checks: Checks::new(alloc),
             commands: 0,
             answers: 0,

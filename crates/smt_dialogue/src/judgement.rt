@@ -3,6 +3,7 @@
 ghost use Rattle.std.specs.Prelude.{◌≡◌, List, Some, true, false, IfOk, MatchOption};
 ghost use Rattle.smt_values.specs.Element.{Truth, known_element};
 ghost use Rattle.smt_values.specs.KnownOperations.{is_known};
+ghost use Rattle.smt_terms.specs.Contents.{contents_of};
 ghost use Rattle.smt_terms.specs.Library as libraries;
 ghost use Rattle.smt_terms.specs.Signature.{Signature};
 ghost use Rattle.smt_eval.specs.Interpretation.{Fits, IsInterpretation};
@@ -58,10 +59,10 @@ fn judge_assertions(
     interpretation: &Interpretation,
     assertions: &[Assertion],
 ) -> Result<Judgement, Memory>
-    requires terms { (all : List stacks.Assertion) × AreAssertions library.now assertions.now all }
+    requires terms { (all : List stacks.Assertion) × AreAssertions (contents_of library.now) assertions.now all }
     requires fits { Fits interpretation.now library.now }
     ensures { (script definitions : Signature) (all : List stacks.Assertion) → libraries.StandsFor library.now script → IsInterpretation interpretation.now script definitions
-        → AreAssertions library.now assertions.now all → IfOk result (λ j. j ≡ judged_over all (structure_of script definitions)) }
+        → AreAssertions (contents_of library.now) assertions.now all → IfOk result (λ j. j ≡ judged_over all (structure_of script definitions)) }
 {
     let mut first_open = None;
     let mut left = assertions;

@@ -10,12 +10,12 @@ ghost use Rattle.smt_script.specs.StackView.{last_of};
 ghost use Rattle.smt_dialogue.specs.Internal.DialogueState.{StandsFor, state_of};
 ghost use Rattle.smt_dialogue.specs.Internal.Steps.{IsAccepted, IsJudged, IsStep};
 
-use crate::answer::takes;
+use crate::answer::{read_answered, takes};
 use crate::dialogue::Dialogue;
 use crate::read_text::ReadText;
 use smt_eval::Memory;
 use smt_report::{Line, Report, Side};
-use smt_script::{Command, CommandFault, read_command};
+use smt_script::{Command, CommandFault};
 use smt_text::{TextFault, Tree};
 
 /// Judges the commands of a script with their answers, from a dialogue without pairs on.
@@ -55,7 +55,7 @@ fn take_step(
     ensures fault { answers.new.fault ≡ answers.old.fault }
 {
     let number = dialogue.commands + 1;
-    let command = match read_command(tree) {
+    let command = match read_answered(tree) {
         Ok(command) => command,
         Err(fault) => return Ok(Some(Line::CommandFault {
             command: number,

@@ -11,7 +11,7 @@ use crate::read_text::read_whole;
 use smt_eval::Memory;
 use smt_eval::laws::{known_values_are_true, models_are_complete, models_give_structures};
 use smt_report::{Report, Verdict};
-use smt_script::laws::names_in_force_are_introduced;
+use smt_script::laws::{assertions_in_force_stand, names_in_force_are_introduced};
 use smt_text::laws::one_forest;
 use std::alloc::Global;
 
@@ -26,11 +26,12 @@ pub fn validate(alloc: Global, script: &[u8], answers: &[u8], start: bool) -> Re
     ensures invalid { IfOk result (λ r. r.verdict ≡ Verdict.Invalid → IsInvalid script.now answers.now r.lines.items) }
 {
     let _ = start;
-    // Laws: the texts have no other trees, models that are read are complete and give structures, and what is known of a term is its
-    // value.
+    // Laws: the texts have no other trees, models that are read are complete and give structures, the assertions in force are those of
+    // the commands that stand, and what is known of a term is its value.
     one_forest();
     models_are_complete();
     names_in_force_are_introduced();
+    assertions_in_force_stand();
     models_give_structures();
     known_values_are_true();
     let script = read_whole(alloc, script)?;

@@ -60,11 +60,16 @@ impl Checks {
             ≡ checks_after (checks_state self.old) (signature_in_force commands) (assertions_in_force commands) number (command_view command.now) (sexp_of answer.now)) }
     {
         match command {
-            Command::SetLogic { .. } | Command::DeclareConst { .. } => self.end_window(),
-            Command::DeclareFun { .. } | Command::DefineFun { .. } => self.end_window(),
-            Command::Assert { .. } => self.end_window(),
             Command::CheckSat => self.begin_window(number, answer),
             Command::GetModel => self.judge_model(number, answer, stack),
+            Command::SetLogic { .. } | Command::DeclareConst { .. } => self.end_window(),
+            Command::DeclareFun { .. } | Command::DefineFun { .. } => self.end_window(),
+            Command::DefineSort { .. } | Command::Assert { .. } => self.end_window(),
+            Command::Push { .. } | Command::Pop { .. } => self.end_window(),
+            Command::Reset | Command::ResetAssertions => self.end_window(),
+            Command::SetPrintSuccess { .. } | Command::SetOption { .. } => Ok(()),
+            Command::SetInfo { .. } | Command::Exit => Ok(()),
+            Command::Echo { .. } | Command::Get { .. } => Ok(()),
         }
     }
 

@@ -2,7 +2,8 @@
 use Rattle.std.proofs.Common.{◌≡◌, ◌≤◌, ℕ, zero, suc, ◌+◌, Bool, true, false, cond, List, [], ◌∷◌, ◌++◌, length, slice_get, Option, Some, None, is_some, refl, ap, sym, ◌∙◌, arith}
 use Rattle.std.specs.Option.{option_or}
 use Rattle.smt_text.specs.Sexp.{Sexp}
-use Rattle.smt_terms.specs.Library.{Declaration, declaration_at, declarations_from}
+use Rattle.smt_terms.specs.Contents.{Declaration}
+use Rattle.smt_terms.specs.Library.{declaration_at, declarations_from}
 use Rattle.smt_terms.specs.Signature.{Entry, Origin, Declared, Defined, entry_named}
 use Rattle.smt_eval.specs.Model.{command_of_origin, first_lacking, lacking_at}
 

@@ -2,6 +2,7 @@
 use Rattle.std.proofs.Common.{◌≡◌, ◌≤◌, ℕ, zero, suc, ◌+◌, true, false, cond, not, Bool, List, [], ◌∷◌, ◌++◌, length, take, slice_get, Some, None, refl, ap, sym, ◌∙◌, subst, arith, length-append}
 use Rattle.std.proofs.lemmas.List.{length-map}
 use Rattle.std.specs.Prelude.{bytes_eq}
+use Rattle.smt_terms.specs.Contents.{Contents, contents_of}
 use Rattle.smt_terms.specs.Library.{AreDefinitions, IsDefinitionOf, StandsFor, declared_among, defined_among, definitions_of, is_declared, term_at}
 use Rattle.smt_terms.specs.Signature.{AreDistinct, Entry, Origin, Declared, Defined, IsDeclared, Signature, entry_named}
 use Rattle.smt_terms.specs.declared.library.Definition.{Definition}
@@ -91,13 +92,13 @@ none_in_both (e ∷ es) fs x h i = let p = none_step (bytes_eq x e.name) e (entr
 -- ---- the definitions of a library
 
 -- the definition at a place is that of the entry there
-pub definition_of_place : (l : Library) (ds : List Definition) (es : List Entry) (n : ℕ) (x : Definition) → AreDefinitions l ds es → slice_get ds n ≡ Some x → (e : Entry) × (slice_get es n ≡ Some e) × IsDefinitionOf l x e
+pub definition_of_place : (l : Contents) (ds : List Definition) (es : List Entry) (n : ℕ) (x : Definition) → AreDefinitions l ds es → slice_get ds n ≡ Some x → (e : Entry) × (slice_get es n ≡ Some e) × IsDefinitionOf l x e
 definition_of_place l [] es n x a h = cc
 definition_of_place l (d ∷ ds) [] n x a h = absurd a
 definition_of_place l (d ∷ ds) (e ∷ es) zero x a h = let is : d ≡ x = cc in (e, refl, subst (λ (y : Definition). IsDefinitionOf l y e) is a.0)
 definition_of_place l (d ∷ ds) (e ∷ es) (suc n) x a h = definition_of_place l ds es n x a.1 h
 
-counted : (l : Library) (ds : List Definition) (es : List Entry) → AreDefinitions l ds es → length ds ≡ length es
+counted : (l : Contents) (ds : List Definition) (es : List Entry) → AreDefinitions l ds es → length ds ≡ length es
 counted l [] [] a = refl
 counted l [] (e ∷ es) a = absurd a
 counted l (d ∷ ds) [] a = absurd a
@@ -105,7 +106,7 @@ counted l (d ∷ ds) (e ∷ es) a = ap suc (counted l ds es a.1)
 
 -- there are as many as the signature defines
 pub definitions_counted : (l : Library) (s : Signature) → StandsFor l s → length (definitions_of l) ≡ length (defined_among s.entries)
-definitions_counted l s stands = counted l (definitions_of l) (defined_among s.entries) stands.definitions
+definitions_counted l s stands = counted (contents_of l) (definitions_of l) (defined_among s.entries) stands.definitions
 
 pub bodies_counted : (l : Library) → length (bodies_in l) ≡ length (definitions_of l)
 bodies_counted l = length-map (definitions_of l) (λ d. term_at l d.body)

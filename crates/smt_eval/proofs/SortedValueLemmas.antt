@@ -21,10 +21,11 @@ use Rattle.smt_theory.specs.declared.sort.Sort.TheVariants.{Int, Bits}
 use Rattle.smt_theory.specs.declared.theories.Theories.{Theories}
 use Rattle.smt_values.specs.Element.{Element, Vector, IsOfSort, AreOfSorts}
 use Rattle.smt_values.specs.Operations.{DivisionByZero, operate}
-use Rattle.smt_terms.specs.Bindings.{are_attributes, are_bindings, has_label}
-use Rattle.smt_terms.specs.Checking.{bound_in, is_underscore_tree, sort_applied, sort_in, sorts_in, sort_of_annotated, sort_of_call, sort_of_name, sort_of_operator, sort_of_plain, sort_of_rank, sort_of_symbol, sort_unless_variable}
+use Rattle.smt_terms.specs.Bindings.{are_attributes, are_bindings}
+use Rattle.smt_terms.specs.Labels.{labels_among}
+use Rattle.smt_terms.specs.Checking.{bound_in, fault_of_labels, is_underscore_tree, sort_applied, sort_in, sorts_in, sort_of_call, sort_of_name, sort_of_operator, sort_of_plain, sort_of_rank, sort_of_symbol, sort_unless_variable, unless}
 use Rattle.smt_terms.specs.Identifier.{Identifier, Plain, Indexed, applied, indexed, operator_of}
-use Rattle.smt_terms.specs.Signature.{AreDistinct, Entry, Origin, Declared, Defined, Names, Rank, Signature, entry_named, names_of, rank_of_entry, ranks_of}
+use Rattle.smt_terms.specs.Signature.{AreDistinct, Entry, Origin, Declared, Defined, Names, Rank, Signature, entry_named, names_of, rank_of_entry, ranks_of, unlabelled, unlabelled_over, behind}
 use Rattle.smt_terms.specs.WellSorted.{AreWellSorted, IsWellSorted, IsWellSortedFrom}
 use Rattle.smt_terms.specs.declared.fault.TermFault.{TermFault}
 use Rattle.smt_terms.specs.declared.fault.TermFault.TheVariants.{BoundTwice, Form, IllSorted, Label, Unknown, Index}
@@ -52,7 +53,7 @@ operator-fits law z (Ok op) sorts sort es is h = by (rank_of op sorts) refl is
     by None ranked is = cc
     by (Some found) ranked is = let same : found ≡ sort = cc in law z op sorts sort es (ranked ∙ ap (λ (s : Sort). Some s) same) h
 
-Fits-operators : ResultsAreOfTheirSorts → (z : DivisionByZero) (theories : Theories) → Fits (record { theories = theories; ranks = [] }) (operators z theories)
+Fits-operators : ResultsAreOfTheirSorts → (z : DivisionByZero) (theories : Theories) → Fits (unlabelled_over theories []) (operators z theories)
 Fits-operators law z theories (Plain f) sorts sort es is h = operator-fits law z (operator_of theories (Plain f)) sorts sort es is h
 Fits-operators law z theories (Indexed f indexes) sorts sort es is h = operator-fits law z (operator_of theories (Indexed f indexes)) sorts sort es is h
 
@@ -121,67 +122,67 @@ new_name true r a is = cc
 new_name false r a is = is
 
 -- an annotated term has the sort of the term
-annotated : (b : Bool) (s sort : Sort) → cond b (Err Label) (Ok s) ≡ Ok sort → s ≡ sort
-annotated true s sort is = cc
-annotated false s sort is = cc
+annotated : (o : Option TermFault) (s sort : Sort) → unless o (Ok s) ≡ Ok sort → s ≡ sort
+annotated (Some fault) s sort is = cc
+annotated None s sort is = cc
 
 -- what bindings bring behind variables
 abbrev BoundFit : Meaning → List (List ℕ × Sort) → List (List ℕ × Element) → List (List ℕ × Sort) → List (List ℕ × Sort) → Sexps → Type 0
 BoundFit m scope r before bound ts = (new : List (List ℕ × Sort)) × (bound ≡ before ++ new) × FitsScope (new ++ scope) (values_bound m r ts ++ r)
 
 -- over names whose meaning fits
-module _ (names : Names) (m : Meaning) (fits : Fits names m) where
-  call-fits : (scope : List (List ℕ × Sort)) (r : List (List ℕ × Element)) (head : Sexp) (args : Sexps) (sort : Sort) → ((ss : List Sort) → sorts_in names scope args ≡ Ok ss → AreOfSorts ss (values_of m r args))
-      → result_and_then (applied head args) (λ f. result_and_then (sorts_in names scope args) (λ ss. sort_of_call names scope f ss)) ≡ Ok sort
+module _ (N : Names) (m : Meaning) (fits : Fits (unlabelled N) m) where
+  call-fits : (scope : List (List ℕ × Sort)) (r : List (List ℕ × Element)) (head : Sexp) (args : Sexps) (sort : Sort) → ((ss : List Sort) → sorts_in (unlabelled N) scope args ≡ Ok ss → AreOfSorts ss (values_of m r args))
+      → result_and_then (applied head args) (λ f. result_and_then (sorts_in (unlabelled N) scope args) (λ ss. sort_of_call (unlabelled N) scope f ss)) ≡ Ok sort
       → IsOfSort sort (element_by (applied head args) (λ f. m f (values_of m r args)))
   call-fits scope r head args sort all is =
-      let p = first_ok (applied head args) (λ f. result_and_then (sorts_in names scope args) (λ ss. sort_of_call names scope f ss)) sort is in
-      let q = first_ok (sorts_in names scope args) (λ ss. sort_of_call names scope p.0 ss) sort p.2 in
+      let p = first_ok (applied head args) (λ f. result_and_then (sorts_in (unlabelled N) scope args) (λ ss. sort_of_call (unlabelled N) scope f ss)) sort is in
+      let q = first_ok (sorts_in (unlabelled N) scope args) (λ ss. sort_of_call (unlabelled N) scope p.0 ss) sort p.2 in
       subst (λ o. IsOfSort sort (element_by o (λ f. m f (values_of m r args)))) (sym p.1)
-      (fits p.0 q.0 sort (values_of m r args) (call_applied names scope p.0 q.0 sort q.2) (all q.0 q.1))
+      (fits p.0 q.0 sort (values_of m r args) (call_applied (unlabelled N) scope p.0 q.0 sort q.2) (all q.0 q.1))
 
-  list-fits : (scope : List (List ℕ × Sort)) (r : List (List ℕ × Element)) (head : Sexp) (args : Sexps) (sort : Sort) → ((ss : List Sort) → sorts_in names scope args ≡ Ok ss → AreOfSorts ss (values_of m r args))
-      → is_plain_list head args ≡ true → (b : Bool) → is_underscore_tree head ≡ b → sort_in names scope (Items (Cons head args)) ≡ Ok sort → IsOfSort sort (value_of m r (Items (Cons head args)))
+  list-fits : (scope : List (List ℕ × Sort)) (r : List (List ℕ × Element)) (head : Sexp) (args : Sexps) (sort : Sort) → ((ss : List Sort) → sorts_in (unlabelled N) scope args ≡ Ok ss → AreOfSorts ss (values_of m r args))
+      → is_plain_list head args ≡ true → (b : Bool) → is_underscore_tree head ≡ b → sort_in (unlabelled N) scope (Items (Cons head args)) ≡ Ok sort → IsOfSort sort (value_of m r (Items (Cons head args)))
   list-fits scope r head args sort all plain false other is =
-      subst (λ e. IsOfSort sort e) (sym (value-other m r head args plain other)) (call-fits scope r head args sort all (sym (sort-other names scope head args plain other) ∙ is))
+      subst (λ e. IsOfSort sort e) (sym (value-other m r head args plain other)) (call-fits scope r head args sort all (sym (sort-other (unlabelled N) scope head args plain other) ∙ is))
   list-fits scope r (Reserved Underscore) args sort all plain true other is =
-      let p = first_ok (indexed args) (λ f. sort_applied names f []) sort is in
+      let p = first_ok (indexed args) (λ f. sort_applied (unlabelled N) f []) sort is in
       subst (λ o. IsOfSort sort (element_by o (λ f. m f []))) (sym p.1) (fits p.0 [] sort [] p.2 tt)
   list-fits scope r _ args sort all plain true other is = cc
 
   mutual
-    pub term-fits : (scope : List (List ℕ × Sort)) (r : List (List ℕ × Element)) → FitsScope scope r → (t : Sexp) (sort : Sort) → sort_in names scope t ≡ Ok sort → IsOfSort sort (value_of m r t)
-    term-fits scope r fit (Atom Symbol x) sort is = variable-fits names m x (look_up scope x) (look_up r x) sort fits (fit x) is
-    term-fits scope r fit (Atom Numeral x) sort is = subst (λ s. IsOfSort s (value_of m r (Atom Numeral x))) (sym (numeral-sort names.theories.ints sort is)) tt
+    pub term-fits : (scope : List (List ℕ × Sort)) (r : List (List ℕ × Element)) → FitsScope scope r → (t : Sexp) (sort : Sort) → sort_in (unlabelled N) scope t ≡ Ok sort → IsOfSort sort (value_of m r t)
+    term-fits scope r fit (Atom Symbol x) sort is = variable-fits (unlabelled N) m x (look_up scope x) (look_up r x) sort fits (fit x) is
+    term-fits scope r fit (Atom Numeral x) sort is = subst (λ s. IsOfSort s (value_of m r (Atom Numeral x))) (sym (numeral-sort N.theories.ints sort is)) tt
     term-fits scope r fit (Atom Decimal x) sort is = cc
-    term-fits scope r fit (Atom Hexadecimal x) sort is = constant-fits names.theories.bits 16 4 (4 * length x) x sort refl is
-    term-fits scope r fit (Atom Binary x) sort is = constant-fits names.theories.bits 2 1 (length x) x sort (omega arith) is
+    term-fits scope r fit (Atom Hexadecimal x) sort is = constant-fits N.theories.bits 16 4 (4 * length x) x sort refl is
+    term-fits scope r fit (Atom Binary x) sort is = constant-fits N.theories.bits 2 1 (length x) x sort (omega arith) is
     term-fits scope r fit (Atom Text x) sort is = cc
     term-fits scope r fit (Atom Keyword x) sort is = cc
     term-fits scope r fit (Reserved word) sort is = cc
     term-fits scope r fit (Items Nil) sort is = cc
     term-fits scope r fit (Items (Cons (Reserved Let) (Cons (Items bindings) (Cons body Nil)))) sort is =
-        let p = first_ok (bound_in names scope [] bindings) (λ bound. sort_in names (bound ++ scope) body) sort (passed (are_bindings bindings) (result_and_then (bound_in names scope [] bindings) (λ bound. sort_in names (bound ++ scope) body)) sort is) in
+        let p = first_ok (bound_in (unlabelled N) scope [] bindings) (λ bound. sort_in (unlabelled N) (bound ++ scope) body) sort (passed (are_bindings bindings) (result_and_then (bound_in (unlabelled N) scope [] bindings) (λ bound. sort_in (unlabelled N) (bound ++ scope) body)) sort is) in
         let q = bound-fits scope r fit [] bindings p.0 p.1 in
-        term-fits (q.0 ++ scope) (values_bound m r bindings ++ r) q.2 body sort (ap (λ (b : List (List ℕ × Sort)). sort_in names (b ++ scope) body) (sym q.1) ∙ p.2)
+        term-fits (q.0 ++ scope) (values_bound m r bindings ++ r) q.2 body sort (ap (λ (b : List (List ℕ × Sort)). sort_in (unlabelled N) (b ++ scope) body) (sym q.1) ∙ p.2)
     term-fits scope r fit (Items (Cons (Reserved Bang) (Cons term attributes))) sort is =
-        let p = first_ok (sort_in names scope term) (λ s. sort_of_annotated attributes s) sort (passed (are_attributes attributes) (result_and_then (sort_in names scope term) (λ s. sort_of_annotated attributes s)) sort is) in
-        subst (λ s. IsOfSort s (value_of m r term)) (annotated (has_label attributes) p.0 sort p.2) (term-fits scope r fit term p.0 p.1)
+        let p = first_ok (sort_in (unlabelled N) scope term) (λ s. unless (fault_of_labels (unlabelled N) scope term (labels_among attributes)) (Ok s)) sort (passed (are_attributes attributes) (result_and_then (sort_in (unlabelled N) scope term) (λ s. unless (fault_of_labels (unlabelled N) scope term (labels_among attributes)) (Ok s))) sort is) in
+        subst (λ s. IsOfSort s (value_of m r term)) (annotated (fault_of_labels (unlabelled N) scope term (labels_among attributes)) p.0 sort p.2) (term-fits scope r fit term p.0 p.1)
     term-fits scope r fit (Items (Cons head args)) sort is = list-fits scope r head args sort (λ ss h. terms-fit scope r fit args ss h) refl (is_underscore_tree head) refl is
 
-    terms-fit : (scope : List (List ℕ × Sort)) (r : List (List ℕ × Element)) → FitsScope scope r → (ts : Sexps) (sorts : List Sort) → sorts_in names scope ts ≡ Ok sorts → AreOfSorts sorts (values_of m r ts)
+    terms-fit : (scope : List (List ℕ × Sort)) (r : List (List ℕ × Element)) → FitsScope scope r → (ts : Sexps) (sorts : List Sort) → sorts_in (unlabelled N) scope ts ≡ Ok sorts → AreOfSorts sorts (values_of m r ts)
     terms-fit scope r fit Nil sorts is = let none : [] ≡ sorts = cc in subst (λ ss. AreOfSorts ss []) none tt
     terms-fit scope r fit (Cons t ts) sorts is =
-        let p = first_ok (sort_in names scope t) (λ s. result_and_then (sorts_in names scope ts) (λ ss. Ok (s ∷ ss))) sorts is in
-        let q = first_ok (sorts_in names scope ts) (λ ss. Ok (p.0 ∷ ss)) sorts p.2 in
+        let p = first_ok (sort_in (unlabelled N) scope t) (λ s. result_and_then (sorts_in (unlabelled N) scope ts) (λ ss. Ok (s ∷ ss))) sorts is in
+        let q = first_ok (sorts_in (unlabelled N) scope ts) (λ ss. Ok (p.0 ∷ ss)) sorts p.2 in
         let whole : p.0 ∷ q.0 ≡ sorts = cc in
         subst (λ ss. AreOfSorts ss (values_of m r (Cons t ts))) whole (term-fits scope r fit t p.0 p.1, terms-fit scope r fit ts q.0 q.1)
 
-    bound-fits : (scope : List (List ℕ × Sort)) (r : List (List ℕ × Element)) → FitsScope scope r → (before : List (List ℕ × Sort)) (ts : Sexps) (bound : List (List ℕ × Sort)) → bound_in names scope before ts ≡ Ok bound → BoundFit m scope r before bound ts
+    bound-fits : (scope : List (List ℕ × Sort)) (r : List (List ℕ × Element)) → FitsScope scope r → (before : List (List ℕ × Sort)) (ts : Sexps) (bound : List (List ℕ × Sort)) → bound_in (unlabelled N) scope before ts ≡ Ok bound → BoundFit m scope r before bound ts
     bound-fits scope r fit before Nil bound is = let same : before ≡ bound = cc in ([], sym same ∙ sym (append-nil before), fit)
     bound-fits scope r fit before (Cons (Items (Cons (Atom Symbol x) (Cons t Nil))) rest) bound is =
-        let go : Sort → Result (List (List ℕ × Sort)) TermFault = λ s. bound_in names scope (before ++ (x, s) ∷ []) rest in
-        let p = first_ok (sort_in names scope t) go bound (new_name (is_some (look_up before x)) (result_and_then (sort_in names scope t) go) bound is) in
+        let go : Sort → Result (List (List ℕ × Sort)) TermFault = λ s. bound_in (unlabelled N) scope (before ++ (x, s) ∷ []) rest in
+        let p = first_ok (sort_in (unlabelled N) scope t) go bound (new_name (is_some (look_up before x)) (result_and_then (sort_in (unlabelled N) scope t) go) bound is) in
         let q = bound-fits scope r fit (before ++ (x, p.0) ∷ []) rest bound p.2 in (
           (x, p.0) ∷ q.0,
           q.1 ∙ append_assoc before ((x, p.0) ∷ []) q.0,
@@ -201,7 +202,7 @@ FitsScope-zip (p ∷ ps) (s ∷ sorts) (e ∷ es) h x = by_name (bytes_eq x p) s
 
 -- the names of entries
 abbrev pub names_over : Theories → List Entry → Names
-names_over theories es = record { theories = theories; ranks = ranks_of es }
+names_over theories es = unlabelled_over theories es
 
 option_or_none : {A : Type 0} (o : Option A) → option_or o None ≡ o
 option_or_none None = refl
@@ -298,7 +299,7 @@ Fits-after same theories earlier (e ∷ es) m fits sorted distinct =
 
 -- the value of a well-sorted term is of its sort
 pub sorted-value : ResultsAreOfTheirSorts → SameSorts → (z : DivisionByZero) (definitions : Signature) (scope : List (List ℕ × Sort)) (r : List (List ℕ × Element)) (term : Sexp) (sort : Sort)
-    → AreWellSorted definitions.theories [] definitions.entries → AreDistinct definitions.entries → FitsScope scope r → sort_in (names_of definitions) scope term ≡ Ok sort
+    → AreWellSorted definitions.theories [] definitions.entries → AreDistinct definitions.entries → FitsScope scope r → sort_in (unlabelled (names_of definitions)) scope term ≡ Ok sort
     → IsOfSort sort (value_of (meaning_in z definitions) r term)
 sorted-value law same z definitions scope r term sort sorted distinct fit is =
     term-fits (names_of definitions) (meaning_in z definitions)

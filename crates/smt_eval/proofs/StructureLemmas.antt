@@ -6,7 +6,7 @@ use Rattle.smt_theory.specs.Words.{look_up}
 use Rattle.smt_theory.specs.declared.theories.Theories.{Theories}
 use Rattle.smt_terms.specs.Items.{declared_named, if_declared}
 use Rattle.smt_terms.specs.Library.{defined_among, is_declared}
-use Rattle.smt_terms.specs.Signature.{AreDistinct, Entry, Origin, Declared, Defined, IsDeclared, Signature, entry_named, is_taken, names_of, rank_of_entry, ranks_of}
+use Rattle.smt_terms.specs.Signature.{AreDistinct, Entry, Origin, Declared, Defined, IsDeclared, Signature, entry_named, is_taken, names_of, rank_of_entry, unlabelled_over, ranks_of}
 use Rattle.smt_terms.specs.WellSorted.{AreWellSorted, IsWellSortedFrom}
 use Rattle.smt_eval.specs.Internal.DefinitionValues.{AllDefined, IsDefined}
 use Rattle.smt_eval.specs.Structure.{structure_of}
@@ -20,7 +20,7 @@ sorted_defined theories before (e ∷ es) h = (by e.origin refl, sorted_defined 
   where
     by : (o : Origin) → e.origin ≡ o → IsDefined e.origin
     by (Defined ps body) is = subst IsDefined (sym is) tt
-    by (Declared command) is = absurd (subst (λ (o : Origin). IsWellSortedFrom (record { theories = theories; ranks = ranks_of before }) e.parameters e.sort o) is h.0)
+    by (Declared command) is = absurd (subst (λ (o : Origin). IsWellSortedFrom (unlabelled_over theories before) e.parameters e.sort o) is h.0)
 
 -- the definitions among distinct names
 distinct_among : (es : List Entry) → AreDistinct es → AreDistinct (defined_among es)

@@ -11,7 +11,7 @@ use Rattle.smt_theory.specs.declared.theories.Theories.{Theories}
 use Rattle.smt_terms.specs.Checking.{sort_in}
 use Rattle.smt_terms.specs.Items.{declared_named, if_declared}
 use Rattle.smt_terms.specs.Library.{defined_among, is_declared}
-use Rattle.smt_terms.specs.Signature.{AreDistinct, Entry, IsDeclared, KeepsRank, Names, Origin, Declared, Defined, Rank, Signature, entry_named, is_taken, names_of, rank_of_entry, ranks_of}
+use Rattle.smt_terms.specs.Signature.{AreDistinct, Entry, IsDeclared, KeepsRank, Names, Origin, Declared, Defined, Rank, Signature, entry_named, is_taken, names_of, rank_of_entry, ranks_of, unlabelled_over}
 use Rattle.smt_terms.specs.WellSorted.{AreIntroduced, AreWellSorted, IsDefinition, IsSortedIfDefined, IsWellSortedFrom, Keeps}
 use Rattle.smt_terms.proofs.NameLemmas.{same_name, same_self}
 use Rattle.smt_eval.specs.CompleteModel.{IsModelOf}
@@ -97,7 +97,7 @@ module _ (law : SortsAreKept) (s d : Signature) (introduced : AreIntroduced s.th
     (complete : (x : List ℕ) (e : Entry) → entry_named s.entries x ≡ Some e → IsDeclared e.origin → KeepsRank e (entry_named d.entries x))
     (free : (x : List ℕ) → is_some (entry_named d.entries x) ≡ true → declared_named s.entries x ≡ None → is_taken (names_of s) x ≡ false) where
   abbrev over : List Entry → Names
-  over es = record { theories = s.theories; ranks = ranks_of es }
+  over es = unlabelled_over s.theories es
 
   -- a declared name has its rank in the model
   kept_rank : (es : List Entry) (x : List ℕ) (e : Entry) (o : Option Entry) → entry_named d.entries x ≡ o → KeepsRank e o → option_map rank_of_entry (entry_named (d.entries ++ es) x) ≡ Some (rank_of_entry e)
@@ -161,7 +161,7 @@ module _ (law : SortsAreKept) (s d : Signature) (introduced : AreIntroduced s.th
 
   definition_kept : (pre rest : List Entry) → s.entries ≡ pre ++ rest → (sorts : List Sort) (sort : Sort) (ps : List (List ℕ)) (body : Sexp) → IsDefinition (over pre) sorts sort ps body → IsDefinition (over (d.entries ++ defined_among pre)) sorts sort ps body
   definition_kept pre rest all sorts sort ps body h =
-      let keeps : Keeps (over pre) (over (d.entries ++ defined_among pre)) = record { theories = refl; ranks = ranks_stay pre rest all; fresh = λ x rank none some. stays_free pre rest all x none (ap is_some some) } in
+      let keeps : Keeps (over pre) (over (d.entries ++ defined_among pre)) = record { theories = refl; ranks = ranks_stay pre rest all; labels = refl; fresh = λ x rank none some. stays_free pre rest all x none (ap is_some some) } in
       record { counted = h.counted; different = h.different; sorted = law (over pre) (over (d.entries ++ defined_among pre)) (zip ps sorts) body sort keeps h.sorted }
 
   sorted_behind : (pre rest : List Entry) → s.entries ≡ pre ++ rest → AreIntroduced s.theories pre rest → AreWellSorted s.theories (d.entries ++ defined_among pre) (defined_among rest)

@@ -7,7 +7,7 @@ ghost use Rattle.smt_values.specs.Element.{Agrees, Element, IsOfSort};
 ghost use Rattle.smt_values.specs.Operations.{DivisionByZero};
 ghost use Rattle.smt_terms.specs.Checking.{sort_in};
 ghost use Rattle.smt_terms.specs.Items.{items_before};
-ghost use Rattle.smt_terms.specs.Signature.{AreDistinct, Entry, Signature, names_of};
+ghost use Rattle.smt_terms.specs.Signature.{AreDistinct, Entry, Signature, names_of, unlabelled};
 ghost use Rattle.smt_terms.specs.WellSorted.{AreIntroduced, AreWellSorted};
 ghost use Rattle.smt_eval.specs.Agreement.{AgreesWith, FitsScope};
 ghost use Rattle.smt_terms.specs.declared.fault.TermFault.{TermFault};
@@ -38,7 +38,7 @@ pub fn known_values_are_true()
 pub fn well_sorted_terms_have_values()
     ensures { (z : DivisionByZero) (definitions : Signature) (scope : List (List ℕ × Sort)) (r : List (List ℕ × Element)) (term : Sexp) (sort : Sort)
         → AreWellSorted definitions.theories [] definitions.entries → AreDistinct definitions.entries → FitsScope scope r
-        → sort_in (names_of definitions) scope term ≡ Ok sort → IsOfSort sort (value_over z definitions r term) }
+        → sort_in (unlabelled (names_of definitions)) scope term ≡ Ok sort → IsOfSort sort (value_over z definitions r term) }
 {
     ranks_are_the_table();
     results_are_of_their_sorts();

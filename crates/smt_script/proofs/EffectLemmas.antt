@@ -1,253 +1,397 @@
 -- What each command does to a stack.
-use Rattle.std.proofs.Common.{◌≡◌, ℕ, List, [], ◌∷◌, ◌++◌, ◌⊎◌, inl, inr, Bool, true, false, cond, ◌||◌, Option, None, Some, Result, Ok, Err, refl, ap, sym, subst, ◌∙◌}
-use Rattle.std.proofs.lemmas.List.{append-nil}
+use Rattle.std.proofs.Common.{◌≡◌, ◌≤◌, ◌<◌, ℕ, ◌+◌, zero, suc, List, [], ◌∷◌, ◌++◌, ◌⊎◌, inl, inr, Bool, true, false, cond, not, ◌||◌, Option, None, Some, Result, Ok, Err, length, slice_get, take, refl, ap, sym, subst, ◌∙◌, arith, is_some}
+use Rattle.std.proofs.lemmas.List.{append-nil, length-append}
 use Rattle.std.specs.Global.{Vec}
 use Rattle.smt_text.specs.Sexp.{Sexp, Sexps, Nil}
-use Rattle.smt_theory.specs.Sort.{is_same_sort}
 use Rattle.smt_theory.specs.Theories.{theories_named}
-use Rattle.smt_theory.specs.Words.{result_and_then}
 use Rattle.smt_theory.specs.declared.sort.Sort.{Sort}
-use Rattle.smt_theory.specs.declared.sort.Sort.TheVariants.{Bool as Boolean}
 use Rattle.smt_theory.specs.declared.theories.Theories.{Theories}
-use Rattle.smt_terms.specs.Checking.{sort_in}
-use Rattle.smt_terms.specs.Definitions.{defined_in, definition, definition_in, parameters_named}
+use Rattle.smt_terms.specs.Assertions.{asserted_in}
+use Rattle.smt_terms.specs.Contents.{Contents, Extends, contents_of, first_of}
+use Rattle.smt_terms.specs.Definitions.{defined_in}
 use Rattle.smt_terms.specs.Library as library
-use Rattle.smt_terms.specs.Library.{IsTerm}
-use Rattle.smt_terms.specs.Signature.{Entry, Names, Rank, Signature, declaration, declared_in, is_taken, names_of, no_names, rank_named, with_entry}
-use Rattle.smt_terms.specs.SortTrees.{sort_named}
+use Rattle.smt_terms.specs.Library.{Holds, IsTermOf}
+use Rattle.smt_terms.specs.Signature.{Entry, Signature, declared_in, names_of, no_names, sort_names_of, with_abbreviation, with_entries, with_entry}
+use Rattle.smt_terms.specs.SortTrees.{abbreviated_in}
 use Rattle.smt_terms.specs.declared.fault.TermFault.{TermFault}
 use Rattle.smt_terms.specs.declared.fault.TermFault.TheVariants as terms
 use Rattle.smt_terms.specs.declared.library.Library.{Library}
 use Rattle.smt_terms.specs.declared.library.TermId.{TermId}
-use Rattle.smt_script.specs.Command.{Command, SetLogic, DeclareConst, DeclareFun, DefineFun, Assert, CheckSat, GetModel}
-use Rattle.smt_script.specs.CommandView.{command_view}
-use Rattle.smt_script.specs.declared.command.Command as code
-use Rattle.smt_script.specs.declared.command.Command.TheVariants as variants
+use Rattle.smt_terms.proofs.ContentsLemmas.{mark_kept, mark_within, term_kept}
+use Rattle.smt_script.specs.Command.{Command, Query, SetLogic, SetPrintSuccess, SetOption, SetInfo, DeclareConst, DeclareFun, DefineFun, DefineSort, Assert, Exit, CheckSat, GetModel, Echo, Get}
 use Rattle.smt_script.specs.Stack as spec
-use Rattle.smt_script.specs.Stack.{Numbered, assertions_by, assertions_in_force, command_fault, declaration_or_none, definition_or_none, fault_of_entry, fault_of_effect, fault_of_formula, fault_of_logic, fixes_logic, is_logic_fixed, names_in_force, signature_in_force, theories_in_force, theories_or}
-use Rattle.smt_script.specs.StackView.{AreAssertions, StandsFor}
+use Rattle.smt_script.specs.Stack.{Brought, Numbered, abbreviations_by, abbreviations_of, assertions_by, assertions_in_force, assertions_of, brought_by, command_fault, depth_after, depth_in_force, entries_by, entries_of, fault_of, fault_of_effect, has_exited, history, in_force, is_exit, is_fixed_after, is_logic_fixed, is_reset, one_or_none, print_success_after, print_success_in_force, signature_in_force, signature_of, theories_after, theories_in_force, theories_or}
+use Rattle.smt_script.specs.StackView.{AreAssertions, IsLevel, IsOuter, StandsFor, to_level}
 use Rattle.smt_script.specs.Internal.Effect.{HasEffect, IsUnchanged, noted}
 use Rattle.smt_script.specs.declared.fault.CommandFault.{CommandFault}
 use Rattle.smt_script.specs.declared.fault.CommandFault.TheVariants.{Term, Memory}
 use Rattle.smt_script.specs.declared.stack.Assertion.{Assertion}
+use Rattle.smt_script.specs.declared.stack.levels.Level.{Level}
 use Rattle.smt_script.specs.declared.stack.Stack.{Stack}
-use Rattle.smt_script.proofs.InForceLemmas.{assertions-push, fixed-push, no_assertions_in_force, no_names_in_force, signature-push, signature_after}
+use Rattle.smt_script.proofs.HistoryLemmas.{abbreviations-push, assertions-push, entries-push, exited-push, fixed-push, in_force-grow, print-push, theories-push, to_level-push, unfixed_is_empty}
+use Rattle.smt_script.proofs.StandingLemmas.{depth-push}
 
--- a library that keeps the terms of another
-abbrev pub KeepsTerms : Library → Library → Type 0
-KeepsTerms old new = (i : TermId) (t : Sexp) → IsTerm old i t → IsTerm new i t
+-- ---- assertions
 
--- a library that stands for all that another stands for
-abbrev pub KeepsNames : Library → Library → Type 0
-KeepsNames old new = (s : Signature) → library.StandsFor old s → library.StandsFor new s
+assertions_stay : (c d : Contents) → Extends c d → (as' : List Assertion) (bs : List spec.Assertion) → AreAssertions c as' bs → AreAssertions d as' bs
+assertions_stay c d more [] [] h = tt
+assertions_stay c d more (a ∷ as') (b ∷ bs) h = (h.0, term_kept c d a.term b.term more h.1, assertions_stay c d more as' bs h.2)
+assertions_stay c d more [] (b ∷ bs) h = h
+assertions_stay c d more (a ∷ as') [] h = h
 
-assertions_stay : (old new : Library) → KeepsTerms old new → (as' : List Assertion) (bs : List spec.Assertion) → AreAssertions old as' bs → AreAssertions new as' bs
-assertions_stay old new keeps [] [] h = tt
-assertions_stay old new keeps (a ∷ as') (b ∷ bs) h = (h.0, keeps a.term b.term h.1, assertions_stay old new keeps as' bs h.2)
-assertions_stay old new keeps [] (b ∷ bs) h = h
-assertions_stay old new keeps (a ∷ as') [] h = h
+one_more_assertion : (c : Contents) (as' : List Assertion) (bs : List spec.Assertion) (a : Assertion) (b : spec.Assertion) → AreAssertions c as' bs → a.command ≡ b.command → IsTermOf c a.term b.term → AreAssertions c (as' ++ a ∷ []) (bs ++ b ∷ [])
+one_more_assertion c [] [] a b h command term = (command, term, tt)
+one_more_assertion c (x ∷ as') (y ∷ bs) a b h command term = (h.0, h.1, one_more_assertion c as' bs a b h.2 command term)
+one_more_assertion c [] (y ∷ bs) a b h command term = absurd h
+one_more_assertion c (x ∷ as') [] a b h command term = absurd h
 
-one_more_assertion : (l : Library) (as' : List Assertion) (bs : List spec.Assertion) (a : Assertion) (b : spec.Assertion) → AreAssertions l as' bs → a.command ≡ b.command → IsTerm l a.term b.term → AreAssertions l (as' ++ a ∷ []) (bs ++ b ∷ [])
-one_more_assertion l [] [] a b h command term = (command, term, tt)
-one_more_assertion l (x ∷ as') (y ∷ bs) a b h command term = (h.0, h.1, one_more_assertion l as' bs a b h.2 command term)
-one_more_assertion l [] (y ∷ bs) a b h command term = absurd h
-one_more_assertion l (x ∷ as') [] a b h command term = absurd h
+-- ---- lists
 
--- no assertions are those of any library
-none_of_any : (old new : Library) (as' : List Assertion) → AreAssertions old as' [] → AreAssertions new as' []
-none_of_any old new [] h = tt
-none_of_any old new (a ∷ as') h = h
+pub within : {A : Type 0} (xs : List A) (k : ℕ) (x : A) → slice_get xs k ≡ Some x → k + 1 ≤ length xs
+within [] k x h = cc
+within (y ∷ xs) zero x h = omega arith
+within (y ∷ xs) (suc k) x h = let m = within xs k x h in omega arith
 
--- a stack whose library and assertions are those after one more command
-stands_after : (new : Stack) (cs : List Numbered) (c : Numbered) → library.StandsFor new.library (signature_after cs c)
-    → AreAssertions new.library new.assertions.items (assertions_in_force cs ++ assertions_by c.number c.command)
-    → new.fixed ≡ (is_logic_fixed cs || fixes_logic c.command) → StandsFor new (cs ++ c ∷ [])
-stands_after new cs c names assertions fixed =
-    let P : Signature → Type 0 = λ s. library.StandsFor new.library s in
-    let Q : List spec.Assertion → Type 0 = λ as'. AreAssertions new.library new.assertions.items as' in
+take_before : {A : Type 0} (n : ℕ) (xs ys : List A) → n ≤ length xs → take n (xs ++ ys) ≡ take n xs
+take_before zero xs ys h = refl
+take_before (suc n) [] ys h = absurd (omega arith)
+take_before (suc n) (x ∷ xs) ys h = ap (λ (l : List _). x ∷ l) (take_before n xs ys (omega arith))
+
+-- ---- commands that add to what is in force
+
+-- a command that neither resets nor changes levels and theories
+pub record Adds (command : Command) : Type 0 where
+  pub no_reset : is_reset command ≡ false
+  pub level : (d : ℕ) → depth_after d command ≡ d
+  pub theories : (t : Theories) → theories_after t command ≡ t
+
+-- a command that neither resets nor removes levels
+pub record Keeps (command : Command) : Type 0 where
+  pub no_reset : is_reset command ≡ false
+  pub level : (d : ℕ) → d ≤ depth_after d command
+  pub theories : (t : Theories) → theories_after t command ≡ t
+
+pub adds_keeps : (command : Command) → Adds command → Keeps command
+adds_keeps command adds = record { no_reset = adds.no_reset; level = λ d. (let e = adds.level d in omega arith); theories = adds.theories }
+
+-- what a signature is with what a command brings
+abbrev pub with_brought : Signature → ℕ → Command → Signature
+with_brought s n command = record { theories = s.theories; abbreviations = s.abbreviations ++ abbreviations_by s command; entries = s.entries ++ entries_by s n command }
+
+pub signature-add : (cs : List Numbered) (c : Numbered) → Keeps c.command → signature_in_force (cs ++ c ∷ []) ≡ with_brought (signature_in_force cs) c.number c.command
+signature-add cs c adds =
+    let b = brought_by cs (history cs) c in
+    let grow = in_force-grow cs c adds.no_reset (adds.level (depth_in_force cs)) in
+    ap (λ (t : Theories). signature_of t (in_force (history (cs ++ c ∷ [])))) (theories-push cs c ∙ adds.theories (theories_in_force cs))
+    ∙ ap (λ (l : List Brought). signature_of (theories_in_force cs) l) grow
+    ∙ ap (λ (es : List Entry). record { theories = theories_in_force cs; abbreviations = abbreviations_of (in_force (history cs) ++ b ∷ []); entries = es }) (entries-push (in_force (history cs)) b)
+    ∙ ap (λ (as' : List (List ℕ × Sort)). record { theories = theories_in_force cs; abbreviations = as'; entries = entries_of (in_force (history cs)) ++ b.entries }) (abbreviations-push (in_force (history cs)) b)
+
+pub assertions-add : (cs : List Numbered) (c : Numbered) → Keeps c.command → assertions_in_force (cs ++ c ∷ []) ≡ assertions_in_force cs ++ assertions_by c.number c.command
+assertions-add cs c adds =
+    let b = brought_by cs (history cs) c in
+    let grow = in_force-grow cs c adds.no_reset (adds.level (depth_in_force cs)) in
+    ap assertions_of grow ∙ assertions-push (in_force (history cs)) b
+
+-- a level stays as the contents and the assertions grow
+pub level_stays : (c d : Contents) (as' more : List Assertion) (l : Level) (t : Theories) (b : List Brought) → Extends c d → IsLevel c as' l t b → IsLevel d (as' ++ more) l t b
+level_stays c d as' more l t b grown h = record {
+  within = mark_within l.mark c d h.within grown;
+  count = (let e = length-append as' more in let m = h.count in omega arith);
+  holds = subst (λ (x : Contents). Holds x (signature_of t b)) (sym (mark_kept l.mark c d h.within grown)) h.holds;
+  assertions_are =
+      subst (λ (x : Contents). AreAssertions x (take l.assertions (as' ++ more)) (assertions_of b)) (sym (mark_kept l.mark c d h.within grown))
+      (subst (λ (x : List Assertion). AreAssertions (first_of l.mark c) x (assertions_of b)) (sym (take_before l.assertions as' more h.count)) h.assertions_are);
+}
+
+-- a stack after a command that adds to what is in force
+pub added : (old new : Stack) (more : List Assertion) (cs : List Numbered) (n : ℕ) (command : Command) → StandsFor old cs → Adds command
+    → new.levels.items ≡ old.levels.items → new.fixed ≡ old.fixed → new.print_success ≡ old.print_success → new.exited ≡ old.exited → new.start ≡ old.start
+    → Extends (contents_of old.library) (contents_of new.library) → new.assertions.items ≡ old.assertions.items ++ more
+    → library.StandsFor new.library (with_brought (signature_in_force cs) n command)
+    → AreAssertions (contents_of new.library) new.assertions.items (assertions_in_force cs ++ assertions_by n command)
+    → StandsFor (noted command new) (cs ++ record { number = n; command = command } ∷ [])
+added old new more cs n command h adds levels fixed print exited start grown asserted names assertions =
+    let c : Numbered = record { number = n; command = command } in
+    let b = brought_by cs (history cs) c in
+    let grow = in_force-grow cs c adds.no_reset (let e = adds.level (depth_in_force cs) in omega arith) in
+    let theories = theories-push cs c ∙ adds.theories (theories_in_force cs) in
     record {
-      library = subst P (sym (signature-push cs c)) names;
-      assertions = subst Q (sym (assertions-push cs c)) assertions;
-      fixed = fixed ∙ sym (fixed-push cs c);
+      library = subst (λ (s : Signature). library.StandsFor new.library s) (sym (signature-add cs c (adds_keeps command adds))) names;
+      assertions = subst (λ (l : List spec.Assertion). AreAssertions (contents_of new.library) new.assertions.items l) (sym (assertions-add cs c (adds_keeps command adds))) assertions;
+      depth = ap length levels ∙ h.depth ∙ sym (depth-push cs c ∙ adds.level (depth_in_force cs));
+      levels = λ k l at.
+          let there : slice_get old.levels.items k ≡ Some l = ap (λ (xs : List Level). slice_get xs k) (sym levels) ∙ at in
+          let inside : k + 1 ≤ b.level = (let m = within old.levels.items k l there in let e = h.depth in let f = adds.level (depth_in_force cs) in omega arith) in
+          subst (λ (t : Theories). IsLevel (contents_of new.library) new.assertions.items l t (to_level k (in_force (history (cs ++ c ∷ []))))) (sym theories)
+          (subst (λ (x : List Brought). IsLevel (contents_of new.library) new.assertions.items l (theories_in_force cs) x) (sym (ap (to_level k) grow ∙ to_level-push k (in_force (history cs)) b inside))
+          (subst (λ (x : List Assertion). IsLevel (contents_of new.library) x l (theories_in_force cs) (to_level k (in_force (history cs)))) (sym asserted)
+          (level_stays (contents_of old.library) (contents_of new.library) old.assertions.items more l (theories_in_force cs) (to_level k (in_force (history cs))) grown (h.levels k l there))));
+      ordered = λ j k l m le at there.
+          h.ordered j k l m le (ap (λ (xs : List Level). slice_get xs j) (sym levels) ∙ at) (ap (λ (xs : List Level). slice_get xs k) (sym levels) ∙ there);
+      fixed = ap (λ (x : Bool). is_fixed_after x command) (fixed ∙ h.fixed) ∙ sym (fixed-push cs c);
+      print_success =
+          ap (λ (x : Bool). print_success_after new.start x command) (print ∙ h.print_success)
+          ∙ ap (λ (x : Bool). print_success_after new.start (print_success_in_force x cs) command) (sym start) ∙ sym (print-push new.start cs c);
+      exited = ap (λ (x : Bool). x || is_exit command) (exited ∙ h.exited) ∙ sym (exited-push cs c);
     }
 
--- the note is the one after the command
-note_of : (s : Stack) (command : Command) (cs : List Numbered) → s.fixed ≡ is_logic_fixed cs → (s.fixed || fixes_logic command) ≡ (is_logic_fixed cs || fixes_logic command)
-note_of s command cs h = ap (λ (b : Bool). b || fixes_logic command) h
-
--- the names and assertions of a command that brings none
-same_names : (l : Library) (cs : List Numbered) → library.StandsFor l (signature_in_force cs) → library.StandsFor l (record { theories = theories_in_force cs; entries = names_in_force cs ++ [] })
-same_names l cs h =
-    let P : List Entry → Type 0 = λ es. library.StandsFor l (record { theories = theories_in_force cs; entries = es }) in
-    subst P (sym (append-nil (names_in_force cs))) h
-
-same_assertions : (l : Library) (as' : List Assertion) (cs : List Numbered) → AreAssertions l as' (assertions_in_force cs) → AreAssertions l as' (assertions_in_force cs ++ [])
-same_assertions l as' cs h =
-    let P : List spec.Assertion → Type 0 = λ bs. AreAssertions l as' bs in
-    subst P (sym (append-nil (assertions_in_force cs))) h
-
-check_effect : (s : Stack) (n : ℕ) → HasEffect s s n CheckSat
-check_effect s n = record {
-  faultless = λ cs h. refl;
-  stands = λ cs h.
-      stands_after (noted CheckSat s) cs (record { number = n; command = CheckSat }) (same_names s.library cs h.library)
-      (same_assertions s.library s.assertions.items cs h.assertions) (note_of s CheckSat cs h.fixed);
+same_contents : (c : Contents) → Extends c c
+same_contents c = record {
+  theories = refl;
+  abbreviations = ([], sym (append-nil c.abbreviations));
+  ranks = ([], sym (append-nil c.ranks));
+  places = ([], sym (append-nil c.places));
+  declared = ([], sym (append-nil c.declared));
+  definitions = ([], sym (append-nil c.definitions));
+  terms = ([], sym (append-nil c.terms));
 }
 
-model_effect : (s : Stack) (n : ℕ) → HasEffect s s n GetModel
-model_effect s n = record {
-  faultless = λ cs h. refl;
+-- a signature to which a command brings nothing
+pub nothing_brought : (l : Library) (s : Signature) (n : ℕ) (command : Command) → abbreviations_by s command ≡ [] → entries_by s n command ≡ [] → library.StandsFor l s → library.StandsFor l (with_brought s n command)
+nothing_brought l s n command abbreviations entries h =
+    let P : Signature → Type 0 = λ x. library.StandsFor l x in
+    subst P (sym (ap (λ (as' : List (List ℕ × Sort)). record { theories = s.theories; abbreviations = s.abbreviations ++ as'; entries = s.entries ++ entries_by s n command }) abbreviations
+    ∙ ap (λ (es : List Entry). record { theories = s.theories; abbreviations = s.abbreviations ++ []; entries = s.entries ++ es }) entries
+    ∙ ap (λ (es : List Entry). record { theories = s.theories; abbreviations = s.abbreviations ++ []; entries = es }) (append-nil s.entries)
+    ∙ ap (λ (as' : List (List ℕ × Sort)). record { theories = s.theories; abbreviations = as'; entries = s.entries }) (append-nil s.abbreviations))) h
+
+-- a command that changes nothing but the notes
+pub record Idle (command : Command) : Type 0 where
+  pub adds : Adds command
+  pub entries : (s : Signature) (n : ℕ) → entries_by s n command ≡ []
+  pub abbreviations : (s : Signature) → abbreviations_by s command ≡ []
+  pub assertions : (n : ℕ) → assertions_by n command ≡ []
+  pub faultless : (cs : List Numbered) (n : ℕ) → fault_of_effect cs n command ≡ None
+
+pub idle_effect : (s : Stack) (n : ℕ) (command : Command) → Idle command → HasEffect s s n command
+idle_effect s n command idle = record {
+  faultless = λ cs h. idle.faultless cs n;
   stands = λ cs h.
-      stands_after (noted GetModel s) cs (record { number = n; command = GetModel }) (same_names s.library cs h.library)
-      (same_assertions s.library s.assertions.items cs h.assertions) (note_of s GetModel cs h.fixed);
+      let P : List spec.Assertion → Type 0 = λ bs. AreAssertions (contents_of s.library) s.assertions.items (assertions_in_force cs ++ bs) in
+      added s s [] cs n command h idle.adds refl refl refl refl refl (same_contents (contents_of s.library)) (sym (append-nil s.assertions.items))
+      (nothing_brought s.library (signature_in_force cs) n command (idle.abbreviations (signature_in_force cs)) (idle.entries (signature_in_force cs) n) h.library)
+      (subst P (sym (idle.assertions n)) (subst (λ (bs : List spec.Assertion). AreAssertions (contents_of s.library) s.assertions.items bs) (sym (append-nil (assertions_in_force cs))) h.assertions));
+  start = refl;
 }
 
--- a command that changes nothing but the note
-pub idle_effect : (s : Stack) (n : ℕ) (command : code.Command) → (command ≡ variants.CheckSat) ⊎ (command ≡ variants.GetModel) → HasEffect s s n (command_view command)
-idle_effect s n command (inl e) = rw (ap command_view e) (check_effect s n)
-idle_effect s n command (inr e) = rw (ap command_view e) (model_effect s n)
+adds_nothing : (command : Command) → is_reset command ≡ false → ((d : ℕ) → depth_after d command ≡ d) → ((t : Theories) → theories_after t command ≡ t) → Adds command
+adds_nothing command a b c = record { no_reset = a; level = b; theories = c }
+
+pub check_idle : Idle CheckSat
+check_idle = record { adds = adds_nothing CheckSat refl (λ d. refl) (λ t. refl); entries = λ s n. refl; abbreviations = λ s. refl; assertions = λ n. refl; faultless = λ cs n. refl }
+
+pub model_idle : Idle GetModel
+model_idle = record { adds = adds_nothing GetModel refl (λ d. refl) (λ t. refl); entries = λ s n. refl; abbreviations = λ s. refl; assertions = λ n. refl; faultless = λ cs n. refl }
+
+pub exit_idle : Idle Exit
+exit_idle = record { adds = adds_nothing Exit refl (λ d. refl) (λ t. refl); entries = λ s n. refl; abbreviations = λ s. refl; assertions = λ n. refl; faultless = λ cs n. refl }
+
+pub print_idle : (on : Bool) → Idle (SetPrintSuccess on)
+print_idle on = record { adds = adds_nothing (SetPrintSuccess on) refl (λ d. refl) (λ t. refl); entries = λ s n. refl; abbreviations = λ s. refl; assertions = λ n. refl; faultless = λ cs n. refl }
+
+pub option_idle : (k : List ℕ) (v : Option Sexp) → Idle (SetOption k v)
+option_idle k v = record { adds = adds_nothing (SetOption k v) refl (λ d. refl) (λ t. refl); entries = λ s n. refl; abbreviations = λ s. refl; assertions = λ n. refl; faultless = λ cs n. refl }
+
+pub info_idle : (k : List ℕ) (v : Option Sexp) → Idle (SetInfo k v)
+info_idle k v = record { adds = adds_nothing (SetInfo k v) refl (λ d. refl) (λ t. refl); entries = λ s n. refl; abbreviations = λ s. refl; assertions = λ n. refl; faultless = λ cs n. refl }
+
+pub echo_idle : (t : List ℕ) → Idle (Echo t)
+echo_idle x = record { adds = adds_nothing (Echo x) refl (λ d. refl) (λ t. refl); entries = λ s n. refl; abbreviations = λ s. refl; assertions = λ n. refl; faultless = λ cs n. refl }
+
+pub get_idle : (q : Query) → Idle (Get q)
+get_idle q = record { adds = adds_nothing (Get q) refl (λ d. refl) (λ t. refl); entries = λ s n. refl; abbreviations = λ s. refl; assertions = λ n. refl; faultless = λ cs n. refl }
+
+-- ---- names
+
+-- a command that brings these names, without a fault
+pub record BringsNames (old new : Library) (n : ℕ) (command : Command) : Type 0 where
+  pub adds : Adds command
+  pub grown : Extends (contents_of old) (contents_of new)
+  pub assertions : assertions_by n command ≡ []
+  pub names : (cs : List Numbered) → library.StandsFor old (signature_in_force cs) → (fault_of_effect cs n command ≡ None) × library.StandsFor new (with_brought (signature_in_force cs) n command)
+
+pub names_effect : (old : Stack) (l : Library) (n : ℕ) (command : Command) → BringsNames old.library l n command → HasEffect old (record old { library = l }) n command
+names_effect old l n command brings = record {
+  faultless = λ cs h. (brings.names cs h.library).0;
+  stands = λ cs h.
+      let P : List spec.Assertion → Type 0 = λ bs. AreAssertions (contents_of l) old.assertions.items (assertions_in_force cs ++ bs) in
+      added old (record old { library = l }) [] cs n command h brings.adds refl refl refl refl refl brings.grown (sym (append-nil old.assertions.items)) (brings.names cs h.library).1
+      (subst P (sym brings.assertions)
+      (subst (λ (bs : List spec.Assertion). AreAssertions (contents_of l) old.assertions.items bs) (sym (append-nil (assertions_in_force cs)))
+      (assertions_stay (contents_of old.library) (contents_of l) brings.grown old.assertions.items (assertions_in_force cs) h.assertions)));
+  start = refl;
+}
+
+-- one more name is what a command brings that brings it alone
+one_entry : (l : Library) (s : Signature) (n : ℕ) (command : Command) (e : Entry) → abbreviations_by s command ≡ [] → entries_by s n command ≡ e ∷ [] → library.StandsFor l (with_entry s e) → library.StandsFor l (with_brought s n command)
+one_entry l s n command e abbreviations entries h =
+    let P : Signature → Type 0 = λ x. library.StandsFor l x in
+    subst P (sym (ap (λ (as' : List (List ℕ × Sort)). record { theories = s.theories; abbreviations = s.abbreviations ++ as'; entries = s.entries ++ entries_by s n command }) abbreviations
+    ∙ ap (λ (es : List Entry). record { theories = s.theories; abbreviations = s.abbreviations ++ []; entries = s.entries ++ es }) entries
+    ∙ ap (λ (as' : List (List ℕ × Sort)). record { theories = s.theories; abbreviations = as'; entries = s.entries ++ e ∷ [] }) (append-nil s.abbreviations))) h
+
+abbrev pub DeclaresIn : Library → Library → ℕ → List ℕ → Sexps → Sexp → Type 0
+DeclaresIn old new n x parameters sort =
+    (s : Signature) → library.StandsFor old s → (e : Entry) × (declared_in s n x parameters sort ≡ Ok e) × library.StandsFor new (with_entry s e)
+
+pub declare_const_effect : (old : Stack) (l : Library) (n : ℕ) (x : List ℕ) (sort : Sexp) → DeclaresIn old.library l n x Nil sort → Extends (contents_of old.library) (contents_of l)
+    → HasEffect old (record old { library = l }) n (DeclareConst x sort)
+declare_const_effect old l n x sort declares grown =
+    names_effect old l n (DeclareConst x sort) (record {
+      adds = adds_nothing (DeclareConst x sort) refl (λ d. refl) (λ t. refl);
+      grown = grown;
+      assertions = refl;
+      names = λ cs h.
+          let made = declares (signature_in_force cs) h in
+          (ap fault_of made.1, one_entry l (signature_in_force cs) n (DeclareConst x sort) made.0 refl (ap one_or_none made.1) made.2);
+    })
+
+pub declare_fun_effect : (old : Stack) (l : Library) (n : ℕ) (x : List ℕ) (parameters : Sexps) (sort : Sexp) → DeclaresIn old.library l n x parameters sort → Extends (contents_of old.library) (contents_of l)
+    → HasEffect old (record old { library = l }) n (DeclareFun x parameters sort)
+declare_fun_effect old l n x parameters sort declares grown =
+    names_effect old l n (DeclareFun x parameters sort) (record {
+      adds = adds_nothing (DeclareFun x parameters sort) refl (λ d. refl) (λ t. refl);
+      grown = grown;
+      assertions = refl;
+      names = λ cs h.
+          let made = declares (signature_in_force cs) h in
+          (ap fault_of made.1, one_entry l (signature_in_force cs) n (DeclareFun x parameters sort) made.0 refl (ap one_or_none made.1) made.2);
+    })
+
+abbrev pub DefinesIn : Library → Library → List ℕ → List (List ℕ × Sexp) → Sexp → Sexp → Type 0
+DefinesIn old new x parameters sort body =
+    (s : Signature) → library.StandsFor old s → (e : Entry) × (defined_in s x parameters sort body ≡ Ok e) × library.StandsFor new (with_entry s e)
+
+pub define_effect : (old : Stack) (l : Library) (n : ℕ) (x : List ℕ) (parameters : List (List ℕ × Sexp)) (sort body : Sexp) → DefinesIn old.library l x parameters sort body → Extends (contents_of old.library) (contents_of l)
+    → HasEffect old (record old { library = l }) n (DefineFun x parameters sort body)
+define_effect old l n x parameters sort body defines grown =
+    names_effect old l n (DefineFun x parameters sort body) (record {
+      adds = adds_nothing (DefineFun x parameters sort body) refl (λ d. refl) (λ t. refl);
+      grown = grown;
+      assertions = refl;
+      names = λ cs h.
+          let made = defines (signature_in_force cs) h in
+          (ap fault_of made.1, one_entry l (signature_in_force cs) n (DefineFun x parameters sort body) made.0 refl (ap one_or_none made.1) made.2);
+    })
+
+abbrev pub AbbreviatesIn : Library → Library → List ℕ → Sexp → Type 0
+AbbreviatesIn old new x sort =
+    (s : Signature) → library.StandsFor old s → (found : Sort) × (abbreviated_in (sort_names_of s) x sort ≡ Ok found) × library.StandsFor new (with_abbreviation s x found)
+
+one_abbreviation : (l : Library) (s : Signature) (n : ℕ) (command : Command) (x : List ℕ) (sort : Sort) → abbreviations_by s command ≡ (x, sort) ∷ [] → entries_by s n command ≡ [] → library.StandsFor l (with_abbreviation s x sort) → library.StandsFor l (with_brought s n command)
+one_abbreviation l s n command x sort abbreviations entries h =
+    let P : Signature → Type 0 = λ y. library.StandsFor l y in
+    subst P (sym (ap (λ (as' : List (List ℕ × Sort)). record { theories = s.theories; abbreviations = s.abbreviations ++ as'; entries = s.entries ++ entries_by s n command }) abbreviations
+    ∙ ap (λ (es : List Entry). record { theories = s.theories; abbreviations = s.abbreviations ++ (x, sort) ∷ []; entries = s.entries ++ es }) entries
+    ∙ ap (λ (es : List Entry). record { theories = s.theories; abbreviations = s.abbreviations ++ (x, sort) ∷ []; entries = es }) (append-nil s.entries))) h
+
+pub define_sort_effect : (old : Stack) (l : Library) (n : ℕ) (x : List ℕ) (sort : Sexp) → AbbreviatesIn old.library l x sort → Extends (contents_of old.library) (contents_of l)
+    → HasEffect old (record old { library = l }) n (DefineSort x sort)
+define_sort_effect old l n x sort abbreviates grown =
+    names_effect old l n (DefineSort x sort) (record {
+      adds = adds_nothing (DefineSort x sort) refl (λ d. refl) (λ t. refl);
+      grown = grown;
+      assertions = refl;
+      names = λ cs h.
+          let made = abbreviates (signature_in_force cs) h in
+          (ap fault_of made.1, one_abbreviation l (signature_in_force cs) n (DefineSort x sort) x made.0 (ap (λ (r : Result Sort TermFault). spec.named x (one_or_none r)) made.1) refl made.2);
+    })
+
+-- ---- assertions
+
+abbrev pub AssertsIn : Library → Library → Sexp → Type 0
+AssertsIn old new term =
+    (s : Signature) → library.StandsFor old s → (labels : List Entry) × (asserted_in (names_of s) term ≡ Ok labels) × library.StandsFor new (with_entries s labels)
+
+some_entries : (l : Library) (s : Signature) (n : ℕ) (command : Command) (es : List Entry) → abbreviations_by s command ≡ [] → entries_by s n command ≡ es → library.StandsFor l (with_entries s es) → library.StandsFor l (with_brought s n command)
+some_entries l s n command es abbreviations entries h =
+    let P : Signature → Type 0 = λ x. library.StandsFor l x in
+    subst P (sym (ap (λ (as' : List (List ℕ × Sort)). record { theories = s.theories; abbreviations = s.abbreviations ++ as'; entries = s.entries ++ entries_by s n command }) abbreviations
+    ∙ ap (λ (ds : List Entry). record { theories = s.theories; abbreviations = s.abbreviations ++ []; entries = s.entries ++ ds }) entries
+    ∙ ap (λ (as' : List (List ℕ × Sort)). record { theories = s.theories; abbreviations = as'; entries = s.entries ++ es }) (append-nil s.abbreviations))) h
+
+pub assert_effect : (old : Stack) (l : Library) (as' : Vec Assertion) (a : Assertion) (term : Sexp) → AssertsIn old.library l term → IsTermOf (contents_of l) a.term term → Extends (contents_of old.library) (contents_of l)
+    → as'.items ≡ old.assertions.items ++ a ∷ [] → HasEffect old (record old { library = l; assertions = as' }) a.command (Assert term)
+assert_effect old l as' a term asserts stored grown pushed = record {
+  faultless = λ cs h. ap fault_of (asserts (signature_in_force cs) h.library).1;
+  stands = λ cs h.
+      let made = asserts (signature_in_force cs) h.library in
+      let P : List Assertion → Type 0 = λ xs. AreAssertions (contents_of l) xs (assertions_in_force cs ++ record { command = a.command; term = term } ∷ []) in
+      added old (record old { library = l; assertions = as' }) (a ∷ []) cs a.command (Assert term) h (adds_nothing (Assert term) refl (λ d. refl) (λ t. refl)) refl refl refl refl refl grown pushed
+      (some_entries l (signature_in_force cs) a.command (Assert term) made.0 refl (ap spec.all_or_none made.1) made.2)
+      (subst P (sym pushed)
+      (one_more_assertion (contents_of l) old.assertions.items (assertions_in_force cs) a (record { command = a.command; term = term })
+      (assertions_stay (contents_of old.library) (contents_of l) grown old.assertions.items (assertions_in_force cs) h.assertions) refl stored));
+  start = refl;
+}
+
+-- a library that stands for the same and has more terms changes nothing
+pub unchanged_by : (old : Stack) (l : Library) (as' : Vec Assertion) → ((s : Signature) → library.StandsFor old.library s → library.StandsFor l s) → Extends (contents_of old.library) (contents_of l) → as'.items ≡ old.assertions.items
+    → IsUnchanged old (record old { library = l; assertions = as' })
+unchanged_by old l as' names grown same = record {
+  stands = λ cs h. record {
+    library = names (signature_in_force cs) h.library;
+    assertions =
+        subst (λ (xs : List Assertion). AreAssertions (contents_of l) xs (assertions_in_force cs)) (sym same)
+        (assertions_stay (contents_of old.library) (contents_of l) grown old.assertions.items (assertions_in_force cs) h.assertions);
+    depth = h.depth;
+    levels = λ k level at.
+        subst (λ (xs : List Assertion). IsLevel (contents_of l) xs level (theories_in_force cs) (to_level k (in_force (history cs)))) (append-nil old.assertions.items ∙ sym same)
+        (level_stays (contents_of old.library) (contents_of l) old.assertions.items [] level (theories_in_force cs) (to_level k (in_force (history cs))) grown (h.levels k level at));
+    ordered = h.ordered;
+    fixed = h.fixed;
+    print_success = h.print_success;
+    exited = h.exited;
+  };
+  last = refl;
+  start = refl;
+}
+
+-- ---- logics
+
+no_levels : (old : Stack) (cs : List Numbered) → StandsFor old cs → depth_in_force cs ≡ 0 → (k : ℕ) (level : Level) → slice_get old.levels.items k ≡ Some level → ⊥
+no_levels old cs h zero_deep k level at = let m = within old.levels.items k level at in let e = h.depth in absurd (omega arith)
+
+pub none_of_any : (c d : Contents) (as' : List Assertion) → AreAssertions c as' [] → AreAssertions d as' []
+none_of_any c d [] h = tt
+none_of_any c d (a ∷ as') h = h
 
 pub logic_effect : (old : Stack) (l : Library) (theories : Theories) (name : List ℕ) → old.fixed ≡ false → theories_named name ≡ Some theories → library.StandsFor l (no_names theories)
     → (n : ℕ) → HasEffect old (record old { library = l }) n (SetLogic name)
 logic_effect old l theories name free named fresh n = record {
   faultless = λ cs h. rw (sym h.fixed ∙ free, named);
   stands = λ cs h.
-      let unfixed : is_logic_fixed cs ≡ false = sym h.fixed ∙ free in
-      let P : Signature → Type 0 = λ s. library.StandsFor l s in
-      let Q : List spec.Assertion → Type 0 = λ bs. AreAssertions old.library old.assertions.items bs in
-      let R : List spec.Assertion → Type 0 = λ bs. AreAssertions l old.assertions.items bs in
-      let empty = no_assertions_in_force cs unfixed in
-      let same : no_names theories ≡ signature_after cs (record { number = n; command = SetLogic name }) =
-      ap (λ (o : Option Theories). no_names (theories_or (theories_in_force cs) o)) (sym named)
-      ∙ ap (λ (es : List Entry). record { theories = theories_or (theories_in_force cs) (theories_named name); entries = es ++ [] }) (sym (no_names_in_force cs unfixed)) in
-      stands_after (noted (SetLogic name) (record old { library = l })) cs (record { number = n; command = SetLogic name })
-      (subst P same fresh)
-      (same_assertions l old.assertions.items cs (subst R (sym empty) (none_of_any old.library l old.assertions.items (subst Q empty h.assertions))))
-      (note_of old (SetLogic name) cs h.fixed);
-}
-
--- what is declared is what the command brings
-pub declared_is_brought : (taken : Bool) (x : List ℕ) (n : ℕ) (rank : Result Rank TermFault) (e : Entry) → cond taken (Err terms.NotFresh) (result_and_then rank (λ r. Ok (declaration x n r))) ≡ Ok e → declaration_or_none x n rank ≡ e ∷ []
-declared_is_brought true x n rank e h = cc
-declared_is_brought false x n (Ok r) e h = let same : declaration x n r ≡ e = cc in ap (λ (d : Entry). d ∷ []) same
-declared_is_brought false x n (Err fault) e h = cc
-
--- what is defined is what the command brings
-definition_made : (found : Result Sort TermFault) (x : List ℕ) (ps : List (List ℕ × Sort)) (sort : Sort) (body : Sexp) (e : Entry)
-    → result_and_then found (λ s. cond (is_same_sort s sort) (Ok (definition x ps sort body)) (Err terms.IllSorted)) ≡ Ok e → definition x ps sort body ≡ e
-definition_made (Err fault) x ps sort body e h = cc
-definition_made (Ok s) x ps sort body e h = by_test (is_same_sort s sort) h
-  where
-    by_test : (b : Bool) → cond b (Ok (definition x ps sort body)) (Err terms.IllSorted) ≡ Ok e → definition x ps sort body ≡ e
-    by_test true g = cc
-    by_test false g = cc
-
-pub defined_is_brought : (taken : Bool) (names : Names) (x : List ℕ) (ps : Result (List (List ℕ × Sort)) TermFault) (sort : Result Sort TermFault) (body : Sexp) (e : Entry)
-    → cond taken (Err terms.NotFresh) (result_and_then ps (λ qs. result_and_then sort (λ s. definition_in names x qs s body))) ≡ Ok e → definition_or_none x body ps sort ≡ e ∷ []
-defined_is_brought true names x ps sort body e h = cc
-defined_is_brought false names x (Err fault) sort body e h = cc
-defined_is_brought false names x (Ok qs) (Err fault) body e h = cc
-defined_is_brought false names x (Ok qs) (Ok s) body e h =
-    ap (λ (d : Entry). d ∷ []) (definition_made (sort_in names qs body) x qs s body e h)
-
--- a command without a fault that brings one name
-abbrev pub BringsIn : Library → Library → ℕ → Command → Type 0
-BringsIn old new n command =
-    (cs : List Numbered) → library.StandsFor old (signature_in_force cs)
-    → (e : Entry) × (fault_of_effect cs n command ≡ None) × (signature_after cs (record { number = n; command = command }) ≡ with_entry (signature_in_force cs) e)
-    × library.StandsFor new (with_entry (signature_in_force cs) e)
-
-entry_effect : (old : Stack) (l : Library) (n : ℕ) (command : Command) → BringsIn old.library l n command → assertions_by n command ≡ [] → KeepsTerms old.library l
-    → HasEffect old (record old { library = l }) n command
-entry_effect old l n command brings none keeps = record {
-  faultless = λ cs h. (brings cs h.library).1;
-  stands = λ cs h.
-      let made = brings cs h.library in
-      let P : Signature → Type 0 = λ s. library.StandsFor l s in
-      let Q : List spec.Assertion → Type 0 = λ bs. AreAssertions l old.assertions.items (assertions_in_force cs ++ bs) in
-      stands_after (noted command (record old { library = l })) cs (record { number = n; command = command })
-      (subst P (sym made.2) made.3)
-      (subst Q (sym none) (same_assertions l old.assertions.items cs (assertions_stay old.library l keeps old.assertions.items _ h.assertions)))
-      (note_of old command cs h.fixed);
-}
-
--- the names with one more
-one_more_name : (cs : List Numbered) (brought : List Entry) (e : Entry) → brought ≡ e ∷ []
-    → record { theories = theories_in_force cs; entries = names_in_force cs ++ brought } ≡ with_entry (signature_in_force cs) e
-one_more_name cs brought e h = ap (λ (es : List Entry). record { theories = theories_in_force cs; entries = names_in_force cs ++ es }) h
-
--- the declaration of a name
-abbrev pub DeclaresIn : Library → Library → ℕ → List ℕ → Sexps → Sexp → Type 0
-DeclaresIn old new n x parameters sort =
-    (s : Signature) → library.StandsFor old s → (e : Entry) × (declared_in (names_of s) n x parameters sort ≡ Ok e) × library.StandsFor new (with_entry s e)
-
-pub declare_const_effect : (old : Stack) (l : Library) (n : ℕ) (x : List ℕ) (sort : Sexp) → DeclaresIn old.library l n x Nil sort → KeepsTerms old.library l
-    → HasEffect old (record old { library = l }) n (DeclareConst x sort)
-declare_const_effect old l n x sort declares keeps =
-    entry_effect old l n (DeclareConst x sort)
-    (λ cs h.
-    let made = declares (signature_in_force cs) h in
-    let s = signature_in_force cs in
-    (made.0, ap fault_of_entry made.1, one_more_name cs _ made.0 (declared_is_brought (is_taken (names_of s) x) x n (rank_named (names_of s) Nil sort) made.0 made.1), made.2))
-    refl keeps
-
-pub declare_fun_effect : (old : Stack) (l : Library) (n : ℕ) (x : List ℕ) (parameters : Sexps) (sort : Sexp) → DeclaresIn old.library l n x parameters sort → KeepsTerms old.library l
-    → HasEffect old (record old { library = l }) n (DeclareFun x parameters sort)
-declare_fun_effect old l n x parameters sort declares keeps =
-    entry_effect old l n (DeclareFun x parameters sort)
-    (λ cs h.
-    let made = declares (signature_in_force cs) h in
-    let s = signature_in_force cs in
-    (made.0, ap fault_of_entry made.1, one_more_name cs _ made.0 (declared_is_brought (is_taken (names_of s) x) x n (rank_named (names_of s) parameters sort) made.0 made.1), made.2))
-    refl keeps
-
--- the definition of a name
-abbrev pub DefinesIn : Library → Library → List ℕ → List (List ℕ × Sexp) → Sexp → Sexp → Type 0
-DefinesIn old new x parameters sort body =
-    (s : Signature) → library.StandsFor old s → (e : Entry) × (defined_in (names_of s) x parameters sort body ≡ Ok e) × library.StandsFor new (with_entry s e)
-
-pub define_effect : (old : Stack) (l : Library) (n : ℕ) (x : List ℕ) (parameters : List (List ℕ × Sexp)) (sort body : Sexp) → DefinesIn old.library l x parameters sort body → KeepsTerms old.library l
-    → HasEffect old (record old { library = l }) n (DefineFun x parameters sort body)
-define_effect old l n x parameters sort body defines keeps =
-    entry_effect old l n (DefineFun x parameters sort body)
-    (λ cs h.
-    let made = defines (signature_in_force cs) h in
-    let s = signature_in_force cs in
-    let ps = parameters_named s.theories [] parameters in
-    (made.0, ap fault_of_entry made.1, one_more_name cs _ made.0 (defined_is_brought (is_taken (names_of s) x) (names_of s) x ps (sort_named s.theories sort) body made.0 made.1), made.2))
-    refl keeps
-
--- a formula over the names
-abbrev pub ChecksIn : Library → Library → TermId → Sort → Sexp → Type 0
-ChecksIn old new i sort term = (s : Signature) → library.StandsFor old s → (sort_in (names_of s) [] term ≡ Ok sort) × IsTerm new i term
-
-pub assert_effect : (old : Stack) (l : Library) (as' : Vec Assertion) (a : Assertion) (sort : Sort) (term : Sexp) → ChecksIn old.library l a.term sort term → KeepsNames old.library l → KeepsTerms old.library l
-    → is_same_sort sort Boolean ≡ true → as'.items ≡ old.assertions.items ++ a ∷ []
-    → HasEffect old (record old { library = l; assertions = as' }) a.command (Assert term)
-assert_effect old l as' a sort term checks names keeps formula pushed = record {
-  faultless = λ cs h. rw ((checks (signature_in_force cs) h.library).0, formula);
-  stands = λ cs h.
-      let P : List Assertion → Type 0 = λ xs. AreAssertions l xs (assertions_in_force cs ++ record { command = a.command; term = term } ∷ []) in
-      stands_after (noted (Assert term) (record old { library = l; assertions = as' })) cs (record { number = a.command; command = Assert term })
-      (same_names l cs (names _ h.library))
-      (subst P (sym pushed)
-      (one_more_assertion l old.assertions.items _ a (record { command = a.command; term = term }) (assertions_stay old.library l keeps old.assertions.items _ h.assertions) refl (checks (signature_in_force cs) h.library).1))
-      (note_of old (Assert term) cs h.fixed);
-}
-
--- a library with the same names and more terms changes nothing
-pub unchanged_by : (old : Stack) (l : Library) (as' : Vec Assertion) → KeepsNames old.library l → KeepsTerms old.library l → as'.items ≡ old.assertions.items
-    → IsUnchanged old (record old { library = l; assertions = as' })
-unchanged_by old l as' names keeps same = record {
-  stands = λ cs h.
-      let P : List Assertion → Type 0 = λ xs. AreAssertions l xs (assertions_in_force cs) in
+      let c : Numbered = record { number = n; command = SetLogic name } in
+      let b = brought_by cs (history cs) c in
+      let B = in_force (history cs) in
+      let empty = unfixed_is_empty cs (sym h.fixed ∙ free) in
+      let grow = in_force-grow cs c refl (omega arith) in
+      let entries : entries_of (B ++ b ∷ []) ≡ [] = entries-push B b ∙ append-nil (entries_of B) ∙ empty.0.entries in
+      let abbreviations : abbreviations_of (B ++ b ∷ []) ≡ [] = abbreviations-push B b ∙ append-nil (abbreviations_of B) ∙ empty.0.abbreviations in
+      let assertions : assertions_of (B ++ b ∷ []) ≡ [] = assertions-push B b ∙ append-nil (assertions_of B) ∙ empty.0.assertions in
+      let t : theories_in_force (cs ++ c ∷ []) ≡ theories = theories-push cs c ∙ ap (λ (o : Option Theories). theories_or (theories_in_force cs) o) named in
+      let deep : depth_in_force (cs ++ c ∷ []) ≡ 0 = depth-push cs c ∙ empty.1 in
+      let s : signature_in_force (cs ++ c ∷ []) ≡ no_names theories =
+      ap (λ (x : Theories). signature_of x (in_force (history (cs ++ c ∷ [])))) t
+      ∙ ap (λ (x : List Brought). signature_of theories x) grow
+      ∙ ap (λ (x : List Entry). record { theories = theories; abbreviations = abbreviations_of (B ++ b ∷ []); entries = x }) entries
+      ∙ ap (λ (x : List (List ℕ × Sort)). record { theories = theories; abbreviations = x; entries = [] }) abbreviations in
+      let was : AreAssertions (contents_of old.library) old.assertions.items [] = subst (λ (x : List spec.Assertion). AreAssertions (contents_of old.library) old.assertions.items x) empty.0.assertions h.assertions in
       record {
-        library = names _ h.library;
-        assertions = subst P (sym same) (assertions_stay old.library l keeps old.assertions.items _ h.assertions);
-        fixed = h.fixed;
+        library = subst (λ (x : Signature). library.StandsFor l x) (sym s) fresh;
+        assertions = subst (λ (x : List spec.Assertion). AreAssertions (contents_of l) old.assertions.items x) (sym (ap assertions_of grow ∙ assertions)) (none_of_any (contents_of old.library) (contents_of l) old.assertions.items was);
+        depth = h.depth ∙ empty.1 ∙ sym deep;
+        levels = λ k level at. absurd (no_levels old cs h empty.1 k level at);
+        ordered = h.ordered;
+        fixed = ap (λ (x : Bool). is_fixed_after x (SetLogic name)) h.fixed ∙ sym (fixed-push cs c);
+        print_success = ap (λ (x : Bool). print_success_after old.start x (SetLogic name)) h.print_success ∙ sym (print-push old.start cs c);
+        exited = ap (λ (x : Bool). x || is_exit (SetLogic name)) h.exited ∙ sym (exited-push cs c);
       };
-  last = refl;
+  start = refl;
 }
+
+-- ---- faults
 
 -- a fault of a term that is not want of memory
 fault_kept : (f : TermFault) → (f ≡ terms.Memory → ⊥) → command_fault f ≡ Term f
@@ -261,18 +405,8 @@ fault_kept terms.BoundTwice known = refl
 fault_kept terms.NotFresh known = refl
 fault_kept terms.Label known = refl
 
--- what a refused declaration or definition tells
-pub refused_entry : (r : Result Entry TermFault) (f : TermFault) (fault : CommandFault) → (r ≡ Err terms.Memory → ⊥) → fault ≡ command_fault f → (f ≡ terms.Memory) ⊎ (r ≡ Err f) → (fault ≡ Memory) ⊎ (fault_of_entry r ≡ Some fault)
-refused_entry r f fault known made (inl e) = inl (made ∙ ap command_fault e)
-refused_entry r f fault known made (inr e) =
-    inr (ap fault_of_entry e ∙ ap (λ (x : CommandFault). Some x) (sym (made ∙ fault_kept f (λ m. known (e ∙ ap (λ (y : TermFault). Err y) m)))))
-
--- what a refused formula tells
-pub refused_formula : (r : Result Sort TermFault) (f : TermFault) (fault : CommandFault) → (r ≡ Err terms.Memory → ⊥) → fault ≡ command_fault f → (f ≡ terms.Memory) ⊎ (r ≡ Err f) → (fault ≡ Memory) ⊎ (fault_of_formula r ≡ Some fault)
-refused_formula r f fault known made (inl e) = inl (made ∙ ap command_fault e)
-refused_formula r f fault known made (inr e) =
-    inr (ap fault_of_formula e ∙ ap (λ (x : CommandFault). Some x) (sym (made ∙ fault_kept f (λ m. known (e ∙ ap (λ (y : TermFault). Err y) m)))))
-
--- a term that is no formula
-pub ill_sorted : (r : Result Sort TermFault) (sort : Sort) (fault : CommandFault) → r ≡ Ok sort → is_same_sort sort Boolean ≡ false → fault ≡ Term terms.IllSorted → fault_of_formula r ≡ Some fault
-ill_sorted r sort fault found other told = rw (found, other, told) refl
+-- what a refused declaration, definition, abbreviation or assertion tells
+pub refused_by : {A : Type 0} (r : Result A TermFault) (f : TermFault) (fault : CommandFault) → (r ≡ Err terms.Memory → ⊥) → fault ≡ command_fault f → (f ≡ terms.Memory) ⊎ (r ≡ Err f) → (fault ≡ Memory) ⊎ (fault_of r ≡ Some fault)
+refused_by r f fault known made (inl e) = inl (made ∙ ap command_fault e)
+refused_by r f fault known made (inr e) =
+    inr (ap fault_of e ∙ ap (λ (x : CommandFault). Some x) (sym (made ∙ fault_kept f (λ m. known (e ∙ ap (λ (y : TermFault). Err y) m)))))

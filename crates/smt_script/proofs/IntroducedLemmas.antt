@@ -1,37 +1,116 @@
 -- The names that commands without a fault brought.
-use Rattle.std.proofs.Common.{◌≡◌, ℕ, Bool, true, false, cond, List, [], ◌∷◌, ◌++◌, ◌||◌, Option, Some, None, is_some, Result, Ok, Err, refl, ap, sym, ◌∙◌, subst, append_assoc, append-nil}
-use Rattle.std.specs.Prelude.{bytes_eq}
+use Rattle.std.proofs.Common.{◌≡◌, ◌≤◌, ◌<◌, ℕ, ◌+◌, Bool, true, false, cond, List, [], ◌∷◌, ◌++◌, ◌||◌, Option, Some, None, is_some, Result, Ok, Err, refl, ap, sym, ◌∙◌, subst, arith, append_assoc, append-nil}
+use Rattle.std.specs.Prelude.{bytes_eq, nat_le}
+use Rattle.std.specs.List.{filter}
+use Rattle.std.proofs.lemmas.Grind.{flat_map-append}
 use Rattle.smt_text.specs.Sexp.{Sexp, Sexps, Nil}
 use Rattle.smt_theory.specs.Operators.{is_plain_operator}
 use Rattle.smt_theory.specs.Theories.{theories_named}
 use Rattle.smt_theory.specs.Words.{look_up, result_and_then}
 use Rattle.smt_theory.specs.declared.sort.Sort.{Sort}
 use Rattle.smt_theory.specs.declared.theories.Theories.{Theories}
-use Rattle.smt_terms.specs.Definitions.{defined_in, parameters_named}
-use Rattle.smt_terms.specs.Signature.{Entry, Names, Origin, Declared, Defined, Rank, Signature, declaration, declared_in, entry_named, is_taken, names_of, rank_named, rank_of_entry, ranks_of}
-use Rattle.smt_terms.specs.SortTrees.{sort_named}
+use Rattle.smt_terms.specs.Assertions.{asserted_in}
+use Rattle.smt_terms.specs.Definitions.{defined_in}
+use Rattle.smt_terms.specs.Signature.{Entry, Names, Origin, Declared, Defined, Rank, Signature, declaration, declared_in, entry_named, is_taken, names_of, no_names, rank_named, rank_of_entry, ranks_of, sort_names_of, unlabelled_over}
 use Rattle.smt_terms.specs.WellSorted.{AreIntroduced, IsIntroduced, IsSortedIfDefined, IsWellSorted, IsWellSortedFrom}
 use Rattle.smt_terms.specs.declared.fault.TermFault.{TermFault}
 use Rattle.smt_terms.specs.declared.fault.TermFault.TheVariants as terms
-use Rattle.smt_script.specs.Command.{Command, SetLogic, DeclareConst, DeclareFun, DefineFun, Assert, CheckSat, GetModel}
-use Rattle.smt_script.specs.Stack.{HaveNoFault, Numbered, fault_of_effect, fault_of_entry, fault_of_logic, is_logic_fixed, names_by, names_in_force, signature_in_force, theories_after, theories_in_force}
-use Rattle.smt_script.proofs.EffectLemmas.{declared_is_brought, defined_is_brought}
-use Rattle.smt_script.proofs.InForceLemmas.{no_names_in_force, signature-push}
+use Rattle.smt_script.specs.Command.{Command, SetLogic, SetPrintSuccess, SetOption, SetInfo, DeclareConst, DeclareFun, DefineFun, DefineSort, Assert, Push, Pop, Reset, ResetAssertions, Exit, CheckSat, GetModel, Echo, Get}
+use Rattle.smt_script.specs.Stack.{Brought, HaveNoFault, Numbered, all_or_none, brought_by, depth_after, depth_in_force, entries_by, entries_of, fault_of, fault_of_effect, fault_of_logic, history, in_force, is_logic_fixed, is_reset, one_or_none, signature_in_force, signature_of, theories_after, theories_in_force}
+use Rattle.smt_script.specs.StackView.{to_level}
+use Rattle.smt_script.proofs.EffectLemmas.{Keeps, signature-add}
+use Rattle.smt_script.proofs.HistoryLemmas.{AtMost, Kept, entries-push, history-push, in_force-grow, in_force-push, kept_by_all, levels_still, none_still, still, still_at_most, theories-push, unfixed_is_empty}
+use Rattle.smt_script.proofs.StandingLemmas.{depth-push}
+
+-- ---- what is in force stands in the order of its levels
+
+abbrev AtLeast : ℕ → List Brought → Type 0
+AtLeast d [] = Unit {0}
+AtLeast d (b ∷ bs) = (d ≤ b.level) × AtLeast d bs
+
+abbrev Sorted : List Brought → Type 0
+Sorted [] = Unit {0}
+Sorted (b ∷ bs) = AtLeast b.level bs × Sorted bs
+
+some_at_least : (d : ℕ) (b : Brought) (u : Bool) (bs : List Brought) → d ≤ b.level → AtLeast d bs → AtLeast d (cond u (b ∷ bs) bs)
+some_at_least d b true bs h all = (h, all)
+some_at_least d b false bs h all = all
+
+filter_at_least : (f : Brought → Bool) (d : ℕ) (bs : List Brought) → AtLeast d bs → AtLeast d (filter f bs)
+filter_at_least f d [] all = tt
+filter_at_least f d (b ∷ bs) all = some_at_least d b (f b) (filter f bs) all.0 (filter_at_least f d bs all.1)
+
+some_sorted : (b : Brought) (u : Bool) (bs : List Brought) → AtLeast b.level bs → Sorted bs → Sorted (cond u (b ∷ bs) bs)
+some_sorted b true bs h all = (h, all)
+some_sorted b false bs h all = all
+
+filter_sorted : (f : Brought → Bool) (bs : List Brought) → Sorted bs → Sorted (filter f bs)
+filter_sorted f [] all = tt
+filter_sorted f (b ∷ bs) all = some_sorted b (f b) (filter f bs) (filter_at_least f b.level bs all.0) (filter_sorted f bs all.1)
+
+at_least-push : (d : ℕ) (bs : List Brought) (b : Brought) → AtLeast d bs → d ≤ b.level → AtLeast d (bs ++ b ∷ [])
+at_least-push d [] b all h = (h, tt)
+at_least-push d (x ∷ bs) b all h = (all.0, at_least-push d bs b all.1 h)
+
+sorted-push : (bs : List Brought) (b : Brought) → Sorted bs → AtMost b.level bs → Sorted (bs ++ b ∷ [])
+sorted-push [] b all h = (tt, tt)
+sorted-push (x ∷ bs) b all h = (at_least-push x.level bs b all.0 h.0, sorted-push bs b all.1 h.1)
+
+abbrev Ordered : List Numbered → List Brought → Type 0
+Ordered before brought = Sorted (in_force brought)
+
+ordered_step : Kept Ordered
+ordered_step before brought c h =
+    let b = brought_by before brought c in
+    subst Sorted (sym (in_force-push brought b)) (sorted-push (still b (in_force brought)) b (filter_sorted _ (in_force brought) h) (still_at_most b (in_force brought)))
+
+in_force_sorted : (cs : List Numbered) → Sorted (in_force (history cs))
+in_force_sorted cs = kept_by_all Ordered tt ordered_step cs
+
+above : (m k : ℕ) → nat_le m k ≡ false → k + 1 ≤ m
+above m k h = grind (arith)
+
+below : (d m k : ℕ) → k + 1 ≤ d → d ≤ m → nat_le m k ≡ false
+below d m k h i = grind (arith)
+
+none_to_level : (k d : ℕ) (bs : List Brought) → k + 1 ≤ d → AtLeast d bs → to_level k bs ≡ []
+none_to_level k d [] h all = refl
+none_to_level k d (b ∷ bs) h all =
+    ap (λ (u : Bool). cond u (b ∷ to_level k bs) (to_level k bs)) (below d b.level k h all.0) ∙ none_to_level k d bs h all.1
+
+abbrev IsBeginning : List Brought → List Brought → Type 0
+IsBeginning first all = (rest : List Brought) × (all ≡ first ++ rest)
+
+beginning_by : (k : ℕ) (b : Brought) (bs : List Brought) → AtLeast b.level bs → IsBeginning (to_level k bs) bs → (u : Bool) → nat_le b.level k ≡ u → IsBeginning (cond u (b ∷ to_level k bs) (to_level k bs)) (b ∷ bs)
+beginning_by k b bs all next true is = (next.0, ap (λ (l : List Brought). b ∷ l) next.1)
+beginning_by k b bs all next false is = (b ∷ bs, ap (λ (l : List Brought). l ++ b ∷ bs) (sym (none_to_level k b.level bs (above b.level k is) all)))
+
+-- what came at some levels is a beginning of it
+beginning : (k : ℕ) (bs : List Brought) → Sorted bs → IsBeginning (to_level k bs) bs
+beginning k [] all = ([], refl)
+beginning k (b ∷ bs) all = beginning_by k b bs all.0 (beginning k bs all.1) (nat_le b.level k) refl
+
+-- ---- names
 
 -- a name that has no rank has no entry
+no_entry_by : (x : List ℕ) (e : Entry) (es : List Entry) → (look_up (ranks_of es) x ≡ None → entry_named es x ≡ None) → (b : Bool) → cond b (Some (rank_of_entry e)) (look_up (ranks_of es) x) ≡ None → cond b (Some e) (entry_named es x) ≡ None
+no_entry_by x e es next true h = absurd (cc)
+no_entry_by x e es next false h = next h
+
 no_entry : (es : List Entry) (x : List ℕ) → look_up (ranks_of es) x ≡ None → entry_named es x ≡ None
 no_entry [] x h = refl
-no_entry (e ∷ es) x h = by (bytes_eq x e.name) h (no_entry es x)
-  where
-    by : (b : Bool) → cond b (Some (rank_of_entry e)) (look_up (ranks_of es) x) ≡ None → (look_up (ranks_of es) x ≡ None → entry_named es x ≡ None) → cond b (Some e) (entry_named es x) ≡ None
-    by true h next = absurd (cc)
-    by false h next = next h
+no_entry (e ∷ es) x h = no_entry_by x e es (no_entry es x) (bytes_eq x e.name) h
 
--- one more name
-one_more : (theories : Theories) (earlier es : List Entry) (e : Entry) → AreIntroduced theories earlier es → IsIntroduced theories (earlier ++ es) e → AreIntroduced theories earlier (es ++ e ∷ [])
-one_more theories earlier [] e h is = (subst (λ (before : List Entry). IsIntroduced theories before e) (append-nil earlier) is, tt)
-one_more theories earlier (c ∷ es) e h is =
-    (h.0, one_more theories (earlier ++ c ∷ []) es e h.1 (subst (λ (before : List Entry). IsIntroduced theories before e) (sym (append_assoc earlier (c ∷ []) es)) is))
+-- more names
+more_names : (theories : Theories) (earlier es fs : List Entry) → AreIntroduced theories earlier es → AreIntroduced theories (earlier ++ es) fs → AreIntroduced theories earlier (es ++ fs)
+more_names theories earlier [] fs h more = subst (λ (before : List Entry). AreIntroduced theories before fs) (append-nil earlier) more
+more_names theories earlier (c ∷ es) fs h more =
+    (h.0, more_names theories (earlier ++ c ∷ []) es fs h.1 (subst (λ (before : List Entry). AreIntroduced theories before fs) (sym (append_assoc earlier (c ∷ []) es)) more))
+
+-- fewer names
+fewer_names : (theories : Theories) (earlier es fs : List Entry) → AreIntroduced theories earlier (es ++ fs) → AreIntroduced theories earlier es
+fewer_names theories earlier [] fs h = tt
+fewer_names theories earlier (c ∷ es) fs h = (h.0, fewer_names theories (earlier ++ c ∷ []) es fs h.1)
 
 first_false : (a b : Bool) → a || b ≡ false → (a ≡ false) × (b ≡ false)
 first_false true b h = absurd (cc)
@@ -42,14 +121,14 @@ none_of None h = refl
 none_of (Some a) h = absurd (cc)
 
 -- what a name that is not taken may bring
-introduced : (s : Signature) (e : Entry) → is_taken (names_of s) e.name ≡ false → IsSortedIfDefined (names_of s) e.parameters e.sort e.origin → IsIntroduced s.theories s.entries e
+introduced : (s : Signature) (e : Entry) → is_taken (names_of s) e.name ≡ false → IsSortedIfDefined (unlabelled_over s.theories s.entries) e.parameters e.sort e.origin → IsIntroduced s.theories s.entries e
 introduced s e free sorted =
     let both = first_false (is_some (look_up (ranks_of s.entries) e.name)) (is_plain_operator s.theories e.name) free in
     record { new = no_entry s.entries e.name (none_of (look_up (ranks_of s.entries) e.name) both.0); free = both.1; sorted = sorted }
 
-entry_or : (r : Result Entry TermFault) → fault_of_entry r ≡ None → (e : Entry) × (r ≡ Ok e)
-entry_or (Ok e) h = (e, refl)
-entry_or (Err f) h = absurd (cc)
+ok_or_fault : {A : Type 0} (r : Result A TermFault) → fault_of r ≡ None → (x : A) × (r ≡ Ok x)
+ok_or_fault (Ok x) h = (x, refl)
+ok_or_fault (Err f) h = absurd (cc)
 
 -- a declaration says its name and where it comes from, and the name is not taken
 declared_entry : (taken : Bool) (x : List ℕ) (n : ℕ) (rank : Result Rank TermFault) (e : Entry) → cond taken (Err terms.NotFresh) (result_and_then rank (λ r. Ok (declaration x n r))) ≡ Ok e
@@ -62,62 +141,113 @@ sorted_as : (names : Names) (sorts : List Sort) (sort : Sort) (o : Origin) → I
 sorted_as names sorts sort (Declared command) h = absurd h
 sorted_as names sorts sort (Defined ps body) h = h
 
--- the law of definitions
-pub record DefinitionsAreWellSorted : Type 0 where
-  pub sorted : (s : Signature) (x : List ℕ) (ps : List (List ℕ × Sexp)) (tree body : Sexp) (e : Entry) → defined_in (names_of s) x ps tree body ≡ Ok e → IsWellSorted s.theories s.entries e
-  pub named : (s : Signature) (x : List ℕ) (ps : List (List ℕ × Sexp)) (tree body : Sexp) (e : Entry) → defined_in (names_of s) x ps tree body ≡ Ok e → e.name ≡ x
-  pub free : (s : Signature) (x : List ℕ) (ps : List (List ℕ × Sexp)) (tree body : Sexp) (e : Entry) → defined_in (names_of s) x ps tree body ≡ Ok e → is_taken (names_of s) x ≡ false
+-- the laws of definitions and labels
+pub record NamesAreIntroduced : Type 0 where
+  pub sorted : (s : Signature) (x : List ℕ) (ps : List (List ℕ × Sexp)) (tree body : Sexp) (e : Entry) → defined_in s x ps tree body ≡ Ok e → IsWellSorted s.theories s.entries e
+  pub named : (s : Signature) (x : List ℕ) (ps : List (List ℕ × Sexp)) (tree body : Sexp) (e : Entry) → defined_in s x ps tree body ≡ Ok e → e.name ≡ x
+  pub free : (s : Signature) (x : List ℕ) (ps : List (List ℕ × Sexp)) (tree body : Sexp) (e : Entry) → defined_in s x ps tree body ≡ Ok e → is_taken (names_of s) x ≡ false
+  pub labels : (s : Signature) (term : Sexp) (es : List Entry) → asserted_in (names_of s) term ≡ Ok es → AreIntroduced s.theories s.entries es
 
-module _ (law : DefinitionsAreWellSorted) where
-  -- the entries once a command brought these
-  abbrev IsKept : List Numbered → List Entry → Type 0
-  IsKept cs brought = AreIntroduced (theories_in_force cs) [] (names_in_force cs ++ brought)
+abbrev IsWell : Signature → Type 0
+IsWell s = AreIntroduced s.theories [] s.entries
 
-  brings : (cs : List Numbered) (e : Entry) (brought : List Entry) → brought ≡ e ∷ [] → AreIntroduced (theories_in_force cs) [] (names_in_force cs) → IsIntroduced (theories_in_force cs) (names_in_force cs) e → IsKept cs brought
-  brings cs e brought is all one = subst (IsKept cs) (sym is) (one_more (theories_in_force cs) [] (names_in_force cs) e all one)
+-- what a command brings is introduced behind the names in force
+abbrev BringsWell : Signature → List Entry → Type 0
+BringsWell s brought = AreIntroduced s.theories s.entries brought
 
-  declares : (cs : List Numbered) (n : ℕ) (x : List ℕ) (parameters : Sexps) (sort : Sexp) → AreIntroduced (theories_in_force cs) [] (names_in_force cs)
-      → fault_of_entry (declared_in (names_of (signature_in_force cs)) n x parameters sort) ≡ None → IsKept cs (names_by (theories_in_force cs) n (DeclareFun x parameters sort))
-  declares cs n x parameters sort all h =
+module _ (law : NamesAreIntroduced) where
+  declares : (s : Signature) (n : ℕ) (x : List ℕ) (parameters : Sexps) (sort : Sexp) → fault_of (declared_in s n x parameters sort) ≡ None → BringsWell s (one_or_none (declared_in s n x parameters sort))
+  declares s n x parameters sort h =
+      let made = ok_or_fault (declared_in s n x parameters sort) h in
+      let said = declared_entry (is_taken (names_of s) x) x n (rank_named (sort_names_of s) parameters sort) made.0 made.1 in
+      subst (BringsWell s) (sym (ap one_or_none made.1))
+      (introduced s made.0 (ap (is_taken (names_of s)) said.1 ∙ said.0) (subst (IsSortedIfDefined (unlabelled_over s.theories s.entries) made.0.parameters made.0.sort) (sym said.2) tt), tt)
+
+  defines : (s : Signature) (x : List ℕ) (ps : List (List ℕ × Sexp)) (sort body : Sexp) → fault_of (defined_in s x ps sort body) ≡ None → BringsWell s (one_or_none (defined_in s x ps sort body))
+  defines s x ps sort body h =
+      let made = ok_or_fault (defined_in s x ps sort body) h in
+      subst (BringsWell s) (sym (ap one_or_none made.1)) (
+        introduced s made.0 (ap (is_taken (names_of s)) (law.named s x ps sort body made.0 made.1) ∙ law.free s x ps sort body made.0 made.1)
+            (sorted_as (unlabelled_over s.theories s.entries) made.0.parameters made.0.sort made.0.origin (law.sorted s x ps sort body made.0 made.1)),
+        tt,
+      )
+
+  asserts : (s : Signature) (term : Sexp) → fault_of (asserted_in (names_of s) term) ≡ None → BringsWell s (all_or_none (asserted_in (names_of s) term))
+  asserts s term h =
+      let made = ok_or_fault (asserted_in (names_of s) term) h in
+      subst (BringsWell s) (sym (ap all_or_none made.1)) (law.labels s term made.0 made.1)
+
+  adds : (cs : List Numbered) (c : Numbered) → Keeps c.command → IsWell (signature_in_force cs) → BringsWell (signature_in_force cs) (entries_by (signature_in_force cs) c.number c.command) → IsWell (signature_in_force (cs ++ c ∷ []))
+  adds cs c keeps all brought =
       let s = signature_in_force cs in
-      let made = entry_or (declared_in (names_of s) n x parameters sort) h in
-      let said = declared_entry (is_taken (names_of s) x) x n (rank_named (names_of s) parameters sort) made.0 made.1 in
-      brings cs made.0 _ (declared_is_brought (is_taken (names_of s) x) x n (rank_named (names_of s) parameters sort) made.0 made.1) all
-      (introduced s made.0 (ap (is_taken (names_of s)) said.1 ∙ said.0) (subst (IsSortedIfDefined (names_of s) made.0.parameters made.0.sort) (sym said.2) tt))
+      subst IsWell (sym (signature-add cs c keeps)) (more_names s.theories [] s.entries (entries_by s c.number c.command) all brought)
 
-  defines : (cs : List Numbered) (n : ℕ) (x : List ℕ) (ps : List (List ℕ × Sexp)) (sort body : Sexp) → AreIntroduced (theories_in_force cs) [] (names_in_force cs)
-      → fault_of_entry (defined_in (names_of (signature_in_force cs)) x ps sort body) ≡ None → IsKept cs (names_by (theories_in_force cs) n (DefineFun x ps sort body))
-  defines cs n x ps sort body all h =
-      let s = signature_in_force cs in
-      let made = entry_or (defined_in (names_of s) x ps sort body) h in
-      brings cs made.0 _ (defined_is_brought (is_taken (names_of s) x) (names_of s) x (parameters_named s.theories [] ps) (sort_named s.theories sort) body made.0 made.1) all
-      (introduced s made.0 (ap (is_taken (names_of s)) (law.named s x ps sort body made.0 made.1) ∙ law.free s x ps sort body made.0 made.1)
-      (sorted_as (names_of s) made.0.parameters made.0.sort made.0.origin (law.sorted s x ps sort body made.0 made.1)))
+  keeps_all : (command : Command) → is_reset command ≡ false → ((d : ℕ) → depth_after d command ≡ d) → ((t : Theories) → theories_after t command ≡ t) → Keeps command
+  keeps_all command a b c = record { no_reset = a; level = λ d. (let e = b d in omega arith); theories = c }
 
   unfixed : (fixed : Bool) (theories : Option Theories) → fault_of_logic fixed theories ≡ None → fixed ≡ false
   unfixed true theories h = absurd (cc)
   unfixed false theories h = refl
 
-  -- one more command
-  step : (cs : List Numbered) (n : ℕ) (command : Command) → AreIntroduced (theories_in_force cs) [] (names_in_force cs) → fault_of_effect cs n command ≡ None
-      → AreIntroduced (theories_after (theories_in_force cs) command) [] (names_in_force cs ++ names_by (theories_in_force cs) n command)
-  step cs n (SetLogic name) all h =
-      subst (λ (es : List Entry). AreIntroduced (theories_after (theories_in_force cs) (SetLogic name)) [] (es ++ [])) (sym (no_names_in_force cs (unfixed (is_logic_fixed cs) (theories_named name) h))) tt
-  step cs n (DeclareConst x sort) all h = declares cs n x Nil sort all h
-  step cs n (DeclareFun x parameters sort) all h = declares cs n x parameters sort all h
-  step cs n (DefineFun x ps sort body) all h = defines cs n x ps sort body all h
-  step cs n (Assert term) all h = subst (AreIntroduced (theories_in_force cs) []) (sym (append-nil (names_in_force cs))) all
-  step cs n CheckSat all h = subst (AreIntroduced (theories_in_force cs) []) (sym (append-nil (names_in_force cs))) all
-  step cs n GetModel all h = subst (AreIntroduced (theories_in_force cs) []) (sym (append-nil (names_in_force cs))) all
+  -- no names in any theories
+  no_entries : (s : Signature) → s.entries ≡ [] → IsWell s
+  no_entries s none = subst (λ (es : List Entry). AreIntroduced s.theories [] es) (sym none) tt
 
-  abbrev IsWell : Signature → Type 0
-  IsWell s = AreIntroduced s.theories [] s.entries
+  sets_logic : (cs : List Numbered) (n : ℕ) (x : List ℕ) → fault_of_effect cs n (SetLogic x) ≡ None → IsWell (signature_in_force (cs ++ record { number = n; command = SetLogic x } ∷ []))
+  sets_logic cs n x h =
+      let c : Numbered = record { number = n; command = SetLogic x } in
+      let b = brought_by cs (history cs) c in
+      let empty = unfixed_is_empty cs (unfixed (is_logic_fixed cs) (theories_named x) h) in
+      no_entries (signature_in_force (cs ++ c ∷ []))
+      (ap entries_of (in_force-grow cs c refl (omega arith)) ∙ entries-push (in_force (history cs)) b ∙ append-nil (entries_of (in_force (history cs))) ∙ empty.0.entries)
+
+  pops : (cs : List Numbered) (n m : ℕ) → IsWell (signature_in_force cs) → IsWell (signature_in_force (cs ++ record { number = n; command = Pop m } ∷ []))
+  pops cs n m all =
+      let c : Numbered = record { number = n; command = Pop m } in
+      let b = brought_by cs (history cs) c in
+      let B = in_force (history cs) in
+      let first = beginning b.level B (in_force_sorted cs) in
+      let now : entries_of (in_force (history (cs ++ c ∷ []))) ≡ entries_of (to_level b.level B) =
+      ap (λ (h : List Brought). entries_of (in_force h)) (history-push cs c) ∙ ap entries_of (in_force-push (history cs) b)
+      ∙ entries-push (still b B) b ∙ append-nil (entries_of (still b B)) ∙ ap entries_of (levels_still b B refl) in
+      let split : entries_of B ≡ entries_of (to_level b.level B) ++ entries_of first.0 = ap entries_of first.1 ∙ flat_map-append (λ (x : Brought). x.entries) (to_level b.level B) first.0 in
+      subst (λ (t : Theories). AreIntroduced t [] (entries_of (in_force (history (cs ++ c ∷ []))))) (sym (theories-push cs c))
+      (subst (λ (es : List Entry). AreIntroduced (theories_in_force cs) [] es) (sym now)
+      (fewer_names (theories_in_force cs) [] (entries_of (to_level b.level B)) (entries_of first.0) (subst (λ (es : List Entry). AreIntroduced (theories_in_force cs) [] es) split all)))
+
+  resets : (cs : List Numbered) (c : Numbered) → is_reset c.command ≡ true → ((s : Signature) (n : ℕ) → entries_by s n c.command ≡ []) → IsWell (signature_in_force (cs ++ c ∷ []))
+  resets cs c all none =
+      let b = brought_by cs (history cs) c in
+      no_entries (signature_in_force (cs ++ c ∷ []))
+      (ap (λ (h : List Brought). entries_of (in_force h)) (history-push cs c) ∙ ap entries_of (in_force-push (history cs) b)
+      ∙ entries-push (still b (in_force (history cs))) b ∙ ap (λ (l : List Brought). entries_of l ++ b.entries) (none_still b (in_force (history cs)) all) ∙ none (signature_in_force cs) c.number)
+
+  -- one more command
+  step : (cs : List Numbered) (n : ℕ) (command : Command) → IsWell (signature_in_force cs) → fault_of_effect cs n command ≡ None → IsWell (signature_in_force (cs ++ record { number = n; command = command } ∷ []))
+  step cs n (SetLogic x) all h = sets_logic cs n x h
+  step cs n (DeclareConst x sort) all h = adds cs (record { number = n; command = DeclareConst x sort }) (keeps_all (DeclareConst x sort) refl (λ d. refl) (λ t. refl)) all (declares (signature_in_force cs) n x Nil sort h)
+  step cs n (DeclareFun x ps sort) all h = adds cs (record { number = n; command = DeclareFun x ps sort }) (keeps_all (DeclareFun x ps sort) refl (λ d. refl) (λ t. refl)) all (declares (signature_in_force cs) n x ps sort h)
+  step cs n (DefineFun x ps sort body) all h = adds cs (record { number = n; command = DefineFun x ps sort body }) (keeps_all (DefineFun x ps sort body) refl (λ d. refl) (λ t. refl)) all (defines (signature_in_force cs) x ps sort body h)
+  step cs n (Assert term) all h = adds cs (record { number = n; command = Assert term }) (keeps_all (Assert term) refl (λ d. refl) (λ t. refl)) all (asserts (signature_in_force cs) term h)
+  step cs n (DefineSort x sort) all h = adds cs (record { number = n; command = DefineSort x sort }) (keeps_all (DefineSort x sort) refl (λ d. refl) (λ t. refl)) all tt
+  step cs n (Push m) all h = adds cs (record { number = n; command = Push m }) (record { no_reset = refl; level = λ d. omega arith; theories = λ t. refl }) all tt
+  step cs n (Pop m) all h = pops cs n m all
+  step cs n Reset all h = resets cs (record { number = n; command = Reset }) refl (λ s k. refl)
+  step cs n ResetAssertions all h = resets cs (record { number = n; command = ResetAssertions }) refl (λ s k. refl)
+  step cs n (SetPrintSuccess on) all h = adds cs (record { number = n; command = SetPrintSuccess on }) (keeps_all (SetPrintSuccess on) refl (λ d. refl) (λ t. refl)) all tt
+  step cs n (SetOption k v) all h = adds cs (record { number = n; command = SetOption k v }) (keeps_all (SetOption k v) refl (λ d. refl) (λ t. refl)) all tt
+  step cs n (SetInfo k v) all h = adds cs (record { number = n; command = SetInfo k v }) (keeps_all (SetInfo k v) refl (λ d. refl) (λ t. refl)) all tt
+  step cs n Exit all h = adds cs (record { number = n; command = Exit }) (keeps_all Exit refl (λ d. refl) (λ t. refl)) all tt
+  step cs n CheckSat all h = adds cs (record { number = n; command = CheckSat }) (keeps_all CheckSat refl (λ d. refl) (λ t. refl)) all tt
+  step cs n GetModel all h = adds cs (record { number = n; command = GetModel }) (keeps_all GetModel refl (λ d. refl) (λ t. refl)) all tt
+  step cs n (Echo t) all h = adds cs (record { number = n; command = Echo t }) (keeps_all (Echo t) refl (λ d. refl) (λ t. refl)) all tt
+  step cs n (Get q) all h = adds cs (record { number = n; command = Get q }) (keeps_all (Get q) refl (λ d. refl) (λ t. refl)) all tt
 
   from : (before cs : List Numbered) → IsWell (signature_in_force before) → HaveNoFault before cs → IsWell (signature_in_force (before ++ cs))
   from before [] all h = subst (λ (cs : List Numbered). IsWell (signature_in_force cs)) (sym (append-nil before)) all
   from before (c ∷ cs) all h =
       subst (λ (ds : List Numbered). IsWell (signature_in_force ds)) (append_assoc before (c ∷ []) cs)
-      (from (before ++ c ∷ []) cs (subst IsWell (sym (signature-push before c)) (step before c.number c.command all h.0)) h.1)
+      (from (before ++ c ∷ []) cs (step before c.number c.command all h.0) h.1)
 
   pub names_introduced : (cs : List Numbered) → HaveNoFault [] cs → IsWell (signature_in_force cs)
   names_introduced cs h = from [] cs tt h

@@ -1,4 +1,5 @@
-pub mod FormLemmas
-pub mod InForceLemmas
+pub mod StandingLemmas
+pub mod HistoryLemmas
 pub mod EffectLemmas
+pub mod LevelLemmas
 pub mod IntroducedLemmas

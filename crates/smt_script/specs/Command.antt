@@ -1,55 +1,125 @@
 -- SMT-LIB 2.6, section 4.2: the trees that are commands. Which commands are supported is this project's choice.
-use Rattle.std.specs.Prelude.{ℕ, List, Result, Ok, Err, if◌then◌else◌}
+use Rattle.std.specs.Prelude.{ℕ, List, Bool, true, false, not, ◌&&◌, Option, Some, None, is_some, option_map, option_and_then, Result, Ok, Err, ok_or, bytes_eq, codes, if◌then◌else◌}
 use Rattle.smt_text.specs.Sexp.{Sexp, Sexps, Atom, Reserved, Items, Nil, Cons, Symbol}
 use Rattle.smt_text.specs.declared.reserved.Word.{Word}
 use Rattle.smt_text.specs.declared.reserved.Word.TheVariants as words
-use Rattle.smt_terms.specs.Bindings.{are_named_trees, named_trees}
+use Rattle.smt_script.specs.Parts.{is_none, keyword_and_value, list_and_tree, name_and_abbreviated, name_and_definition, name_and_rank, name_and_sort, one_keyword, one_list, one_numeral, one_symbol, one_text, one_tree, truth_of_value}
 use Rattle.smt_script.specs.declared.fault.CommandFault.{CommandFault}
 use Rattle.smt_script.specs.declared.fault.CommandFault.TheVariants.{Form, Unsupported}
 
+-- what a solver is asked for, beside models
+pub data Query : Type 0 where
+  Values : (terms : Sexps) → Query
+  Info : (keyword : List ℕ) → Query
+  Setting : (keyword : List ℕ) → Query
+  Assertions : Query
+  Assignment : Query
+  Proof : Query
+  UnsatCore : Query
+  UnsatAssumptions : Query
+
 pub data Command : Type 0 where
   SetLogic : (name : List ℕ) → Command
+  SetPrintSuccess : (on : Bool) → Command
+  SetOption : (keyword : List ℕ) → (value : Option Sexp) → Command
+  SetInfo : (keyword : List ℕ) → (value : Option Sexp) → Command
   DeclareConst : (name : List ℕ) → (sort : Sexp) → Command
   DeclareFun : (name : List ℕ) → (parameters : Sexps) → (sort : Sexp) → Command
   DefineFun : (name : List ℕ) → (parameters : List (List ℕ × Sexp)) → (sort : Sexp) → (body : Sexp) → Command
+  DefineSort : (name : List ℕ) → (sort : Sexp) → Command
   Assert : (term : Sexp) → Command
+  Push : (levels : ℕ) → Command
+  Pop : (levels : ℕ) → Command
+  Reset : Command
+  ResetAssertions : Command
+  Exit : Command
   CheckSat : Command
   GetModel : Command
+  Echo : (text : List ℕ) → Command
+  Get : (query : Query) → Command
 
--- what is wrong with a list that begins with this word, and is no command in form: a command of the standard that isn't supported
--- is refused as such, whatever follows the word
-abbrev pub refused_word : Word → CommandFault
-refused_word words.Bang = Form
-refused_word words.Underscore = Form
-refused_word words.As = Form
-refused_word words.Binary = Form
-refused_word words.Decimal = Form
-refused_word words.Exists = Form
-refused_word words.Hexadecimal = Form
-refused_word words.Forall = Form
-refused_word words.Let = Form
-refused_word words.Match = Form
-refused_word words.Numeral = Form
-refused_word words.Par = Form
-refused_word words.String = Form
-refused_word words.Assert = Form
-refused_word words.CheckSat = Form
-refused_word words.DeclareConst = Form
-refused_word words.DeclareFun = Form
-refused_word words.DefineFun = Form
-refused_word words.GetModel = Form
-refused_word words.SetLogic = Form
-refused_word _ = Unsupported
+-- ---- options
+
+abbrev pub is_print_success : List ℕ → Bool
+is_print_success keyword = bytes_eq keyword (codes "print-success")
+
+abbrev pub is_global_declarations : List ℕ → Bool
+is_global_declarations keyword = bytes_eq keyword (codes "global-declarations")
+
+-- an option whose value has to be a truth value, and may be `false` alone
+abbrev pub if_false : Command → Option Bool → Option Command
+if_false command (Some false) = Some command
+if_false command _ = None
+
+-- the command that sets an option to a value, or to none
+abbrev pub option_setting : List ℕ × Option Sexp → Option Command
+option_setting p =
+    if is_print_success p.0 then option_map SetPrintSuccess (truth_of_value p.1)
+    else if is_global_declarations p.0 then if_false (SetOption p.0 p.1) (truth_of_value p.1)
+    else Some (SetOption p.0 p.1)
+
+-- ---- commands
+
+-- a command that has no parts
+abbrev pub alone : Command → Sexps → Option Command
+alone command parts = if is_none parts then Some command else None
+
+-- the command of this word with these parts behind it
+abbrev pub command_with : Word → Sexps → Option Command
+command_with words.SetLogic parts = option_map SetLogic (one_symbol parts)
+command_with words.SetOption parts = option_and_then option_setting (keyword_and_value parts)
+command_with words.SetInfo parts = option_map (λ p. SetInfo p.0 p.1) (keyword_and_value parts)
+command_with words.DeclareConst parts = option_map (λ p. DeclareConst p.0 p.1) (name_and_sort parts)
+command_with words.DeclareFun parts = option_map (λ p. DeclareFun p.0 p.1.0 p.1.1) (name_and_rank parts)
+command_with words.DefineFun parts = option_map (λ p. DefineFun p.0 p.1.0 p.1.1.0 p.1.1.1) (name_and_definition parts)
+command_with words.DefineSort parts = option_map (λ p. DefineSort p.0 p.1) (name_and_abbreviated parts)
+command_with words.Assert parts = option_map Assert (one_tree parts)
+command_with words.Push parts = option_map Push (one_numeral parts)
+command_with words.Pop parts = option_map Pop (one_numeral parts)
+command_with words.Reset parts = alone Reset parts
+command_with words.ResetAssertions parts = alone ResetAssertions parts
+command_with words.Exit parts = alone Exit parts
+command_with words.CheckSat parts = alone CheckSat parts
+command_with words.GetModel parts = alone GetModel parts
+command_with words.Echo parts = option_map Echo (one_text parts)
+command_with words.GetValue parts = option_map (λ terms. Get (Values terms)) (one_list parts)
+command_with words.GetInfo parts = option_map (λ k. Get (Info k)) (one_keyword parts)
+command_with words.GetOption parts = option_map (λ k. Get (Setting k)) (one_keyword parts)
+command_with words.GetAssertions parts = alone (Get Assertions) parts
+command_with words.GetAssignment parts = alone (Get Assignment) parts
+command_with words.GetProof parts = alone (Get Proof) parts
+command_with words.GetUnsatCore parts = alone (Get UnsatCore) parts
+command_with words.GetUnsatAssumptions parts = alone (Get UnsatAssumptions) parts
+command_with _ parts = None
+
+-- whether these parts of a `define-sort` are in form, its parameters being any trees
+abbrev pub is_abbreviation : Sexps → Bool
+is_abbreviation (Cons (Atom Symbol x) rest) = is_some (list_and_tree rest)
+is_abbreviation _ = false
+
+abbrev pub is_true : Option Bool → Bool
+is_true (Some true) = true
+is_true _ = false
+
+-- whether these parts of a `set-option` make declarations global
+abbrev pub makes_global : Option (List ℕ × Option Sexp) → Bool
+makes_global None = false
+makes_global (Some p) = is_global_declarations p.0 && is_true (truth_of_value p.1)
+
+-- what is wrong with a list that begins with this word, and is no command: some commands of the standard are not supported, whatever
+-- follows their word; others with some parts
+abbrev pub refusal : Word → Sexps → CommandFault
+refusal words.CheckSatAssuming parts = Unsupported
+refusal words.DeclareDatatype parts = Unsupported
+refusal words.DeclareDatatypes parts = Unsupported
+refusal words.DeclareSort parts = Unsupported
+refusal words.DefineFunRec parts = Unsupported
+refusal words.DefineFunsRec parts = Unsupported
+refusal words.DefineSort parts = if is_abbreviation parts then Unsupported else Form
+refusal words.SetOption parts = if makes_global (keyword_and_value parts) then Unsupported else Form
+refusal _ parts = Form
 
 -- the command that a tree is, or why it is refused
 abbrev pub command_of : Sexp → Result Command CommandFault
-command_of (Items (Cons (Reserved words.SetLogic) (Cons (Atom Symbol x) Nil))) = Ok (SetLogic x)
-command_of (Items (Cons (Reserved words.DeclareConst) (Cons (Atom Symbol x) (Cons sort Nil)))) = Ok (DeclareConst x sort)
-command_of (Items (Cons (Reserved words.DeclareFun) (Cons (Atom Symbol x) (Cons (Items parameters) (Cons sort Nil))))) = Ok (DeclareFun x parameters sort)
-command_of (Items (Cons (Reserved words.DefineFun) (Cons (Atom Symbol x) (Cons (Items parameters) (Cons sort (Cons body Nil)))))) =
-    if are_named_trees parameters then Ok (DefineFun x (named_trees parameters) sort body) else Err Form
-command_of (Items (Cons (Reserved words.Assert) (Cons term Nil))) = Ok (Assert term)
-command_of (Items (Cons (Reserved words.CheckSat) Nil)) = Ok CheckSat
-command_of (Items (Cons (Reserved words.GetModel) Nil)) = Ok GetModel
-command_of (Items (Cons (Reserved word) rest)) = Err (refused_word word)
+command_of (Items (Cons (Reserved word) parts)) = ok_or (command_with word parts) (refusal word parts)
 command_of _ = Err Form

@@ -1,16 +1,41 @@
 -- What a contract sees of a command.
+use Rattle.std.specs.Prelude.{option_map}
+use Rattle.std.specs.Str.Parse.{digits_value}
 use Rattle.smt_text.specs.Tree.{sexp_of}
 use Rattle.smt_terms.specs.Bindings.{named_trees}
 use Rattle.smt_script.specs.Command as spec
 use Rattle.smt_script.specs.declared.command.Command.{Command}
-use Rattle.smt_script.specs.declared.command.Command.TheVariants.{SetLogic, DeclareConst, DeclareFun, DefineFun, Assert, CheckSat, GetModel}
+use Rattle.smt_script.specs.declared.command.Command.TheVariants.{SetLogic, SetPrintSuccess, SetOption, SetInfo, DeclareConst, DeclareFun, DefineFun, DefineSort, Assert, Push, Pop, Reset, ResetAssertions, Exit, CheckSat, GetModel, Echo, Get}
+use Rattle.smt_script.specs.declared.command.Query.{Query}
+use Rattle.smt_script.specs.declared.command.Query.TheVariants.{Values, Info, Setting, Assertions, Assignment, Proof, UnsatCore, UnsatAssumptions}
+
+abbrev pub query_view : Query → spec.Query
+query_view (Values terms) = spec.Values terms
+query_view (Info keyword) = spec.Info keyword
+query_view (Setting keyword) = spec.Setting keyword
+query_view Assertions = spec.Assertions
+query_view Assignment = spec.Assignment
+query_view Proof = spec.Proof
+query_view UnsatCore = spec.UnsatCore
+query_view UnsatAssumptions = spec.UnsatAssumptions
 
 -- the command that a value of the code is
 abbrev pub command_view : Command → spec.Command
 command_view (SetLogic name) = spec.SetLogic name
+command_view (SetPrintSuccess on) = spec.SetPrintSuccess on
+command_view (SetOption keyword value) = spec.SetOption keyword (option_map sexp_of value)
+command_view (SetInfo keyword value) = spec.SetInfo keyword (option_map sexp_of value)
 command_view (DeclareConst name sort) = spec.DeclareConst name (sexp_of sort)
 command_view (DeclareFun name params sort) = spec.DeclareFun name params (sexp_of sort)
 command_view (DefineFun name params sort body) = spec.DefineFun name (named_trees params) (sexp_of sort) (sexp_of body)
+command_view (DefineSort name sort) = spec.DefineSort name (sexp_of sort)
 command_view (Assert term) = spec.Assert (sexp_of term)
+command_view (Push levels) = spec.Push (digits_value 10 levels)
+command_view (Pop levels) = spec.Pop (digits_value 10 levels)
+command_view Reset = spec.Reset
+command_view ResetAssertions = spec.ResetAssertions
+command_view Exit = spec.Exit
 command_view CheckSat = spec.CheckSat
 command_view GetModel = spec.GetModel
+command_view (Echo text) = spec.Echo text
+command_view (Get query) = spec.Get (query_view query)

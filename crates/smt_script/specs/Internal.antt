@@ -1,2 +1,2 @@
-pub mod CommandForm
 pub mod Effect
+pub mod PartsView

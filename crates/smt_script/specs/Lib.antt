@@ -1,3 +1,4 @@
+pub mod Parts
 pub mod Command
 pub mod CommandView
 pub mod Stack

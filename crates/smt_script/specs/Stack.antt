@@ -1,22 +1,21 @@
 -- SMT-LIB 2.6, sections 4.1.1, 4.1.4 and 4.2: what is in force after commands that took effect, and the fault of a command's effect.
--- Commands count from 1.
-use Rattle.std.specs.Prelude.{◌≡◌, ℕ, List, [], ◌∷◌, ◌++◌, Bool, true, false, not, ◌||◌, Option, Some, None, is_some, Result, Ok, Err, fold, if◌then◌else◌}
-use Rattle.std.specs.List.{flat_map, list_any}
+-- Commands count from 1. Declarations, definitions, labels and abbreviations go with the level at which they came, as assertions do:
+-- `:global-declarations` is false. That there are at most 10,000 levels is this project's limit.
+use Rattle.std.specs.Prelude.{◌≡◌, ◌≤◌, ℕ, ◌+◌, ◌-◌, List, [], ◌∷◌, ◌++◌, Bool, true, false, not, ◌&&◌, ◌||◌, Option, Some, None, is_some, Result, Ok, Err, fold, nat_le, nat_lt, if◌then◌else◌}
+use Rattle.std.specs.List.{flat_map, list_all, list_any}
 use Rattle.smt_text.specs.Sexp.{Sexp, Nil}
-use Rattle.smt_theory.specs.Sort.{is_same_sort}
 use Rattle.smt_theory.specs.Theories.{theories_named}
 use Rattle.smt_theory.specs.declared.sort.Sort.{Sort}
-use Rattle.smt_theory.specs.declared.sort.Sort.TheVariants.{Bool as Boolean}
 use Rattle.smt_theory.specs.declared.theories.Theories.{Theories}
-use Rattle.smt_terms.specs.Checking.{sort_in}
-use Rattle.smt_terms.specs.Definitions.{defined_in, definition, parameters_named}
-use Rattle.smt_terms.specs.Signature.{Entry, Rank, Signature, declaration, declared_in, names_of, no_names, rank_named}
-use Rattle.smt_terms.specs.SortTrees.{sort_named}
+use Rattle.smt_terms.specs.Assertions.{asserted_in}
+use Rattle.smt_terms.specs.Definitions.{defined_in}
+use Rattle.smt_terms.specs.Signature.{Entry, Signature, declared_in, names_of, sort_names_of}
+use Rattle.smt_terms.specs.SortTrees.{abbreviated_in}
 use Rattle.smt_terms.specs.declared.fault.TermFault.{TermFault}
 use Rattle.smt_terms.specs.declared.fault.TermFault.TheVariants as terms
-use Rattle.smt_script.specs.Command.{Command, SetLogic, DeclareConst, DeclareFun, DefineFun, Assert, CheckSat, GetModel}
+use Rattle.smt_script.specs.Command.{Command, SetLogic, SetPrintSuccess, DeclareConst, DeclareFun, DefineFun, DefineSort, Assert, Push, Pop, Reset, ResetAssertions, Exit, CheckSat}
 use Rattle.smt_script.specs.declared.fault.CommandFault.{CommandFault}
-use Rattle.smt_script.specs.declared.fault.CommandFault.TheVariants.{Logic, Term, Memory}
+use Rattle.smt_script.specs.declared.fault.CommandFault.TheVariants.{TooDeep, NoLevel, Logic, Term, Memory}
 
 -- a command that took effect, and its number
 pub record Numbered : Type 0 where
@@ -27,6 +26,8 @@ pub record Numbered : Type 0 where
 pub record Assertion : Type 0 where
   pub command : ℕ
   pub term : Sexp
+
+-- ---- theories, levels and `success`
 
 -- the theories before a logic is set: all that there are
 abbrev pub all_theories : Theories
@@ -40,99 +41,205 @@ theories_or theories (Some named) = named
 -- the theories after a command, from those before it
 abbrev pub theories_after : Theories → Command → Theories
 theories_after theories (SetLogic name) = theories_or theories (theories_named name)
-theories_after theories (DeclareConst x sort) = theories
-theories_after theories (DeclareFun x parameters sort) = theories
-theories_after theories (DefineFun x parameters sort body) = theories
-theories_after theories (Assert term) = theories
-theories_after theories CheckSat = theories
-theories_after theories GetModel = theories
+theories_after theories Reset = all_theories
+theories_after theories _ = theories
 
--- the theories in force after commands that took effect: those of the last logic that was set
+-- the theories in force after commands: those of the last logic that was set since the last reset
 abbrev pub theories_in_force : List Numbered → Theories
 theories_in_force commands = fold (λ theories c. theories_after theories c.command) all_theories commands
 
-abbrev pub declaration_or_none : List ℕ → ℕ → Result Rank TermFault → List Entry
-declaration_or_none x n (Ok rank) = declaration x n rank ∷ []
-declaration_or_none x n (Err fault) = []
+-- how many levels there are after a command
+abbrev pub depth_after : ℕ → Command → ℕ
+depth_after depth (Push levels) = depth + levels
+depth_after depth (Pop levels) = depth - levels
+depth_after depth Reset = 0
+depth_after depth ResetAssertions = 0
+depth_after depth _ = depth
 
-abbrev pub definition_or_none : List ℕ → Sexp → Result (List (List ℕ × Sort)) TermFault → Result Sort TermFault → List Entry
-definition_or_none x body (Ok parameters) (Ok sort) = definition x parameters sort body ∷ []
-definition_or_none x body _ _ = []
+-- how many levels there are after commands
+abbrev pub depth_in_force : List Numbered → ℕ
+depth_in_force commands = fold (λ depth c. depth_after depth c.command) 0 commands
 
--- the names that command n brings in these theories
-abbrev pub names_by : Theories → ℕ → Command → List Entry
-names_by theories n (SetLogic name) = []
-names_by theories n (DeclareConst x sort) = declaration_or_none x n (rank_named (names_of (no_names theories)) Nil sort)
-names_by theories n (DeclareFun x parameters sort) = declaration_or_none x n (rank_named (names_of (no_names theories)) parameters sort)
-names_by theories n (DefineFun x parameters sort body) = definition_or_none x body (parameters_named theories [] parameters) (sort_named theories sort)
-names_by theories n (Assert term) = []
-names_by theories n CheckSat = []
-names_by theories n GetModel = []
+-- whether `success` is printed after a command: `start` says whether it is at the start
+abbrev pub print_success_after : Bool → Bool → Command → Bool
+print_success_after start on (SetPrintSuccess value) = value
+print_success_after start on Reset = start
+print_success_after start on _ = on
 
--- the names that commands bring after the ones before them, in their order
-abbrev pub names_from : List Numbered → List Numbered → List Entry
-names_from before [] = []
-names_from before (c ∷ commands) = names_by (theories_in_force before) c.number c.command ++ names_from (before ++ c ∷ []) commands
+abbrev pub print_success_in_force : Bool → List Numbered → Bool
+print_success_in_force start commands = fold (λ on c. print_success_after start on c.command) start commands
 
--- the names in force after commands that took effect, in their order
-abbrev pub names_in_force : List Numbered → List Entry
-names_in_force commands = names_from [] commands
+abbrev pub is_exit : Command → Bool
+is_exit Exit = true
+is_exit _ = false
 
--- the theories and names in force after commands that took effect
-abbrev pub signature_in_force : List Numbered → Signature
-signature_in_force commands = record { theories = theories_in_force commands; entries = names_in_force commands }
+-- whether an `exit` is among commands
+abbrev pub has_exited : List Numbered → Bool
+has_exited commands = list_any (λ c. is_exit c.command) commands
+
+-- ---- what each command brought
+
+-- what a command brought: names, abbreviations and assertions; the level at which they came; and whether the command removed all that
+-- there was before
+pub record Brought : Type 0 where
+  pub level : ℕ
+  pub resets : Bool
+  pub entries : List Entry
+  pub abbreviations : List (List ℕ × Sort)
+  pub assertions : List Assertion
+
+-- whether what came at a level stands after a later command, which left so many levels: that did not remove all, and left as many
+abbrev pub stands_after : ℕ → Brought → Bool
+stands_after level later = not later.resets && nat_le level later.level
+
+-- what is in force of all that was brought: what stands after every later command
+abbrev pub in_force : List Brought → List Brought
+in_force [] = []
+in_force (b ∷ later) = (if list_all (stands_after b.level) later then b ∷ [] else []) ++ in_force later
+
+abbrev pub entries_of : List Brought → List Entry
+entries_of brought = flat_map (λ b. b.entries) brought
+
+abbrev pub abbreviations_of : List Brought → List (List ℕ × Sort)
+abbreviations_of brought = flat_map (λ b. b.abbreviations) brought
+
+abbrev pub assertions_of : List Brought → List Assertion
+assertions_of brought = flat_map (λ b. b.assertions) brought
+
+-- the signature that what was brought gives in these theories
+abbrev pub signature_of : Theories → List Brought → Signature
+signature_of theories brought = record { theories = theories; abbreviations = abbreviations_of brought; entries = entries_of brought }
+
+-- one thing, or none at a fault
+abbrev pub one_or_none : {A : Type 0} → Result A TermFault → List A
+one_or_none (Ok x) = x ∷ []
+one_or_none (Err fault) = []
+
+-- some things, or none at a fault
+abbrev pub all_or_none : {A : Type 0} → Result (List A) TermFault → List A
+all_or_none (Ok xs) = xs
+all_or_none (Err fault) = []
+
+abbrev pub named : List ℕ → List Sort → List (List ℕ × Sort)
+named x [] = []
+named x (sort ∷ sorts) = (x, sort) ∷ named x sorts
+
+-- the names that command n brings to a signature
+abbrev pub entries_by : Signature → ℕ → Command → List Entry
+entries_by s n (DeclareConst x sort) = one_or_none (declared_in s n x Nil sort)
+entries_by s n (DeclareFun x parameters sort) = one_or_none (declared_in s n x parameters sort)
+entries_by s n (DefineFun x parameters sort body) = one_or_none (defined_in s x parameters sort body)
+entries_by s n (Assert term) = all_or_none (asserted_in (names_of s) term)
+entries_by s n _ = []
+
+-- the abbreviations that a command brings
+abbrev pub abbreviations_by : Signature → Command → List (List ℕ × Sort)
+abbreviations_by s (DefineSort x sort) = named x (one_or_none (abbreviated_in (sort_names_of s) x sort))
+abbreviations_by s _ = []
 
 -- the assertion that command n brings
 abbrev pub assertions_by : ℕ → Command → List Assertion
-assertions_by n (SetLogic name) = []
-assertions_by n (DeclareConst x sort) = []
-assertions_by n (DeclareFun x parameters sort) = []
-assertions_by n (DefineFun x parameters sort body) = []
 assertions_by n (Assert term) = record { command = n; term = term } ∷ []
-assertions_by n CheckSat = []
-assertions_by n GetModel = []
+assertions_by n _ = []
+
+-- whether a command removes all that there is
+abbrev pub is_reset : Command → Bool
+is_reset Reset = true
+is_reset ResetAssertions = true
+is_reset _ = false
+
+-- what a command brings, behind the commands before it and what they brought
+abbrev pub brought_by : List Numbered → List Brought → Numbered → Brought
+brought_by before brought c =
+    let s = signature_of (theories_in_force before) (in_force brought) in
+    record {
+      level = depth_after (depth_in_force before) c.command;
+      resets = is_reset c.command;
+      entries = entries_by s c.number c.command;
+      abbreviations = abbreviations_by s c.command;
+      assertions = assertions_by c.number c.command;
+    }
+
+-- what commands brought, one by one, behind the commands before them and what those brought
+abbrev pub brought_from : List Numbered → List Brought → List Numbered → List Brought
+brought_from before brought [] = brought
+brought_from before brought (c ∷ commands) = brought_from (before ++ c ∷ []) (brought ++ brought_by before brought c ∷ []) commands
+
+-- all that commands ever brought, one by one
+abbrev pub history : List Numbered → List Brought
+history commands = brought_from [] [] commands
+
+-- ---- what is in force
+
+-- the theories, abbreviations and names in force after commands that took effect
+abbrev pub signature_in_force : List Numbered → Signature
+signature_in_force commands = signature_of (theories_in_force commands) (in_force (history commands))
 
 -- the assertions in force after commands that took effect, in their order
 abbrev pub assertions_in_force : List Numbered → List Assertion
-assertions_in_force commands = flat_map (λ c. assertions_by c.number c.command) commands
+assertions_in_force commands = assertions_of (in_force (history commands))
 
--- whether no logic may be set after the command: one is set once, and before every declaration, definition, assertion and check
+-- commands behind others leave so many levels, each of them
+abbrev pub KeepLevels : ℕ → List Numbered → List Numbered → Type 0
+KeepLevels level before [] = Unit {0}
+KeepLevels level before (c ∷ commands) = (level ≤ depth_in_force (before ++ c ∷ [])) × KeepLevels level (before ++ c ∷ []) commands
+
+-- what a command brought stands behind the earlier ones: no later one removes all, and none leaves fewer levels than there were then
+pub record Stands (commands earlier : List Numbered) (c : Numbered) : Type 0 where
+  pub later : List Numbered
+  pub place : commands ≡ earlier ++ c ∷ later
+  pub no_reset : list_any (λ d. is_reset d.command) later ≡ false
+  pub levels : KeepLevels (depth_in_force (earlier ++ c ∷ [])) (earlier ++ c ∷ []) later
+
+-- whether no logic may be set after the command: one is set once, and before every declaration, definition, assertion, change of level
+-- and check since the start or the last reset
 abbrev pub fixes_logic : Command → Bool
 fixes_logic (SetLogic name) = true
 fixes_logic (DeclareConst x sort) = true
 fixes_logic (DeclareFun x parameters sort) = true
 fixes_logic (DefineFun x parameters sort body) = true
+fixes_logic (DefineSort x sort) = true
 fixes_logic (Assert term) = true
+fixes_logic (Push levels) = true
+fixes_logic (Pop levels) = true
+fixes_logic ResetAssertions = true
 fixes_logic CheckSat = true
-fixes_logic GetModel = false
+fixes_logic _ = false
+
+abbrev pub is_fixed_after : Bool → Command → Bool
+is_fixed_after fixed Reset = false
+is_fixed_after fixed command = fixed || fixes_logic command
 
 -- whether no logic may be set after these commands
 abbrev pub is_logic_fixed : List Numbered → Bool
-is_logic_fixed commands = list_any (λ c. fixes_logic c.command) commands
+is_logic_fixed commands = fold (λ fixed c. is_fixed_after fixed c.command) false commands
 
--- the fault of an answer of the sort checker where a term has to be a formula
-abbrev pub fault_of_formula : Result Sort TermFault → Option CommandFault
-fault_of_formula (Ok sort) = if is_same_sort sort Boolean then None else Some (Term terms.IllSorted)
-fault_of_formula (Err fault) = Some (Term fault)
+-- ---- faults of effects
 
 -- the fault of what a command brings, if it brings none
-abbrev pub fault_of_entry : Result Entry TermFault → Option CommandFault
-fault_of_entry (Ok entry) = None
-fault_of_entry (Err fault) = Some (Term fault)
+abbrev pub fault_of : {A : Type 0} → Result A TermFault → Option CommandFault
+fault_of (Ok x) = None
+fault_of (Err fault) = Some (Term fault)
 
 -- the fault of setting a logic that has these theories, if it is one that is taken
 abbrev pub fault_of_logic : Bool → Option Theories → Option CommandFault
 fault_of_logic is_fixed theories = if is_fixed || not (is_some theories) then Some Logic else None
 
+-- the greatest number of levels
+abbrev pub limit : ℕ
+limit = 10000
+
 -- the fault of the effect of command n after the commands that took effect before it
 abbrev pub fault_of_effect : List Numbered → ℕ → Command → Option CommandFault
 fault_of_effect before n (SetLogic name) = fault_of_logic (is_logic_fixed before) (theories_named name)
-fault_of_effect before n (DeclareConst x sort) = fault_of_entry (declared_in (names_of (signature_in_force before)) n x Nil sort)
-fault_of_effect before n (DeclareFun x parameters sort) = fault_of_entry (declared_in (names_of (signature_in_force before)) n x parameters sort)
-fault_of_effect before n (DefineFun x parameters sort body) = fault_of_entry (defined_in (names_of (signature_in_force before)) x parameters sort body)
-fault_of_effect before n (Assert term) = fault_of_formula (sort_in (names_of (signature_in_force before)) [] term)
-fault_of_effect before n CheckSat = None
-fault_of_effect before n GetModel = None
+fault_of_effect before n (DeclareConst x sort) = fault_of (declared_in (signature_in_force before) n x Nil sort)
+fault_of_effect before n (DeclareFun x parameters sort) = fault_of (declared_in (signature_in_force before) n x parameters sort)
+fault_of_effect before n (DefineFun x parameters sort body) = fault_of (defined_in (signature_in_force before) x parameters sort body)
+fault_of_effect before n (DefineSort x sort) = fault_of (abbreviated_in (sort_names_of (signature_in_force before)) x sort)
+fault_of_effect before n (Assert term) = fault_of (asserted_in (names_of (signature_in_force before)) term)
+fault_of_effect before n (Push levels) = if nat_lt limit (depth_in_force before + levels) then Some TooDeep else None
+fault_of_effect before n (Pop levels) = if nat_lt (depth_in_force before) levels then Some NoLevel else None
+fault_of_effect before n _ = None
 
 -- no command's effect has a fault, behind those that come before
 abbrev pub HaveNoFault : List Numbered → List Numbered → Type 0

@@ -1,11 +1,15 @@
 -- What a contract sees of a stack, and the commands that it stands for.
-use Rattle.std.specs.Prelude.{◌≡◌, ℕ, List, [], ◌∷◌}
+use Rattle.std.specs.Prelude.{◌≡◌, ◌≤◌, ℕ, List, [], ◌∷◌, Bool, Some, length, nat_le, slice_get, take}
+use Rattle.std.specs.List.{filter}
+use Rattle.smt_theory.specs.declared.theories.Theories.{Theories}
+use Rattle.smt_terms.specs.Contents.{Contents, IsBelow, IsWithin, contents_of, first_of}
 use Rattle.smt_terms.specs.Library as library
-use Rattle.smt_terms.specs.Library.{IsTerm}
+use Rattle.smt_terms.specs.Library.{Holds, IsTermOf}
 use Rattle.smt_terms.specs.declared.library.Library.{Library}
 use Rattle.smt_script.specs.Stack as spec
-use Rattle.smt_script.specs.Stack.{Numbered, assertions_in_force, is_logic_fixed, signature_in_force}
+use Rattle.smt_script.specs.Stack.{Brought, Numbered, assertions_in_force, assertions_of, depth_in_force, has_exited, history, in_force, is_logic_fixed, print_success_in_force, signature_in_force, signature_of, theories_in_force}
 use Rattle.smt_script.specs.declared.stack.Assertion.{Assertion}
+use Rattle.smt_script.specs.declared.stack.levels.Level.{Level}
 use Rattle.smt_script.specs.declared.stack.Stack.{Stack}
 
 -- its library, which has the names in force and the terms of the assertions
@@ -16,14 +20,40 @@ library_of stack = stack.library
 abbrev pub last_of : Stack → ℕ
 last_of stack = stack.last
 
--- one by one they are of the same command, and the library has the second's term under the first's number
-abbrev pub AreAssertions : Library → List Assertion → List spec.Assertion → Type 0
+-- whether `success` is printed at the start
+abbrev pub start_of : Stack → Bool
+start_of stack = stack.start
+
+-- one by one they are of the same command, and the second's term stands under the first's number
+abbrev pub AreAssertions : Contents → List Assertion → List spec.Assertion → Type 0
 AreAssertions terms [] [] = Unit {0}
-AreAssertions terms (a ∷ as') (b ∷ bs) = (a.command ≡ b.command) × IsTerm terms a.term b.term × AreAssertions terms as' bs
+AreAssertions terms (a ∷ as') (b ∷ bs) = (a.command ≡ b.command) × IsTermOf terms a.term b.term × AreAssertions terms as' bs
 AreAssertions terms _ _ = ⊥
 
--- the stack holds exactly what is in force after these commands
+-- what was brought at this level or an outer one
+abbrev pub to_level : ℕ → List Brought → List Brought
+to_level k brought = filter (λ b. nat_le b.level k) brought
+
+-- the first so many of the terms, names and assertions as a level notes are what was brought
+pub record IsLevel (contents : Contents) (assertions : List Assertion) (level : Level) (theories : Theories) (brought : List Brought) : Type 0 where
+  pub within : IsWithin level.mark contents
+  pub count : level.assertions ≤ length assertions
+  pub holds : Holds (first_of level.mark contents) (signature_of theories brought)
+  pub assertions_are : AreAssertions (first_of level.mark contents) (take level.assertions assertions) (assertions_of brought)
+
+-- an inner level notes as much as an outer one, or more
+pub record IsOuter (level inner : Level) : Type 0 where
+  pub mark : IsBelow level.mark inner.mark
+  pub assertions : level.assertions ≤ inner.assertions
+
+-- the stack holds exactly what is in force after these commands; and each of its levels notes what of it came outside that level
 pub record StandsFor (stack : Stack) (commands : List Numbered) : Type 0 where
   pub library : library.StandsFor (library_of stack) (signature_in_force commands)
-  pub assertions : AreAssertions (library_of stack) stack.assertions.items (assertions_in_force commands)
+  pub assertions : AreAssertions (contents_of (library_of stack)) stack.assertions.items (assertions_in_force commands)
+  pub depth : length stack.levels.items ≡ depth_in_force commands
+  pub levels : (k : ℕ) (level : Level) → slice_get stack.levels.items k ≡ Some level
+      → IsLevel (contents_of (library_of stack)) stack.assertions.items level (theories_in_force commands) (to_level k (in_force (history commands)))
+  pub ordered : (j k : ℕ) (level inner : Level) → j ≤ k → slice_get stack.levels.items j ≡ Some level → slice_get stack.levels.items k ≡ Some inner → IsOuter level inner
   pub fixed : stack.fixed ≡ is_logic_fixed commands
+  pub print_success : stack.print_success ≡ print_success_in_force stack.start commands
+  pub exited : stack.exited ≡ has_exited commands

@@ -2,12 +2,26 @@
 
 use smt_text::{Bytes, Tree, Trees};
 
-/// A command (SMT-LIB 2.6, section 4.2). Names are without bars.
+/// A command (SMT-LIB 2.6, section 4.2). Names are without bars, and keywords without their colon.
 #[derive(Drop)]
 pub enum Command {
     /// `(set-logic name)` (section 4.2.1). The name of any logic is kept: `Stack::apply` refuses those that aren't taken.
     SetLogic {
         name: Bytes,
+    },
+    /// `(set-option :print-success true)`, or `false` (section 4.1.7): whether `success` is printed.
+    SetPrintSuccess {
+        on: bool,
+    },
+    /// `(set-option keyword value)` for any other option, with a value or without (section 4.1.7). `:global-declarations` has `false`.
+    SetOption {
+        keyword: Bytes,
+        value: Option<Tree>,
+    },
+    /// `(set-info keyword value)`, with a value or without (section 4.2.1).
+    SetInfo {
+        keyword: Bytes,
+        value: Option<Tree>,
     },
     /// `(declare-const name sort)` (section 4.2.3).
     DeclareConst {
@@ -27,12 +41,60 @@ pub enum Command {
         sort: Tree,
         body: Tree,
     },
+    /// `(define-sort name () sort)` (section 4.2.3).
+    DefineSort {
+        name: Bytes,
+        sort: Tree,
+    },
     /// `(assert term)` (section 4.2.5).
     Assert {
         term: Tree,
     },
+    /// `(push levels)` (section 4.1.4): the decimal digits of the number of levels, of any length.
+    Push {
+        levels: Bytes,
+    },
+    /// `(pop levels)` (section 4.1.4): the decimal digits of the number of levels, of any length.
+    Pop {
+        levels: Bytes,
+    },
+    /// `(reset)` (section 4.2.2).
+    Reset,
+    /// `(reset-assertions)` (section 4.2.2).
+    ResetAssertions,
+    /// `(exit)` (section 4.2.1).
+    Exit,
     /// `(check-sat)` (section 4.2.5).
     CheckSat,
     /// `(get-model)` (section 4.2.6).
     GetModel,
+    /// `(echo "text")` (section 4.2.1).
+    Echo {
+        text: Bytes,
+    },
+    /// Any other command that asks for something.
+    Get {
+        query: Query,
+    },
+}
+
+/// What a solver is asked for, beside models (SMT-LIB 2.6, sections 4.1.7 and 4.2.6).
+#[derive(Drop)]
+pub enum Query {
+    /// `(get-value (term ..))`, of one term or more, which are not checked.
+    Values { terms: Trees },
+    /// `(get-info keyword)`.
+    Info { keyword: Bytes },
+    /// `(get-option keyword)`.
+    Setting { keyword: Bytes },
+    /// `(get-assertions)`.
+    Assertions,
+    /// `(get-assignment)`.
+    Assignment,
+    /// `(get-proof)`.
+    Proof,
+    /// `(get-unsat-core)`.
+    UnsatCore,
+    /// `(get-unsat-assumptions)`.
+    UnsatAssumptions,
 }

@@ -11,6 +11,10 @@ pub enum CommandFault {
     Form,
     /// It is a command of the standard, and isn't supported (`C2`).
     Unsupported,
+    /// It pushes so many levels that there would be more than 10,000 (`C3`).
+    TooDeep,
+    /// It pops more levels than there are (`C4`).
+    NoLevel,
     /// It sets a logic that isn't taken, or sets one too late (`C5`).
     Logic,
     /// A term, a sort or a name in it has a fault (`C7`).
@@ -29,6 +33,8 @@ impl fmt::Display for CommandFault {
         match self {
             CommandFault::Form => write!(f, "C1"),
             CommandFault::Unsupported => write!(f, "C2"),
+            CommandFault::TooDeep => write!(f, "C3"),
+            CommandFault::NoLevel => write!(f, "C4"),
             CommandFault::Logic => write!(f, "C5"),
             CommandFault::Term { fault } => write!(f, "C7 {fault}"),
             CommandFault::Memory => write!(f, "C0"),

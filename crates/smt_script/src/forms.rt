@@ -1,19 +1,27 @@
 //! The trees that are commands.
 
-ghost use Rattle.std.specs.Prelude.{◌≡◌, ◌<◌, ◌++◌, ◌∷◌, [], length, MatchResult};
-ghost use Rattle.smt_text.specs.Sexp.{Items};
+ghost use Rattle.std.specs.Prelude.{◌≡◌, Ok, Err, MatchResult, option_map, bytes_eq, if◌then◌else◌};
 ghost use Rattle.smt_text.specs.Tree.{sexp_of, sexps_of};
 ghost use Rattle.smt_script.specs.Command as commands;
-ghost use Rattle.smt_script.specs.CommandView.{command_view};
-ghost use Rattle.smt_script.specs.Internal.CommandForm.{HasForm, are_list_and_tree, are_parameters_and_two, are_symbol_and_tree, are_symbol_list_and_tree, are_symbol_parameters_and_two, are_two_trees, is_one_symbol, is_one_tree};
+ghost use Rattle.smt_script.specs.CommandView.{command_view, query_view};
+ghost use Rattle.smt_script.specs.Internal.PartsView.{parts_view};
 
-use crate::command::Command;
+mod parts;
+mod shapes;
+
+use crate::command::{Command, Query};
 use crate::fault::CommandFault;
-use smt_terms::are_named;
-use smt_text::{Tree, Trees, Word, split_first};
+use crate::forms::parts::Parts;
+use crate::forms::shapes::{
+    is_abbreviation, is_global_declarations, keyword_and_value, makes_global, name_and_abbreviated,
+    name_and_definition, name_and_rank, name_and_sort, one_keyword, one_list, one_numeral,
+    one_symbol, one_text, one_tree, truth_of_value,
+};
+use smt_text::{Bytes, Tree, Word, split_first};
 
 /// The command that a tree is (SMT-LIB 2.6, section 4.2). A tree that is none is refused: as `Unsupported` where it is a list that
-/// begins with the name of another command, whatever follows, else for its `Form`.
+/// begins with the name of a command that is not supported, whatever follows, a `define-sort` with parameters, or makes declarations
+/// global; else for its `Form`.
 pub fn read_command(tree: Tree) -> Result<Command, CommandFault>
     ensures { MatchResult result (λ command. commands.command_of (sexp_of tree) ≡ Ok (command_view command))
         (λ fault. commands.command_of (sexp_of tree) ≡ Err fault) }
@@ -21,222 +29,198 @@ pub fn read_command(tree: Tree) -> Result<Command, CommandFault>
     let Tree::List(parts) = tree else {
         return Err(CommandFault::Form);
     };
-    match form_of(parts.as_slice())? {
-        CommandForm::Logic => Ok(logic(parts)),
-        CommandForm::Constant => Ok(constant(parts)),
-        CommandForm::Function => Ok(function(parts)),
-        CommandForm::Definition => Ok(definition(parts)),
-        CommandForm::Assertion => Ok(assertion(parts)),
-        CommandForm::Check => Ok(Command::CheckSat),
-        CommandForm::Model => Ok(Command::GetModel),
-    }
-}
-
-// The kinds of commands.
-#[derive(Clone, Copy)]
-enum CommandForm {
-    Logic,
-    Constant,
-    Function,
-    Definition,
-    Assertion,
-    Check,
-    Model,
-}
-
-// The kind of command that a list is, by its word and how many trees of which kind follow it.
-fn form_of(parts: &[Tree]) -> Result<CommandForm, CommandFault>
-    ensures { MatchResult result (λ form. HasForm form (sexps_of parts.now))
-        (λ fault. commands.command_of (Items (sexps_of parts.now)) ≡ Err fault) }
-{
-    let Some((Tree::Reserved(word), rest)) = split_first(parts) else {
+    let Some((Tree::Reserved(word), rest)) = split_first(parts.as_slice()) else {
         return Err(CommandFault::Form);
     };
-    match word {
-        Word::SetLogic if is_symbol(rest) => Ok(CommandForm::Logic),
-        Word::DeclareConst if is_constant(rest) => Ok(CommandForm::Constant),
-        Word::DeclareFun if is_function(rest) => Ok(CommandForm::Function),
-        Word::DefineFun if is_definition(rest) => Ok(CommandForm::Definition),
-        Word::Assert if is_single(rest) => Ok(CommandForm::Assertion),
-        Word::CheckSat if split_first(rest).is_none() => Ok(CommandForm::Check),
-        Word::GetModel if split_first(rest).is_none() => Ok(CommandForm::Model),
-        _ => Err(refused_word(*word)),
+    let word = *word;
+    let refusal = refusal(word, rest);
+    match command_with(word, Parts::behind_first(parts)) {
+        Some(command) => Ok(command),
+        None => Err(refusal),
     }
 }
 
-// Whether this is one symbol.
-fn is_symbol(trees: &[Tree]) -> bool
-    ensures { result ≡ is_one_symbol (sexps_of trees.now) }
-{
-    let Some((Tree::Symbol(_), rest)) = split_first(trees) else {
-        return false;
-    };
-    split_first(rest).is_none()
-}
-
-// Whether these are a symbol and one more tree.
-fn is_constant(trees: &[Tree]) -> bool
-    ensures { result ≡ are_symbol_and_tree (sexps_of trees.now) }
-{
-    let Some((Tree::Symbol(_), rest)) = split_first(trees) else {
-        return false;
-    };
-    is_single(rest)
-}
-
-// Whether these are a symbol, a list and one more tree.
-fn is_function(trees: &[Tree]) -> bool
-    ensures { result ≡ are_symbol_list_and_tree (sexps_of trees.now) }
-{
-    let Some((Tree::Symbol(_), rest)) = split_first(trees) else {
-        return false;
-    };
-    is_list_and_single(rest)
-}
-
-// Whether these are a list and one more tree.
-fn is_list_and_single(trees: &[Tree]) -> bool
-    ensures { result ≡ are_list_and_tree (sexps_of trees.now) }
-{
-    let Some((Tree::List(_), rest)) = split_first(trees) else {
-        return false;
-    };
-    is_single(rest)
-}
-
-// Whether these are a symbol, a list of parameters and two more trees.
-fn is_definition(trees: &[Tree]) -> bool
-    ensures { result ≡ are_symbol_parameters_and_two (sexps_of trees.now) }
-{
-    let Some((Tree::Symbol(_), rest)) = split_first(trees) else {
-        return false;
-    };
-    is_parameters_and_two(rest)
-}
-
-// Whether these are a list of parameters and two more trees.
-fn is_parameters_and_two(trees: &[Tree]) -> bool
-    ensures { result ≡ are_parameters_and_two (sexps_of trees.now) }
-{
-    let Some((Tree::List(params), rest)) = split_first(trees) else {
-        return false;
-    };
-    are_named(params.as_slice()) && is_two(rest)
-}
-
-// Whether these are two trees.
-fn is_two(trees: &[Tree]) -> bool
-    ensures { result ≡ are_two_trees (sexps_of trees.now) }
-{
-    let Some((_, rest)) = split_first(trees) else {
-        return false;
-    };
-    is_single(rest)
-}
-
-// Whether this is one tree.
-fn is_single(trees: &[Tree]) -> bool
-    ensures { result ≡ is_one_tree (sexps_of trees.now) }
-{
-    let Some((_, rest)) = split_first(trees) else {
-        return false;
-    };
-    split_first(rest).is_none()
-}
-
-// Why a list that begins with this word, and is no command in form, is refused.
-fn refused_word(word: Word) -> CommandFault
-    ensures { result ≡ commands.refused_word word }
+// The command of this word with these parts behind it.
+fn command_with(word: Word, parts: Parts) -> Option<Command>
+    ensures { option_map command_view result ≡ commands.command_with word (parts_view parts) }
 {
     match word {
+        Word::SetLogic => Some(Command::SetLogic {
+            name: one_symbol(parts)?,
+        }),
+        Word::SetOption => option(parts),
+        Word::SetInfo => info(parts),
+        Word::DeclareConst => constant(parts),
+        Word::DeclareFun => function(parts),
+        Word::DefineFun => definition(parts),
+        Word::DefineSort => abbreviation(parts),
+        Word::Assert => Some(Command::Assert {
+            term: one_tree(parts)?,
+        }),
+        Word::Push => Some(Command::Push {
+            levels: one_numeral(parts)?,
+        }),
+        Word::Pop => Some(Command::Pop {
+            levels: one_numeral(parts)?,
+        }),
+        Word::Echo => Some(Command::Echo {
+            text: one_text(parts)?,
+        }),
+        Word::Reset => alone(Command::Reset, parts),
+        Word::ResetAssertions => alone(Command::ResetAssertions, parts),
+        Word::Exit => alone(Command::Exit, parts),
+        Word::CheckSat => alone(Command::CheckSat, parts),
+        Word::GetModel => alone(Command::GetModel, parts),
+        Word::GetValue => asked_values(parts),
+        Word::GetInfo => asked_info(parts),
+        Word::GetOption => asked_setting(parts),
+        Word::GetAssertions => query(Query::Assertions, parts),
+        Word::GetAssignment => query(Query::Assignment, parts),
+        Word::GetProof => query(Query::Proof, parts),
+        Word::GetUnsatCore => query(Query::UnsatCore, parts),
+        Word::GetUnsatAssumptions => query(Query::UnsatAssumptions, parts),
+        Word::Bang | Word::Underscore | Word::As | Word::Binary | Word::Decimal => None,
+        Word::Exists | Word::Hexadecimal | Word::Forall | Word::Let | Word::Match => None,
+        Word::Numeral | Word::Par | Word::String | Word::CheckSatAssuming => None,
+        Word::DeclareDatatype | Word::DeclareDatatypes | Word::DeclareSort => None,
+        Word::DefineFunRec | Word::DefineFunsRec => None,
+    }
+}
+
+// A command that has no parts.
+fn alone(command: Command, parts: Parts) -> Option<Command>
+    ensures { option_map command_view result ≡ commands.alone (command_view command) (parts_view parts) }
+{
+    if parts.is_empty() {
+        Some(command)
+    } else {
+        None
+    }
+}
+
+// The setting of an option: `:print-success` has to be a truth value, and `:global-declarations` has to be `false`.
+fn option(parts: Parts) -> Option<Command>
+    ensures { option_map command_view result ≡ commands.command_with Word.SetOption (parts_view parts) }
+{
+    let (keyword, value) = keyword_and_value(parts)?;
+    if is_print_success(&keyword) {
+        let on = truth_of_value(&value)?;
+        return Some(Command::SetPrintSuccess { on });
+    }
+    if is_global_declarations(&keyword) && truth_of_value(&value) != Some(false) {
+        return None;
+    }
+    Some(Command::SetOption { keyword, value })
+}
+
+fn is_print_success(keyword: &Bytes) -> bool
+    ensures { result ≡ commands.is_print_success keyword.now }
+{
+    keyword.as_slice() == b"print-success".as_slice()
+}
+
+fn info(parts: Parts) -> Option<Command>
+    ensures { option_map command_view result ≡ commands.command_with Word.SetInfo (parts_view parts) }
+{
+    let (keyword, value) = keyword_and_value(parts)?;
+    Some(Command::SetInfo { keyword, value })
+}
+
+fn constant(parts: Parts) -> Option<Command>
+    ensures { option_map command_view result ≡ commands.command_with Word.DeclareConst (parts_view parts) }
+{
+    let (name, sort) = name_and_sort(parts)?;
+    Some(Command::DeclareConst { name, sort })
+}
+
+fn function(parts: Parts) -> Option<Command>
+    ensures { option_map command_view result ≡ commands.command_with Word.DeclareFun (parts_view parts) }
+{
+    let (name, params, sort) = name_and_rank(parts)?;
+    Some(Command::DeclareFun { name, params, sort })
+}
+
+fn definition(parts: Parts) -> Option<Command>
+    ensures { option_map command_view result ≡ commands.command_with Word.DefineFun (parts_view parts) }
+{
+    let (name, params, sort, body) = name_and_definition(parts)?;
+    Some(Command::DefineFun {
+        name,
+        params,
+        sort,
+        body,
+    })
+}
+
+fn abbreviation(parts: Parts) -> Option<Command>
+    ensures { option_map command_view result ≡ commands.command_with Word.DefineSort (parts_view parts) }
+{
+    let (name, sort) = name_and_abbreviated(parts)?;
+    Some(Command::DefineSort { name, sort })
+}
+
+// A command that asks for something, beside models.
+fn query(query: Query, parts: Parts) -> Option<Command>
+    ensures { option_map command_view result ≡ commands.alone (commands.Get (query_view query)) (parts_view parts) }
+{
+    alone(Command::Get { query }, parts)
+}
+
+fn asked_values(parts: Parts) -> Option<Command>
+    ensures { option_map command_view result ≡ commands.command_with Word.GetValue (parts_view parts) }
+{
+    let terms = one_list(parts)?;
+    let query = Query::Values { terms };
+    Some(Command::Get { query })
+}
+
+fn asked_setting(parts: Parts) -> Option<Command>
+    ensures { option_map command_view result ≡ commands.command_with Word.GetOption (parts_view parts) }
+{
+    let keyword = one_keyword(parts)?;
+    let query = Query::Setting { keyword };
+    Some(Command::Get { query })
+}
+
+fn asked_info(parts: Parts) -> Option<Command>
+    ensures { option_map command_view result ≡ commands.command_with Word.GetInfo (parts_view parts) }
+{
+    let keyword = one_keyword(parts)?;
+    let query = Query::Info { keyword };
+    Some(Command::Get { query })
+}
+
+// What is wrong with a list that begins with this word, and is no command.
+fn refusal(word: Word, parts: &[Tree]) -> CommandFault
+    ensures { result ≡ commands.refusal word (sexps_of parts.now) }
+{
+    match word {
+        Word::CheckSatAssuming | Word::DeclareDatatype | Word::DeclareDatatypes =>
+            CommandFault::Unsupported,
+        Word::DeclareSort | Word::DefineFunRec | Word::DefineFunsRec => CommandFault::Unsupported,
+        Word::DefineSort => unsupported_if(is_abbreviation(parts)),
+        Word::SetOption => unsupported_if(makes_global(parts)),
         Word::Bang | Word::Underscore | Word::As | Word::Binary | Word::Decimal =>
             CommandFault::Form,
         Word::Exists | Word::Hexadecimal | Word::Forall | Word::Let | Word::Match =>
             CommandFault::Form,
-        Word::Numeral | Word::Par | Word::String => CommandFault::Form,
-        Word::Assert | Word::CheckSat | Word::DeclareConst | Word::DeclareFun => CommandFault::Form,
-        Word::DefineFun | Word::GetModel | Word::SetLogic => CommandFault::Form,
-        _ => CommandFault::Unsupported,
+        Word::Numeral | Word::Par | Word::String | Word::Assert | Word::CheckSat =>
+            CommandFault::Form,
+        Word::DeclareConst | Word::DeclareFun | Word::DefineFun | Word::Echo => CommandFault::Form,
+        Word::Exit | Word::GetAssertions | Word::GetAssignment => CommandFault::Form,
+        Word::GetInfo | Word::GetModel | Word::GetOption | Word::GetProof => CommandFault::Form,
+        Word::GetUnsatAssumptions | Word::GetUnsatCore | Word::GetValue => CommandFault::Form,
+        Word::Pop | Word::Push | Word::Reset | Word::ResetAssertions => CommandFault::Form,
+        Word::SetInfo | Word::SetLogic => CommandFault::Form,
     }
 }
 
-// The setting of a logic that a list is.
-fn logic(parts: Trees) -> Command
-    requires { HasForm CommandForm.Logic parts }
-    ensures { commands.command_of (Items parts) ≡ Ok (command_view result) }
+fn unsupported_if(unsupported: bool) -> CommandFault
+    ensures { result ≡ (if unsupported then CommandFault.Unsupported else CommandFault.Form) }
 {
-    let mut items = parts.into_vec();
-    match pop_tree(&mut items) {
-        Tree::Symbol(name) => Command::SetLogic { name },
-        _ => unreachable!(),
+    if unsupported {
+        CommandFault::Unsupported
+    } else {
+        CommandFault::Form
     }
-}
-
-// The declaration of a constant that a list is.
-fn constant(parts: Trees) -> Command
-    requires { HasForm CommandForm.Constant parts }
-    ensures { commands.command_of (Items parts) ≡ Ok (command_view result) }
-{
-    let mut items = parts.into_vec();
-    let sort = pop_tree(&mut items);
-    match pop_tree(&mut items) {
-        Tree::Symbol(name) => Command::DeclareConst { name, sort },
-        _ => unreachable!(),
-    }
-}
-
-// The declaration of a function that a list is.
-fn function(parts: Trees) -> Command
-    requires { HasForm CommandForm.Function parts }
-    ensures { commands.command_of (Items parts) ≡ Ok (command_view result) }
-{
-    let mut items = parts.into_vec();
-    let sort = pop_tree(&mut items);
-    let Tree::List(params) = pop_tree(&mut items) else {
-        unreachable!();
-    };
-    match pop_tree(&mut items) {
-        Tree::Symbol(name) => Command::DeclareFun { name, params, sort },
-        _ => unreachable!(),
-    }
-}
-
-// The definition that a list is.
-fn definition(parts: Trees) -> Command
-    requires { HasForm CommandForm.Definition parts }
-    ensures { commands.command_of (Items parts) ≡ Ok (command_view result) }
-{
-    let mut items = parts.into_vec();
-    let body = pop_tree(&mut items);
-    let sort = pop_tree(&mut items);
-    let Tree::List(params) = pop_tree(&mut items) else {
-        unreachable!();
-    };
-    match pop_tree(&mut items) {
-        Tree::Symbol(name) => Command::DefineFun {
-            name,
-            params,
-            sort,
-            body,
-        },
-        _ => unreachable!(),
-    }
-}
-
-// The assertion that a list is.
-fn assertion(parts: Trees) -> Command
-    requires { HasForm CommandForm.Assertion parts }
-    ensures { commands.command_of (Items parts) ≡ Ok (command_view result) }
-{
-    let mut items = parts.into_vec();
-    let term = pop_tree(&mut items);
-    Command::Assert { term }
-}
-
-// Takes the last tree.
-fn pop_tree(items: &mut Vec<Tree>) -> Tree
-    requires { 0 < length items.old.items }
-    ensures { items.old.items ≡ items.new.items ++ result ∷ [] }
-{
-    items.pop().unwrap()
 }

@@ -2,10 +2,11 @@
 //! commands that took effect, each with its number.
 //!
 //! The layer above uses two contracts: `read_command` answers the command that a tree is, or why it is none; and after any commands
-//! that took effect a `Stack` holds exactly the theories, names and assertions that are in force, in order. So after
-//! `(set-logic QF_LIA)` as command 1, `(declare-const x Int)` as command 2 and `(assert (< x 1))` as command 3 it holds the theories
-//! Core and Ints, the name `x` and one assertion, of command 3, whose term is one of its `library`. Another `set-logic` is then
-//! refused, with `CommandFault::Logic`: a logic is set once, and before every declaration, definition, assertion and check.
+//! that took effect a `Stack` holds exactly the theories, abbreviations, names, assertions and levels that are in force, in order. So
+//! after `(set-logic QF_LIA)` as command 1, `(declare-const x Int)` as command 2, `(push 1)` as command 3 and `(assert (< x 1))` as
+//! command 4 it holds the theories Core and Ints, the name `x`, one level and one assertion, of command 4, whose term is one of its
+//! `library`; after `(pop 1)` the assertion and the level are gone. Another `set-logic` is refused, with `CommandFault::Logic`: a logic
+//! is set once, and before every declaration, definition, assertion, change of levels and check.
 #![tactic(auto)]
 
 mod command;
@@ -16,7 +17,7 @@ mod stack;
 #[cfg(test)]
 mod tests;
 
-pub use command::Command;
+pub use command::{Command, Query};
 pub use fault::CommandFault;
 pub use forms::read_command;
-pub use stack::{Assertion, Stack, all_theories};
+pub use stack::{Assertion, Level, Stack, all_theories};

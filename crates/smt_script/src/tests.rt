@@ -41,7 +41,14 @@ const WITHOUT_INTEGERS: &str = "
 ";
 
 const WITHOUT_A_LOGIC: &str = "
-    C2   (push 1)
+    C2   (declare-sort S 0)
+    C2   (define-sort S (X) X)
+    C1   (define-sort S X)
+    C2   (set-option :global-declarations true)
+    C1   (set-option :print-success)
+    C1   (get-value ())
+    C1   (push a)
+    C4   (pop 1)
     C1   (assert)
     C1   (declare-fun f Int)
     C1   (declare-fun f () Int Int)
@@ -52,10 +59,47 @@ const WITHOUT_A_LOGIC: &str = "
     done (assert (< x 1))
 ";
 
+const WITH_LEVELS: &str = "
+    done (set-option :print-success false)
+    done (define-sort B () Bool)
+    C7   (define-sort B () Int)
+    C7   (define-sort Int () Bool)
+    done (declare-const p B)
+    done (assert (! p :named a))
+    done (push 2)
+    done (declare-const q Bool)
+    done (assert (=> a (! q :named b)))
+    C7   (assert (! p :named b))
+    done (pop 1)
+    C7   (assert q)
+    done (declare-const q Int)
+    C4   (pop 2)
+    done (pop 1)
+    C7   (assert (= q 0))
+    done (assert a)
+    C3   (push 10001)
+    C3   (push 340282366920938463463374607431768211456)
+    done (push 10000)
+    C3   (push 1)
+    done (pop 0)
+    C5   (set-logic QF_UF)
+    done (reset-assertions)
+    C7   (assert p)
+    C5   (set-logic QF_UF)
+    done (declare-const p Bool)
+    done (reset)
+    done (set-logic QF_UF)
+    C7   (declare-const p Int)
+    done (assert (! true :named t))
+    done (exit)
+";
+
 fn word_of_fault(fault: CommandFault) -> &'static [u8] {
     match fault {
         CommandFault::Form => b"C1",
         CommandFault::Unsupported => b"C2",
+        CommandFault::TooDeep => b"C3",
+        CommandFault::NoLevel => b"C4",
         CommandFault::Logic => b"C5",
         CommandFault::Term { .. } => b"C7",
         CommandFault::Memory => b"C0",
@@ -67,7 +111,7 @@ fn run(rt: &impl Abort, alloc: Global, text: &str) -> Result<Stack, Fail> {
     let Ok(rows) = Trees::read(alloc, text.as_bytes()) else {
         return Err("this is no text of the language".into());
     };
-    let mut stack = Stack::new(alloc);
+    let mut stack = Stack::new(alloc, true);
     let mut left = rows.as_slice();
     for number in 1..1000 {
         let Some((answer, rest)) = split_first(left) else {
@@ -118,5 +162,15 @@ fn without_integers(rt: HostRuntime) -> Result<(), Fail> {
 fn without_a_logic(rt: HostRuntime) -> Result<(), Fail> {
     let stack = run(&rt, rt.alloc(), WITHOUT_A_LOGIC)?;
     assert_eq!(rt; stack.assertions().len(), 1);
+    Ok(())
+}
+
+#[test]
+fn with_levels(rt: HostRuntime) -> Result<(), Fail> {
+    let stack = run(&rt, rt.alloc(), WITH_LEVELS)?;
+    assert_eq!(rt; stack.assertions().len(), 1);
+    assert_eq!(rt; stack.library().definitions().len(), 1);
+    assert_eq!(rt; stack.depth(), 0);
+    assert!(rt; stack.print_success() && stack.exited());
     Ok(())
 }

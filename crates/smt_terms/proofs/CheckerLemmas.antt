@@ -1,16 +1,14 @@
 -- Sorts of lists, one step at a time.
-use Rattle.std.proofs.Common.{◌≡◌, ◌⊎◌, ℕ, Bool, true, false, cond, List, [], ◌∷◌, ◌++◌, Option, Some, None, is_some, option_map, Result, Ok, Err, refl, sym, ap, ◌∙◌, append_assoc, inl, inr, MatchResult}
-use Rattle.std.specs.Str.{bytes_eq}
+use Rattle.std.proofs.Common.{◌≡◌, ◌⊎◌, ℕ, true, false, List, [], ◌∷◌, ◌++◌, Option, Some, None, is_some, Result, Ok, Err, refl, sym, ap, ◌∙◌, append_assoc, inl, inr, MatchResult}
 use Rattle.smt_text.specs.Sexp.{Sexp, Sexps, Reserved, Items, Cons}
 use Rattle.smt_text.specs.declared.reserved.Word.TheVariants.{Bang, Let, Underscore}
 use Rattle.smt_theory.specs.Words.{look_up, result_and_then}
 use Rattle.smt_theory.specs.declared.sort.Sort.{Sort}
-use Rattle.smt_theory.specs.declared.theories.Theories.{Theories}
 use Rattle.smt_terms.specs.Checking.{is_underscore_tree, sort_in, sorts_in, sort_applied, sort_of_call, sort_unless_variable}
 use Rattle.smt_terms.specs.Identifier.{Identifier, Plain, Indexed, applied, indexed}
 use Rattle.smt_terms.specs.Internal.Heads.{is_bang_tree, is_let_tree, names_variable}
-use Rattle.smt_terms.specs.Signature.{Entry, Names, entry_named, rank_of_entry, ranks_of}
-use Rattle.smt_terms.specs.SortTrees.{sorts_named}
+use Rattle.smt_terms.specs.Labels.{labels_in}
+use Rattle.smt_terms.specs.Signature.{Names, behind}
 use Rattle.smt_terms.specs.declared.fault.TermFault.{TermFault}
 use Rattle.smt_terms.specs.declared.fault.TermFault.TheVariants.{IllSorted, Memory}
 
@@ -23,26 +21,19 @@ abbrev pub sorts_behind : Names → Scope → List Sort → Sexps → Result (Li
 sorts_behind names scope before left = result_and_then (sorts_in names scope left) (λ ss. Ok (before ++ ss))
 
 -- one sort more
-pub sorts_behind-next : (names : Names) (scope : Scope) (before after : List Sort) (x : Sexp) (xs left : Sexps) (sort : Sort) → left ≡ Cons x xs → sort_in names scope x ≡ Ok sort → after ≡ before ++ sort ∷ []
-    → sorts_behind names scope before left ≡ sorts_behind names scope after xs
-sorts_behind-next names scope before after x xs left sort split is more = rw (split, is, more) (by (sorts_in names scope xs))
+pub sorts_behind-next : (names later : Names) (scope : Scope) (before after : List Sort) (x : Sexp) (xs left : Sexps) (sort : Sort) → later ≡ behind (labels_in x) names → left ≡ Cons x xs → sort_in names scope x ≡ Ok sort
+    → after ≡ before ++ sort ∷ [] → sorts_behind names scope before left ≡ sorts_behind later scope after xs
+sorts_behind-next names later scope before after x xs left sort next split is more = rw (split, is, more, next) (by (sorts_in (behind (labels_in x) names) scope xs))
   where
     by : (r : Result (List Sort) TermFault) → result_and_then (result_and_then r (λ ss. Ok (sort ∷ ss))) (λ ss. Ok (before ++ ss)) ≡ result_and_then r (λ ss. Ok ((before ++ sort ∷ []) ++ ss))
     by (Ok ss) = ap Ok (sym (append_assoc before (sort ∷ []) ss))
     by (Err f) = refl
 
--- the same of the sorts that trees name
-abbrev pub named_behind : Theories → List Sort → Sexps → Result (List Sort) TermFault
-named_behind theories before left = result_and_then (sorts_named theories left) (λ ss. Ok (before ++ ss))
-
--- the rank of a name is that of its entry
-pub look_up-ranks : (es : List Entry) (x : List ℕ) → look_up (ranks_of es) x ≡ option_map rank_of_entry (entry_named es x)
-look_up-ranks [] x = refl
-look_up-ranks (e ∷ es) x = by (bytes_eq x e.name) (look_up-ranks es x)
-  where
-    by : (b : Bool) → look_up (ranks_of es) x ≡ option_map rank_of_entry (entry_named es x) → cond b (Some (rank_of_entry e)) (look_up (ranks_of es) x) ≡ option_map rank_of_entry (cond b (Some e) (entry_named es x))
-    by true rest = refl
-    by false rest = rest
+-- a fault of one sort is that of all
+pub sorts_behind-fault : (names : Names) (scope : Scope) (before : List Sort) (x : Sexp) (xs left : Sexps) (e : TermFault) → left ≡ Cons x xs → (e ≡ Memory) ⊎ (sort_in names scope x ≡ Err e)
+    → (e ≡ Memory) ⊎ (sorts_behind names scope before left ≡ Err e)
+sorts_behind-fault names scope before x xs left e split (inl m) = inl m
+sorts_behind-fault names scope before x xs left e split (inr is) = inr (rw (split, is) refl)
 
 -- a head that is `_`
 pub underscore_head : (head : Sexp) → is_underscore_tree head ≡ true → head ≡ Reserved Underscore

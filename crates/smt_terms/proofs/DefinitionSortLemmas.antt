@@ -11,12 +11,14 @@ use Rattle.smt_theory.specs.declared.theories.Theories.{Theories}
 use Rattle.smt_theory.proofs.RankLemmas.{is_same_sort-Decides}
 use Rattle.smt_terms.specs.Checking.{sort_in}
 use Rattle.smt_terms.specs.Definitions.{defined_in, definition, definition_in, parameters_named}
-use Rattle.smt_terms.specs.Signature.{Entry, Names, Signature, is_taken, names_of, ranks_of}
-use Rattle.smt_terms.specs.SortTrees.{sort_named}
+use Rattle.smt_terms.specs.Labels.{Refused}
+use Rattle.smt_terms.specs.Signature.{Entry, Names, Signature, is_taken, names_of, ranks_of, sort_names_of, unlabelled_over}
+use Rattle.smt_terms.specs.SortTrees.{SortNames, sort_named}
 use Rattle.smt_terms.specs.WellSorted.{AreDifferent, IsWellSorted}
 use Rattle.smt_terms.specs.declared.fault.TermFault.{TermFault}
 use Rattle.smt_terms.specs.declared.fault.TermFault.TheVariants.{BoundTwice, IllSorted, NotFresh}
 use Rattle.smt_terms.proofs.ItemLemmas.{Params}
+use Rattle.smt_terms.proofs.KeptLemmas.{Keeps-unlabelled, kept-sort}
 use Rattle.smt_terms.proofs.NameLemmas.{none_step, same_flip}
 
 -- ## Parameters
@@ -43,12 +45,12 @@ different-push (p ∷ ps) x sort d none =
     (any-push (bytes_eq p.0) ps x sort d.0 (same_flip x p.0 n.0), different-push ps x sort d.1 n.1)
 
 -- the names of parameters differ
-pub different : (theories : Theories) (earlier : Params) (params : List (List ℕ × Sexp)) (ps : Params) → AreDifferent (map (λ p. p.0) earlier) → parameters_named theories earlier params ≡ Ok ps → AreDifferent (map (λ p. p.0) ps)
-different theories earlier [] ps d h = subst (λ (qs : Params). AreDifferent (map (λ p. p.0) qs)) (cc) d
-different theories earlier (p ∷ params) ps d h = by (sort_named theories p.1) (is_some (look_up earlier p.0)) refl h (λ s new more. different theories (earlier ++ (p.0, s) ∷ []) params ps (different-push earlier p.0 s d new) more)
+pub different : (names : SortNames) (earlier : Params) (params : List (List ℕ × Sexp)) (ps : Params) → AreDifferent (map (λ p. p.0) earlier) → parameters_named names earlier params ≡ Ok ps → AreDifferent (map (λ p. p.0) ps)
+different names earlier [] ps d h = subst (λ (qs : Params). AreDifferent (map (λ p. p.0) qs)) (cc) d
+different names earlier (p ∷ params) ps d h = by (sort_named names p.1) (is_some (look_up earlier p.0)) refl h (λ s new more. different names (earlier ++ (p.0, s) ∷ []) params ps (different-push earlier p.0 s d new) more)
   where
-    by : (r : Result Sort TermFault) (b : Bool) → is_some (look_up earlier p.0) ≡ b → result_and_then r (λ s. cond b (Err BoundTwice) (parameters_named theories (earlier ++ (p.0, s) ∷ []) params)) ≡ Ok ps
-        → ((s : Sort) → look_up earlier p.0 ≡ None → parameters_named theories (earlier ++ (p.0, s) ∷ []) params ≡ Ok ps → AreDifferent (map (λ q. q.0) ps)) → AreDifferent (map (λ q. q.0) ps)
+    by : (r : Result Sort TermFault) (b : Bool) → is_some (look_up earlier p.0) ≡ b → result_and_then r (λ s. cond b (Err BoundTwice) (parameters_named names (earlier ++ (p.0, s) ∷ []) params)) ≡ Ok ps
+        → ((s : Sort) → look_up earlier p.0 ≡ None → parameters_named names (earlier ++ (p.0, s) ∷ []) params ≡ Ok ps → AreDifferent (map (λ q. q.0) ps)) → AreDifferent (map (λ q. q.0) ps)
     by (Err f) b new h next = cc
     by (Ok s) true new h next = cc
     by (Ok s) false new h next = next s (not_found (look_up earlier p.0) new) h
@@ -60,13 +62,17 @@ zip-parts (p ∷ ps) = ap (λ (qs : Params). p ∷ qs) (zip-parts ps)
 
 -- ## Definitions
 
+-- the names that these entries give, where no label may stand
+abbrev pub refused_over : Theories → List Entry → Names
+refused_over theories earlier = record { theories = theories; ranks = ranks_of earlier; labels = Refused }
+
 -- what a definition brings, and that it is well sorted over the earlier names
 pub well_sorted : (theories : Theories) (earlier : List Entry) (x : List ℕ) (ps : Params) (sort : Sort) (body : Sexp) (e : Entry) → AreDifferent (map (λ p. p.0) ps)
-    → definition_in (record { theories = theories; ranks = ranks_of earlier }) x ps sort body ≡ Ok e → (definition x ps sort body ≡ e) × IsWellSorted theories earlier e
+    → definition_in (refused_over theories earlier) x ps sort body ≡ Ok e → (definition x ps sort body ≡ e) × IsWellSorted theories earlier e
 well_sorted theories earlier x ps sort body e different h = by (sort_in names ps body) refl h
   where
     names : Names
-    names = record { theories = theories; ranks = ranks_of earlier }
+    names = refused_over theories earlier
 
     made : definition x ps sort body ≡ e → sort_in names ps body ≡ Ok sort → (definition x ps sort body ≡ e) × IsWellSorted theories earlier e
     made is sorted = (
@@ -74,7 +80,7 @@ well_sorted theories earlier x ps sort body e different h = by (sort_in names ps
       subst (IsWellSorted theories earlier) is (record {
         counted = length-map ps (λ p. p.0) ∙ sym (length-map ps (λ p. p.1));
         different = different;
-        sorted = ap (λ (qs : Params). sort_in names qs body) (zip-parts ps) ∙ sorted;
+        sorted = ap (λ (qs : Params). sort_in (unlabelled_over theories earlier) qs body) (zip-parts ps) ∙ kept-sort names (unlabelled_over theories earlier) (Keeps-unlabelled names) ps body sort sorted;
       }),
     )
 
@@ -92,15 +98,15 @@ pub record IsTaken (s : Signature) (x : List ℕ) (e : Entry) : Type 0 where
   pub named : e.name ≡ x
   pub sorted : IsWellSorted s.theories s.entries e
 
-pub IsTaken-defined : (s : Signature) (x : List ℕ) (params : List (List ℕ × Sexp)) (tree body : Sexp) (e : Entry) → defined_in (names_of s) x params tree body ≡ Ok e → IsTaken s x e
-IsTaken-defined s x params tree body e h = by (is_taken (names_of s) x) refl (parameters_named s.theories [] params) refl (sort_named s.theories tree) h
+pub IsTaken-defined : (s : Signature) (x : List ℕ) (params : List (List ℕ × Sexp)) (tree body : Sexp) (e : Entry) → defined_in s x params tree body ≡ Ok e → IsTaken s x e
+IsTaken-defined s x params tree body e h = by (is_taken (names_of s) x) refl (parameters_named (sort_names_of s) [] params) refl (sort_named (sort_names_of s) tree) h
   where
     made : (ps : Params) (sort : Sort) → is_taken (names_of s) x ≡ false → (definition x ps sort body ≡ e) × IsWellSorted s.theories s.entries e → IsTaken s x e
     made ps sort free p = record { free = free; named = sym (ap (λ (d : Entry). d.name) p.0); sorted = p.1 }
 
-    by : (b : Bool) → is_taken (names_of s) x ≡ b → (r : Result Params TermFault) → parameters_named s.theories [] params ≡ r → (q : Result Sort TermFault)
+    by : (b : Bool) → is_taken (names_of s) x ≡ b → (r : Result Params TermFault) → parameters_named (sort_names_of s) [] params ≡ r → (q : Result Sort TermFault)
         → cond b (Err NotFresh) (result_and_then r (λ ps. result_and_then q (λ sort. definition_in (names_of s) x ps sort body))) ≡ Ok e → IsTaken s x e
     by true free r bound q h = cc
     by false free (Err f) bound q h = cc
     by false free (Ok ps) bound (Err f) h = cc
-    by false free (Ok ps) bound (Ok sort) h = made ps sort free (well_sorted s.theories s.entries x ps sort body e (different s.theories [] params ps tt bound) h)
+    by false free (Ok ps) bound (Ok sort) h = made ps sort free (well_sorted s.theories s.entries x ps sort body e (different (sort_names_of s) [] params ps tt bound) h)

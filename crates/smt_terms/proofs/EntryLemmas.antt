@@ -1,8 +1,9 @@
 -- Entries by name and by place. Proofs of the crates above cite these too.
-use Rattle.std.proofs.Common.{◌≡◌, ℕ, zero, suc, ◌≤◌, true, false, cond, List, [], ◌∷◌, ◌++◌, take, slice_get, Option, Some, None, refl, ap, sym, ◌∙◌, arith}
+use Rattle.std.proofs.Common.{◌≡◌, ℕ, zero, suc, ◌≤◌, true, false, cond, List, [], ◌∷◌, ◌++◌, take, slice_get, Bool, Option, Some, None, option_map, refl, ap, sym, ◌∙◌, arith}
 use Rattle.std.specs.Str.{bytes_eq}
 use Rattle.smt_terms.proofs.NameLemmas.{none_step, same_flip}
-use Rattle.smt_terms.specs.Signature.{Entry, Rank, entry_named, ranks_of, AreDistinct}
+use Rattle.smt_theory.specs.Words.{look_up}
+use Rattle.smt_terms.specs.Signature.{Entry, Rank, entry_named, rank_of_entry, ranks_of, AreDistinct}
 
 -- an entry of another name is passed over
 pub entry_named-skip : (e : Entry) (es : List Entry) (x : List ℕ) → bytes_eq x e.name ≡ false → entry_named (e ∷ es) x ≡ entry_named es x
@@ -59,3 +60,12 @@ pub ranked_at : (es : List Entry) (i : ℕ) (x : List ℕ) (r : Rank) → slice_
 ranked_at [] i x r h = cc
 ranked_at (e ∷ es) zero x r h = (e, refl, sym (ap name_or h))
 ranked_at (e ∷ es) (suc i) x r h = ranked_at es i x r h
+
+-- the rank of a name is that of its entry
+pub look_up-ranks : (es : List Entry) (x : List ℕ) → look_up (ranks_of es) x ≡ option_map rank_of_entry (entry_named es x)
+look_up-ranks [] x = refl
+look_up-ranks (e ∷ es) x = by (bytes_eq x e.name) (look_up-ranks es x)
+  where
+    by : (b : Bool) → look_up (ranks_of es) x ≡ option_map rank_of_entry (entry_named es x) → cond b (Some (rank_of_entry e)) (look_up (ranks_of es) x) ≡ option_map rank_of_entry (cond b (Some e) (entry_named es x))
+    by true rest = refl
+    by false rest = rest

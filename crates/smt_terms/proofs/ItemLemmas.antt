@@ -7,29 +7,35 @@ use Rattle.smt_theory.specs.Sort.{is_same_sort}
 use Rattle.smt_theory.specs.Words.{look_up, result_and_then}
 use Rattle.smt_theory.specs.declared.sort.Sort.{Sort}
 use Rattle.smt_theory.specs.declared.theories.Theories.{Theories}
+use Rattle.smt_terms.specs.Checking.{unless}
 use Rattle.smt_terms.specs.Definitions.{definition_in, parameters_named}
-use Rattle.smt_terms.specs.Internal.LibraryView.{names_of_library, ranks_of_library}
-use Rattle.smt_terms.specs.Items.{ItemForm, declared_named, defined_as, form_in, has_rank_of, if_declared, item_form, item_in, items_before, name_fault, unless}
+use Rattle.smt_terms.specs.Internal.LibraryView.{names_of_library, sort_names}
+use Rattle.smt_terms.specs.Items.{ItemForm, declared_named, defined_as, form_in, has_rank_of, if_declared, item_form, item_in, items_before, name_fault}
+use Rattle.smt_terms.specs.Labels.{Refused}
 use Rattle.smt_terms.specs.Library.{HasTheoriesOf, StandsFor, is_declared, places_from}
 use Rattle.smt_terms.specs.Signature as signature
-use Rattle.smt_terms.specs.Signature.{Entry, Names, Origin, Rank, Signature, entry_named, is_taken, names_of, rank_of_entry, ranks_of}
+use Rattle.smt_terms.specs.Signature.{Entry, Names, Origin, Rank, Signature, entry_named, is_taken, names_of, rank_of_entry, ranks_of, sort_names_of}
 use Rattle.smt_terms.specs.SortTrees.{sort_named}
 use Rattle.smt_terms.specs.declared.fault.TermFault.{TermFault}
 use Rattle.smt_terms.specs.declared.fault.TermFault.TheVariants.{BoundTwice, IllSorted, NotFresh}
 use Rattle.smt_terms.specs.declared.library.Found.{Found}
 use Rattle.smt_terms.specs.declared.library.Library.{Library}
-use Rattle.smt_terms.proofs.CheckerLemmas.{look_up-ranks}
+use Rattle.smt_terms.proofs.EntryLemmas.{look_up-ranks}
 use Rattle.smt_terms.proofs.NameLookUps.{some_map}
 use Rattle.smt_terms.proofs.PlaceLemmas.{declared_place, is_declared_place}
 
 -- the names that a library holds are those of what it stands for
 pub names_as : (library : Library) (s : Signature) → StandsFor library s → names_of_library library ≡ names_of s
-names_as library s stands =
-    ap (λ (t : Theories). record { theories = t; ranks = ranks_of_library library }) stands.theories ∙ ap (λ (rs : List (List ℕ × Rank)). record { theories = s.theories; ranks = rs }) stands.ranks
+names_as library s stands = λ i. record { theories = stands.theories i; ranks = stands.ranks i; labels = Refused }
+
+-- and so are those of sorts
+pub sorts_as : (library : Library) (s : Signature) → StandsFor library s → sort_names library.sorts ≡ sort_names_of s
+sorts_as library s stands = λ i. record { theories = stands.theories i; abbreviations = stands.abbreviations i }
 
 -- those of what a model's library stands for are the ones that a body sees
 pub names_before : (library script : Library) (s m : Signature) → HasTheoriesOf library script → StandsFor script s → StandsFor library m → names_of m ≡ names_of (items_before s m.entries)
-names_before library script s m same stands items = ap (λ (t : Theories). record { theories = t; ranks = ranks_of m.entries }) (sym items.theories ∙ same ∙ stands.theories)
+names_before library script s m same stands items =
+    ap (λ (t : Theories). record { theories = t; ranks = ranks_of m.entries; labels = Refused }) (sym items.theories ∙ same ∙ stands.theories)
 
 -- whether a name has an entry
 pub is_named : (es : List Entry) (x : List ℕ) → is_some (entry_named es x) ≡ is_some (look_up (ranks_of es) x)
@@ -73,20 +79,20 @@ Params = List (List ℕ × Sort)
 
 -- what is defined by parts with a name that is fit
 abbrev pub item_behind : Signature → List Entry → ItemForm → Result Entry TermFault
-item_behind s es form = result_and_then (parameters_named s.theories [] form.parameters) (λ ps. result_and_then (sort_named s.theories form.sort) (λ sort. defined_as s es form ps sort))
+item_behind s es form = result_and_then (parameters_named (sort_names_of s) [] form.parameters) (λ ps. result_and_then (sort_named (sort_names_of s) form.sort) (λ sort. defined_as s es form ps sort))
 
 pub item_named : (s : Signature) (es : List Entry) (t : Sexp) (form : ItemForm) → item_form t ≡ Ok form → name_fault s es form.name ≡ None → item_in s es t ≡ item_behind s es form
 item_named s es t form is free = ap (λ r. result_and_then r (λ f. form_in s es f)) is ∙ ap (λ o. unless o (item_behind s es form)) free
 
 -- with parameters that have sorts
-pub item_bound : (s : Signature) (es : List Entry) (t : Sexp) (form : ItemForm) (ps : Params) → item_form t ≡ Ok form → name_fault s es form.name ≡ None → parameters_named s.theories [] form.parameters ≡ Ok ps
-    → item_in s es t ≡ result_and_then (sort_named s.theories form.sort) (λ sort. defined_as s es form ps sort)
+pub item_bound : (s : Signature) (es : List Entry) (t : Sexp) (form : ItemForm) (ps : Params) → item_form t ≡ Ok form → name_fault s es form.name ≡ None → parameters_named (sort_names_of s) [] form.parameters ≡ Ok ps
+    → item_in s es t ≡ result_and_then (sort_named (sort_names_of s) form.sort) (λ sort. defined_as s es form ps sort)
 item_bound s es t form ps is free bound =
-    item_named s es t form is free ∙ ap (λ r. result_and_then r (λ qs. result_and_then (sort_named s.theories form.sort) (λ sort. defined_as s es form qs sort))) bound
+    item_named s es t form is free ∙ ap (λ r. result_and_then r (λ qs. result_and_then (sort_named (sort_names_of s) form.sort) (λ sort. defined_as s es form qs sort))) bound
 
 -- with a sort, and by whether it keeps the rank of its declaration
-pub item_ranked : (s : Signature) (es : List Entry) (t : Sexp) (form : ItemForm) (ps : Params) (sort : Sort) (b : Bool) → item_form t ≡ Ok form → name_fault s es form.name ≡ None → parameters_named s.theories [] form.parameters ≡ Ok ps
-    → sort_named s.theories form.sort ≡ Ok sort → has_rank_of (declared_named s.entries form.name) (map (λ p. p.1) ps) sort ≡ b
+pub item_ranked : (s : Signature) (es : List Entry) (t : Sexp) (form : ItemForm) (ps : Params) (sort : Sort) (b : Bool) → item_form t ≡ Ok form → name_fault s es form.name ≡ None → parameters_named (sort_names_of s) [] form.parameters ≡ Ok ps
+    → sort_named (sort_names_of s) form.sort ≡ Ok sort → has_rank_of (declared_named s.entries form.name) (map (λ p. p.1) ps) sort ≡ b
     → item_in s es t ≡ cond (not b) (Err IllSorted) (definition_in (names_of (items_before s es)) form.name ps sort form.body)
 item_ranked s es t form ps sort b is free bound sorted kept =
     item_bound s es t form ps is free bound ∙ ap (λ r. result_and_then r (λ z. defined_as s es form ps z)) sorted
@@ -94,10 +100,10 @@ item_ranked s es t form ps sort b is free bound sorted kept =
 
 -- what an item defines, where its name is fit, its sorts are known and it keeps the rank of its declaration
 pub item_step : (library script : Library) (s m : Signature) (t : Sexp) (form : ItemForm) (ps qs rs : Params) (sort : Sort) (b : Bool) → HasTheoriesOf library script → StandsFor script s → StandsFor library m → item_form t ≡ Ok form
-    → name_fault s m.entries form.name ≡ None → parameters_named script.theories [] form.parameters ≡ Ok ps → Ok sort ≡ sort_named script.theories form.sort → b ≡ has_rank_of (declared_named s.entries form.name) (map (λ p. p.1) qs) sort → b ≡ true
+    → name_fault s m.entries form.name ≡ None → parameters_named (sort_names script.sorts) [] form.parameters ≡ Ok ps → Ok sort ≡ sort_named (sort_names script.sorts) form.sort → b ≡ has_rank_of (declared_named s.entries form.name) (map (λ p. p.1) qs) sort → b ≡ true
     → qs ≡ ps → rs ≡ ps → item_in s m.entries t ≡ definition_in (names_of m) form.name rs sort form.body
 item_step library script s m t form ps qs rs sort b same stands items is free bound sorted kept true_ first second =
-    item_ranked s m.entries t form ps sort true is free (ap (λ theories. parameters_named theories [] form.parameters) (sym stands.theories) ∙ bound) (ap (λ theories. sort_named theories form.sort) (sym stands.theories) ∙ sym sorted)
+    item_ranked s m.entries t form ps sort true is free (ap (λ sorts. parameters_named sorts [] form.parameters) (sym (sorts_as script s stands)) ∙ bound) (ap (λ sorts. sort_named sorts form.sort) (sym (sorts_as script s stands)) ∙ sym sorted)
     (ap (λ (vs : Params). has_rank_of (declared_named s.entries form.name) (map (λ p. p.1) vs) sort) (sym first) ∙ sym kept ∙ true_)
     ∙ ap (λ names. definition_in names form.name ps sort form.body) (sym (names_before library script s m same stands items)) ∙ ap (λ (vs : Params). definition_in (names_of m) form.name vs sort form.body) (sym second)
 

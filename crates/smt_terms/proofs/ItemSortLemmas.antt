@@ -7,9 +7,10 @@ use Rattle.smt_theory.specs.Sort.{is_same_sort}
 use Rattle.smt_theory.specs.Words.{result_and_then}
 use Rattle.smt_theory.specs.declared.sort.Sort.{Sort}
 use Rattle.smt_theory.proofs.RankLemmas.{is_same_sort-Decides}
+use Rattle.smt_terms.specs.Checking.{unless}
 use Rattle.smt_terms.specs.Definitions.{definition, definition_in, parameters_named}
-use Rattle.smt_terms.specs.Items.{ItemForm, declared_named, defined_as, form_in, has_rank_of, item_form, item_in, items_before, name_fault, unless}
-use Rattle.smt_terms.specs.Signature.{Entry, KeepsRank, Signature, entry_named, is_taken, names_of}
+use Rattle.smt_terms.specs.Items.{ItemForm, declared_named, defined_as, form_in, has_rank_of, item_form, item_in, items_before, name_fault}
+use Rattle.smt_terms.specs.Signature.{Entry, KeepsRank, Signature, entry_named, is_taken, names_of, sort_names_of}
 use Rattle.smt_terms.specs.SortTrees.{sort_named}
 use Rattle.smt_terms.specs.WellSorted.{AreDifferent, IsWellSorted}
 use Rattle.smt_terms.specs.declared.fault.TermFault.{TermFault}
@@ -55,16 +56,16 @@ IsItem-definition script earlier form ps sort e fresh fit different h = by (has_
 
 -- so is what parts of the right form define
 IsItem-form : (script : Signature) (earlier : List Entry) (form : ItemForm) (e : Entry) → form_in script earlier form ≡ Ok e → IsItem script earlier e
-IsItem-form script earlier form e h = by (name_fault script earlier form.name) refl (parameters_named script.theories [] form.parameters) refl (sort_named script.theories form.sort) h
+IsItem-form script earlier form e h = by (name_fault script earlier form.name) refl (parameters_named (sort_names_of script) [] form.parameters) refl (sort_named (sort_names_of script) form.sort) h
   where
-    by : (o : Option TermFault) → name_fault script earlier form.name ≡ o → (r : Result (List (List ℕ × Sort)) TermFault) → parameters_named script.theories [] form.parameters ≡ r → (q : Result Sort TermFault)
+    by : (o : Option TermFault) → name_fault script earlier form.name ≡ o → (r : Result (List (List ℕ × Sort)) TermFault) → parameters_named (sort_names_of script) [] form.parameters ≡ r → (q : Result Sort TermFault)
         → unless o (result_and_then r (λ ps. result_and_then q (λ sort. defined_as script earlier form ps sort))) ≡ Ok e → IsItem script earlier e
     by (Some f) none r bound q h = cc
     by None none (Err f) bound q h = cc
     by None none (Ok ps) bound (Err f) h = cc
     by None none (Ok ps) bound (Ok sort) h =
         let free = no_fault script earlier form.name none in
-        IsItem-definition script earlier form ps sort e free.0 free.1 (different script.theories [] form.parameters ps tt bound) h
+        IsItem-definition script earlier form ps sort e free.0 free.1 (different (sort_names_of script) [] form.parameters ps tt bound) h
 
 -- so is what an item defines
 pub IsItem-taken : (script : Signature) (earlier : List Entry) (tree : Sexp) (e : Entry) → item_in script earlier tree ≡ Ok e → IsItem script earlier e

@@ -1,5 +1,6 @@
 -- A term keeps its sort over more names.
-use Rattle.std.proofs.Common.{◌≡◌, ℕ, ◌*◌, Bool, true, false, cond, List, [], ◌∷◌, ◌++◌, length, Option, Some, None, is_some, ok_or, Result, Ok, Err, refl, ap, sym, ◌∙◌}
+use Rattle.std.proofs.Common.{◌≡◌, ℕ, ◌*◌, Bool, true, false, cond, List, [], ◌∷◌, ◌++◌, map, length, Option, Some, None, is_some, ok_or, Result, Ok, Err, refl, ap, sym, ◌∙◌}
+use Rattle.std.specs.Option.{option_or}
 use Rattle.smt_text.specs.Sexp as sexp
 use Rattle.smt_text.specs.Sexp.{Sexp, Sexps, Atom, Reserved, Items, Nil, Cons, Symbol, Keyword, Numeral, Hexadecimal, Binary}
 use Rattle.smt_text.specs.declared.reserved.Word.TheVariants.{Bang, Let, Underscore}
@@ -10,9 +11,10 @@ use Rattle.smt_theory.specs.declared.op.Op.{Op}
 use Rattle.smt_theory.specs.declared.op.OpFault.TheVariants as ops
 use Rattle.smt_theory.specs.declared.sort.Sort.{Sort}
 use Rattle.smt_terms.specs.Bindings.{are_attributes, are_bindings}
-use Rattle.smt_terms.specs.Checking.{bound_in, sort_applied, sort_in, sort_of_annotated, sort_of_call, sort_of_operator, sort_of_plain, sort_of_symbol, sort_unless_variable, sorts_in}
+use Rattle.smt_terms.specs.Checking.{bound_in, fault_of_label, fault_of_labels, sort_applied, sort_in, sort_of_call, sort_of_operator, sort_of_plain, sort_of_symbol, sort_unless_variable, sorts_in, unless}
 use Rattle.smt_terms.specs.Identifier.{Identifier, Plain, Indexed, applied, indexed}
-use Rattle.smt_terms.specs.Signature.{Names, Rank}
+use Rattle.smt_terms.specs.Labels.{Labels, Unread, labels_among, labels_in, labels_in_bindings, with_labels}
+use Rattle.smt_terms.specs.Signature.{Names, Rank, behind, unlabelled}
 use Rattle.smt_terms.specs.SortTrees.{bit_vectors, integers}
 use Rattle.smt_terms.specs.WellSorted.{Keeps}
 use Rattle.smt_terms.specs.declared.fault.TermFault.{TermFault}
@@ -22,23 +24,23 @@ use Rattle.smt_terms.proofs.CheckerLemmas.{Scope}
 -- ## Answers
 
 -- where the second of two steps is answered, the first is
-answered : {A B : Type 0} (r : Result A TermFault) (next : A → Result B TermFault) (y : B) → result_and_then r next ≡ Ok y → (x : A) × (r ≡ Ok x) × (next x ≡ Ok y)
+pub answered : {A B : Type 0} (r : Result A TermFault) (next : A → Result B TermFault) (y : B) → result_and_then r next ≡ Ok y → (x : A) × (r ≡ Ok x) × (next x ≡ Ok y)
 answered (Ok x) next y h = (x, refl, h)
 answered (Err f) next y h = cc
 
 -- two steps that are answered by the same keep the answer
-kept-steps : {A B : Type 0} (r s : Result A TermFault) (next more : A → Result B TermFault) (y : B) → ((x : A) → r ≡ Ok x → s ≡ Ok x) → ((x : A) → next x ≡ Ok y → more x ≡ Ok y) → result_and_then r next ≡ Ok y
+pub kept-steps : {A B : Type 0} (r s : Result A TermFault) (next more : A → Result B TermFault) (y : B) → ((x : A) → r ≡ Ok x → s ≡ Ok x) → ((x : A) → next x ≡ Ok y → more x ≡ Ok y) → result_and_then r next ≡ Ok y
     → result_and_then s more ≡ Ok y
 kept-steps r s next more y first second h =
     let a = answered r next y h in
     ap (λ q. result_and_then q more) (first a.0 a.1) ∙ second a.0 a.2
 
 -- so does a test
-kept-then : {A : Type 0} (b : Bool) (x y : Result A TermFault) (e : TermFault) (a : A) → (x ≡ Ok a → y ≡ Ok a) → cond b x (Err e) ≡ Ok a → cond b y (Err e) ≡ Ok a
+pub kept-then : {A : Type 0} (b : Bool) (x y : Result A TermFault) (e : TermFault) (a : A) → (x ≡ Ok a → y ≡ Ok a) → cond b x (Err e) ≡ Ok a → cond b y (Err e) ≡ Ok a
 kept-then true x y e a f h = f h
 kept-then false x y e a f h = cc
 
-kept-else : {A : Type 0} (b : Bool) (x y : Result A TermFault) (e : TermFault) (a : A) → (x ≡ Ok a → y ≡ Ok a) → cond b (Err e) x ≡ Ok a → cond b (Err e) y ≡ Ok a
+pub kept-else : {A : Type 0} (b : Bool) (x y : Result A TermFault) (e : TermFault) (a : A) → (x ≡ Ok a → y ≡ Ok a) → cond b (Err e) x ≡ Ok a → cond b (Err e) y ≡ Ok a
 kept-else true x y e a f h = cc
 kept-else false x y e a f h = f h
 
@@ -85,6 +87,39 @@ kept-application names more keeps scope head args sort sorts h =
     kept-steps (applied head args) (applied head args) (λ f. result_and_then (sorts_in names scope args) (λ ss. sort_of_call names scope f ss)) (λ f. result_and_then (sorts_in more scope args) (λ ss. sort_of_call more scope f ss)) sort
     (λ f is. is) (λ f i. kept-steps (sorts_in names scope args) (sorts_in more scope args) (λ ss. sort_of_call names scope f ss) (λ ss. sort_of_call more scope f ss) sort sorts (λ ss. kept-call names more keeps scope f ss sort) i) h
 
+-- ## Labels
+
+-- labels that are not looked at are not looked at behind more
+pub Unread-behind : (ls : List (List ℕ × Sexp)) (labels : Labels) → labels ≡ Unread → with_labels (map (λ l. l.0) ls) labels ≡ Unread
+Unread-behind ls labels h = ap (λ ks. with_labels (map (λ l. l.0) ls) ks) h
+
+-- and have no fault
+unread_fault : (names : Names) (labels : Labels) (scope : Scope) (term : Sexp) (x : List ℕ) → labels ≡ Unread → fault_of_label names labels scope term x ≡ None
+unread_fault names labels scope term x h = ap (λ ks. fault_of_label names ks scope term x) h
+
+pub unread_faults : (names : Names) (scope : Scope) (term : Sexp) (xs : List (List ℕ)) → names.labels ≡ Unread → fault_of_labels names scope term xs ≡ None
+unread_faults names scope term [] h = refl
+unread_faults names scope term (x ∷ xs) h =
+    ap (λ o. option_or o (fault_of_labels (behind ((x, term) ∷ []) names) scope term xs)) (unread_fault names names.labels scope term x h)
+    ∙ unread_faults (behind ((x, term) ∷ []) names) scope term xs (Unread-behind ((x, term) ∷ []) names.labels h)
+
+-- what has no fault is what comes then
+pub unless-none : {A : Type 0} (o : Option TermFault) (r : Result A TermFault) (y : A) → unless o r ≡ Ok y → (o ≡ None) × (r ≡ Ok y)
+unless-none None r y h = (refl, h)
+unless-none (Some f) r y h = cc
+
+-- the labels of a term change nothing of the names that are kept
+pub Keeps-behind : (names more : Names) (ls ks : List (List ℕ × Sexp)) → Keeps names more → Keeps (behind ls names) (behind ks more)
+Keeps-behind names more ls ks keeps = record { theories = keeps.theories; ranks = keeps.ranks; labels = Unread-behind ks more.labels keeps.labels; fresh = keeps.fresh }
+
+no_rank : (o : Option Rank) (rank : Rank) → o ≡ None → o ≡ Some rank → ⊥
+no_rank None rank h i = cc
+no_rank (Some r) rank h i = cc
+
+-- names are kept where labels are not looked at
+pub Keeps-unlabelled : (names : Names) → Keeps names (unlabelled names)
+Keeps-unlabelled names = record { theories = refl; ranks = λ x rank h. h; labels = refl; fresh = λ x rank none some. absurd (no_rank (look_up names.ranks x) rank none some) }
+
 mutual
   pub kept-sort : (names more : Names) → Keeps names more → (scope : Scope) (t : Sexp) (sort : Sort) → sort_in names scope t ≡ Ok sort → sort_in more scope t ≡ Ok sort
   kept-sort names more keeps scope (Atom Symbol x) sort h = kept-symbol names more keeps x (look_up scope x) sort h
@@ -99,28 +134,38 @@ mutual
   kept-sort names more keeps scope (Items (Cons (Reserved Underscore) parts)) sort h =
       kept-steps (indexed parts) (indexed parts) (λ f. sort_applied names f []) (λ f. sort_applied more f []) sort (λ f is. is) (λ f. kept-applied names more keeps f [] sort) h
   kept-sort names more keeps scope (Items (Cons (Reserved Let) (Cons (Items bindings) (Cons body Nil)))) sort h =
-      kept-then (are_bindings bindings) (result_and_then (bound_in names scope [] bindings) (λ bound. sort_in names (bound ++ scope) body)) (result_and_then (bound_in more scope [] bindings) (λ bound. sort_in more (bound ++ scope) body))
-      Form sort (kept-steps (bound_in names scope [] bindings) (bound_in more scope [] bindings) (λ bound. sort_in names (bound ++ scope) body) (λ bound. sort_in more (bound ++ scope) body) sort
-      (kept-bound names more keeps scope [] bindings) (λ bound. kept-sort names more keeps (bound ++ scope) body sort)) h
+      let ls = labels_in_bindings bindings in
+      kept-then (are_bindings bindings) (result_and_then (bound_in names scope [] bindings) (λ bound. sort_in (behind ls names) (bound ++ scope) body))
+      (result_and_then (bound_in more scope [] bindings) (λ bound. sort_in (behind ls more) (bound ++ scope) body)) Form sort
+      (kept-steps (bound_in names scope [] bindings) (bound_in more scope [] bindings) (λ bound. sort_in (behind ls names) (bound ++ scope) body) (λ bound. sort_in (behind ls more) (bound ++ scope) body) sort
+      (kept-bound names more keeps scope [] bindings) (λ bound. kept-sort (behind ls names) (behind ls more) (Keeps-behind names more ls ls keeps) (bound ++ scope) body sort)) h
   kept-sort names more keeps scope (Items (Cons (Reserved Let) args)) sort h = cc
   kept-sort names more keeps scope (Items (Cons (Reserved Bang) (Cons term attributes))) sort h =
-      kept-then (are_attributes attributes) (result_and_then (sort_in names scope term) (λ s. sort_of_annotated attributes s)) (result_and_then (sort_in more scope term) (λ s. sort_of_annotated attributes s)) Form sort
-      (kept-steps (sort_in names scope term) (sort_in more scope term) (λ s. sort_of_annotated attributes s) (λ s. sort_of_annotated attributes s) sort (kept-sort names more keeps scope term) (λ s i. i)) h
+      let ls = labels_in term in
+      let xs = labels_among attributes in
+      kept-then (are_attributes attributes) (result_and_then (sort_in names scope term) (λ s. unless (fault_of_labels (behind ls names) scope term xs) (Ok s)))
+      (result_and_then (sort_in more scope term) (λ s. unless (fault_of_labels (behind ls more) scope term xs) (Ok s))) Form sort
+      (kept-steps (sort_in names scope term) (sort_in more scope term) (λ s. unless (fault_of_labels (behind ls names) scope term xs) (Ok s)) (λ s. unless (fault_of_labels (behind ls more) scope term xs) (Ok s)) sort
+      (kept-sort names more keeps scope term)
+      (λ s i. ap (λ o. unless o (Ok s)) (unread_faults (behind ls more) scope term xs (Unread-behind ls more.labels keeps.labels)) ∙ (unless-none (fault_of_labels (behind ls names) scope term xs) (Ok s) sort i).1)) h
   kept-sort names more keeps scope (Items (Cons (Reserved Bang) args)) sort h = cc
   kept-sort names more keeps scope (Items (Cons head args)) sort h = kept-application names more keeps scope head args sort (kept-sorts names more keeps scope args) h
 
   pub kept-sorts : (names more : Names) → Keeps names more → (scope : Scope) (ts : Sexps) (sorts : List Sort) → sorts_in names scope ts ≡ Ok sorts → sorts_in more scope ts ≡ Ok sorts
   kept-sorts names more keeps scope Nil sorts h = h
   kept-sorts names more keeps scope (Cons x xs) sorts h =
-      kept-steps (sort_in names scope x) (sort_in more scope x) (λ s. result_and_then (sorts_in names scope xs) (λ ss. Ok (s ∷ ss))) (λ s. result_and_then (sorts_in more scope xs) (λ ss. Ok (s ∷ ss))) sorts
+      let ls = labels_in x in
+      kept-steps (sort_in names scope x) (sort_in more scope x) (λ s. result_and_then (sorts_in (behind ls names) scope xs) (λ ss. Ok (s ∷ ss))) (λ s. result_and_then (sorts_in (behind ls more) scope xs) (λ ss. Ok (s ∷ ss))) sorts
       (kept-sort names more keeps scope x)
-      (λ s. kept-steps (sorts_in names scope xs) (sorts_in more scope xs) (λ ss. Ok (s ∷ ss)) (λ ss. Ok (s ∷ ss)) sorts (kept-sorts names more keeps scope xs) (λ ss i. i)) h
+      (λ s. kept-steps (sorts_in (behind ls names) scope xs) (sorts_in (behind ls more) scope xs) (λ ss. Ok (s ∷ ss)) (λ ss. Ok (s ∷ ss)) sorts
+      (kept-sorts (behind ls names) (behind ls more) (Keeps-behind names more ls ls keeps) scope xs) (λ ss i. i)) h
 
   kept-bound : (names more : Names) → Keeps names more → (scope bound : Scope) (bs : Sexps) (vs : Scope) → bound_in names scope bound bs ≡ Ok vs → bound_in more scope bound bs ≡ Ok vs
   kept-bound names more keeps scope bound Nil vs h = h
   kept-bound names more keeps scope bound (Cons (Items (Cons (Atom Symbol x) (Cons term Nil))) rest) vs h =
-      kept-else (is_some (look_up bound x)) (result_and_then (sort_in names scope term) (λ s. bound_in names scope (bound ++ (x, s) ∷ []) rest))
-      (result_and_then (sort_in more scope term) (λ s. bound_in more scope (bound ++ (x, s) ∷ []) rest)) BoundTwice vs
-      (kept-steps (sort_in names scope term) (sort_in more scope term) (λ s. bound_in names scope (bound ++ (x, s) ∷ []) rest) (λ s. bound_in more scope (bound ++ (x, s) ∷ []) rest) vs
-      (kept-sort names more keeps scope term) (λ s. kept-bound names more keeps scope (bound ++ (x, s) ∷ []) rest vs)) h
+      let ls = labels_in term in
+      kept-else (is_some (look_up bound x)) (result_and_then (sort_in names scope term) (λ s. bound_in (behind ls names) scope (bound ++ (x, s) ∷ []) rest))
+      (result_and_then (sort_in more scope term) (λ s. bound_in (behind ls more) scope (bound ++ (x, s) ∷ []) rest)) BoundTwice vs
+      (kept-steps (sort_in names scope term) (sort_in more scope term) (λ s. bound_in (behind ls names) scope (bound ++ (x, s) ∷ []) rest) (λ s. bound_in (behind ls more) scope (bound ++ (x, s) ∷ []) rest) vs
+      (kept-sort names more keeps scope term) (λ s. kept-bound (behind ls names) (behind ls more) (Keeps-behind names more ls ls keeps) scope (bound ++ (x, s) ∷ []) rest vs)) h
   kept-bound names more keeps scope bound _ vs h = cc

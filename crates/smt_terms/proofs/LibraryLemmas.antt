@@ -7,16 +7,14 @@ use Rattle.std.specs.Map.{lookup, lookup_key}
 use Rattle.indexmap.specs.IndexMap.{insert_entry}
 use Rattle.std.specs.Prelude.{bytes_eq}
 use Rattle.smt_theory.specs.Words.{look_up}
-use Rattle.smt_terms.specs.Internal.LibraryView.{rank_of}
-use Rattle.smt_terms.specs.declared.library.Entry.{Entry}
 use Rattle.smt_terms.proofs.NameLemmas.{none_step, same_name}
 
 -- the entries of a map, each under its key
-abbrev pub Pairs : Type 0
-Pairs = List (Vec ℕ × Entry)
+abbrev pub Pairs : Type 0 → Type 0
+Pairs V = List (Vec ℕ × V)
 
 -- what is seen of them, under their names
-abbrev pub viewed : {A : Type 0} → (Entry → A) → Pairs → List (List ℕ × A)
+abbrev pub viewed : {V A : Type 0} → (V → A) → Pairs V → List (List ℕ × A)
 viewed view es = map (λ p. (p.0.items, view p.1)) es
 
 -- whether two keys are the same name
@@ -28,7 +26,7 @@ abbrev pub test_of : List ℕ → Vec ℕ → Bool
 test_of x k = bytes_eq x k.items
 
 -- what the map finds is what the name stands for
-pub found : {A : Type 0} (view : Entry → A) (es : Pairs) (x : List ℕ) → option_map view (lookup (test_of x) es) ≡ look_up (viewed view es) x
+pub found : {V A : Type 0} (view : V → A) (es : Pairs V) (x : List ℕ) → option_map view (lookup (test_of x) es) ≡ look_up (viewed view es) x
 found view [] x = refl
 found view (p ∷ es) x = by (bytes_eq x p.0.items) (found view es x)
   where
@@ -37,30 +35,35 @@ found view (p ∷ es) x = by (bytes_eq x p.0.items) (found view es x)
     by false rest = rest
 
 -- the same, of the reference that the map gives
-pub found_by : {A : Type 0} (view : Entry → A) (es : Pairs) (x : List ℕ) (r : Option (Bor Entry)) → option_copied r ≡ lookup (test_of x) es → option_map (λ e. view e.now) r ≡ look_up (viewed view es) x
+pub found_by : {V A : Type 0} (view : V → A) (es : Pairs V) (x : List ℕ) (r : Option (Bor V)) → option_copied r ≡ lookup (test_of x) es → option_map (λ e. view e.now) r ≡ look_up (viewed view es) x
 found_by view es x None h = ap (option_map view) h ∙ found view es x
 found_by view es x (Some b) h = ap (option_map view) h ∙ found view es x
 
+-- and of a copy of it
+pub found_itself : {V : Type 0} (es : Pairs V) (x : List ℕ) → lookup (test_of x) es ≡ look_up (viewed (λ v. v) es) x
+found_itself [] x = refl
+found_itself {V = V} (p ∷ es) x = ap (λ (o : Option V). cond (bytes_eq x p.0.items) (Some p.1) o) (found_itself es x)
+
 -- what the map finds at a place is what stands there
-pub placed : {A : Type 0} (view : Entry → A) (es : Pairs) (x : List ℕ) (i : ℕ) (k : Vec ℕ) (e : Entry) → lookup_key (test_of x) es ≡ Some k → slice_get es i ≡ Some (k, e) → slice_get (viewed view es) i ≡ Some (x, view e)
+pub placed : {V A : Type 0} (view : V → A) (es : Pairs V) (x : List ℕ) (i : ℕ) (k : Vec ℕ) (e : V) → lookup_key (test_of x) es ≡ Some k → slice_get es i ≡ Some (k, e) → slice_get (viewed view es) i ≡ Some (x, view e)
 placed view es x i k e is_key at =
     slice_get-map (λ p. (p.0.items, view p.1)) es i ∙ ap (option_map (λ p. (p.0.items, view p.1))) at ∙ ap (λ n. Some (n, view e)) (sym (same_name x k.items (lookup_key_passes (test_of x) es k is_key)))
 
 -- a name that one view does not have, another has not either
-pub absent_too : {A B : Type 0} (f : Entry → A) (g : Entry → B) (es : Pairs) (x : List ℕ) → look_up (viewed f es) x ≡ None → look_up (viewed g es) x ≡ None
+pub absent_too : {V A B : Type 0} (f : V → A) (g : V → B) (es : Pairs V) (x : List ℕ) → look_up (viewed f es) x ≡ None → look_up (viewed g es) x ≡ None
 absent_too f g [] x h = refl
 absent_too f g (p ∷ es) x h =
     let n = none_step (bytes_eq x p.0.items) (f p.1) (look_up (viewed f es) x) h in
     ap (λ b. cond b (Some (g p.1)) (look_up (viewed g es) x)) n.0 ∙ absent_too f g es x n.1
 
 -- a new name goes last
-pub inserted : {A : Type 0} (view : Entry → A) (es : Pairs) (k : Vec ℕ) (v : Entry) → look_up (viewed view es) k.items ≡ None → viewed view (insert_entry same_key es k v) ≡ viewed view es ++ (k.items, view v) ∷ []
+pub inserted : {V A : Type 0} (view : V → A) (es : Pairs V) (k : Vec ℕ) (v : V) → look_up (viewed view es) k.items ≡ None → viewed view (insert_entry same_key es k v) ≡ viewed view es ++ (k.items, view v) ∷ []
 inserted view [] k v h = refl
 inserted view (p ∷ es) k v h =
     let n = none_step (bytes_eq k.items p.0.items) (view p.1) (look_up (viewed view es) k.items) h in
     ap (λ b. viewed view (cond b ((p.0, v) ∷ es) (p ∷ insert_entry same_key es k v))) n.0 ∙ ap (λ ys. (p.0.items, view p.1) ∷ ys) (inserted view es k v n.1)
 
 -- so it does under the name that the key has
-pub goes_last : {A : Type 0} (view : Entry → A) (es new : Pairs) (k : Vec ℕ) (x : List ℕ) (v : Entry) → look_up (viewed rank_of es) x ≡ None → k.items ≡ x → new ≡ insert_entry same_key es k v → viewed view new ≡ viewed view es ++ (x, view v) ∷ []
-goes_last view es new k x v absent same is =
-    ap (viewed view) is ∙ inserted view es k v (ap (look_up (viewed view es)) same ∙ absent_too rank_of view es x absent) ∙ ap (λ n. viewed view es ++ (n, view v) ∷ []) same
+pub goes_last : {V A B : Type 0} (rank : V → B) (view : V → A) (es new : Pairs V) (k : Vec ℕ) (x : List ℕ) (v : V) → look_up (viewed rank es) x ≡ None → k.items ≡ x → new ≡ insert_entry same_key es k v → viewed view new ≡ viewed view es ++ (x, view v) ∷ []
+goes_last rank view es new k x v absent same is =
+    ap (viewed view) is ∙ inserted view es k v (ap (look_up (viewed view es)) same ∙ absent_too rank view es x absent) ∙ ap (λ n. viewed view es ++ (n, view v) ∷ []) same

@@ -16,13 +16,17 @@ use Rattle.smt_theory.specs.declared.op.OpFault.TheVariants as ops
 use Rattle.smt_theory.specs.declared.sort.Sort.{Sort}
 use Rattle.smt_theory.specs.declared.sort.Sort.TheVariants.{Bits}
 use Rattle.smt_theory.specs.declared.theories.Theories.{Theories}
-use Rattle.smt_terms.specs.Checking.{sort_of_rank, sort_of_operator, sort_of_plain, sort_applied, sort_of_symbol, sort_unless_variable, sort_of_annotated, sort_of_call, bound_in, sort_in, sorts_in}
-use Rattle.smt_terms.specs.Bindings.{are_attributes, are_bindings, are_named_trees, has_label, named_trees}
+use Rattle.smt_terms.specs.Checking.{sort_of_rank, sort_of_operator, sort_of_plain, sort_applied, sort_of_symbol, sort_unless_variable, sort_of_call, bound_in, fault_of_label, fault_of_labels, sort_in, sorts_in, unless}
+use Rattle.smt_terms.specs.Bindings.{are_attributes, are_bindings, are_named_trees, named_trees}
 use Rattle.smt_terms.specs.Definitions.{defined_in, definition, definition_in, parameters_named}
 use Rattle.smt_terms.specs.Identifier.{Identifier, Plain, Indexed, all_indexes, applied, indexed, word_fault}
-use Rattle.smt_terms.specs.Items.{ItemForm, declared_named, defined_as, form_in, has_rank_of, item_form, item_in, items_before, name_fault, unless}
-use Rattle.smt_terms.specs.Signature.{Entry, Names, Rank, Signature, declaration, declared_in, entry_named, is_taken, names_of, rank_named}
-use Rattle.smt_terms.specs.SortTrees.{bit_vector_sort, bit_vectors, indexed_sort, integers, is_some_tree, sort_named, sort_of_list, sorts_named}
+use Rattle.smt_terms.specs.Items.{ItemForm, declared_named, defined_as, form_in, has_rank_of, item_form, item_in, items_before, name_fault}
+use Rattle.std.specs.Option.{option_or}
+use Rattle.smt_theory.specs.declared.sort.Sort.TheVariants.{Bool as Boolean}
+use Rattle.smt_terms.specs.Assertions.{asserted_in, label_entries}
+use Rattle.smt_terms.specs.Labels.{Labels, Refused, Given, Unread, is_among, labels_among, labels_in, labels_in_bindings, uses_variable}
+use Rattle.smt_terms.specs.Signature.{Entry, Names, Rank, Signature, behind, declaration, declared_in, entry_named, in_assertion, is_taken, names_of, rank_named, sort_names_of}
+use Rattle.smt_terms.specs.SortTrees.{SortNames, abbreviated_in, bit_vector_sort, bit_vectors, indexed_sort, integers, is_some_tree, is_sort_taken, sort_named, sort_of_list, sort_of_word, sorts_named}
 use Rattle.smt_terms.specs.SortTrees as sorts
 use Rattle.smt_terms.specs.declared.fault.TermFault.{TermFault}
 use Rattle.smt_terms.specs.declared.fault.TermFault.TheVariants.{Form, Unsupported, Unknown, IllSorted, Index, BoundTwice, NotFresh, Label, Memory}
@@ -115,9 +119,29 @@ IsOther-application names scope head args i =
     IsOther-and_then (applied head args) (λ f. result_and_then (sorts_in names scope args) (λ ss. sort_of_call names scope f ss)) (IsOther-applied head args)
     (λ f. IsOther-and_then (sorts_in names scope args) (λ ss. sort_of_call names scope f ss) i (λ ss. IsOther-call names scope f ss))
 
--- an annotated term
-IsOther-annotated : (attributes : Sexps) (sort : Sort) → IsOther (sort_of_annotated attributes sort)
-IsOther-annotated attributes sort = IsOther-test (has_label attributes) (Err Label) (Ok sort) (λ e. cc) (λ e. cc)
+-- faults of labels
+IsOther-label : (names : Names) (labels : Labels) (scope : List (List ℕ × Sort)) (term : Sexp) (x : List ℕ) → fault_of_label names labels scope term x ≡ Some Memory → ⊥
+IsOther-label names Refused scope term x h = cc
+IsOther-label names Unread scope term x h = cc
+IsOther-label names (Given ls) scope term x h = by (uses_variable scope term) (is_taken names x || is_among ls x) h
+  where
+    by : (b c : Bool) → cond b (Some Label) (cond c (Some NotFresh) None) ≡ Some Memory → ⊥
+    by true c g = cc
+    by false true g = cc
+    by false false g = cc
+
+IsOther-labels : (names : Names) (scope : List (List ℕ × Sort)) (term : Sexp) (xs : List (List ℕ)) → fault_of_labels names scope term xs ≡ Some Memory → ⊥
+IsOther-labels names scope term [] h = cc
+IsOther-labels names scope term (x ∷ xs) h =
+    by (fault_of_label names names.labels scope term x) (IsOther-label names names.labels scope term x) (IsOther-labels (behind ((x, term) ∷ []) names) scope term xs) h
+  where
+    by : (o : Option TermFault) → (o ≡ Some Memory → ⊥) → (fault_of_labels (behind ((x, term) ∷ []) names) scope term xs ≡ Some Memory → ⊥) → option_or o (fault_of_labels (behind ((x, term) ∷ []) names) scope term xs) ≡ Some Memory → ⊥
+    by None i rest g = rest g
+    by (Some f) i rest g = i g
+
+IsOther-unless_fault : (o : Option TermFault) (sort : Sort) → (o ≡ Some Memory → ⊥) → IsOther (unless o (Ok sort))
+IsOther-unless_fault None sort i h = cc
+IsOther-unless_fault (Some f) sort i h = i (cc)
 
 -- terms, and terms in order
 mutual
@@ -133,12 +157,12 @@ mutual
   IsOther-sort names scope (Items Nil) h = cc
   IsOther-sort names scope (Items (Cons (Reserved Underscore) args)) h = IsOther-and_then (indexed args) (λ f. sort_applied names f []) (IsOther-indexed args) (λ f. IsOther-sort_applied names f []) h
   IsOther-sort names scope (Items (Cons (Reserved Let) (Cons (Items bindings) (Cons body Nil)))) h =
-      IsOther-test (are_bindings bindings) (result_and_then (bound_in names scope [] bindings) (λ bound. sort_in names (bound ++ scope) body)) (Err Form)
-      (IsOther-and_then (bound_in names scope [] bindings) (λ bound. sort_in names (bound ++ scope) body) (IsOther-bound names scope [] bindings) (λ bound. IsOther-sort names (bound ++ scope) body)) (λ e. cc) h
+      IsOther-test (are_bindings bindings) (result_and_then (bound_in names scope [] bindings) (λ bound. sort_in (behind (labels_in_bindings bindings) names) (bound ++ scope) body)) (Err Form)
+      (IsOther-and_then (bound_in names scope [] bindings) (λ bound. sort_in (behind (labels_in_bindings bindings) names) (bound ++ scope) body) (IsOther-bound names scope [] bindings) (λ bound. IsOther-sort (behind (labels_in_bindings bindings) names) (bound ++ scope) body)) (λ e. cc) h
   IsOther-sort names scope (Items (Cons (Reserved Let) args)) h = cc
   IsOther-sort names scope (Items (Cons (Reserved Bang) (Cons term attributes))) h =
-      IsOther-test (are_attributes attributes) (result_and_then (sort_in names scope term) (λ s. sort_of_annotated attributes s)) (Err Form)
-      (IsOther-and_then (sort_in names scope term) (λ s. sort_of_annotated attributes s) (IsOther-sort names scope term) (λ s. IsOther-annotated attributes s)) (λ e. cc) h
+      IsOther-test (are_attributes attributes) (result_and_then (sort_in names scope term) (λ s. unless (fault_of_labels (behind (labels_in term) names) scope term (labels_among attributes)) (Ok s))) (Err Form)
+      (IsOther-and_then (sort_in names scope term) (λ s. unless (fault_of_labels (behind (labels_in term) names) scope term (labels_among attributes)) (Ok s)) (IsOther-sort names scope term) (λ s. IsOther-unless_fault (fault_of_labels (behind (labels_in term) names) scope term (labels_among attributes)) s (IsOther-labels (behind (labels_in term) names) scope term (labels_among attributes)))) (λ e. cc) h
   IsOther-sort names scope (Items (Cons (Reserved Bang) args)) h = cc
   IsOther-sort names scope (Items (Cons (Reserved word) args)) h = IsOther-application names scope (Reserved word) args (IsOther-sorts names scope args) h
   IsOther-sort names scope (Items (Cons (Atom kind x) args)) h = IsOther-application names scope (Atom kind x) args (IsOther-sorts names scope args) h
@@ -147,14 +171,14 @@ mutual
   pub IsOther-sorts : (names : Names) (scope : List (List ℕ × Sort)) (ts : Sexps) → IsOther (sorts_in names scope ts)
   IsOther-sorts names scope Nil h = cc
   IsOther-sorts names scope (Cons x xs) h =
-      IsOther-and_then (sort_in names scope x) (λ s. result_and_then (sorts_in names scope xs) (λ ss. Ok (s ∷ ss))) (IsOther-sort names scope x)
-      (λ s. IsOther-and_then (sorts_in names scope xs) (λ ss. Ok (s ∷ ss)) (IsOther-sorts names scope xs) (λ ss e. cc)) h
+      IsOther-and_then (sort_in names scope x) (λ s. result_and_then (sorts_in (behind (labels_in x) names) scope xs) (λ ss. Ok (s ∷ ss))) (IsOther-sort names scope x)
+      (λ s. IsOther-and_then (sorts_in (behind (labels_in x) names) scope xs) (λ ss. Ok (s ∷ ss)) (IsOther-sorts (behind (labels_in x) names) scope xs) (λ ss e. cc)) h
 
   pub IsOther-bound : (names : Names) (scope bound : List (List ℕ × Sort)) (bs : Sexps) → IsOther (bound_in names scope bound bs)
   IsOther-bound names scope bound Nil h = cc
   IsOther-bound names scope bound (Cons (Items (Cons (Atom Symbol x) (Cons term Nil))) rest) h =
-      IsOther-test (is_some (look_up bound x)) (Err BoundTwice) (result_and_then (sort_in names scope term) (λ s. bound_in names scope (bound ++ (x, s) ∷ []) rest)) (λ e. cc)
-      (IsOther-and_then (sort_in names scope term) (λ s. bound_in names scope (bound ++ (x, s) ∷ []) rest) (IsOther-sort names scope term) (λ s. IsOther-bound names scope (bound ++ (x, s) ∷ []) rest)) h
+      IsOther-test (is_some (look_up bound x)) (Err BoundTwice) (result_and_then (sort_in names scope term) (λ s. bound_in (behind (labels_in term) names) scope (bound ++ (x, s) ∷ []) rest)) (λ e. cc)
+      (IsOther-and_then (sort_in names scope term) (λ s. bound_in (behind (labels_in term) names) scope (bound ++ (x, s) ∷ []) rest) (IsOther-sort names scope term) (λ s. IsOther-bound (behind (labels_in term) names) scope (bound ++ (x, s) ∷ []) rest)) h
   IsOther-bound names scope bound _ h = cc
 
 -- ## Sorts and declarations
@@ -174,40 +198,54 @@ IsOther-sort_of_list theories (Cons (Atom Symbol name) args) h =
     IsOther-test (bytes_eq name _) (Err Unsupported) _ (λ e. cc) (IsOther-test (is_some_tree args) (Err Unknown) (Err Form) (λ e. cc) (λ e. cc)) h
 IsOther-sort_of_list theories _ h = cc
 
-IsOther-sort_symbol : (theories : Theories) (name : List ℕ) → IsOther (sorts.sort_of_symbol theories name)
-IsOther-sort_symbol theories name =
+IsOther-word : (theories : Theories) (name : List ℕ) → IsOther (sort_of_word theories name)
+IsOther-word theories name =
     IsOther-test (bytes_eq name _) _ _ (λ e. cc) (IsOther-test (bytes_eq name _) _ _ (IsOther-integers theories) (IsOther-test (bytes_eq name _ || bytes_eq name _) _ _ (λ e. cc) (λ e. cc)))
 
+IsOther-sort_symbol : (theories : Theories) (name : List ℕ) (o : Option Sort) → IsOther (sorts.sort_of_symbol theories name o)
+IsOther-sort_symbol theories name None = IsOther-word theories name
+IsOther-sort_symbol theories name (Some s) = λ e. cc
+
 -- trees that name sorts
-pub IsOther-named : (theories : Theories) (t : Sexp) → IsOther (sort_named theories t)
-IsOther-named theories (Atom Symbol x) h = IsOther-sort_symbol theories x h
-IsOther-named theories (Items parts) h = IsOther-sort_of_list theories parts h
-IsOther-named theories _ h = cc
+pub IsOther-named : (names : SortNames) (t : Sexp) → IsOther (sort_named names t)
+IsOther-named names (Atom Symbol x) h = IsOther-sort_symbol names.theories x (look_up names.abbreviations x) h
+IsOther-named names (Items parts) h = IsOther-sort_of_list names.theories parts h
+IsOther-named names _ h = cc
 
-pub IsOther-all_named : (theories : Theories) (ts : Sexps) → IsOther (sorts_named theories ts)
-IsOther-all_named theories Nil h = cc
-IsOther-all_named theories (Cons x xs) h =
-    IsOther-and_then (sort_named theories x) (λ s. result_and_then (sorts_named theories xs) (λ ss. Ok (s ∷ ss))) (IsOther-named theories x)
-    (λ s. IsOther-and_then (sorts_named theories xs) (λ ss. Ok (s ∷ ss)) (IsOther-all_named theories xs) (λ ss e. cc)) h
+pub IsOther-all_named : (names : SortNames) (ts : Sexps) → IsOther (sorts_named names ts)
+IsOther-all_named names Nil h = cc
+IsOther-all_named names (Cons x xs) h =
+    IsOther-and_then (sort_named names x) (λ s. result_and_then (sorts_named names xs) (λ ss. Ok (s ∷ ss))) (IsOther-named names x)
+    (λ s. IsOther-and_then (sorts_named names xs) (λ ss. Ok (s ∷ ss)) (IsOther-all_named names xs) (λ ss e. cc)) h
 
-IsOther-rank_named : (names : Names) (ps : Sexps) (t : Sexp) → IsOther (rank_named names ps t)
+IsOther-rank_named : (names : SortNames) (ps : Sexps) (t : Sexp) → IsOther (rank_named names ps t)
 IsOther-rank_named names ps t =
-    IsOther-and_then (sorts_named names.theories ps) _ (IsOther-all_named names.theories ps) (λ ss. IsOther-and_then (sort_named names.theories t) _ (IsOther-named names.theories t) (λ s e. cc))
+    IsOther-and_then (sorts_named names ps) _ (IsOther-all_named names ps) (λ ss. IsOther-and_then (sort_named names t) _ (IsOther-named names t) (λ s e. cc))
 
 -- declarations
-pub IsOther-declared : (names : Names) (command : ℕ) (x : List ℕ) (ps : Sexps) (t : Sexp) → IsOther (declared_in names command x ps t)
-IsOther-declared names command x ps t =
-    IsOther-test (is_taken names x) (Err NotFresh) (result_and_then (rank_named names ps t) (λ rank. Ok (declaration x command rank))) (λ e. cc)
-    (IsOther-and_then (rank_named names ps t) (λ rank. Ok (declaration x command rank)) (IsOther-rank_named names ps t) (λ rank e. cc))
+pub IsOther-declared : (s : Signature) (command : ℕ) (x : List ℕ) (ps : Sexps) (t : Sexp) → IsOther (declared_in s command x ps t)
+IsOther-declared s command x ps t =
+    IsOther-test (is_taken (names_of s) x) (Err NotFresh) (result_and_then (rank_named (sort_names_of s) ps t) (λ rank. Ok (declaration x command rank))) (λ e. cc)
+    (IsOther-and_then (rank_named (sort_names_of s) ps t) (λ rank. Ok (declaration x command rank)) (IsOther-rank_named (sort_names_of s) ps t) (λ rank e. cc))
+
+-- abbreviations
+pub IsOther-abbreviated : (names : SortNames) (x : List ℕ) (t : Sexp) → IsOther (abbreviated_in names x t)
+IsOther-abbreviated names x t = IsOther-test (is_sort_taken names x) (Err NotFresh) (sort_named names t) (λ e. cc) (IsOther-named names t)
+
+-- assertions
+pub IsOther-asserted : (names : Names) (t : Sexp) → IsOther (asserted_in names t)
+IsOther-asserted names t =
+    IsOther-and_then (sort_in (in_assertion names) [] t) (λ sort. cond (is_same_sort sort Boolean) (Ok (label_entries names (labels_in t))) (Err IllSorted)) (IsOther-sort (in_assertion names) [] t)
+    (λ sort. IsOther-test (is_same_sort sort Boolean) (Ok (label_entries names (labels_in t))) (Err IllSorted) (λ e. cc) (λ e. cc))
 
 -- ## Definitions
 
 -- parameters
-IsOther-parameters : (theories : Theories) (earlier : List (List ℕ × Sort)) (ps : List (List ℕ × Sexp)) → IsOther (parameters_named theories earlier ps)
-IsOther-parameters theories earlier [] h = cc
-IsOther-parameters theories earlier (p ∷ ps) h =
-    IsOther-and_then (sort_named theories p.1) (λ s. cond (is_some (look_up earlier p.0)) (Err BoundTwice) (parameters_named theories (earlier ++ (p.0, s) ∷ []) ps)) (IsOther-named theories p.1)
-    (λ s. IsOther-test (is_some (look_up earlier p.0)) (Err BoundTwice) (parameters_named theories (earlier ++ (p.0, s) ∷ []) ps) (λ e. cc) (IsOther-parameters theories (earlier ++ (p.0, s) ∷ []) ps)) h
+IsOther-parameters : (names : SortNames) (earlier : List (List ℕ × Sort)) (ps : List (List ℕ × Sexp)) → IsOther (parameters_named names earlier ps)
+IsOther-parameters names earlier [] h = cc
+IsOther-parameters names earlier (p ∷ ps) h =
+    IsOther-and_then (sort_named names p.1) (λ s. cond (is_some (look_up earlier p.0)) (Err BoundTwice) (parameters_named names (earlier ++ (p.0, s) ∷ []) ps)) (IsOther-named names p.1)
+    (λ s. IsOther-test (is_some (look_up earlier p.0)) (Err BoundTwice) (parameters_named names (earlier ++ (p.0, s) ∷ []) ps) (λ e. cc) (IsOther-parameters names (earlier ++ (p.0, s) ∷ []) ps)) h
 
 IsOther-definition : (names : Names) (x : List ℕ) (ps : List (List ℕ × Sort)) (sort : Sort) (body : Sexp) → IsOther (definition_in names x ps sort body)
 IsOther-definition names x ps sort body =
@@ -215,11 +253,11 @@ IsOther-definition names x ps sort body =
     (λ found. IsOther-test (is_same_sort found sort) (Ok (definition x ps sort body)) (Err IllSorted) (λ e. cc) (λ e. cc))
 
 -- definitions
-pub IsOther-defined : (names : Names) (x : List ℕ) (ps : List (List ℕ × Sexp)) (tree body : Sexp) → IsOther (defined_in names x ps tree body)
-IsOther-defined names x ps tree body =
-    IsOther-test (is_taken names x) (Err NotFresh) (result_and_then (parameters_named names.theories [] ps) (λ qs. result_and_then (sort_named names.theories tree) (λ s. definition_in names x qs s body))) (λ e. cc)
-    (IsOther-and_then (parameters_named names.theories [] ps) (λ qs. result_and_then (sort_named names.theories tree) (λ s. definition_in names x qs s body)) (IsOther-parameters names.theories [] ps)
-    (λ qs. IsOther-and_then (sort_named names.theories tree) (λ s. definition_in names x qs s body) (IsOther-named names.theories tree) (λ s. IsOther-definition names x qs s body)))
+pub IsOther-defined : (s : Signature) (x : List ℕ) (ps : List (List ℕ × Sexp)) (tree body : Sexp) → IsOther (defined_in s x ps tree body)
+IsOther-defined s x ps tree body =
+    IsOther-test (is_taken (names_of s) x) (Err NotFresh) (result_and_then (parameters_named (sort_names_of s) [] ps) (λ qs. result_and_then (sort_named (sort_names_of s) tree) (λ sort. definition_in (names_of s) x qs sort body))) (λ e. cc)
+    (IsOther-and_then (parameters_named (sort_names_of s) [] ps) (λ qs. result_and_then (sort_named (sort_names_of s) tree) (λ sort. definition_in (names_of s) x qs sort body)) (IsOther-parameters (sort_names_of s) [] ps)
+    (λ qs. IsOther-and_then (sort_named (sort_names_of s) tree) (λ sort. definition_in (names_of s) x qs sort body) (IsOther-named (sort_names_of s) tree) (λ sort. IsOther-definition (names_of s) x qs sort body)))
 
 -- ## Items
 
@@ -250,7 +288,7 @@ IsOther-defined_as script earlier form ps sort =
 pub IsOther-item : (script : Signature) (earlier : List Entry) (t : Sexp) → IsOther (item_in script earlier t)
 IsOther-item script earlier t =
     IsOther-and_then (item_form t) (λ form. form_in script earlier form) (IsOther-form t)
-    (λ form. IsOther-free script earlier form.name (result_and_then (parameters_named script.theories [] form.parameters) (λ ps. result_and_then (sort_named script.theories form.sort) (λ sort. defined_as script earlier form ps sort)))
-    (IsOther-and_then (parameters_named script.theories [] form.parameters) (λ ps. result_and_then (sort_named script.theories form.sort) (λ sort. defined_as script earlier form ps sort))
-    (IsOther-parameters script.theories [] form.parameters)
-    (λ ps. IsOther-and_then (sort_named script.theories form.sort) (λ sort. defined_as script earlier form ps sort) (IsOther-named script.theories form.sort) (λ sort. IsOther-defined_as script earlier form ps sort))))
+    (λ form. IsOther-free script earlier form.name (result_and_then (parameters_named (sort_names_of script) [] form.parameters) (λ ps. result_and_then (sort_named (sort_names_of script) form.sort) (λ sort. defined_as script earlier form ps sort)))
+    (IsOther-and_then (parameters_named (sort_names_of script) [] form.parameters) (λ ps. result_and_then (sort_named (sort_names_of script) form.sort) (λ sort. defined_as script earlier form ps sort))
+    (IsOther-parameters (sort_names_of script) [] form.parameters)
+    (λ ps. IsOther-and_then (sort_named (sort_names_of script) form.sort) (λ sort. defined_as script earlier form ps sort) (IsOther-named (sort_names_of script) form.sort) (λ sort. IsOther-defined_as script earlier form ps sort))))

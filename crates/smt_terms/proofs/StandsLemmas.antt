@@ -1,4 +1,4 @@
--- What a library stands for, as terms, declarations and definitions are added.
+-- What a library stands for, as abbreviations, terms, declarations and definitions are added.
 use Rattle.std.proofs.Common.{◌≡◌, ℕ, zero, suc, ◌+◌, cond, List, [], ◌∷◌, ◌++◌, length, map, slice_get, Option, Some, None, option_map, refl, ap, sym, ◌∙◌, arith, subst, Result, Ok, Err, OnErr}
 use Rattle.std.specs.Vec.{vec_len}
 use Rattle.std.specs.Global.{Vec}
@@ -7,20 +7,17 @@ use Rattle.std.proofs.lemmas.List.Elements.{filter-append}
 use Rattle.smt_text.specs.Sexp.{Sexp}
 use Rattle.smt_theory.specs.Words.{look_up}
 use Rattle.smt_theory.specs.declared.sort.Sort.{Sort}
+use Rattle.smt_terms.specs.Contents.{Contents, Declaration}
 use Rattle.smt_terms.specs.Definitions.{definition}
-use Rattle.smt_terms.specs.Internal.LibraryView.{places_of_library, ranks_of_library}
-use Rattle.smt_terms.specs.Library.{AreDefinitions, Declaration, IsDefinitionOf, IsTerm, StandsFor, declaration_at, declaration_view, declarations_from, declared_among, defined_among, is_declared, name_count, places_from}
+use Rattle.smt_terms.specs.Library.{AreDefinitions, Holds, IsDefinitionOf, IsTermOf, declaration_at, declarations_from, declared_among, defined_among, is_declared, places_from}
 use Rattle.smt_terms.specs.Signature as signature
-use Rattle.smt_terms.specs.Signature.{Entry, Origin, Rank, Signature, declaration, entry_named, rank_of_entry, ranks_of, with_entry}
-use Rattle.smt_terms.specs.declared.library.Declared.{Declared}
+use Rattle.smt_terms.specs.Signature.{Entry, Origin, Rank, Signature, declaration, entry_named, rank_of_entry, ranks_of, with_abbreviation, with_entry}
 use Rattle.smt_terms.specs.declared.library.Definition.{Definition}
 use Rattle.smt_terms.specs.declared.library.Found.{Found}
 use Rattle.smt_terms.specs.declared.library.Found.TheVariants as place
-use Rattle.smt_terms.specs.declared.library.Library.{Library}
 use Rattle.smt_terms.specs.declared.library.TermId.{TermId}
-use Rattle.smt_terms.proofs.CheckerLemmas.{look_up-ranks}
 use Rattle.smt_terms.proofs.DeclarationLemmas.{declarations-push, declared-push}
-use Rattle.smt_terms.proofs.EntryLemmas.{distinct-push}
+use Rattle.smt_terms.proofs.EntryLemmas.{distinct-push, look_up-ranks}
 use Rattle.smt_terms.proofs.PlaceLemmas.{places-push}
 
 -- a fact that holds holds of a refusal
@@ -28,38 +25,43 @@ pub on_err : {A E P : Type 0} (r : Result A E) → P → OnErr r P
 on_err (Ok a) p = tt
 on_err (Err e) p = p
 
+-- and so does what follows from one
+pub on_err_weaker : {A E P Q : Type 0} (r : Result A E) → (P → Q) → OnErr r P → OnErr r Q
+on_err_weaker (Ok a) f p = tt
+on_err_weaker (Err e) f p = f p
+
 -- a vector's length is that of its list
 pub counted : {A : Type 0} (v : Vec A) (n : ℕ) → n ≡ vec_len v → n ≡ length v.items
 counted v n h = omega (arith, v.ok)
 
 -- each term of the one is a term of the other, under its number
-abbrev pub HasTermsOf : Library → Library → Type 0
-HasTermsOf new old = (i : TermId) (t : Sexp) → IsTerm old i t → IsTerm new i t
+abbrev pub HasTermsOf : Contents → Contents → Type 0
+HasTermsOf new old = (i : TermId) (t : Sexp) → IsTermOf old i t → IsTermOf new i t
 
 -- definitions stay as terms are added
-definition_stays : (old new : Library) (d : Definition) (e : Entry) → HasTermsOf new old → IsDefinitionOf old d e → IsDefinitionOf new d e
+definition_stays : (old new : Contents) (d : Definition) (e : Entry) → HasTermsOf new old → IsDefinitionOf old d e → IsDefinitionOf new d e
 definition_stays old new d e terms is =
     record { name = is.name; parameters = is.parameters; sort = is.sort; body = (is.body.0, terms d.body is.body.0 is.body.1, is.body.2) }
 
-definitions_stay : (old new : Library) (ds : List Definition) (es : List Entry) → HasTermsOf new old → AreDefinitions old ds es → AreDefinitions new ds es
+definitions_stay : (old new : Contents) (ds : List Definition) (es : List Entry) → HasTermsOf new old → AreDefinitions old ds es → AreDefinitions new ds es
 definitions_stay old new [] [] terms h = tt
 definitions_stay old new [] (e ∷ es) terms h = absurd h
 definitions_stay old new (d ∷ ds) [] terms h = absurd h
 definitions_stay old new (d ∷ ds) (e ∷ es) terms h = (definition_stays old new d e terms h.0, definitions_stay old new ds es terms h.1)
 
 -- one more definition
-definitions-push : (library : Library) (ds : List Definition) (es : List Entry) (d : Definition) (e : Entry) → AreDefinitions library ds es → IsDefinitionOf library d e → AreDefinitions library (ds ++ d ∷ []) (es ++ e ∷ [])
-definitions-push library [] [] d e h is = (is, tt)
-definitions-push library [] (y ∷ es) d e h is = absurd h
-definitions-push library (x ∷ ds) [] d e h is = absurd h
-definitions-push library (x ∷ ds) (y ∷ es) d e h is = (h.0, definitions-push library ds es d e h.1 is)
+definitions-push : (contents : Contents) (ds : List Definition) (es : List Entry) (d : Definition) (e : Entry) → AreDefinitions contents ds es → IsDefinitionOf contents d e → AreDefinitions contents (ds ++ d ∷ []) (es ++ e ∷ [])
+definitions-push contents [] [] d e h is = (is, tt)
+definitions-push contents [] (y ∷ es) d e h is = absurd h
+definitions-push contents (x ∷ ds) [] d e h is = absurd h
+definitions-push contents (x ∷ ds) (y ∷ es) d e h is = (h.0, definitions-push contents ds es d e h.1 is)
 
 -- there is a definition for each defined entry
-length-definitions : (library : Library) (ds : List Definition) (es : List Entry) → AreDefinitions library ds es → length ds ≡ length es
-length-definitions library [] [] h = refl
-length-definitions library [] (e ∷ es) h = absurd h
-length-definitions library (d ∷ ds) [] h = absurd h
-length-definitions library (d ∷ ds) (e ∷ es) h = ap suc (length-definitions library ds es h.1)
+length-definitions : (contents : Contents) (ds : List Definition) (es : List Entry) → AreDefinitions contents ds es → length ds ≡ length es
+length-definitions contents [] [] h = refl
+length-definitions contents [] (e ∷ es) h = absurd h
+length-definitions contents (d ∷ ds) [] h = absurd h
+length-definitions contents (d ∷ ds) (e ∷ es) h = ap suc (length-definitions contents ds es h.1)
 
 -- and a declaration for each declared one
 length-declarations : (n : ℕ) (es : List Entry) → length (declarations_from n es) ≡ length (declared_among es)
@@ -71,15 +73,29 @@ length-declarations n (e ∷ es) = by e.origin (length-declarations (n + 1) es)
     by (signature.Defined ps body) rest = rest
 
 -- nothing but terms has come
-pub stands_still : (old new : Library) (s : Signature) → new.theories ≡ old.theories → ranks_of_library new ≡ ranks_of_library old → places_of_library new ≡ places_of_library old
-    → new.declared.items ≡ old.declared.items → new.definitions.items ≡ old.definitions.items → HasTermsOf new old → StandsFor old s → StandsFor new s
-stands_still old new s theories ranks places declared definitions terms stands = record {
+pub stands_still : (old new : Contents) (s : Signature) → new.theories ≡ old.theories → new.abbreviations ≡ old.abbreviations → new.ranks ≡ old.ranks → new.places ≡ old.places → new.declared ≡ old.declared → new.definitions ≡ old.definitions
+    → HasTermsOf new old → Holds old s → Holds new s
+stands_still old new s theories abbreviations ranks places declared definitions terms stands = record {
   theories = theories ∙ stands.theories;
   distinct = stands.distinct;
+  abbreviations = abbreviations ∙ stands.abbreviations;
   ranks = ranks ∙ stands.ranks;
   places = places ∙ stands.places;
-  declared = ap (map declaration_view) declared ∙ stands.declared;
-  definitions = subst (λ ds. AreDefinitions new ds (defined_among s.entries)) (sym definitions) (definitions_stay old new old.definitions.items (defined_among s.entries) terms stands.definitions);
+  declared = declared ∙ stands.declared;
+  definitions = subst (λ ds. AreDefinitions new ds (defined_among s.entries)) (sym definitions) (definitions_stay old new old.definitions (defined_among s.entries) terms stands.definitions);
+}
+
+-- an abbreviation has come
+pub stands_abbreviated : (old new : Contents) (s : Signature) (x : List ℕ) (sort : Sort) → new.theories ≡ old.theories → new.abbreviations ≡ old.abbreviations ++ (x, sort) ∷ [] → new.ranks ≡ old.ranks → new.places ≡ old.places
+    → new.declared ≡ old.declared → new.definitions ≡ old.definitions → HasTermsOf new old → Holds old s → Holds new (with_abbreviation s x sort)
+stands_abbreviated old new s x sort theories abbreviations ranks places declared definitions terms stands = record {
+  theories = theories ∙ stands.theories;
+  distinct = stands.distinct;
+  abbreviations = abbreviations ∙ ap (λ (ss : List (List ℕ × Sort)). ss ++ (x, sort) ∷ []) stands.abbreviations;
+  ranks = ranks ∙ stands.ranks;
+  places = places ∙ stands.places;
+  declared = declared ∙ stands.declared;
+  definitions = subst (λ ds. AreDefinitions new ds (defined_among s.entries)) (sym definitions) (definitions_stay old new old.definitions (defined_among s.entries) terms stands.definitions);
 }
 
 -- the ranks with one more
@@ -95,26 +111,26 @@ absent_entry es x ranks is none = by (entry_named es x) (sym (look_up-ranks es x
     by (Some e) h = cc
 
 -- a declared name has come
-pub stands_declared : (old new : Library) (s : Signature) (x : List ℕ) (d : Declared) → look_up (ranks_of_library old) x ≡ None → d.name ≡ name_count old → new.theories ≡ old.theories
-    → ranks_of_library new ≡ ranks_of_library old ++ (x, record { parameters = d.params.items; sort = d.result }) ∷ [] → places_of_library new ≡ places_of_library old ++ (x, place.Declared (length old.declared.items)) ∷ []
-    → new.declared.items ≡ old.declared.items ++ d ∷ [] → new.definitions.items ≡ old.definitions.items → HasTermsOf new old → StandsFor old s
-    → StandsFor new (with_entry s (declaration x d.command (record { parameters = d.params.items; sort = d.result })))
-stands_declared old new s x d absent next theories ranks places declared definitions terms stands =
-    let e : Entry = declaration x d.command (record { parameters = d.params.items; sort = d.result }) in
-    let counted : length old.declared.items ≡ length (declared_among s.entries) = sym (length-map old.declared.items declaration_view) ∙ ap (λ (ds : List Declaration). length ds) stands.declared ∙ length-declarations 0 s.entries in
-    let named : name_count old ≡ length s.entries = ap (λ (rs : List (List ℕ × Rank)). length rs) stands.ranks ∙ length-map s.entries (λ d. (d.name, rank_of_entry d)) in
+pub stands_declared : (old new : Contents) (s : Signature) (x : List ℕ) (d : Declaration) → look_up old.ranks x ≡ None → d.name ≡ length old.ranks → new.theories ≡ old.theories → new.abbreviations ≡ old.abbreviations
+    → new.ranks ≡ old.ranks ++ (x, record { parameters = d.parameters; sort = d.sort }) ∷ [] → new.places ≡ old.places ++ (x, place.Declared (length old.declared)) ∷ [] → new.declared ≡ old.declared ++ d ∷ []
+    → new.definitions ≡ old.definitions → HasTermsOf new old → Holds old s → Holds new (with_entry s (declaration x d.command (record { parameters = d.parameters; sort = d.sort })))
+stands_declared old new s x d absent next theories abbreviations ranks places declared definitions terms stands =
+    let e : Entry = declaration x d.command (record { parameters = d.parameters; sort = d.sort }) in
+    let counted : length old.declared ≡ length (declared_among s.entries) = ap (λ (ds : List Declaration). length ds) stands.declared ∙ length-declarations 0 s.entries in
+    let named : length old.ranks ≡ length s.entries = ap (λ (rs : List (List ℕ × Rank)). length rs) stands.ranks ∙ length-map s.entries (λ d. (d.name, rank_of_entry d)) in
     let same : defined_among (s.entries ++ e ∷ []) ≡ defined_among s.entries = filter-append _ s.entries (e ∷ []) ∙ append-nil (defined_among s.entries) in
     record {
       theories = theories ∙ stands.theories;
-      distinct = distinct-push s.entries e stands.distinct (absent_entry s.entries x (ranks_of_library old) stands.ranks absent);
-      ranks = ranks ∙ ranks-push s.entries e (ranks_of_library old) stands.ranks;
+      distinct = distinct-push s.entries e stands.distinct (absent_entry s.entries x old.ranks stands.ranks absent);
+      abbreviations = abbreviations ∙ stands.abbreviations;
+      ranks = ranks ∙ ranks-push s.entries e old.ranks stands.ranks;
       places =
-          places ∙ ap (λ (n : ℕ). places_of_library old ++ (x, place.Declared n) ∷ []) counted ∙ ap (λ (ps : List (List ℕ × Found)). ps ++ (x, place.Declared (length (declared_among s.entries))) ∷ []) stands.places
+          places ∙ ap (λ (n : ℕ). old.places ++ (x, place.Declared n) ∷ []) counted ∙ ap (λ (ps : List (List ℕ × Found)). ps ++ (x, place.Declared (length (declared_among s.entries))) ∷ []) stands.places
           ∙ sym (places-push 0 0 s.entries e ∙ ap (λ (n : ℕ). places_from 0 0 s.entries ++ (x, place.Declared n) ∷ []) (omega arith));
       declared =
-          declared-push old.declared.items new.declared.items d s.entries e declared stands.declared (ap (λ (n : ℕ). record { name = n; parameters = d.params.items; sort = d.result; command = d.command } ∷ []) (sym named ∙ sym next));
+          declared-push old.declared new.declared d s.entries e declared stands.declared (ap (λ (n : ℕ). record { name = n; parameters = d.parameters; sort = d.sort; command = d.command } ∷ []) (sym named ∙ sym next));
       definitions =
-          subst (λ es. AreDefinitions new new.definitions.items es) (sym same) (subst (λ ds. AreDefinitions new ds (defined_among s.entries)) (sym definitions) (definitions_stay old new old.definitions.items (defined_among s.entries) terms stands.definitions));
+          subst (λ es. AreDefinitions new new.definitions es) (sym same) (subst (λ ds. AreDefinitions new ds (defined_among s.entries)) (sym definitions) (definitions_stay old new old.definitions (defined_among s.entries) terms stands.definitions));
     }
 
 -- the parameters of a definition, as names with their sorts
@@ -130,13 +146,13 @@ names_of_own [] = refl
 names_of_own (p ∷ ps) = ap (λ (xs : List (List ℕ)). p.0.items ∷ xs) (names_of_own ps)
 
 -- a definition has come
-pub stands_defined : (old new : Library) (s : Signature) (x : List ℕ) (ps : List (List ℕ × Sort)) (d : Definition) (t : Sexp) → look_up (ranks_of_library old) x ≡ None → d.name.items ≡ x → parameters_of d ≡ ps → IsTerm old d.body t
-    → new.theories ≡ old.theories → ranks_of_library new ≡ ranks_of_library old ++ (x, record { parameters = map (λ p. p.1) ps; sort = d.result }) ∷ []
-    → places_of_library new ≡ places_of_library old ++ (x, place.Defined (length old.definitions.items)) ∷ [] → new.declared.items ≡ old.declared.items → new.definitions.items ≡ old.definitions.items ++ d ∷ []
-    → HasTermsOf new old → StandsFor old s → StandsFor new (with_entry s (definition x ps d.result t))
-stands_defined old new s x ps d t absent named bound body theories ranks places declared definitions terms stands =
+pub stands_defined : (old new : Contents) (s : Signature) (x : List ℕ) (ps : List (List ℕ × Sort)) (d : Definition) (t : Sexp) → look_up old.ranks x ≡ None → d.name.items ≡ x → parameters_of d ≡ ps → IsTermOf old d.body t
+    → new.theories ≡ old.theories → new.abbreviations ≡ old.abbreviations → new.ranks ≡ old.ranks ++ (x, record { parameters = map (λ p. p.1) ps; sort = d.result }) ∷ []
+    → new.places ≡ old.places ++ (x, place.Defined (length old.definitions)) ∷ [] → new.declared ≡ old.declared → new.definitions ≡ old.definitions ++ d ∷ []
+    → HasTermsOf new old → Holds old s → Holds new (with_entry s (definition x ps d.result t))
+stands_defined old new s x ps d t absent named bound body theories abbreviations ranks places declared definitions terms stands =
     let e : Entry = definition x ps d.result t in
-    let counted : length old.definitions.items ≡ length (defined_among s.entries) = length-definitions old old.definitions.items (defined_among s.entries) stands.definitions in
+    let counted : length old.definitions ≡ length (defined_among s.entries) = length-definitions old old.definitions (defined_among s.entries) stands.definitions in
     let more : defined_among (s.entries ++ e ∷ []) ≡ defined_among s.entries ++ e ∷ [] = filter-append _ s.entries (e ∷ []) in
     let is : IsDefinitionOf new d e = record {
       name = named;
@@ -146,25 +162,26 @@ stands_defined old new s x ps d t absent named bound body theories ranks places 
     } in
     record {
       theories = theories ∙ stands.theories;
-      distinct = distinct-push s.entries e stands.distinct (absent_entry s.entries x (ranks_of_library old) stands.ranks absent);
-      ranks = ranks ∙ ranks-push s.entries e (ranks_of_library old) stands.ranks;
+      distinct = distinct-push s.entries e stands.distinct (absent_entry s.entries x old.ranks stands.ranks absent);
+      abbreviations = abbreviations ∙ stands.abbreviations;
+      ranks = ranks ∙ ranks-push s.entries e old.ranks stands.ranks;
       places =
-          places ∙ ap (λ (n : ℕ). places_of_library old ++ (x, place.Defined n) ∷ []) counted ∙ ap (λ (ps : List (List ℕ × Found)). ps ++ (x, place.Defined (length (defined_among s.entries))) ∷ []) stands.places
+          places ∙ ap (λ (n : ℕ). old.places ++ (x, place.Defined n) ∷ []) counted ∙ ap (λ (ps : List (List ℕ × Found)). ps ++ (x, place.Defined (length (defined_among s.entries))) ∷ []) stands.places
           ∙ sym (places-push 0 0 s.entries e ∙ ap (λ (n : ℕ). places_from 0 0 s.entries ++ (x, place.Defined n) ∷ []) (omega arith));
-      declared = ap (map declaration_view) declared ∙ stands.declared ∙ sym (declarations-push 0 s.entries e ∙ append-nil (declarations_from 0 s.entries));
+      declared = declared ∙ stands.declared ∙ sym (declarations-push 0 s.entries e ∙ append-nil (declarations_from 0 s.entries));
       definitions =
-          subst (λ es. AreDefinitions new new.definitions.items es) (sym more)
+          subst (λ es. AreDefinitions new new.definitions es) (sym more)
           (subst (λ ds. AreDefinitions new ds (defined_among s.entries ++ e ∷ [])) (sym definitions)
-          (definitions-push new old.definitions.items (defined_among s.entries) d e (definitions_stay old new old.definitions.items (defined_among s.entries) terms stands.definitions) is));
+          (definitions-push new old.definitions (defined_among s.entries) d e (definitions_stay old new old.definitions (defined_among s.entries) terms stands.definitions) is));
     }
 
 -- at the place of a defined entry stands its definition
-pub definition_at : (library : Library) (ds : List Definition) (es : List Entry) (n : ℕ) (e : Entry) → AreDefinitions library ds es → slice_get es n ≡ Some e → (d : Definition) × (slice_get ds n ≡ Some d) × IsDefinitionOf library d e
-definition_at library [] [] n e h at = cc
-definition_at library [] (y ∷ es) n e h at = absurd h
-definition_at library (d ∷ ds) [] n e h at = absurd h
-definition_at library (d ∷ ds) (y ∷ es) zero e h at = let same : y ≡ e = cc in (d, refl, subst (IsDefinitionOf library d) same h.0)
-definition_at library (d ∷ ds) (y ∷ es) (suc n) e h at = definition_at library ds es n e h.1 at
+pub definition_at : (contents : Contents) (ds : List Definition) (es : List Entry) (n : ℕ) (e : Entry) → AreDefinitions contents ds es → slice_get es n ≡ Some e → (d : Definition) × (slice_get ds n ≡ Some d) × IsDefinitionOf contents d e
+definition_at contents [] [] n e h at = cc
+definition_at contents [] (y ∷ es) n e h at = absurd h
+definition_at contents (d ∷ ds) [] n e h at = absurd h
+definition_at contents (d ∷ ds) (y ∷ es) zero e h at = let same : y ≡ e = cc in (d, refl, subst (IsDefinitionOf contents d) same h.0)
+definition_at contents (d ∷ ds) (y ∷ es) (suc n) e h at = definition_at contents ds es n e h.1 at
 
 -- what stands at this place is the declaration of the entry
 abbrev pub IsDeclarationAt : List Declaration → ℕ → Entry → Type 0

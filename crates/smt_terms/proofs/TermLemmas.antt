@@ -5,7 +5,7 @@ use Rattle.smt_text.specs.Sexp.{Sexp}
 use Rattle.smt_text.specs.Tree.{sexp_of}
 use Rattle.smt_text.specs.declared.tree.Tree.{Tree}
 
-stays : {A : Type 0} (xs ys : List A) (i : ℕ) (x : A) → slice_get xs i ≡ Some x → slice_get (xs ++ ys) i ≡ Some x
+pub stays : {A : Type 0} (xs ys : List A) (i : ℕ) (x : A) → slice_get xs i ≡ Some x → slice_get (xs ++ ys) i ≡ Some x
 stays [] ys i x h = cc
 stays (y ∷ xs) ys zero x h = h
 stays (y ∷ xs) ys (suc i) x h = stays xs ys i x h

@@ -55,9 +55,3 @@ abbrev mutual
 abbrev pub are_attributes : Sexps → Bool
 are_attributes Nil = false
 are_attributes (Cons attribute attributes) = go_on (Cons attribute attributes)
-
--- whether one of the attributes is a label
-abbrev pub has_label : Sexps → Bool
-has_label Nil = false
-has_label (Cons (Atom Keyword k) rest) = is_label k || has_label rest
-has_label (Cons value rest) = has_label rest

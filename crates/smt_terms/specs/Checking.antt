@@ -1,6 +1,7 @@
 -- SMT-LIB 2.6, sections 3.6 and 5.2: the sort of a term, or its first fault. That decimals and strings are not supported as terms is
--- this project's choice for now, and so is that no label is taken; the order of the faults is its own too.
-use Rattle.std.specs.Prelude.{ℕ, ◌*◌, List, [], ◌∷◌, ◌++◌, Bool, true, false, Option, Some, None, is_some, Result, Ok, Err, length, if◌then◌else◌}
+-- this project's choice for now; the order of the faults is its own too.
+use Rattle.std.specs.Prelude.{ℕ, ◌*◌, List, [], ◌∷◌, ◌++◌, Bool, true, false, ◌||◌, Option, Some, None, is_some, Result, Ok, Err, length, if◌then◌else◌}
+use Rattle.std.specs.Option.{option_or}
 use Rattle.smt_text.specs.Sexp as sexp
 use Rattle.smt_text.specs.Sexp.{Sexp, Sexps, Atom, Reserved, Items, Nil, Cons, Symbol, Keyword, Numeral, Hexadecimal, Binary}
 use Rattle.smt_text.specs.declared.reserved.Word.TheVariants.{Bang, Let, Underscore}
@@ -12,12 +13,13 @@ use Rattle.smt_theory.specs.declared.op.Op.{Op}
 use Rattle.smt_theory.specs.declared.op.OpFault.{OpFault}
 use Rattle.smt_theory.specs.declared.op.OpFault.TheVariants as ops
 use Rattle.smt_theory.specs.declared.sort.Sort.{Sort}
-use Rattle.smt_terms.specs.Bindings.{are_attributes, are_bindings, has_label}
+use Rattle.smt_terms.specs.Bindings.{are_attributes, are_bindings}
 use Rattle.smt_terms.specs.Identifier.{Identifier, Plain, Indexed, applied, indexed}
-use Rattle.smt_terms.specs.Signature.{Names, Rank}
+use Rattle.smt_terms.specs.Labels.{Labels, Refused, Given, Unread, is_among, labels_among, labels_in, labels_in_bindings, uses_variable}
+use Rattle.smt_terms.specs.Signature.{Names, Rank, behind, is_taken}
 use Rattle.smt_terms.specs.SortTrees.{bit_vectors, integers}
 use Rattle.smt_terms.specs.declared.fault.TermFault.{TermFault}
-use Rattle.smt_terms.specs.declared.fault.TermFault.TheVariants.{Form, Unsupported, Unknown, IllSorted, Index, BoundTwice, Label}
+use Rattle.smt_terms.specs.declared.fault.TermFault.TheVariants.{Form, Unsupported, Unknown, IllSorted, Index, BoundTwice, NotFresh, Label}
 
 -- the sort of a rank that fits
 abbrev pub sort_of_rank : Option Sort → Result Sort TermFault
@@ -62,9 +64,23 @@ abbrev pub is_underscore_tree : Sexp → Bool
 is_underscore_tree (Reserved Underscore) = true
 is_underscore_tree _ = false
 
--- the sort of an annotated term, by that of the term: there are no labels
-abbrev pub sort_of_annotated : Sexps → Sort → Result Sort TermFault
-sort_of_annotated attributes sort = if has_label attributes then Err Label else Ok sort
+-- a fault, or what comes where there is none
+abbrev pub unless : {A : Type 0} → Option TermFault → Result A TermFault → Result A TermFault
+unless None next = next
+unless (Some fault) next = Err fault
+
+-- the fault of a label of a term that sees these variables
+abbrev pub fault_of_label : Names → Labels → List (List ℕ × Sort) → Sexp → List ℕ → Option TermFault
+fault_of_label names Refused scope term x = Some Label
+fault_of_label names (Given labels) scope term x =
+    if uses_variable scope term then Some Label else if is_taken names x || is_among labels x then Some NotFresh else None
+fault_of_label names Unread scope term x = None
+
+-- the first fault of labels of a term, one behind another
+abbrev pub fault_of_labels : Names → List (List ℕ × Sort) → Sexp → List (List ℕ) → Option TermFault
+fault_of_labels names scope term [] = None
+fault_of_labels names scope term (x ∷ xs) =
+    option_or (fault_of_label names names.labels scope term x) (fault_of_labels (behind ((x, term) ∷ []) names) scope term xs)
 
 -- the sort of a term over names and variables, the innermost variable first, or the first fault; the sorts of terms, in order
 abbrev mutual
@@ -80,20 +96,20 @@ abbrev mutual
   sort_in names scope (Items Nil) = Err Form
   sort_in names scope (Items (Cons (Reserved Underscore) parts)) = result_and_then (indexed parts) (λ f. sort_applied names f [])
   sort_in names scope (Items (Cons (Reserved Let) (Cons (Items bindings) (Cons body Nil)))) =
-      if are_bindings bindings then result_and_then (bound_in names scope [] bindings) (λ bound. sort_in names (bound ++ scope) body) else Err Form
+      if are_bindings bindings then result_and_then (bound_in names scope [] bindings) (λ bound. sort_in (behind (labels_in_bindings bindings) names) (bound ++ scope) body) else Err Form
   sort_in names scope (Items (Cons (Reserved Bang) (Cons term attributes))) =
-      if are_attributes attributes then result_and_then (sort_in names scope term) (λ s. sort_of_annotated attributes s) else Err Form
+      if are_attributes attributes then result_and_then (sort_in names scope term) (λ s. unless (fault_of_labels (behind (labels_in term) names) scope term (labels_among attributes)) (Ok s)) else Err Form
   sort_in names scope (Items (Cons head args)) =
       result_and_then (applied head args) (λ f. result_and_then (sorts_in names scope args) (λ ss. sort_of_call names scope f ss))
 
   pub sorts_in : Names → List (List ℕ × Sort) → Sexps → Result (List Sort) TermFault
   sorts_in names scope Nil = Ok []
   sorts_in names scope (Cons x xs) =
-      result_and_then (sort_in names scope x) (λ s. result_and_then (sorts_in names scope xs) (λ ss. Ok (s ∷ ss)))
+      result_and_then (sort_in names scope x) (λ s. result_and_then (sorts_in (behind (labels_in x) names) scope xs) (λ ss. Ok (s ∷ ss)))
 
   -- the variables that bindings bring behind those of the earlier ones, with their sorts: each term is seen without them
   pub bound_in : Names → List (List ℕ × Sort) → List (List ℕ × Sort) → Sexps → Result (List (List ℕ × Sort)) TermFault
   bound_in names scope bound Nil = Ok bound
   bound_in names scope bound (Cons (Items (Cons (Atom Symbol x) (Cons term Nil))) rest) =
-      if is_some (look_up bound x) then Err BoundTwice else result_and_then (sort_in names scope term) (λ s. bound_in names scope (bound ++ (x, s) ∷ []) rest)
+      if is_some (look_up bound x) then Err BoundTwice else result_and_then (sort_in names scope term) (λ s. bound_in (behind (labels_in term) names) scope (bound ++ (x, s) ∷ []) rest)
   bound_in names scope bound _ = Err Form

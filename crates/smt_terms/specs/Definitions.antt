@@ -4,18 +4,17 @@ use Rattle.smt_text.specs.Sexp.{Sexp}
 use Rattle.smt_theory.specs.Sort.{is_same_sort}
 use Rattle.smt_theory.specs.Words.{look_up, result_and_then}
 use Rattle.smt_theory.specs.declared.sort.Sort.{Sort}
-use Rattle.smt_theory.specs.declared.theories.Theories.{Theories}
 use Rattle.smt_terms.specs.Checking.{sort_in}
-use Rattle.smt_terms.specs.Signature.{Entry, Defined, Names, is_taken}
-use Rattle.smt_terms.specs.SortTrees.{sort_named}
+use Rattle.smt_terms.specs.Signature.{Entry, Defined, Names, Signature, is_taken, names_of, sort_names_of}
+use Rattle.smt_terms.specs.SortTrees.{SortNames, sort_named}
 use Rattle.smt_terms.specs.declared.fault.TermFault.{TermFault}
 use Rattle.smt_terms.specs.declared.fault.TermFault.TheVariants.{IllSorted, BoundTwice, NotFresh}
 
 -- the parameters that names with the trees of their sorts make behind earlier ones; no two have one name
-abbrev pub parameters_named : Theories → List (List ℕ × Sort) → List (List ℕ × Sexp) → Result (List (List ℕ × Sort)) TermFault
-parameters_named theories earlier [] = Ok earlier
-parameters_named theories earlier (p ∷ ps) =
-    result_and_then (sort_named theories p.1) (λ s. if is_some (look_up earlier p.0) then Err BoundTwice else parameters_named theories (earlier ++ (p.0, s) ∷ []) ps)
+abbrev pub parameters_named : SortNames → List (List ℕ × Sort) → List (List ℕ × Sexp) → Result (List (List ℕ × Sort)) TermFault
+parameters_named sorts earlier [] = Ok earlier
+parameters_named sorts earlier (p ∷ ps) =
+    result_and_then (sort_named sorts p.1) (λ s. if is_some (look_up earlier p.0) then Err BoundTwice else parameters_named sorts (earlier ++ (p.0, s) ∷ []) ps)
 
 -- a name with these parameters, of this sort, and with this body
 abbrev pub definition : List ℕ → List (List ℕ × Sort) → Sort → Sexp → Entry
@@ -28,7 +27,7 @@ definition_in names x parameters sort body =
     result_and_then (sort_in names parameters body) (λ found. if is_same_sort found sort then Ok (definition x parameters sort body) else Err IllSorted)
 
 -- what the definition of a name with parameters, a sort and a body brings, or its first fault. The body does not see the name
-abbrev pub defined_in : Names → List ℕ → List (List ℕ × Sexp) → Sexp → Sexp → Result Entry TermFault
-defined_in names x parameters tree body =
-    if is_taken names x then Err NotFresh
-    else result_and_then (parameters_named names.theories [] parameters) (λ ps. result_and_then (sort_named names.theories tree) (λ s. definition_in names x ps s body))
+abbrev pub defined_in : Signature → List ℕ → List (List ℕ × Sexp) → Sexp → Sexp → Result Entry TermFault
+defined_in s x parameters tree body =
+    if is_taken (names_of s) x then Err NotFresh
+    else result_and_then (parameters_named (sort_names_of s) [] parameters) (λ ps. result_and_then (sort_named (sort_names_of s) tree) (λ sort. definition_in (names_of s) x ps sort body))

@@ -1,4 +1,5 @@
 pub mod LibraryView
+pub mod LabelsView
 pub mod ItemView
 pub mod Attributes
 pub mod Heads

@@ -7,8 +7,9 @@ use Rattle.smt_theory.specs.Sort.{is_same_sort}
 use Rattle.smt_theory.specs.Words.{result_and_then}
 use Rattle.smt_theory.specs.declared.sort.Sort.{Sort}
 use Rattle.smt_terms.specs.Bindings.{are_named_trees, named_trees}
+use Rattle.smt_terms.specs.Checking.{unless}
 use Rattle.smt_terms.specs.Definitions.{definition_in, parameters_named}
-use Rattle.smt_terms.specs.Signature.{Entry, Origin, Declared, Defined, Signature, entry_named, is_taken, names_of}
+use Rattle.smt_terms.specs.Signature.{Entry, Origin, Declared, Defined, Signature, entry_named, is_taken, names_of, no_names, sort_names_of}
 use Rattle.smt_terms.specs.SortTrees.{sort_named}
 use Rattle.smt_terms.specs.declared.fault.TermFault.{TermFault}
 use Rattle.smt_terms.specs.declared.fault.TermFault.TheVariants.{Form, Unsupported, IllSorted, BoundTwice, NotFresh}
@@ -51,7 +52,7 @@ has_rank_of (Some e) parameters sort = are_exactly e.parameters parameters && is
 
 -- the names that a body sees: the earlier items and the theories
 abbrev pub items_before : Signature → List Entry → Signature
-items_before script earlier = record script { entries = earlier }
+items_before script earlier = record (no_names script.theories) { entries = earlier }
 
 -- what an item of this rank defines: the rank fits a declaration of its name, and its body has its sort over the earlier items and
 -- its parameters
@@ -60,16 +61,11 @@ defined_as script earlier form parameters sort =
     if not (has_rank_of (declared_named script.entries form.name) (map (λ p. p.1) parameters) sort) then Err IllSorted
     else definition_in (names_of (items_before script earlier)) form.name parameters sort form.body
 
--- a fault, or what comes where there is none
-abbrev pub unless : {A : Type 0} → Option TermFault → Result A TermFault → Result A TermFault
-unless None next = next
-unless (Some fault) next = Err fault
-
 -- what an item of these parts defines, or its first fault
 abbrev pub form_in : Signature → List Entry → ItemForm → Result Entry TermFault
 form_in script earlier form =
     unless (name_fault script earlier form.name)
-    (result_and_then (parameters_named script.theories [] form.parameters) (λ ps. result_and_then (sort_named script.theories form.sort) (λ s. defined_as script earlier form ps s)))
+    (result_and_then (parameters_named (sort_names_of script) [] form.parameters) (λ ps. result_and_then (sort_named (sort_names_of script) form.sort) (λ s. defined_as script earlier form ps s)))
 
 -- what an item of a model of the script's names defines behind the earlier items, or its first fault
 abbrev pub item_in : Signature → List Entry → Sexp → Result Entry TermFault

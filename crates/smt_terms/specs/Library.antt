@@ -2,12 +2,10 @@
 use Rattle.std.specs.Prelude.{◌≡◌, ℕ, ◌+◌, List, [], ◌∷◌, ◌++◌, Bool, true, false, not, Option, Some, length, map, slice_get}
 use Rattle.std.specs.List.{filter}
 use Rattle.smt_text.specs.Sexp.{Sexp}
-use Rattle.smt_text.specs.Tree.{sexp_of}
-use Rattle.smt_theory.specs.declared.sort.Sort.{Sort}
-use Rattle.smt_terms.specs.Internal.LibraryView.{places_of_library, ranks_of_library}
+use Rattle.smt_terms.specs.Contents.{Contents, Declaration, contents_of}
+use Rattle.smt_terms.specs.Internal.LibraryView.{ranks_of_library}
 use Rattle.smt_terms.specs.Signature as signature
 use Rattle.smt_terms.specs.Signature.{AreDistinct, Entry, Origin, Signature, ranks_of}
-use Rattle.smt_terms.specs.declared.library.Declared.{Declared}
 use Rattle.smt_terms.specs.declared.library.Definition.{Definition}
 use Rattle.smt_terms.specs.declared.library.Found.{Found}
 use Rattle.smt_terms.specs.declared.library.Found.TheVariants as place
@@ -16,24 +14,18 @@ use Rattle.smt_terms.specs.declared.library.TermId.{TermId}
 
 -- ---- terms
 
+-- the term of this number among contents
+abbrev pub IsTermOf : Contents → TermId → Sexp → Type 0
+IsTermOf c id t = slice_get c.terms id.number ≡ Some t
+
 -- the library's term of this number, if it has one
 abbrev pub term_at : Library → TermId → Option Sexp
-term_at library id = slice_get (map sexp_of library.terms.items) id.number
+term_at library id = slice_get (contents_of library).terms id.number
 
 abbrev pub IsTerm : Library → TermId → Sexp → Type 0
-IsTerm library id t = term_at library id ≡ Some t
+IsTerm library id t = IsTermOf (contents_of library) id t
 
 -- ---- declared and defined names
-
--- a declared name: its place among all names, its rank, and its command
-pub record Declaration : Type 0 where
-  pub name : ℕ
-  pub parameters : List Sort
-  pub sort : Sort
-  pub command : ℕ
-
-abbrev pub declaration_view : Declared → Declaration
-declaration_view d = record { name = d.name; parameters = d.params.items; sort = d.result; command = d.command }
 
 abbrev pub declaration_at : ℕ → Entry → Origin → List Declaration
 declaration_at place e (signature.Declared command) = record { name = place; parameters = e.parameters; sort = e.sort; command = command } ∷ []
@@ -61,18 +53,18 @@ defined_among entries = filter (λ e. not (is_declared e.origin)) entries
 abbrev pub definitions_of : Library → List Definition
 definitions_of library = library.definitions.items
 
--- this is the definition of the entry, whose body is a term of the library
-pub record IsDefinitionOf (library : Library) (d : Definition) (e : Entry) : Type 0 where
+-- this is the definition of the entry, whose body is a term of the contents
+pub record IsDefinitionOf (c : Contents) (d : Definition) (e : Entry) : Type 0 where
   pub name : d.name.items ≡ e.name
   pub parameters : map (λ p. p.1) d.params.items ≡ e.parameters
   pub sort : d.result ≡ e.sort
-  pub body : (t : Sexp) × IsTerm library d.body t × (e.origin ≡ signature.Defined (map (λ p. p.0.items) d.params.items) t)
+  pub body : (t : Sexp) × IsTermOf c d.body t × (e.origin ≡ signature.Defined (map (λ p. p.0.items) d.params.items) t)
 
 -- these are the definitions of the entries, in order
-abbrev pub AreDefinitions : Library → List Definition → List Entry → Type 0
-AreDefinitions library [] [] = Unit {0}
-AreDefinitions library (d ∷ ds) (e ∷ es) = IsDefinitionOf library d e × AreDefinitions library ds es
-AreDefinitions library _ _ = ⊥
+abbrev pub AreDefinitions : Contents → List Definition → List Entry → Type 0
+AreDefinitions c [] [] = Unit {0}
+AreDefinitions c (d ∷ ds) (e ∷ es) = IsDefinitionOf c d e × AreDefinitions c ds es
+AreDefinitions c _ _ = ⊥
 
 -- ---- where a name stands
 
@@ -107,15 +99,20 @@ places_from declared defined (e ∷ es) =
 abbrev pub name_count : Library → ℕ
 name_count library = length (ranks_of_library library)
 
--- the library holds the theories, the names, the declarations and the definitions of the signature, in which no name stands twice
-pub record StandsFor (library : Library) (s : Signature) : Type 0 where
-  pub theories : library.theories ≡ s.theories
+-- the contents are the theories, the abbreviations, the names, the declarations and the definitions of the signature, in which no name
+-- stands twice
+pub record Holds (c : Contents) (s : Signature) : Type 0 where
+  pub theories : c.theories ≡ s.theories
   pub distinct : AreDistinct s.entries
-  pub ranks : ranks_of_library library ≡ ranks_of s.entries
-  pub places : places_of_library library ≡ places_from 0 0 s.entries
-  pub declared : map declaration_view library.declared.items ≡ declarations_from 0 s.entries
-  pub definitions : AreDefinitions library (definitions_of library) (defined_among s.entries)
+  pub abbreviations : c.abbreviations ≡ s.abbreviations
+  pub ranks : c.ranks ≡ ranks_of s.entries
+  pub places : c.places ≡ places_from 0 0 s.entries
+  pub declared : c.declared ≡ declarations_from 0 s.entries
+  pub definitions : AreDefinitions c c.definitions (defined_among s.entries)
+
+abbrev pub StandsFor : Library → Signature → Type 0
+StandsFor library s = Holds (contents_of library) s
 
 -- a library of the same theories
 abbrev pub HasTheoriesOf : Library → Library → Type 0
-HasTheoriesOf library script = library.theories ≡ script.theories
+HasTheoriesOf library script = library.sorts.theories ≡ script.sorts.theories

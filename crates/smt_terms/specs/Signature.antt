@@ -1,12 +1,13 @@
--- SMT-LIB 2.6, sections 4.2.3 and 5.1: a signature: the theories, and the names in force, with what they stand for, in the order in
--- which they came.
+-- SMT-LIB 2.6, sections 4.2.3 and 5.1: a signature: the theories, the abbreviations of sorts in force, and the names in force, with what
+-- they stand for, in the order in which they came.
 use Rattle.std.specs.Prelude.{◌≡◌, ℕ, List, [], ◌∷◌, ◌++◌, Bool, Option, Some, None, Result, Ok, Err, is_some, ◌||◌, map, bytes_eq, if◌then◌else◌}
 use Rattle.smt_text.specs.Sexp.{Sexp, Sexps}
 use Rattle.smt_theory.specs.Operators.{is_plain_operator}
 use Rattle.smt_theory.specs.Words.{look_up, result_and_then}
 use Rattle.smt_theory.specs.declared.sort.Sort.{Sort}
 use Rattle.smt_theory.specs.declared.theories.Theories.{Theories}
-use Rattle.smt_terms.specs.SortTrees.{sort_named, sorts_named}
+use Rattle.smt_terms.specs.Labels.{Labels, Refused, Given, Unread, with_labels}
+use Rattle.smt_terms.specs.SortTrees.{SortNames, sort_named, sorts_named}
 use Rattle.smt_terms.specs.declared.fault.TermFault.{TermFault}
 use Rattle.smt_terms.specs.declared.fault.TermFault.TheVariants.{NotFresh}
 
@@ -22,12 +23,13 @@ pub record Entry : Type 0 where
   pub sort : Sort
   pub origin : Origin
 
--- the theories, and the names in force in order
+-- the theories, and the abbreviations and the names in force, in order
 pub record Signature : Type 0 where
   pub theories : Theories
+  pub abbreviations : List (List ℕ × Sort)
   pub entries : List Entry
 
--- what the sort checker needs of a signature: the names with their ranks
+-- what the sort checker needs: the theories, the names with their ranks, and which labels a term may have
 pub record Rank : Type 0 where
   pub parameters : List Sort
   pub sort : Sort
@@ -35,6 +37,7 @@ pub record Rank : Type 0 where
 pub record Names : Type 0 where
   pub theories : Theories
   pub ranks : List (List ℕ × Rank)
+  pub labels : Labels
 
 abbrev pub rank_of_entry : Entry → Rank
 rank_of_entry e = record { parameters = e.parameters; sort = e.sort }
@@ -42,16 +45,44 @@ rank_of_entry e = record { parameters = e.parameters; sort = e.sort }
 abbrev pub ranks_of : List Entry → List (List ℕ × Rank)
 ranks_of entries = map (λ e. (e.name, rank_of_entry e)) entries
 
+-- those of a signature, without labels
 abbrev pub names_of : Signature → Names
-names_of s = record { theories = s.theories; ranks = ranks_of s.entries }
+names_of s = record { theories = s.theories; ranks = ranks_of s.entries; labels = Refused }
+
+-- the same in an assertion, before any label; and where no label is looked at
+abbrev pub in_assertion : Names → Names
+in_assertion names = record names { labels = Given [] }
+
+abbrev pub unlabelled : Names → Names
+unlabelled names = record names { labels = Unread }
+
+-- the names without labels that these entries give
+abbrev pub unlabelled_over : Theories → List Entry → Names
+unlabelled_over theories entries = record { theories = theories; ranks = ranks_of entries; labels = Unread }
+
+-- the names behind more labels, each with its term
+abbrev pub behind : List (List ℕ × Sexp) → Names → Names
+behind labels names = record names { labels = with_labels (map (λ l. l.0) labels) names.labels }
+
+-- what names the sorts of a signature
+abbrev pub sort_names_of : Signature → SortNames
+sort_names_of s = record { theories = s.theories; abbreviations = s.abbreviations }
 
 -- one more name
 abbrev pub with_entry : Signature → Entry → Signature
 with_entry s e = record s { entries = s.entries ++ e ∷ [] }
 
+-- more names
+abbrev pub with_entries : Signature → List Entry → Signature
+with_entries s es = record s { entries = s.entries ++ es }
+
+-- one more abbreviation
+abbrev pub with_abbreviation : Signature → List ℕ → Sort → Signature
+with_abbreviation s x sort = record s { abbreviations = s.abbreviations ++ (x, sort) ∷ [] }
+
 -- no names
 abbrev pub no_names : Theories → Signature
-no_names theories = record { theories = theories; entries = [] }
+no_names theories = record { theories = theories; abbreviations = []; entries = [] }
 
 -- the entry of a name
 abbrev pub entry_named : List Entry → List ℕ → Option Entry
@@ -78,15 +109,15 @@ abbrev pub is_taken : Names → List ℕ → Bool
 is_taken names x = is_some (look_up names.ranks x) || is_plain_operator names.theories x
 
 -- the rank that trees name: the sorts of parameters, and the sort of a result
-abbrev pub rank_named : Names → Sexps → Sexp → Result Rank TermFault
-rank_named names parameters tree =
-    result_and_then (sorts_named names.theories parameters) (λ ps. result_and_then (sort_named names.theories tree) (λ s. Ok (record { parameters = ps; sort = s })))
+abbrev pub rank_named : SortNames → Sexps → Sexp → Result Rank TermFault
+rank_named sorts parameters tree =
+    result_and_then (sorts_named sorts parameters) (λ ps. result_and_then (sort_named sorts tree) (λ s. Ok (record { parameters = ps; sort = s })))
 
 -- a name declared by the command, of this rank
 abbrev pub declaration : List ℕ → ℕ → Rank → Entry
 declaration x command rank = record { name = x; parameters = rank.parameters; sort = rank.sort; origin = Declared command }
 
 -- what the declaration of a name with parameters and a result of these sorts brings, or its first fault
-abbrev pub declared_in : Names → ℕ → List ℕ → Sexps → Sexp → Result Entry TermFault
-declared_in names command x parameters tree =
-    if is_taken names x then Err NotFresh else result_and_then (rank_named names parameters tree) (λ rank. Ok (declaration x command rank))
+abbrev pub declared_in : Signature → ℕ → List ℕ → Sexps → Sexp → Result Entry TermFault
+declared_in s command x parameters tree =
+    if is_taken (names_of s) x then Err NotFresh else result_and_then (rank_named (sort_names_of s) parameters tree) (λ rank. Ok (declaration x command rank))

@@ -1,6 +1,6 @@
--- SMT-LIB 2.6, section 3.5: the sort that a tree names, or its first fault. Which sorts are not supported, and which fault is told, is
--- this project's choice.
-use Rattle.std.specs.Prelude.{ℕ, List, [], ◌∷◌, Bool, true, false, not, ◌||◌, Option, is_some, option_map, Result, Ok, Err, ok_or, bytes_eq, codes, if◌then◌else◌}
+-- SMT-LIB 2.6, sections 3.5 and 4.2.3: the sort that a tree names, or its first fault, and abbreviations of sorts. Which sorts are not
+-- supported, and which fault is told, is this project's choice.
+use Rattle.std.specs.Prelude.{ℕ, List, [], ◌∷◌, Bool, true, false, not, ◌||◌, Option, Some, None, is_some, option_map, Result, Ok, Err, ok_or, bytes_eq, codes, if◌then◌else◌}
 use Rattle.std.specs.Str.Parse.{digits_value}
 use Rattle.smt_text.specs.Sexp.{Sexp, Sexps, Atom, Reserved, Items, Nil, Cons, Numeral, Symbol}
 use Rattle.smt_text.specs.declared.reserved.Word.TheVariants.{Underscore}
@@ -8,17 +8,23 @@ use Rattle.smt_theory.specs.declared.sort.Sort.{Sort}
 use Rattle.smt_theory.specs.declared.sort.Sort.TheVariants.{Bool as Boolean, Int, Bits}
 use Rattle.smt_theory.specs.declared.theories.Theories.{Theories}
 use Rattle.smt_theory.specs.Width.{width_of}
-use Rattle.smt_theory.specs.Words.{result_and_then}
+use Rattle.smt_theory.specs.Words.{look_up, result_and_then}
 use Rattle.smt_terms.specs.Identifier.{all_indexes}
 use Rattle.smt_terms.specs.declared.fault.TermFault.{TermFault}
-use Rattle.smt_terms.specs.declared.fault.TermFault.TheVariants.{Form, Unsupported, Unknown, Index}
+use Rattle.smt_terms.specs.declared.fault.TermFault.TheVariants.{Form, Unsupported, Unknown, Index, NotFresh}
 
 abbrev pub integers : Theories → Result Sort TermFault
 integers theories = if theories.ints then Ok Int else Err Unknown
 
-abbrev pub sort_of_symbol : Theories → List ℕ → Result Sort TermFault
-sort_of_symbol theories name =
+-- the sort of a symbol that abbreviates none
+abbrev pub sort_of_word : Theories → List ℕ → Result Sort TermFault
+sort_of_word theories name =
     if bytes_eq name (codes "Bool") then Ok Boolean else if bytes_eq name (codes "Int") then integers theories else if bytes_eq name (codes "Real") || bytes_eq name (codes "String") then Err Unsupported else Err Unknown
+
+-- the sort of a symbol, by what it abbreviates
+abbrev pub sort_of_symbol : Theories → List ℕ → Option Sort → Result Sort TermFault
+sort_of_symbol theories name None = sort_of_word theories name
+sort_of_symbol theories name (Some sort) = Ok sort
 
 -- bit vectors of a width that there may be, or none where the number of bits is out of range
 abbrev pub bit_vectors : Theories → Option ℕ → Result Sort TermFault
@@ -46,14 +52,27 @@ sort_of_list theories (Cons (Atom Symbol name) args) =
     if bytes_eq name (codes "Array") then Err Unsupported else if is_some_tree args then Err Unknown else Err Form
 sort_of_list theories _ = Err Form
 
--- the sort that a tree names in these theories, or its first fault
-abbrev pub sort_named : Theories → Sexp → Result Sort TermFault
-sort_named theories (Atom Symbol name) = sort_of_symbol theories name
-sort_named theories (Items parts) = sort_of_list theories parts
-sort_named theories _ = Err Form
+-- what names sorts: the theories, and the abbreviations in force with the sorts that they stand for
+pub record SortNames : Type 0 where
+  pub theories : Theories
+  pub abbreviations : List (List ℕ × Sort)
+
+-- the sort that a tree names, or its first fault
+abbrev pub sort_named : SortNames → Sexp → Result Sort TermFault
+sort_named names (Atom Symbol name) = sort_of_symbol names.theories name (look_up names.abbreviations name)
+sort_named names (Items parts) = sort_of_list names.theories parts
+sort_named names _ = Err Form
 
 -- the sorts that trees name, in order, or the first fault
-abbrev pub sorts_named : Theories → Sexps → Result (List Sort) TermFault
-sorts_named theories Nil = Ok []
-sorts_named theories (Cons x xs) =
-    result_and_then (sort_named theories x) (λ s. result_and_then (sorts_named theories xs) (λ ss. Ok (s ∷ ss)))
+abbrev pub sorts_named : SortNames → Sexps → Result (List Sort) TermFault
+sorts_named names Nil = Ok []
+sorts_named names (Cons x xs) =
+    result_and_then (sort_named names x) (λ s. result_and_then (sorts_named names xs) (λ ss. Ok (s ∷ ss)))
+
+-- whether a name may not be given to a new abbreviation: it is that of a sort, or abbreviates one
+abbrev pub is_sort_taken : SortNames → List ℕ → Bool
+is_sort_taken names x = bytes_eq x (codes "Bool") || bytes_eq x (codes "Int") || is_some (look_up names.abbreviations x)
+
+-- the sort that a new abbreviation stands for, or its first fault
+abbrev pub abbreviated_in : SortNames → List ℕ → Sexp → Result Sort TermFault
+abbreviated_in names x tree = if is_sort_taken names x then Err NotFresh else sort_named names tree

@@ -7,7 +7,8 @@ use Rattle.smt_theory.specs.Words.{look_up}
 use Rattle.smt_theory.specs.declared.sort.Sort.{Sort}
 use Rattle.smt_theory.specs.declared.theories.Theories.{Theories}
 use Rattle.smt_terms.specs.Checking.{sort_in}
-use Rattle.smt_terms.specs.Signature.{Entry, Names, Origin, Rank, Declared, Defined, entry_named, ranks_of}
+use Rattle.smt_terms.specs.Labels.{Unread}
+use Rattle.smt_terms.specs.Signature.{Entry, Names, Origin, Rank, Declared, Defined, entry_named, unlabelled_over}
 
 -- no name stands twice
 abbrev pub AreDifferent : List (List ℕ) → Type 0
@@ -27,18 +28,19 @@ IsWellSortedFrom names sorts sort (Declared command) = ⊥
 
 -- the entry is a definition that is well sorted over the earlier ones
 abbrev pub IsWellSorted : Theories → List Entry → Entry → Type 0
-IsWellSorted theories earlier e = IsWellSortedFrom (record { theories = theories; ranks = ranks_of earlier }) e.parameters e.sort e.origin
+IsWellSorted theories earlier e = IsWellSortedFrom (unlabelled_over theories earlier) e.parameters e.sort e.origin
 
 -- each definition is well sorted over the earlier ones
 abbrev pub AreWellSorted : Theories → List Entry → List Entry → Type 0
 AreWellSorted theories earlier [] = Unit {0}
 AreWellSorted theories earlier (e ∷ es) = IsWellSorted theories earlier e × AreWellSorted theories (earlier ++ e ∷ []) es
 
--- more names, over which the terms of these keep their sorts: the theories are the same, a name keeps its rank, and no name that is new
--- is a plain operator's
+-- more names, over which the terms of these keep their sorts: the theories are the same, a name keeps its rank, no name that is new is a
+-- plain operator's, and labels are not looked at
 pub record Keeps (names more : Names) : Type 0 where
   pub theories : more.theories ≡ names.theories
   pub ranks : (x : List ℕ) (rank : Rank) → look_up names.ranks x ≡ Some rank → look_up more.ranks x ≡ Some rank
+  pub labels : more.labels ≡ Unread
   pub fresh : (x : List ℕ) (rank : Rank) → look_up names.ranks x ≡ None → look_up more.ranks x ≡ Some rank → is_plain_operator names.theories x ≡ false
 
 -- ---- the names of a script
@@ -52,7 +54,7 @@ IsSortedIfDefined names sorts sort (Declared command) = Unit {0}
 pub record IsIntroduced (theories : Theories) (earlier : List Entry) (e : Entry) : Type 0 where
   pub new : entry_named earlier e.name ≡ None
   pub free : is_plain_operator theories e.name ≡ false
-  pub sorted : IsSortedIfDefined (record { theories = theories; ranks = ranks_of earlier }) e.parameters e.sort e.origin
+  pub sorted : IsSortedIfDefined (unlabelled_over theories earlier) e.parameters e.sort e.origin
 
 -- each name is introduced behind the earlier ones
 abbrev pub AreIntroduced : Theories → List Entry → List Entry → Type 0

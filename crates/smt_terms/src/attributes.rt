@@ -1,11 +1,11 @@
 //! The attributes of annotated terms.
 
-ghost use Rattle.std.specs.Prelude.{◌≡◌, ◌≤◌, false, None, MatchOption};
+ghost use Rattle.std.specs.Prelude.{◌≡◌, ◌≤◌, ◌∷◌, [], false, None, MatchOption};
 ghost use Rattle.smt_text.specs.Sexp.{Atom, Cons, Keyword, weight_all};
 ghost use Rattle.smt_text.specs.Tree.{sexp_of, sexps_of};
 ghost use Rattle.smt_terms.specs.Bindings as bindings;
 ghost use Rattle.smt_terms.specs.Bindings.{is_symbol_tree, go_on_behind};
-ghost use Rattle.smt_terms.specs.Internal.Attributes.{first_keyword, has_value, is_keyword_tree, is_label_tree};
+ghost use Rattle.smt_terms.specs.Internal.Attributes.{first_keyword, has_value, is_keyword_tree, is_label_tree, label_of_tree};
 
 use smt_text::{Tree, split_first};
 
@@ -75,18 +75,17 @@ fn split_value(trees: &[Tree]) -> Option<(&Tree, &[Tree])>
     Some((value, rest))
 }
 
-// Whether one of the attributes is a label.
-pub(crate) fn has_label(attributes: &[Tree]) -> bool
-    ensures { result ≡ bindings.has_label (sexps_of attributes.now) }
+// The label that an attribute is, if it is one: by its first tree and what stands behind it.
+pub(crate) fn label_at<'a>(tree: &Tree, rest: &'a [Tree]) -> Option<&'a [u8]>
+    ensures { MatchOption result (label_of_tree (sexp_of tree.now) (sexps_of rest.now) ≡ []) (λ name. label_of_tree (sexp_of tree.now) (sexps_of rest.now) ≡ name.now ∷ []) }
 {
-    let mut left = attributes;
-    while let Some((tree, rest)) = split_first(left) {
-        if is_label_word(tree) {
-            return true;
-        }
-        left = rest;
+    if !is_label_word(tree) {
+        return None;
     }
-    false
+    match split_first(rest) {
+        Some((Tree::Symbol(name), _)) => Some(name.as_slice()),
+        _ => None,
+    }
 }
 
 fn is_label_word(tree: &Tree) -> bool

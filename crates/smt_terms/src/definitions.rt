@@ -4,6 +4,7 @@ ghost use Rattle.std.specs.Prelude.{◌≡◌, ◌⊎◌, [], Ok, Err, map, IfEr
 ghost use Rattle.smt_text.specs.Tree.{sexps_of};
 ghost use Rattle.smt_terms.specs.Bindings.{named_trees};
 ghost use Rattle.smt_terms.specs.Definitions.{parameters_named};
+ghost use Rattle.smt_terms.specs.Internal.LibraryView.{sort_names};
 ghost use Rattle.smt_terms.specs.ParamView.{param_view};
 ghost use Rattle.smt_terms.specs.ScopeView.{scope_view};
 ghost use Rattle.smt_terms.specs.declared.fault.TermFault.TheVariants.{Memory};
@@ -11,9 +12,9 @@ ghost use Rattle.smt_terms.specs.declared.fault.TermFault.TheVariants.{Memory};
 use crate::bindings::split_named;
 use crate::fault::TermFault;
 use crate::scope::{Variable, find_variable, push_variable};
-use crate::sorts::sort_of_tree;
+use crate::sorts::SortNames;
 use smt_text::Tree;
-use smt_theory::{Sort, Theories};
+use smt_theory::Sort;
 use std::alloc::Global;
 
 /// A parameter of a definition (SMT-LIB 2.6, section 4.2.3): its name, without bars, and the tree of its sort. It borrows both.
@@ -42,15 +43,15 @@ pub fn params_of(alloc: Global, trees: &[Tree]) -> Result<Vec<Param<'_>>, TermFa
 // name has come before.
 pub(crate) fn sorted_params<'a>(
     alloc: Global,
-    theories: Theories,
+    sorts: &SortNames,
     params: &[Param<'a>],
 ) -> Result<Vec<Variable<'a, Sort>>, TermFault>
-    ensures { MatchResult result (λ variables. parameters_named theories [] (map param_view params.now) ≡ Ok (scope_view variables.items))
-        (λ fault. (fault ≡ Memory) ⊎ (parameters_named theories [] (map param_view params.now) ≡ Err fault)) }
+    ensures { MatchResult result (λ variables. parameters_named (sort_names sorts.now) [] (map param_view params.now) ≡ Ok (scope_view variables.items))
+        (λ fault. (fault ≡ Memory) ⊎ (parameters_named (sort_names sorts.now) [] (map param_view params.now) ≡ Err fault)) }
 {
     let mut variables = Vec::new(alloc);
     for param in params {
-        let value = sort_of_tree(theories, param.sort)?;
+        let value = sorts.sort_of(param.sort)?;
         if find_variable(variables.as_slice(), param.name).is_some() {
             return Err(TermFault::BoundTwice);
         }
@@ -62,14 +63,14 @@ pub(crate) fn sorted_params<'a>(
 // The same of the parameters that trees are, up to the first that is none.
 pub(crate) fn sorted_params_of<'a>(
     alloc: Global,
-    theories: Theories,
+    sorts: &SortNames,
     trees: &'a [Tree],
 ) -> Result<Vec<Variable<'a, Sort>>, TermFault>
-    ensures { MatchResult result (λ variables. parameters_named theories [] (named_trees (sexps_of trees.now)) ≡ Ok (scope_view variables.items))
-        (λ fault. (fault ≡ Memory) ⊎ (parameters_named theories [] (named_trees (sexps_of trees.now)) ≡ Err fault)) }
+    ensures { MatchResult result (λ variables. parameters_named (sort_names sorts.now) [] (named_trees (sexps_of trees.now)) ≡ Ok (scope_view variables.items))
+        (λ fault. (fault ≡ Memory) ⊎ (parameters_named (sort_names sorts.now) [] (named_trees (sexps_of trees.now)) ≡ Err fault)) }
 {
     let params = params_of(alloc, trees)?;
-    sorted_params(alloc, theories, params.as_slice())
+    sorted_params(alloc, sorts, params.as_slice())
 }
 
 // The parameters of a definition that variables are, under names of their own. Only want of memory is refused.

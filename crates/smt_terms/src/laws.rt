@@ -4,26 +4,34 @@ ghost use Rattle.std.specs.Prelude.{◌≡◌, ℕ, List, Some, None, false, Ok,
 ghost use Rattle.smt_text.specs.Sexp.{Sexp, Sexps};
 ghost use Rattle.smt_theory.specs.declared.sort.Sort.{Sort};
 ghost use Rattle.smt_terms.specs.Checking.{sort_in};
+ghost use Rattle.smt_terms.specs.Assertions.{asserted_in};
+ghost use Rattle.smt_terms.specs.Contents.{Contents, Extends, IsBelow, IsWithin, first_of};
 ghost use Rattle.smt_terms.specs.Definitions.{defined_in};
+ghost use Rattle.smt_terms.specs.Library.{IsTermOf};
 ghost use Rattle.smt_terms.specs.Items.{declared_named, item_in};
 ghost use Rattle.smt_terms.specs.Signature.{Entry, KeepsRank, Names, Signature, declared_in, entry_named, is_taken, names_of};
-ghost use Rattle.smt_terms.specs.WellSorted.{IsWellSorted, Keeps};
+ghost use Rattle.smt_terms.specs.SortTrees.{SortNames, abbreviated_in};
+ghost use Rattle.smt_terms.specs.WellSorted.{AreIntroduced, IsWellSorted, Keeps};
+ghost use Rattle.smt_terms.specs.declared.library.TermId.{TermId};
+ghost use Rattle.smt_terms.specs.declared.library.marks.Mark.{Mark};
 ghost use Rattle.smt_terms.specs.declared.fault.TermFault.TheVariants.{Memory};
 
 /// No definition answers that memory was refused.
 pub fn faults_are_no_memory()
     ensures sorts { (names : Names) (scope : List (List ℕ × Sort)) (term : Sexp) → sort_in names scope term ≡ Err Memory → ⊥ }
-    ensures declarations { (names : Names) (command : ℕ) (x : List ℕ) (parameters : Sexps) (sort : Sexp) → declared_in names command x parameters sort ≡ Err Memory → ⊥ }
-    ensures definitions { (names : Names) (x : List ℕ) (parameters : List (List ℕ × Sexp)) (sort body : Sexp) → defined_in names x parameters sort body ≡ Err Memory → ⊥ }
+    ensures abbreviations { (names : SortNames) (x : List ℕ) (sort : Sexp) → abbreviated_in names x sort ≡ Err Memory → ⊥ }
+    ensures declarations { (s : Signature) (command : ℕ) (x : List ℕ) (parameters : Sexps) (sort : Sexp) → declared_in s command x parameters sort ≡ Err Memory → ⊥ }
+    ensures definitions { (s : Signature) (x : List ℕ) (parameters : List (List ℕ × Sexp)) (sort body : Sexp) → defined_in s x parameters sort body ≡ Err Memory → ⊥ }
+    ensures assertions { (names : Names) (term : Sexp) → asserted_in names term ≡ Err Memory → ⊥ }
     ensures items { (script : Signature) (earlier : List Entry) (tree : Sexp) → item_in script earlier tree ≡ Err Memory → ⊥ }
 {}
 
 /// What a definition brings is well sorted over the earlier names (SMT-LIB 2.6, sections 4.2.3 and 5.2), and has the name that was
 /// given, which stood for nothing and is no plain operator's.
 pub fn definitions_are_well_sorted()
-    ensures sorted { (s : Signature) (x : List ℕ) (parameters : List (List ℕ × Sexp)) (sort body : Sexp) (e : Entry) → defined_in (names_of s) x parameters sort body ≡ Ok e → IsWellSorted s.theories s.entries e }
-    ensures named { (s : Signature) (x : List ℕ) (parameters : List (List ℕ × Sexp)) (sort body : Sexp) (e : Entry) → defined_in (names_of s) x parameters sort body ≡ Ok e → e.name ≡ x }
-    ensures free { (s : Signature) (x : List ℕ) (parameters : List (List ℕ × Sexp)) (sort body : Sexp) (e : Entry) → defined_in (names_of s) x parameters sort body ≡ Ok e → is_taken (names_of s) x ≡ false }
+    ensures sorted { (s : Signature) (x : List ℕ) (parameters : List (List ℕ × Sexp)) (sort body : Sexp) (e : Entry) → defined_in s x parameters sort body ≡ Ok e → IsWellSorted s.theories s.entries e }
+    ensures named { (s : Signature) (x : List ℕ) (parameters : List (List ℕ × Sexp)) (sort body : Sexp) (e : Entry) → defined_in s x parameters sort body ≡ Ok e → e.name ≡ x }
+    ensures free { (s : Signature) (x : List ℕ) (parameters : List (List ℕ × Sexp)) (sort body : Sexp) (e : Entry) → defined_in s x parameters sort body ≡ Ok e → is_taken (names_of s) x ≡ false }
 {}
 
 /// What an item of a model defines is well sorted over the earlier items (SMT-LIB 2.6, sections 4.2.6 and 5.2), and its name is new
@@ -37,7 +45,30 @@ pub fn items_are_well_sorted()
         → declared_named script.entries e.name ≡ None → is_taken (names_of script) e.name ≡ false }
 {}
 
-/// A term keeps its sort over more names, none of which hides an operator.
+/// A term keeps its sort over more names, none of which hides an operator, where labels are not looked at.
 pub fn sorts_are_kept()
     ensures { (names more : Names) (scope : List (List ℕ × Sort)) (term : Sexp) (sort : Sort) → Keeps names more → sort_in names scope term ≡ Ok sort → sort_in more scope term ≡ Ok sort }
+{}
+
+/// The labels that an assertion brings (SMT-LIB 2.6, section 3.6.5) are each new behind the names in force and those before it, no
+/// operator's, and well sorted over them.
+pub fn labels_are_introduced()
+    ensures { (s : Signature) (term : Sexp) (labels : List Entry) → asserted_in (names_of s) term ≡ Ok labels → AreIntroduced s.theories s.entries labels }
+{}
+
+/// What a mark counts is the same in longer contents, where it counts no more than there was.
+pub fn marks_are_kept()
+    ensures first { (mark : Mark) (c d : Contents) → IsWithin mark c → Extends c d → first_of mark d ≡ first_of mark c }
+    ensures within { (mark : Mark) (c d : Contents) → IsWithin mark c → Extends c d → IsWithin mark d }
+{}
+
+/// A mark counts the same in contents that are cut to a later one.
+pub fn earlier_marks_are_kept()
+    ensures first { (mark later : Mark) (c : Contents) → IsBelow mark later → first_of mark (first_of later c) ≡ first_of mark c }
+    ensures within { (mark later : Mark) (c : Contents) → IsBelow mark later → IsWithin later c → IsWithin mark (first_of later c) }
+{}
+
+/// A term of contents is one of longer contents.
+pub fn terms_are_kept()
+    ensures { (c d : Contents) (i : TermId) (t : Sexp) → Extends c d → IsTermOf c i t → IsTermOf d i t }
 {}

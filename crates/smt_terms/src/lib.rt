@@ -12,19 +12,21 @@ mod attributes;
 mod bindings;
 mod definitions;
 mod fault;
+mod heads;
 mod identifier;
 mod item_form;
+mod labels;
 pub mod laws;
 mod library;
 mod scope;
 mod sorts;
 #[cfg(test)]
 mod tests;
+mod variables;
 
 pub use bindings::{are_named, split_let, split_named};
 pub use definitions::{Param, params_of};
 pub use fault::TermFault;
 pub use identifier::{Identifier, applied_identifier, indexed_identifier};
-pub use library::{Declared, Definition, Found, Library, TermId};
+pub use library::{Declared, Definition, Found, Library, Mark, TermId};
 pub use scope::{Variable, find_variable};
-pub use sorts::sort_of_tree;

@@ -5,16 +5,21 @@ ghost use Rattle.std.specs.List.{IsDistinct};
 ghost use Rattle.std.proofs.Props.{props};
 ghost use Rattle.indexmap.specs.IndexMap.{keys};
 
+pub use marks::Mark;
+
+mod assertions;
 mod binders;
 mod checker;
 mod definitions;
 mod items;
+mod marks;
 
 ghost use Rattle.std.specs.Prelude.{◌≡◌};
 ghost use Rattle.smt_theory.specs.Operators.{is_plain_operator};
 
 use crate::fault::TermFault;
-use crate::sorts::{sort_of_tree, sorts_of_trees};
+use crate::labels::Labels;
+use crate::sorts::SortNames;
 use indexmap::IndexMap;
 use smt_text::Tree;
 use smt_theory::{Sort, Theories, op_of};
@@ -69,11 +74,11 @@ pub struct TermId {
     number: usize,
 }
 
-/// The names of a signature in order of insertion, and terms over them. No name stands twice.
+/// The names of a signature in order of insertion, abbreviations of sorts, and terms over the names. No name stands twice.
 #[derive(Drop)]
 pub struct Library {
     alloc: Global,
-    theories: Theories,
+    sorts: SortNames,
     names: IndexMap<Vec<u8>, Entry>,
     declared: Vec<Declared>,
     definitions: Vec<Definition>,
@@ -82,16 +87,19 @@ pub struct Library {
 }
 
 impl Library {
-    ghost use Rattle.std.specs.Prelude.{◌≡◌, ◌<◌, ◌∷◌, ◌++◌, ◌⊎◌, ◌||◌, [], map, is_some, length, slice_get, option_map, Some, None, Ok, Err, MatchOption, MatchResult, OnOk, OnErr, IfOk, IfErr};
+    ghost use Rattle.std.specs.Prelude.{◌≡◌, ◌<◌, ◌∷◌, ◌++◌, ◌⊎◌, ◌||◌, List, [], map, is_some, length, slice_get, option_map, Some, None, Ok, Err, MatchOption, MatchResult, OnOk, OnErr, IfOk, IfErr};
     ghost use Rattle.smt_text.specs.Sexp.{Sexp};
     ghost use Rattle.smt_text.specs.Tree.{sexp_of, sexps_of};
     ghost use Rattle.smt_theory.specs.Operators.{is_plain_operator};
     ghost use Rattle.smt_theory.specs.Words.{look_up};
     ghost use Rattle.smt_terms.specs.Checking.{sort_in};
-    ghost use Rattle.smt_terms.specs.Internal.LibraryView.{names_of_library, places_of_library, rank_of, ranks_of_library};
-    ghost use Rattle.smt_terms.specs.Library.{AreDefinitions, HasTheoriesOf, IsFound, IsTerm, StandsFor, declaration_view, declarations_from, defined_among, definitions_of, name_count};
+    ghost use Rattle.smt_terms.specs.Contents.{Extends, contents_of, declaration_view};
+    ghost use Rattle.smt_terms.specs.Internal.LibraryView.{names_of_library, places_of_library, rank_of, ranks_of_library, sort_names};
+    ghost use Rattle.smt_terms.specs.Library.{AreDefinitions, HasTheoriesOf, IsFound, IsTerm, StandsFor, declarations_from, defined_among, definitions_of, name_count};
     ghost use Rattle.smt_terms.specs.Signature as signature;
-    ghost use Rattle.smt_terms.specs.Signature.{Rank, Signature, declaration, declared_in, entry_named, is_taken, names_of, no_names, rank_named, with_entry};
+    ghost use Rattle.smt_terms.specs.Signature.{Rank, Signature, declaration, declared_in, entry_named, is_taken, names_of, no_names, rank_named, sort_names_of, with_abbreviation, with_entry};
+    ghost use Rattle.smt_terms.specs.SortTrees.{abbreviated_in};
+    ghost use Rattle.smt_theory.specs.declared.sort.Sort.{Sort};
     ghost use Rattle.smt_terms.specs.declared.fault.TermFault.TheVariants.{Memory};
     ghost use Rattle.smt_terms.specs.declared.library.TermId as id;
 
@@ -101,7 +109,7 @@ impl Library {
     {
         Library {
             alloc,
-            theories,
+            sorts: SortNames::new(alloc, theories),
             names: IndexMap::new(alloc),
             declared: Vec::new(alloc),
             definitions: Vec::new(alloc),
@@ -118,7 +126,7 @@ impl Library {
     pub fn theories(&self) -> Theories
         ensures { (s : Signature) → StandsFor self.now s → result ≡ s.theories }
     {
-        self.theories
+        self.sorts.theories
     }
 
     /// The declared names, in order.
@@ -130,7 +138,7 @@ impl Library {
 
     /// The definitions, in order.
     pub fn definitions(&self) -> &[Definition]
-        ensures stands { (s : Signature) → StandsFor self.now s → AreDefinitions self.now result.now (defined_among s.entries) }
+        ensures stands { (s : Signature) → StandsFor self.now s → AreDefinitions (contents_of self.now) result.now (defined_among s.entries) }
         ensures view { result.now ≡ definitions_of self.now }
     {
         self.definitions.as_slice()
@@ -154,6 +162,7 @@ impl Library {
 
     /// Declares a name by the command of this number (SMT-LIB 2.6, section 4.2.3), with the sorts of its parameters and of its result.
     /// Refused are a name that is in use or is a plain operator's, and a tree that names no sort, in this order; then nothing changes.
+    #[tactic(auto, using(crate::proofs::ContentsLemmas::extends_itself))]
     pub fn declare(
         &mut self,
         command: u64,
@@ -162,11 +171,11 @@ impl Library {
         sort: &Tree,
     ) -> Result<(), TermFault>
         ensures declared { OnOk result ((s : Signature) → StandsFor self.old s → (e : signature.Entry)
-            × (declared_in (names_of s) command name.now (sexps_of params.now) (sexp_of sort.now) ≡ Ok e) × StandsFor self.new (with_entry s e)) }
+            × (declared_in s command name.now (sexps_of params.now) (sexp_of sort.now) ≡ Ok e) × StandsFor self.new (with_entry s e)) }
         ensures refused { IfErr result (λ fault. (s : Signature) → StandsFor self.old s
-            → (fault ≡ Memory) ⊎ (declared_in (names_of s) command name.now (sexps_of params.now) (sexp_of sort.now) ≡ Err fault)) }
+            → (fault ≡ Memory) ⊎ (declared_in s command name.now (sexps_of params.now) (sexp_of sort.now) ≡ Err fault)) }
         ensures unchanged { OnErr result ((s : Signature) → StandsFor self.old s → StandsFor self.new s) }
-        ensures terms { (i : id.TermId) (t : Sexp) → IsTerm self.old i t → IsTerm self.new i t }
+        ensures grown { Extends (contents_of self.old) (contents_of self.new) }
     {
         if self.is_taken(name) {
             return Err(TermFault::NotFresh);
@@ -175,15 +184,31 @@ impl Library {
         self.add_declared(name, declared)
     }
 
+    /// Makes a name abbreviate the sort of a tree (SMT-LIB 2.6, section 4.2.3, `define-sort` without parameters). It stands for that sort,
+    /// whatever comes later. Refused are a name that abbreviates a sort, `Bool` and `Int` (`NotFresh`), and then a tree that names no
+    /// sort, with its fault; then nothing changes.
+    pub fn abbreviate(&mut self, name: &[u8], sort: &Tree) -> Result<(), TermFault>
+        ensures abbreviated { OnOk result ((s : Signature) → StandsFor self.old s → (found : Sort)
+            × (abbreviated_in (sort_names_of s) name.now (sexp_of sort.now) ≡ Ok found) × StandsFor self.new (with_abbreviation s name.now found)) }
+        ensures refused { IfErr result (λ fault. (s : Signature) → StandsFor self.old s
+            → (fault ≡ Memory) ⊎ (abbreviated_in (sort_names_of s) name.now (sexp_of sort.now) ≡ Err fault)) }
+        ensures unchanged { OnErr result ((s : Signature) → StandsFor self.old s → StandsFor self.new s) }
+        ensures grown { Extends (contents_of self.old) (contents_of self.new) }
+    {
+        self.sorts.abbreviate(self.alloc, name, sort)
+    }
+
     /// Checks a term without labels over the names: its number and its sort, or its first fault (SMT-LIB 2.6, sections 3.6 and 5.2).
+    #[tactic(auto, using(crate::proofs::ContentsLemmas::extends_itself))]
     pub fn check(&mut self, term: &Tree) -> Result<(TermId, Sort), TermFault>
         ensures answer { (s : Signature) → StandsFor self.old s
             → MatchResult result (λ p. (sort_in (names_of s) [] (sexp_of term.now) ≡ Ok p.1) × IsTerm self.new p.0 (sexp_of term.now))
             (λ fault. (fault ≡ Memory) ⊎ (sort_in (names_of s) [] (sexp_of term.now) ≡ Err fault)) }
         ensures kept { (s : Signature) → StandsFor self.old s → StandsFor self.new s }
-        ensures terms { (i : id.TermId) (t : Sexp) → IsTerm self.old i t → IsTerm self.new i t }
+        ensures grown { Extends (contents_of self.old) (contents_of self.new) }
     {
-        let sort = self.sort_of(&[], term)?;
+        let mut labels = Labels::refused(self.alloc);
+        let sort = self.sort_of(&[], &mut labels, term)?;
         Ok((self.add_term(term)?, sort))
     }
 
@@ -196,12 +221,13 @@ impl Library {
     }
 
     // Adds a term.
-    fn add_term(&mut self, term: &Tree) -> Result<TermId, TermFault>
+    pub(super) fn add_term(&mut self, term: &Tree) -> Result<TermId, TermFault>
         ensures term { IfOk result (λ i. IsTerm self.new i (sexp_of term.now)) }
         ensures refused { IfErr result (λ fault. fault ≡ Memory) }
         ensures kept { (s : Signature) → StandsFor self.old s → StandsFor self.new s }
         ensures names { names_of_library self.new ≡ names_of_library self.old }
-        ensures terms { (i : id.TermId) (t : Sexp) → IsTerm self.old i t → IsTerm self.new i t }
+        ensures sorts { self.new.sorts ≡ self.old.sorts }
+        ensures grown { Extends (contents_of self.old) (contents_of self.new) }
     {
         let copy = term.copy(self.alloc)?;
         let number = self.terms.len();
@@ -237,10 +263,10 @@ impl Library {
     }
 
     // Whether a name stands for something, or is a plain operator's.
-    fn is_taken(&self, name: &[u8]) -> bool
+    pub(super) fn is_taken(&self, name: &[u8]) -> bool
         ensures { result ≡ is_taken (names_of_library self.now) name.now }
     {
-        self.is_in_force(name) || is_operator(self.theories, name)
+        self.is_in_force(name) || is_operator(self.sorts.theories, name)
     }
 
     fn is_in_force(&self, name: &[u8]) -> bool
@@ -251,12 +277,12 @@ impl Library {
 
     // A declaration by the command, as the next name.
     fn declaration(&self, command: u64, params: &[Tree], sort: &Tree) -> Result<Declared, TermFault>
-        ensures rank { MatchResult result (λ d. rank_named (names_of_library self.now) (sexps_of params.now) (sexp_of sort.now) ≡ Ok (record { parameters = d.params.items; sort = d.result }))
-            (λ fault. (fault ≡ Memory) ⊎ (rank_named (names_of_library self.now) (sexps_of params.now) (sexp_of sort.now) ≡ Err fault)) }
+        ensures rank { MatchResult result (λ d. rank_named (sort_names self.now.sorts) (sexps_of params.now) (sexp_of sort.now) ≡ Ok (record { parameters = d.params.items; sort = d.result }))
+            (λ fault. (fault ≡ Memory) ⊎ (rank_named (sort_names self.now.sorts) (sexps_of params.now) (sexp_of sort.now) ≡ Err fault)) }
         ensures next { IfOk result (λ d. (d.command ≡ command) × (d.name ≡ name_count self.now)) }
     {
-        let params = sorts_of_trees(self.alloc, self.theories, params)?;
-        let result = sort_of_tree(self.theories, sort)?;
+        let params = self.sorts.sorts_of(self.alloc, params)?;
+        let result = self.sorts.sort_of(sort)?;
         Ok(Declared {
             name: self.names.len(),
             params,
@@ -266,6 +292,7 @@ impl Library {
     }
 
     // Adds a declared name at the end, or changes nothing.
+    #[tactic(auto, using(crate::proofs::ContentsLemmas::extends_itself))]
     fn add_declared(&mut self, name: &[u8], declared: Declared) -> Result<(), TermFault>
         requires absent { look_up (names_of_library self.old).ranks name.now ≡ None }
         requires next { declared.name ≡ name_count self.old }
@@ -273,7 +300,7 @@ impl Library {
             → StandsFor self.new (with_entry s (declaration name.now declared.command (record { parameters = declared.params.items; sort = declared.result })))) }
         ensures refused { IfErr result (λ fault. fault ≡ Memory) }
         ensures unchanged { OnErr result ((s : Signature) → StandsFor self.old s → StandsFor self.new s) }
-        ensures terms { (i : id.TermId) (t : Sexp) → IsTerm self.old i t → IsTerm self.new i t }
+        ensures grown { Extends (contents_of self.old) (contents_of self.new) }
     {
         let entry = Entry {
             parameters: Vec::from_slice(self.alloc, declared.params.as_slice())?,
@@ -297,10 +324,10 @@ impl Library {
         ensures places { OnOk result (places_of_library self.new ≡ places_of_library self.old ++ (name.now, entry.place) ∷ []) }
         ensures refused { IfErr result (λ fault. fault ≡ Memory) }
         ensures unchanged { OnErr result ((ranks_of_library self.new ≡ ranks_of_library self.old) × (places_of_library self.new ≡ places_of_library self.old)) }
-        ensures theories { self.new.theories ≡ self.old.theories }
+        ensures sorts { self.new.sorts ≡ self.old.sorts }
         ensures declared { self.new.declared.items ≡ self.old.declared.items }
         ensures definitions { self.new.definitions.items ≡ self.old.definitions.items }
-        ensures terms { (i : id.TermId) (t : Sexp) → IsTerm self.old i t → IsTerm self.new i t }
+        ensures terms { self.new.terms.items ≡ self.old.terms.items }
     {
         let key = Vec::from_slice(self.alloc, name)?;
         self.names.insert(key, entry)?;

@@ -1,51 +1,123 @@
-//! The trees that name sorts.
+//! The trees that name sorts, and abbreviations of sorts.
 
-ghost use Rattle.std.specs.Prelude.{◌≡◌, ◌⊎◌, bytes_eq, Ok, Err, MatchResult};
+ghost use Rattle.std.specs.Prelude.{◌≡◌, ◌⊎◌, ◌++◌, ◌∷◌, [], bytes_eq, Ok, Err, IfErr, MatchResult, OnErr, OnOk};
 ghost use Rattle.std.specs.Str.Parse.{digits_value};
 ghost use Rattle.smt_text.specs.Tree.{sexp_of, sexps_of};
 ghost use Rattle.smt_theory.specs.Width.{width_of};
-ghost use Rattle.smt_terms.specs.SortTrees.{sort_named, sort_of_symbol, sorts_named};
+ghost use Rattle.std.specs.List.{IsDistinct};
+ghost use Rattle.std.proofs.Props.{props};
+ghost use Rattle.indexmap.specs.IndexMap.{keys};
+ghost use Rattle.smt_theory.specs.Words.{look_up};
+ghost use Rattle.smt_terms.specs.SortTrees.{abbreviated_in, is_sort_taken, sort_named, sorts_named};
 ghost use Rattle.smt_terms.specs.declared.fault.TermFault.TheVariants.{Memory};
 ghost use Rattle.smt_terms.specs.SortTrees as sorts;
 
 use crate::fault::TermFault;
 use crate::identifier::are_indexes;
+use indexmap::IndexMap;
 use smt_text::{Tree, Word, split_first};
 use smt_theory::{Sort, Theories, Width, number};
 use std::alloc::Global;
 
-/// The sort that a tree names in these theories (SMT-LIB 2.6, section 3.5), or what is wrong with it: out of form, a sort of the
-/// standard that is not supported, unknown, or bit vectors of a width out of range.
-pub fn sort_of_tree(theories: Theories, tree: &Tree) -> Result<Sort, TermFault>
-    ensures { result ≡ sort_named theories (sexp_of tree.now) }
-{
-    match tree {
-        Tree::Symbol(name) => sort_of_name(theories, name.as_slice()),
-        Tree::List(parts) => sort_of_list(theories, parts.as_slice()),
-        _ => Err(TermFault::Form),
+/// What names sorts: theories, and abbreviations of sorts (SMT-LIB 2.6, sections 3.5 and 4.2.3), in the order in which they came. No
+/// name abbreviates twice.
+#[derive(Drop)]
+pub(crate) struct SortNames {
+    pub(crate) theories: Theories,
+    pub(crate) abbreviations: IndexMap<Vec<u8>, Sort>,
+    ghost distinct: { IsDistinct (λ a b. bytes_eq a.items b.items) (keys abbreviations) } by { Prim.hlevel props },
+}
+
+impl SortNames {
+    ghost use Rattle.smt_terms.specs.Internal.LibraryView.{abbreviations_of, sort_names};
+    ghost use Rattle.smt_theory.specs.declared.sort.Sort.{Sort};
+
+    /// The sorts of these theories, without abbreviations.
+    pub(crate) fn new(alloc: Global, theories: Theories) -> Self
+        ensures { sort_names result ≡ record { theories = theories; abbreviations = [] } }
+    {
+        SortNames {
+            theories,
+            abbreviations: IndexMap::new(alloc),
+        }
+    }
+
+    /// The sort that a tree names, or what is wrong with it: out of form, a sort of the standard that is not supported, unknown, or bit
+    /// vectors of a width out of range.
+    pub(crate) fn sort_of(&self, tree: &Tree) -> Result<Sort, TermFault>
+        ensures { result ≡ sort_named (sort_names self.now) (sexp_of tree.now) }
+    {
+        match tree {
+            Tree::Symbol(name) => self.sort_of_symbol(name.as_slice()),
+            Tree::List(parts) => sort_of_list(self.theories, parts.as_slice()),
+            _ => Err(TermFault::Form),
+        }
+    }
+
+    /// The sorts that trees name, in order, or the first fault.
+    pub(crate) fn sorts_of(&self, alloc: Global, trees: &[Tree]) -> Result<Vec<Sort>, TermFault>
+        ensures { MatchResult result (λ found. sorts_named (sort_names self.now) (sexps_of trees.now) ≡ Ok found.items)
+            (λ fault. (fault ≡ Memory) ⊎ (sorts_named (sort_names self.now) (sexps_of trees.now) ≡ Err fault)) }
+    {
+        let mut found = Vec::new(alloc);
+        let mut left = trees;
+        while let Some((tree, rest)) = split_first(left) {
+            found.push(self.sort_of(tree)?)?;
+            left = rest;
+        }
+        Ok(found)
+    }
+
+    /// Makes a name abbreviate the sort of a tree, or changes nothing: where the name is that of a sort, or the tree names none.
+    pub(crate) fn abbreviate(
+        &mut self,
+        alloc: Global,
+        name: &[u8],
+        tree: &Tree,
+    ) -> Result<(), TermFault>
+        ensures abbreviated { OnOk result ((sort : Sort) × (abbreviated_in (sort_names self.old) name.now (sexp_of tree.now) ≡ Ok sort)
+            × (abbreviations_of self.new ≡ abbreviations_of self.old ++ (name.now, sort) ∷ [])) }
+        ensures refused { IfErr result (λ fault. (fault ≡ Memory) ⊎ (abbreviated_in (sort_names self.old) name.now (sexp_of tree.now) ≡ Err fault)) }
+        ensures unchanged { OnErr result (abbreviations_of self.new ≡ abbreviations_of self.old) }
+        ensures theories { self.new.theories ≡ self.old.theories }
+    {
+        if self.is_taken(name) {
+            return Err(TermFault::NotFresh);
+        }
+        let sort = self.sort_of(tree)?;
+        let key = Vec::from_slice(alloc, name)?;
+        self.abbreviations.insert(key, sort)?;
+        Ok(())
+    }
+
+    // The sort that a name abbreviates.
+    fn get(&self, name: &[u8]) -> Option<Sort>
+        ensures { result ≡ look_up (abbreviations_of self.now) name.now }
+    {
+        self.abbreviations.get(name).copied()
+    }
+
+    // Whether a name is that of a sort, or abbreviates one.
+    fn is_taken(&self, name: &[u8]) -> bool
+        ensures { result ≡ is_sort_taken (sort_names self.now) name.now }
+    {
+        is_named(name, b"Bool") || is_named(name, b"Int") || self.get(name).is_some()
+    }
+
+    // The sort that a symbol names: what it abbreviates, or else the sort of that name.
+    fn sort_of_symbol(&self, name: &[u8]) -> Result<Sort, TermFault>
+        ensures { result ≡ sorts.sort_of_symbol (sort_names self.now).theories name.now (look_up (abbreviations_of self.now) name.now) }
+    {
+        match self.get(name) {
+            Some(sort) => Ok(sort),
+            None => sort_of_word(self.theories, name),
+        }
     }
 }
 
-/// The sorts that trees name, in order, or the first fault.
-pub(crate) fn sorts_of_trees(
-    alloc: Global,
-    theories: Theories,
-    trees: &[Tree],
-) -> Result<Vec<Sort>, TermFault>
-    ensures { MatchResult result (λ found. sorts_named theories (sexps_of trees.now) ≡ Ok found.items)
-        (λ fault. (fault ≡ Memory) ⊎ (sorts_named theories (sexps_of trees.now) ≡ Err fault)) }
-{
-    let mut found = Vec::new(alloc);
-    let mut left = trees;
-    while let Some((tree, rest)) = split_first(left) {
-        found.push(sort_of_tree(theories, tree)?)?;
-        left = rest;
-    }
-    Ok(found)
-}
-
-fn sort_of_name(theories: Theories, name: &[u8]) -> Result<Sort, TermFault>
-    ensures { result ≡ sort_of_symbol theories name.now }
+// The sort of a symbol that abbreviates none.
+fn sort_of_word(theories: Theories, name: &[u8]) -> Result<Sort, TermFault>
+    ensures { result ≡ sorts.sort_of_word theories name.now }
 {
     if is_named(name, b"Bool") {
         Ok(Sort::Bool)

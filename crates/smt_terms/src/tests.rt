@@ -331,6 +331,26 @@ const DEFINITIONS: &str = "
     done d () Int (pick p (twice c))
 ";
 
+// What is answered, and a term that is asserted, one behind the other, over `x` of sort Int and `p` of sort Bool.
+const ASSERTIONS: &str = "
+    done (! p :named a)
+    done (and a (! (= x 1) :k 2 :named b))
+    F7   (! p :named a)
+    F7   (! p :named and)
+    F7   (! p :named x)
+    F7   (and (! p :named c) (! p :named c))
+    F3   (and (! p :named c) c)
+    F8   (let ((q p)) (! q :named c))
+    F8   (let ((q p)) (! (and q a) :named and))
+    F4   (! x :named c)
+    F1   (! p :named)
+    F3   c
+    done (let ((q (! p :named c))) (and q (! (let ((q a)) q) :named d)))
+    done (! (! p :named e) :named f :named g)
+    done (< (! (+ x 1) :named h) 2)
+    done (= h (ite (and a b c d e f g) 1 x))
+";
+
 const ITEMS_WITHOUT_INTEGERS: &str = "
     F3   (define-fun mod () Int 1)
     done (define-fun mod () Bool true)
@@ -424,6 +444,35 @@ fn declare_all(
             Err(fault) => word_of_fault(fault),
         };
         assert!(rt; answer.is_symbol(found), "answered {found:?}");
+        left = rest;
+    }
+    Err("there are more than 1,000 rows".into())
+}
+
+// Asserts each term of a text of answers and terms. A refused one adds no definition.
+fn assert_all(
+    rt: &impl Abort,
+    alloc: Global,
+    library: &mut Library,
+    text: &str,
+) -> Result<(), Fail> {
+    let rows = trees(alloc, text)?;
+    let mut left = rows.as_slice();
+    for _ in 0..1000 {
+        let Some((answer, rest)) = split_first(left) else {
+            return Ok(());
+        };
+        let Some((term, rest)) = split_first(rest) else {
+            return Err("an answer has no term".into());
+        };
+        let before = library.definitions().len();
+        let found = match library.check_assert(term) {
+            Ok(_) => b"done".as_slice(),
+            Err(fault) => word_of_fault(fault),
+        };
+        assert!(rt; answer.is_symbol(found), "answered {found:?}");
+        let kept = library.definitions().len() == before;
+        assert!(rt; kept || found == b"done".as_slice());
         left = rest;
     }
     Err("there are more than 1,000 rows".into())
@@ -579,6 +628,16 @@ fn definitions(rt: HostRuntime) -> Result<(), Fail> {
     define_names(&rt, alloc, &mut library, DEFINITIONS)?;
     assert_eq!(rt; library.definitions().len(), 5);
     Ok(())
+}
+
+#[test]
+fn assertions(rt: HostRuntime) -> Result<(), Fail> {
+    let alloc = rt.alloc();
+    let mut library = Library::new(alloc, INTEGERS);
+    declare_all(&rt, alloc, &mut library, "done x Int done p Bool")?;
+    assert_all(&rt, alloc, &mut library, ASSERTIONS)?;
+    assert_eq!(rt; library.definitions().len(), 8);
+    check_all(&rt, alloc, &mut library, "Bool a Int h F8 (! p :named i)")
 }
 
 #[test]

@@ -3,12 +3,12 @@ use Rattle.std.specs.Prelude.{ℕ, ◌+◌, List, [], ◌∷◌, ◌++◌, Bool,
 use Rattle.std.specs.List.{list_any}
 use Rattle.smt_text.specs.Sexp.{Sexp, Atom, Reserved, Items, is_symbol}
 use Rattle.smt_terms.specs.Signature.{Signature}
-use Rattle.smt_script.specs.Command.{Command, SetLogic, DeclareConst, DeclareFun, DefineFun, Assert, CheckSat, GetModel}
+use Rattle.smt_script.specs.Command.{Command, CheckSat, GetModel}
 use Rattle.smt_script.specs.Stack.{Assertion}
 use Rattle.smt_dialogue.specs.Judgement.{judgement_of}
 use Rattle.smt_dialogue.specs.Lines.{confirmed_line, is_empty, line_of_judgement, sat_lines, unconfirmed_line}
 use Rattle.smt_dialogue.specs.Pairing.{Pair}
-use Rattle.smt_dialogue.specs.Window.{closes, models_from, window}
+use Rattle.smt_dialogue.specs.Window.{closes, closes_by, models_from, window}
 use Rattle.smt_report.specs.declared.line.CheckAnswer.TheVariants.{Unsat, Unknown}
 use Rattle.smt_report.specs.declared.line.Line.{Line}
 use Rattle.smt_report.specs.declared.line.Line.TheVariants as lines
@@ -61,10 +61,6 @@ with_model s (Some c) names assertions n (Reserved word) = s
 
 -- a command n that took effect, with its answer
 abbrev pub checks_after : ChecksState → Signature → List Assertion → ℕ → Command → Sexp → ChecksState
-checks_after s names assertions n (SetLogic name) answer = with_window_ended s
-checks_after s names assertions n (DeclareConst x sort) answer = with_window_ended s
-checks_after s names assertions n (DeclareFun x parameters sort) answer = with_window_ended s
-checks_after s names assertions n (DefineFun x parameters sort body) answer = with_window_ended s
-checks_after s names assertions n (Assert term) answer = with_window_ended s
 checks_after s names assertions n CheckSat answer = with_check s n answer
 checks_after s names assertions n GetModel answer = with_model s s.pending names assertions n answer
+checks_after s names assertions n command answer = if closes_by true command then with_window_ended s else s

@@ -2,14 +2,14 @@
 use Rattle.std.specs.Prelude.{◌≡◌, List, [], ◌∷◌, ◌++◌, ◌+◌, length, true, Option, Some, None, Ok}
 use Rattle.smt_text.specs.Sexp.{Sexp, Sexps, Cons}
 use Rattle.smt_text.specs.declared.fault.TextFault.{TextFault}
-use Rattle.smt_script.specs.Command.{Command, command_of}
+use Rattle.smt_script.specs.Command.{Command}
 use Rattle.smt_dialogue.specs.FirstFault.{Stop, step_after, step_of_fault, step_of_tree}
 use Rattle.smt_dialogue.specs.Report.{lines_of_end}
 use Rattle.smt_dialogue.specs.InForce.{AreFaultless, fault_of_pair}
 use Rattle.smt_dialogue.specs.Lines.{lines_in}
 use Rattle.smt_report.specs.Verdict.{verdict_of, with_verdict}
 use Rattle.smt_dialogue.specs.Pairing.{IsPairing, Pair, answered_by}
-use Rattle.smt_dialogue.specs.Answers.{takes}
+use Rattle.smt_dialogue.specs.Answers.{answered_command, takes}
 use Rattle.smt_dialogue.specs.Internal.DialogueState.{State, StandsFor}
 use Rattle.smt_report.specs.declared.line.Line.{Line}
 use Rattle.smt_report.specs.declared.verdict.Verdict.{Verdict}
@@ -25,7 +25,7 @@ IsAccepted (Some line) pairs command answer new =
 pub record TakesUp (pairs : List Pair) (tree : Sexp) (answers left : Sexps) (new : State) : Type 0 where
   pub command : Command
   pub answer : Sexp
-  pub read : command_of tree ≡ Ok command
+  pub read : answered_command tree ≡ Ok command
   pub next : answers ≡ Cons answer left
   pub taken : takes command answer ≡ true
   pub faultless : fault_of_pair pairs (answered_by command answer) ≡ None
@@ -33,7 +33,7 @@ pub record TakesUp (pairs : List Pair) (tree : Sexp) (answers left : Sexps) (new
 
 -- the dialogue ends at the tree with this line
 pub record EndsAt (pairs : List Pair) (tree : Sexp) (answers : Sexps) (fault : Option TextFault) (line : Line) (new : State) : Type 0 where
-  pub ends : step_of_tree pairs (command_of tree) answers fault ≡ Stop (Some line)
+  pub ends : step_of_tree pairs (answered_command tree) answers fault ≡ Stop (Some line)
   pub stands : StandsFor new pairs
 
 -- one step accepted a command, or ended the dialogue with the line of a fault

@@ -1,20 +1,31 @@
--- What a command did to a stack, before it was noted whether a logic may be set, and before the command's number was.
-use Rattle.std.specs.Prelude.{◌≡◌, ℕ, List, [], ◌∷◌, ◌++◌, ◌⊎◌, ◌||◌, None, Some}
+-- What a command did to a stack, before it was noted whether a logic may be set, whether `success` is printed, and that it was applied.
+use Rattle.std.specs.Prelude.{◌≡◌, ℕ, zero, suc, List, [], ◌∷◌, ◌++◌, ◌⊎◌, ◌||◌, None, Some, length, slice_get, take}
+use Rattle.smt_theory.specs.declared.theories.Theories.{Theories}
+use Rattle.smt_terms.specs.Contents.{IsBelow, IsWithin, contents_of, first_of}
+use Rattle.smt_terms.specs.Library as library
+use Rattle.smt_terms.specs.Signature.{no_names}
+use Rattle.smt_terms.specs.declared.library.marks.Mark.{Mark}
 use Rattle.smt_script.specs.Command.{Command}
-use Rattle.smt_script.specs.Stack.{Numbered, fault_of_effect, fixes_logic}
-use Rattle.smt_script.specs.StackView.{StandsFor, last_of}
+use Rattle.smt_script.specs.Stack.{Numbered, fault_of_effect, is_exit, is_fixed_after, print_success_after}
+use Rattle.smt_script.specs.StackView.{StandsFor, last_of, start_of}
 use Rattle.smt_script.specs.declared.fault.CommandFault.{CommandFault}
 use Rattle.smt_script.specs.declared.fault.CommandFault.TheVariants.{Memory}
+use Rattle.smt_script.specs.declared.stack.levels.Level.{Level}
 use Rattle.smt_script.specs.declared.stack.Stack.{Stack}
 
--- the stack once it is noted whether a logic may be set after the command
+-- the stack once this is noted
 abbrev pub noted : Command → Stack → Stack
-noted command stack = record stack { fixed = stack.fixed || fixes_logic command }
+noted command stack = record stack {
+  fixed = is_fixed_after stack.fixed command;
+  print_success = print_success_after stack.start stack.print_success command;
+  exited = stack.exited || is_exit command;
+}
 
 -- command n took effect, but for that note
 pub record HasEffect (old new : Stack) (n : ℕ) (command : Command) : Type 0 where
   pub faultless : (commands : List Numbered) → StandsFor old commands → fault_of_effect commands n command ≡ None
   pub stands : (commands : List Numbered) → StandsFor old commands → StandsFor (noted command new) (commands ++ record { number = n; command = command } ∷ [])
+  pub start : start_of new ≡ start_of old
 
 -- it was refused
 abbrev pub IsRefused : Stack → ℕ → Command → CommandFault → Type 0
@@ -25,3 +36,38 @@ IsRefused old n command fault =
 pub record IsUnchanged (old new : Stack) : Type 0 where
   pub stands : (commands : List Numbered) → StandsFor old commands → StandsFor new commands
   pub last : last_of new ≡ last_of old
+  pub start : start_of new ≡ start_of old
+
+-- so many of one level
+abbrev pub copies : ℕ → Level → List Level
+copies zero level = []
+copies (suc n) level = level ∷ copies n level
+
+-- the level that notes all that there is
+pub record NotesAll (stack : Stack) (level : Level) : Type 0 where
+  pub all : first_of level.mark (contents_of stack.library) ≡ contents_of stack.library
+  pub within : IsWithin level.mark (contents_of stack.library)
+  pub last : (mark : Mark) → IsWithin mark (contents_of stack.library) → IsBelow mark level.mark
+  pub assertions : level.assertions ≡ length stack.assertions.items
+
+-- the stack that is left of another at one of its levels
+pub record IsCut (old new : Stack) (depth : ℕ) : Type 0 where
+  pub level : Level
+  pub at : slice_get old.levels.items depth ≡ Some level
+  pub library : contents_of new.library ≡ first_of level.mark (contents_of old.library)
+  pub assertions : new.assertions.items ≡ take level.assertions old.assertions.items
+  pub levels : new.levels.items ≡ take depth old.levels.items
+
+-- what is noted of the commands is the same
+pub record HasNotesOf (old new : Stack) : Type 0 where
+  pub fixed : new.fixed ≡ old.fixed
+  pub print_success : new.print_success ≡ old.print_success
+  pub start : new.start ≡ old.start
+  pub exited : new.exited ≡ old.exited
+  pub last : new.last ≡ old.last
+
+-- nothing is in force, in these theories
+pub record IsEmpty (new : Stack) (theories : Theories) : Type 0 where
+  pub library : library.StandsFor new.library (no_names theories)
+  pub assertions : new.assertions.items ≡ []
+  pub levels : new.levels.items ≡ []

@@ -1,6 +1,10 @@
 -- The names that a library's fields hold.
 use Rattle.std.specs.Prelude.{ℕ, List, map}
+use Rattle.smt_theory.specs.declared.sort.Sort.{Sort}
+use Rattle.smt_terms.specs.Labels.{Labels, Refused}
 use Rattle.smt_terms.specs.Signature.{Names, Rank}
+use Rattle.smt_terms.specs.SortTrees as trees
+use Rattle.smt_terms.specs.declared.sorts.SortNames.{SortNames}
 use Rattle.smt_terms.specs.declared.library.Entry.{Entry}
 use Rattle.smt_terms.specs.declared.library.Found.{Found}
 use Rattle.smt_terms.specs.declared.library.Library.{Library}
@@ -17,6 +21,18 @@ ranks_of_library library = map (λ p. (p.0.items, rank_of p.1)) library.names.en
 abbrev pub places_of_library : Library → List (List ℕ × Found)
 places_of_library library = map (λ p. (p.0.items, p.1.place)) library.names.entries
 
--- what the sort checker needs
+-- the abbreviations of sorts, in order
+abbrev pub abbreviations_of : SortNames → List (List ℕ × Sort)
+abbreviations_of sorts = map (λ p. (p.0.items, p.1)) sorts.abbreviations.entries
+
+-- what names sorts
+abbrev pub sort_names : SortNames → trees.SortNames
+sort_names sorts = record { theories = sorts.theories; abbreviations = abbreviations_of sorts }
+
+-- what the sort checker needs, without labels
 abbrev pub names_of_library : Library → Names
-names_of_library library = record { theories = library.theories; ranks = ranks_of_library library }
+names_of_library library = record { theories = library.sorts.theories; ranks = ranks_of_library library; labels = Refused }
+
+-- the same where a term may have these labels
+abbrev pub names_for : Library → Labels → Names
+names_for library labels = record (names_of_library library) { labels = labels }

@@ -1,20 +1,26 @@
-//! The sorts of terms that bind variables, and of annotated ones.
+//! The sorts of terms that bind variables, and of annotated ones, whose labels are kept.
 
-ghost use Rattle.std.specs.Prelude.{◌≡◌, ◌⊎◌, [], true, Ok, Err, MatchResult};
+ghost use Rattle.std.specs.Prelude.{◌≡◌, ◌⊎◌, ◌∷◌, ◌||◌, [], true, None, Some, Ok, Err, map, MatchResult, OnOk};
 ghost use Rattle.smt_text.specs.Sexp.{Cons, Items, Reserved};
-ghost use Rattle.smt_text.specs.Tree.{sexps_of};
+ghost use Rattle.smt_text.specs.Tree.{sexp_of, sexps_of};
 ghost use Rattle.smt_text.specs.declared.reserved.Word.TheVariants.{Bang, Let};
 ghost use Rattle.smt_terms.specs.Bindings.{are_named_trees};
-ghost use Rattle.smt_terms.specs.Checking.{bound_in, sort_in};
-ghost use Rattle.smt_terms.specs.Internal.LibraryView.{names_of_library};
+ghost use Rattle.smt_terms.specs.Checking.{bound_in, fault_of_label, fault_of_labels, sort_in};
+ghost use Rattle.smt_terms.specs.Internal.Attributes.{label_of_tree};
+ghost use Rattle.smt_terms.specs.Internal.LabelsView.{AreGiven, given_names, labels_view};
+ghost use Rattle.smt_terms.specs.Internal.LibraryView.{names_for, names_of_library};
+ghost use Rattle.smt_terms.specs.Labels.{is_among, labels_among, labels_in, labels_in_bindings};
+ghost use Rattle.smt_terms.specs.Signature.{is_taken, unlabelled};
 ghost use Rattle.smt_terms.specs.ScopeView.{scope_view};
 ghost use Rattle.smt_terms.specs.declared.fault.TermFault.TheVariants.{Memory};
 
-use crate::attributes::{are_attributes, has_label};
+use crate::attributes::{are_attributes, label_at};
 use crate::bindings::{are_bindings, split_let, split_named};
 use crate::fault::TermFault;
+use crate::labels::Labels;
 use crate::library::Library;
 use crate::scope::{Variable, find_variable, push_variable};
+use crate::variables::uses_variable;
 use smt_text::{Tree, split_first};
 use smt_theory::Sort;
 
@@ -24,10 +30,12 @@ impl Library {
     pub(super) fn sort_of_let<'a>(
         &self,
         scope: &[Variable<'a, Sort>],
+        labels: &mut Labels,
         args: &'a [Tree],
     ) -> Result<Sort, TermFault>
-        ensures { MatchResult result (λ sort. sort_in (names_of_library self.now) (scope_view scope.now) (Items (Cons (Reserved Let) (sexps_of args.now))) ≡ Ok sort)
-            (λ fault. (fault ≡ Memory) ⊎ (sort_in (names_of_library self.now) (scope_view scope.now) (Items (Cons (Reserved Let) (sexps_of args.now))) ≡ Err fault)) }
+        ensures sort { MatchResult result (λ sort. sort_in (names_for self.now (labels_view labels.old)) (scope_view scope.now) (Items (Cons (Reserved Let) (sexps_of args.now))) ≡ Ok sort)
+            (λ fault. (fault ≡ Memory) ⊎ (sort_in (names_for self.now (labels_view labels.old)) (scope_view scope.now) (Items (Cons (Reserved Let) (sexps_of args.now))) ≡ Err fault)) }
+        ensures labels { OnOk result (AreGiven (names_of_library self.now) labels.old labels.new (labels_in (Items (Cons (Reserved Let) (sexps_of args.now))))) }
     {
         let Some((bindings, body)) = split_let(args) else {
             return Err(TermFault::Form);
@@ -35,9 +43,9 @@ impl Library {
         if !are_bindings(bindings) {
             return Err(TermFault::Form);
         }
-        let mut inner = self.bound_by(scope, bindings)?;
+        let mut inner = self.bound_by(scope, labels, bindings)?;
         inner.extend_from_slice(scope)?;
-        self.sort_of(inner.as_slice(), body)
+        self.sort_of(inner.as_slice(), labels, body)
     }
 
     // The variables that bindings bring, with the sorts of their terms, which do not see these variables.
@@ -45,11 +53,13 @@ impl Library {
     fn bound_by<'a>(
         &self,
         scope: &[Variable<'a, Sort>],
+        labels: &mut Labels,
         bindings: &'a [Tree],
     ) -> Result<Vec<Variable<'a, Sort>>, TermFault>
         requires { are_named_trees (sexps_of bindings.now) ≡ true }
-        ensures { MatchResult result (λ bound. bound_in (names_of_library self.now) (scope_view scope.now) [] (sexps_of bindings.now) ≡ Ok (scope_view bound.items))
-            (λ fault. (fault ≡ Memory) ⊎ (bound_in (names_of_library self.now) (scope_view scope.now) [] (sexps_of bindings.now) ≡ Err fault)) }
+        ensures bound { MatchResult result (λ bound. bound_in (names_for self.now (labels_view labels.old)) (scope_view scope.now) [] (sexps_of bindings.now) ≡ Ok (scope_view bound.items))
+            (λ fault. (fault ≡ Memory) ⊎ (bound_in (names_for self.now (labels_view labels.old)) (scope_view scope.now) [] (sexps_of bindings.now) ≡ Err fault)) }
+        ensures labels { OnOk result (AreGiven (names_of_library self.now) labels.old labels.new (labels_in_bindings (sexps_of bindings.now))) }
     {
         let mut bound = Vec::new(self.alloc);
         let mut left = bindings;
@@ -57,7 +67,7 @@ impl Library {
             if find_variable(bound.as_slice(), name).is_some() {
                 return Err(TermFault::BoundTwice);
             }
-            let value = self.sort_of(scope, term)?;
+            let value = self.sort_of(scope, labels, term)?;
             push_variable(&mut bound, name, value)?;
             left = rest;
         }
@@ -69,10 +79,12 @@ impl Library {
     pub(super) fn sort_of_annotated<'a>(
         &self,
         scope: &[Variable<'a, Sort>],
+        labels: &mut Labels,
         args: &'a [Tree],
     ) -> Result<Sort, TermFault>
-        ensures { MatchResult result (λ sort. sort_in (names_of_library self.now) (scope_view scope.now) (Items (Cons (Reserved Bang) (sexps_of args.now))) ≡ Ok sort)
-            (λ fault. (fault ≡ Memory) ⊎ (sort_in (names_of_library self.now) (scope_view scope.now) (Items (Cons (Reserved Bang) (sexps_of args.now))) ≡ Err fault)) }
+        ensures sort { MatchResult result (λ sort. sort_in (names_for self.now (labels_view labels.old)) (scope_view scope.now) (Items (Cons (Reserved Bang) (sexps_of args.now))) ≡ Ok sort)
+            (λ fault. (fault ≡ Memory) ⊎ (sort_in (names_for self.now (labels_view labels.old)) (scope_view scope.now) (Items (Cons (Reserved Bang) (sexps_of args.now))) ≡ Err fault)) }
+        ensures labels { OnOk result (AreGiven (names_of_library self.now) labels.old labels.new (labels_in (Items (Cons (Reserved Bang) (sexps_of args.now))))) }
     {
         let Some((term, attributes)) = split_first(args) else {
             return Err(TermFault::Form);
@@ -80,10 +92,84 @@ impl Library {
         if !are_attributes(attributes) {
             return Err(TermFault::Form);
         }
-        let sort = self.sort_of(scope, term)?;
-        if has_label(attributes) {
+        let sort = self.sort_of(scope, labels, term)?;
+        self.give_labels(scope, labels, term, &sort, attributes)?;
+        Ok(sort)
+    }
+
+    // Gives the labels among attributes to a term of this sort, in order, or answers their first fault.
+    fn give_labels(
+        &self,
+        scope: &[Variable<'_, Sort>],
+        labels: &mut Labels,
+        term: &Tree,
+        sort: &Sort,
+        attributes: &[Tree],
+    ) -> Result<(), TermFault>
+        requires { sort_in (unlabelled (names_of_library self.now)) (scope_view scope.now) (sexp_of term.now) ≡ Ok sort.now }
+        ensures fault { MatchResult result (λ _. fault_of_labels (names_for self.now (labels_view labels.old)) (scope_view scope.now) (sexp_of term.now) (labels_among (sexps_of attributes.now)) ≡ None)
+            (λ fault. (fault ≡ Memory) ⊎ (fault_of_labels (names_for self.now (labels_view labels.old)) (scope_view scope.now) (sexp_of term.now) (labels_among (sexps_of attributes.now)) ≡ Some fault)) }
+        ensures labels { OnOk result (AreGiven (names_of_library self.now) labels.old labels.new (map (λ x. (x, sexp_of term.now)) (labels_among (sexps_of attributes.now)))) }
+    {
+        let mut left = attributes;
+        while let Some((tree, rest)) = split_first(left) {
+            self.give_label_at(scope, labels, term, sort, tree, rest)?;
+            left = rest;
+        }
+        Ok(())
+    }
+
+    // Gives a term of this sort the label that a tree with what stands behind it is, if it is one, or answers its fault.
+    fn give_label_at(
+        &self,
+        scope: &[Variable<'_, Sort>],
+        labels: &mut Labels,
+        term: &Tree,
+        sort: &Sort,
+        tree: &Tree,
+        rest: &[Tree],
+    ) -> Result<(), TermFault>
+        requires { sort_in (unlabelled (names_of_library self.now)) (scope_view scope.now) (sexp_of term.now) ≡ Ok sort.now }
+        ensures fault { MatchResult result (λ _. fault_of_labels (names_for self.now (labels_view labels.old)) (scope_view scope.now) (sexp_of term.now) (label_of_tree (sexp_of tree.now) (sexps_of rest.now)) ≡ None)
+            (λ fault. (fault ≡ Memory) ⊎ (fault_of_labels (names_for self.now (labels_view labels.old)) (scope_view scope.now) (sexp_of term.now) (label_of_tree (sexp_of tree.now) (sexps_of rest.now)) ≡ Some fault)) }
+        ensures labels { OnOk result (AreGiven (names_of_library self.now) labels.old labels.new (map (λ x. (x, sexp_of term.now)) (label_of_tree (sexp_of tree.now) (sexps_of rest.now)))) }
+    {
+        match label_at(tree, rest) {
+            Some(name) => self.give_label(scope, labels, term, sort, name),
+            None => Ok(()),
+        }
+    }
+
+    // Gives a label to a term of this sort, or answers its fault.
+    fn give_label(
+        &self,
+        scope: &[Variable<'_, Sort>],
+        labels: &mut Labels,
+        term: &Tree,
+        sort: &Sort,
+        name: &[u8],
+    ) -> Result<(), TermFault>
+        requires { sort_in (unlabelled (names_of_library self.now)) (scope_view scope.now) (sexp_of term.now) ≡ Ok sort.now }
+        ensures fault { MatchResult result (λ _. fault_of_label (names_for self.now (labels_view labels.old)) (labels_view labels.old) (scope_view scope.now) (sexp_of term.now) name.now ≡ None)
+            (λ fault. (fault ≡ Memory) ⊎ (fault_of_label (names_for self.now (labels_view labels.old)) (labels_view labels.old) (scope_view scope.now) (sexp_of term.now) name.now ≡ Some fault)) }
+        ensures labels { OnOk result (AreGiven (names_of_library self.now) labels.old labels.new ((name.now, sexp_of term.now) ∷ [])) }
+    {
+        if labels.are_refused() {
             return Err(TermFault::Label);
         }
-        Ok(sort)
+        if uses_variable(self.alloc, scope, term)? {
+            return Err(TermFault::Label);
+        }
+        if self.is_in_use(labels, name) {
+            return Err(TermFault::NotFresh);
+        }
+        labels.push(self.alloc, name, *sort, term)
+    }
+
+    // Whether a name is taken, or that of a label that was given.
+    fn is_in_use(&self, labels: &Labels, name: &[u8]) -> bool
+        ensures { result ≡ is_taken (names_of_library self.now) name.now || is_among (given_names labels.now) name.now }
+    {
+        self.is_taken(name) || labels.is_given(name)
     }
 }

@@ -1,27 +1,31 @@
 //! The sort checker.
 
-ghost use Rattle.std.specs.Prelude.{◌≡◌, ◌⊎◌, ◌*◌, [], MatchResult, length};
+ghost use Rattle.std.specs.Prelude.{◌≡◌, ◌⊎◌, ◌*◌, [], MatchResult, OnOk, length};
 ghost use Rattle.smt_text.specs.Sexp.{Items};
 ghost use Rattle.smt_text.specs.Tree.{sexp_of, sexps_of};
 ghost use Rattle.smt_theory.specs.Ranks.{are_exactly};
 ghost use Rattle.smt_theory.specs.Width.{width_of};
 ghost use Rattle.smt_theory.specs.Words.{look_up};
 ghost use Rattle.smt_terms.specs.Checking as checking;
-ghost use Rattle.smt_terms.specs.Checking.{is_underscore_tree, sort_in, sorts_in, sort_of_name};
-ghost use Rattle.smt_terms.specs.Internal.Heads.{is_bang_tree, is_let_tree, names_variable};
+ghost use Rattle.smt_terms.specs.Checking.{sort_in, sorts_in, sort_of_name};
+ghost use Rattle.smt_terms.specs.Internal.Heads.{names_variable};
 ghost use Rattle.smt_terms.specs.ScopeView.{scope_view};
 ghost use Rattle.smt_terms.specs.Identifier.{Plain};
 ghost use Rattle.smt_terms.specs.IdentifierView.{identifier_view};
-ghost use Rattle.smt_terms.specs.Internal.LibraryView.{names_of_library};
+ghost use Rattle.smt_terms.specs.Internal.LabelsView.{AreGiven, labels_view};
+ghost use Rattle.smt_terms.specs.Internal.LibraryView.{names_for, names_of_library};
+ghost use Rattle.smt_terms.specs.Labels.{labels_in, labels_in_all};
 ghost use Rattle.smt_terms.specs.SortTrees.{bit_vectors, integers};
 ghost use Rattle.smt_terms.specs.declared.fault.TermFault.TheVariants.{Memory};
 
 use crate::fault::TermFault;
+use crate::heads::{is_bang, is_let, is_underscore};
 use crate::identifier::{Identifier, applied_identifier, indexed_identifier};
+use crate::labels::Labels;
 use crate::library::{Entry, Library};
 use crate::scope::{Variable, find_variable};
 use crate::sorts;
-use smt_text::{Tree, Trees, Word, split_first};
+use smt_text::{Tree, Trees, split_first};
 use smt_theory::{Op, OpFault, Sort, Width, op_of, rank};
 
 impl Library {
@@ -30,15 +34,17 @@ impl Library {
     pub(crate) fn sort_of<'a>(
         &self,
         scope: &[Variable<'a, Sort>],
+        labels: &mut Labels,
         term: &'a Tree,
     ) -> Result<Sort, TermFault>
-        ensures { MatchResult result (λ sort. sort_in (names_of_library self.now) (scope_view scope.now) (sexp_of term.now) ≡ Ok sort)
-            (λ fault. (fault ≡ Memory) ⊎ (sort_in (names_of_library self.now) (scope_view scope.now) (sexp_of term.now) ≡ Err fault)) }
+        ensures sort { MatchResult result (λ sort. sort_in (names_for self.now (labels_view labels.old)) (scope_view scope.now) (sexp_of term.now) ≡ Ok sort)
+            (λ fault. (fault ≡ Memory) ⊎ (sort_in (names_for self.now (labels_view labels.old)) (scope_view scope.now) (sexp_of term.now) ≡ Err fault)) }
+        ensures labels { OnOk result (AreGiven (names_of_library self.now) labels.old labels.new (labels_in (sexp_of term.now))) }
     {
         match term {
             Tree::Symbol(name) => self.sort_of_symbol(scope, name.as_slice()),
             Tree::Numeral(_) => self.sort_of_numeral(),
-            Tree::List(parts) => self.sort_of_list(scope, parts),
+            Tree::List(parts) => self.sort_of_list(scope, labels, parts),
             Tree::Hex(digits) => self.sort_of_digits(4, digits.as_slice()),
             Tree::Bin(digits) => self.sort_of_digits(1, digits.as_slice()),
             Tree::Decimal(_) | Tree::Text(_) => Err(TermFault::Unsupported),
@@ -49,7 +55,7 @@ impl Library {
     fn sort_of_numeral(&self) -> Result<Sort, TermFault>
         ensures { result ≡ integers (names_of_library self.now).theories }
     {
-        if self.theories.ints {
+        if self.sorts.theories.ints {
             Ok(Sort::Int)
         } else {
             Err(TermFault::Unknown)
@@ -60,7 +66,7 @@ impl Library {
     fn sort_of_digits(&self, bits: u64, digits: &[u8]) -> Result<Sort, TermFault>
         ensures { result ≡ bit_vectors (names_of_library self.now).theories (width_of (bits * length digits.now)) }
     {
-        sorts::bit_vectors(self.theories, width_of_digits(bits, digits))
+        sorts::bit_vectors(self.sorts.theories, width_of_digits(bits, digits))
     }
 
     // The sort of the term that is a list of these parts.
@@ -68,10 +74,12 @@ impl Library {
     fn sort_of_list<'a>(
         &self,
         scope: &[Variable<'a, Sort>],
+        labels: &mut Labels,
         parts: &'a Trees,
     ) -> Result<Sort, TermFault>
-        ensures { MatchResult result (λ sort. sort_in (names_of_library self.now) (scope_view scope.now) (Items parts.now) ≡ Ok sort)
-            (λ fault. (fault ≡ Memory) ⊎ (sort_in (names_of_library self.now) (scope_view scope.now) (Items parts.now) ≡ Err fault)) }
+        ensures sort { MatchResult result (λ sort. sort_in (names_for self.now (labels_view labels.old)) (scope_view scope.now) (Items parts.now) ≡ Ok sort)
+            (λ fault. (fault ≡ Memory) ⊎ (sort_in (names_for self.now (labels_view labels.old)) (scope_view scope.now) (Items parts.now) ≡ Err fault)) }
+        ensures labels { OnOk result (AreGiven (names_of_library self.now) labels.old labels.new (labels_in (Items parts.now))) }
     {
         let Some((head, args)) = split_first(parts.as_slice()) else {
             return Err(TermFault::Form);
@@ -81,13 +89,13 @@ impl Library {
             return self.sort_applied(&identifier, &[]);
         }
         if is_let(head) {
-            return self.sort_of_let(scope, args);
+            return self.sort_of_let(scope, labels, args);
         }
         if is_bang(head) {
-            return self.sort_of_annotated(scope, args);
+            return self.sort_of_annotated(scope, labels, args);
         }
         let identifier = applied_identifier(self.alloc, head, args)?;
-        let sorts = self.sorts_of(scope, args)?;
+        let sorts = self.sorts_of(scope, labels, args)?;
         self.sort_of_call(scope, &identifier, sorts.as_slice())
     }
 
@@ -96,15 +104,17 @@ impl Library {
     fn sorts_of<'a>(
         &self,
         scope: &[Variable<'a, Sort>],
+        labels: &mut Labels,
         terms: &'a [Tree],
     ) -> Result<Vec<Sort>, TermFault>
-        ensures { MatchResult result (λ sorts. sorts_in (names_of_library self.now) (scope_view scope.now) (sexps_of terms.now) ≡ Ok sorts.items)
-            (λ fault. (fault ≡ Memory) ⊎ (sorts_in (names_of_library self.now) (scope_view scope.now) (sexps_of terms.now) ≡ Err fault)) }
+        ensures sorts { MatchResult result (λ sorts. sorts_in (names_for self.now (labels_view labels.old)) (scope_view scope.now) (sexps_of terms.now) ≡ Ok sorts.items)
+            (λ fault. (fault ≡ Memory) ⊎ (sorts_in (names_for self.now (labels_view labels.old)) (scope_view scope.now) (sexps_of terms.now) ≡ Err fault)) }
+        ensures labels { OnOk result (AreGiven (names_of_library self.now) labels.old labels.new (labels_in_all (sexps_of terms.now))) }
     {
         let mut sorts = Vec::new(self.alloc);
         let mut left = terms;
         while let Some((term, rest)) = split_first(left) {
-            sorts.push(self.sort_of(scope, term)?)?;
+            sorts.push(self.sort_of(scope, labels, term)?)?;
             left = rest;
         }
         Ok(sorts)
@@ -142,7 +152,7 @@ impl Library {
         match identifier {
             Identifier::Plain(name) => self.sort_of_plain(*name, args),
             Identifier::Indexed { name, indexes } => {
-                sort_of_operator(op_of(self.theories, *name, indexes.as_slice()), args)
+                sort_of_operator(op_of(self.sorts.theories, *name, indexes.as_slice()), args)
             }
         }
     }
@@ -153,7 +163,7 @@ impl Library {
     {
         match self.get(name) {
             Some(entry) => sort_of_entry(entry, args),
-            None => sort_of_operator(op_of(self.theories, name, &[]), args),
+            None => sort_of_operator(op_of(self.sorts.theories, name, &[]), args),
         }
     }
 }
@@ -195,24 +205,6 @@ fn is_variable(scope: &[Variable<'_, Sort>], identifier: &Identifier<'_>) -> boo
         Identifier::Plain(name) => find_variable(scope, *name).is_some(),
         Identifier::Indexed { .. } => false,
     }
-}
-
-fn is_underscore(tree: &Tree) -> bool
-    ensures { result ≡ is_underscore_tree (sexp_of tree.now) }
-{
-    matches!(tree, Tree::Reserved(Word::Underscore))
-}
-
-fn is_let(tree: &Tree) -> bool
-    ensures { result ≡ is_let_tree (sexp_of tree.now) }
-{
-    matches!(tree, Tree::Reserved(Word::Let))
-}
-
-fn is_bang(tree: &Tree) -> bool
-    ensures { result ≡ is_bang_tree (sexp_of tree.now) }
-{
-    matches!(tree, Tree::Reserved(Word::Bang))
 }
 
 // The width of digits that stand for so many bits each.

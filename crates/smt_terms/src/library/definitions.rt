@@ -1,25 +1,25 @@
 //! Definitions of names.
 
-ghost use Rattle.std.specs.Prelude.{◌≡◌, ◌⊎◌, None, Ok, Err, map, OnOk, OnErr, IfErr};
+ghost use Rattle.std.specs.Prelude.{◌≡◌, ◌⊎◌, ◌∷◌, ◌++◌, [], None, Ok, Err, map, OnOk, OnErr, IfErr};
 ghost use Rattle.smt_text.specs.Sexp.{Sexp};
 ghost use Rattle.smt_text.specs.Tree.{sexp_of};
 ghost use Rattle.smt_theory.specs.Words.{look_up};
+ghost use Rattle.smt_terms.specs.Contents.{Extends, contents_of};
 ghost use Rattle.smt_terms.specs.Definitions.{defined_in, definition, definition_in};
-ghost use Rattle.smt_terms.specs.Internal.LibraryView.{names_of_library};
+ghost use Rattle.smt_terms.specs.Internal.LibraryView.{names_of_library, ranks_of_library};
 ghost use Rattle.smt_terms.specs.Library.{IsTerm, StandsFor};
 ghost use Rattle.smt_terms.specs.ParamView.{param_view};
 ghost use Rattle.smt_terms.specs.ScopeView.{scope_view};
 ghost use Rattle.smt_terms.specs.Signature as signature;
 ghost use Rattle.smt_terms.specs.Signature.{Signature, names_of, with_entry};
 ghost use Rattle.smt_terms.specs.declared.fault.TermFault.TheVariants.{Memory};
-ghost use Rattle.smt_terms.specs.declared.library.TermId as id;
 
 use crate::definitions::{Param, named_parameters, sorted_params, sorts_of_variables};
 use crate::fault::TermFault;
+use crate::labels::Labels;
 use crate::library::items::are_equal;
 use crate::library::{Definition, Entry, Found, Library, TermId};
 use crate::scope::Variable;
-use crate::sorts::sort_of_tree;
 use smt_text::Tree;
 use smt_theory::Sort;
 
@@ -31,6 +31,7 @@ impl Library {
     /// sort, with its fault, and then a name that an earlier parameter has (`BoundTwice`); for the result a tree that names no sort,
     /// with its fault; a body with a fault, with the first; a body of another sort (`IllSorted`). Then, and where memory is refused
     /// (`Memory`), no name is added; a term that nothing names may be.
+    #[tactic(auto, using(crate::proofs::ContentsLemmas::extends_itself))]
     pub fn define(
         &mut self,
         name: &[u8],
@@ -39,22 +40,23 @@ impl Library {
         body: &Tree,
     ) -> Result<(), TermFault>
         ensures defined { OnOk result ((s : Signature) → StandsFor self.old s → (e : signature.Entry)
-            × (defined_in (names_of s) name.now (map param_view params.now) (sexp_of sort.now) (sexp_of body.now) ≡ Ok e) × StandsFor self.new (with_entry s e)) }
+            × (defined_in s name.now (map param_view params.now) (sexp_of sort.now) (sexp_of body.now) ≡ Ok e) × StandsFor self.new (with_entry s e)) }
         ensures refused { IfErr result (λ fault. (s : Signature) → StandsFor self.old s
-            → (fault ≡ Memory) ⊎ (defined_in (names_of s) name.now (map param_view params.now) (sexp_of sort.now) (sexp_of body.now) ≡ Err fault)) }
+            → (fault ≡ Memory) ⊎ (defined_in s name.now (map param_view params.now) (sexp_of sort.now) (sexp_of body.now) ≡ Err fault)) }
         ensures unchanged { OnErr result ((s : Signature) → StandsFor self.old s → StandsFor self.new s) }
-        ensures terms { (i : id.TermId) (t : Sexp) → IsTerm self.old i t → IsTerm self.new i t }
+        ensures grown { Extends (contents_of self.old) (contents_of self.new) }
     {
         if self.is_taken(name) {
             return Err(TermFault::NotFresh);
         }
-        let parameters = sorted_params(self.alloc, self.theories, params)?;
-        let sort = sort_of_tree(self.theories, sort)?;
+        let parameters = sorted_params(self.alloc, &self.sorts, params)?;
+        let sort = self.sorts.sort_of(sort)?;
         self.add_definition(name, parameters.as_slice(), sort, body)
     }
 
     // Adds the definition of a new name with these parameters, where its body has this sort over the names and the parameters, or
     // changes no name.
+    #[tactic(auto, using(crate::proofs::ContentsLemmas::extends_itself))]
     pub(super) fn add_definition(
         &mut self,
         name: &[u8],
@@ -68,10 +70,11 @@ impl Library {
         ensures refused { IfErr result (λ fault. (s : Signature) → StandsFor self.old s
             → (fault ≡ Memory) ⊎ (definition_in (names_of s) name.now (scope_view parameters.now) sort (sexp_of body.now) ≡ Err fault)) }
         ensures unchanged { OnErr result ((s : Signature) → StandsFor self.old s → StandsFor self.new s) }
-        ensures terms { (i : id.TermId) (t : Sexp) → IsTerm self.old i t → IsTerm self.new i t }
-        ensures theories { self.new.theories ≡ self.old.theories }
+        ensures grown { Extends (contents_of self.old) (contents_of self.new) }
+        ensures sorts { self.new.sorts ≡ self.old.sorts }
     {
-        if !are_equal(self.sort_of(parameters, body)?, sort) {
+        let mut labels = Labels::refused(self.alloc);
+        if !are_equal(self.sort_of(parameters, &mut labels, body)?, sort) {
             return Err(TermFault::IllSorted);
         }
         let body = self.add_term(body)?;
@@ -79,7 +82,8 @@ impl Library {
     }
 
     // Adds the definition of a new name at the end, or changes no name.
-    fn insert_definition(
+    #[tactic(auto, using(crate::proofs::ContentsLemmas::extends_itself))]
+    pub(super) fn insert_definition(
         &mut self,
         name: &[u8],
         parameters: &[Variable<'_, Sort>],
@@ -89,10 +93,11 @@ impl Library {
         requires { look_up (names_of_library self.old).ranks name.now ≡ None }
         ensures added { OnOk result ((s : Signature) (t : Sexp) → StandsFor self.old s → IsTerm self.old body t
             → StandsFor self.new (with_entry s (definition name.now (scope_view parameters.now) sort t))) }
+        ensures ranks { OnOk result (ranks_of_library self.new ≡ ranks_of_library self.old ++ (name.now, record { parameters = map (λ p. p.1) (scope_view parameters.now); sort = sort }) ∷ []) }
         ensures refused { IfErr result (λ fault. fault ≡ Memory) }
         ensures unchanged { OnErr result ((s : Signature) → StandsFor self.old s → StandsFor self.new s) }
-        ensures terms { (i : id.TermId) (t : Sexp) → IsTerm self.old i t → IsTerm self.new i t }
-        ensures theories { self.new.theories ≡ self.old.theories }
+        ensures grown { Extends (contents_of self.old) (contents_of self.new) }
+        ensures sorts { self.new.sorts ≡ self.old.sorts }
     {
         let definition = Definition {
             name: Vec::from_slice(self.alloc, name)?,

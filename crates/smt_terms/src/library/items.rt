@@ -6,6 +6,7 @@ ghost use Rattle.smt_text.specs.Tree.{sexp_of, sexps_of};
 ghost use Rattle.smt_theory.specs.Ranks.{are_exactly};
 ghost use Rattle.smt_theory.specs.Sort.{is_same_sort};
 ghost use Rattle.smt_theory.specs.Words.{look_up};
+ghost use Rattle.smt_terms.specs.Contents.{Extends, contents_of};
 ghost use Rattle.smt_terms.specs.Internal.LibraryView.{names_of_library, rank_of};
 ghost use Rattle.smt_terms.specs.Items.{declared_named, has_rank_of, item_in, name_fault};
 ghost use Rattle.smt_terms.specs.Library.{HasTheoriesOf, IsTerm, StandsFor};
@@ -14,7 +15,6 @@ ghost use Rattle.smt_terms.specs.Signature as signature;
 ghost use Rattle.smt_terms.specs.Signature.{Signature, is_taken, names_of, no_names, rank_of_entry, with_entry};
 ghost use Rattle.smt_terms.specs.SortTrees.{sort_named};
 ghost use Rattle.smt_terms.specs.declared.fault.TermFault.TheVariants.{Memory};
-ghost use Rattle.smt_terms.specs.declared.library.TermId as id;
 
 use crate::definitions::{sorted_params_of, sorts_of_variables};
 use crate::fault::TermFault;
@@ -22,7 +22,6 @@ use crate::item_form::item_form;
 use crate::library::checker::are_same;
 use crate::library::{Entry, Found, Library};
 use crate::scope::Variable;
-use crate::sorts::sort_of_tree;
 use smt_text::Tree;
 use smt_theory::Sort;
 
@@ -34,18 +33,19 @@ impl Library {
         ensures theories { IfOk result (λ library. HasTheoriesOf library self.now) }
         ensures refused { IfErr result (λ fault. fault ≡ Memory) }
     {
-        Ok(Library::new(self.alloc, self.theories))
+        Ok(Library::new(self.alloc, self.sorts.theories))
     }
 
     /// Adds what an item of a model of the script's names defines (SMT-LIB 2.6, section 4.2.6), behind the items that were added
-    /// before. Its body sees these and the theories, and no name of the script.
+    /// before. Its body sees these and the theories, and no name of the script; its sorts may be abbreviations of the script.
     ///
     /// Refused are, in this order: an item out of form (`Form`), or a recursive one (`Unsupported`); a name that an earlier item has
     /// (`BoundTwice`); one that the script does not declare and that is in use or a plain operator's (`NotFresh`); of each
     /// parameter a tree that names no sort, with its fault, and then a name that an earlier parameter has (`BoundTwice`); for the result
     /// a tree that names no sort, with its fault; another rank than the declared one (`IllSorted`); a body with a fault over the earlier
-    /// items and the parameters, with the first; a body of another sort (`IllSorted`). Then, and where memory is refused (`Memory`), no
+    /// items and the parameters, with the first (any label is one); a body of another sort (`IllSorted`). Then, and where memory is refused (`Memory`), no
     /// name is added; a term that nothing names may be.
+    #[tactic(auto, using(crate::proofs::ContentsLemmas::extends_itself))]
     pub fn define_item(&mut self, script: &Library, item: &Tree) -> Result<(), TermFault>
         requires { HasTheoriesOf self.old script.now }
         ensures defined { OnOk result ((s m : Signature) → StandsFor script.now s → StandsFor self.old m
@@ -53,13 +53,13 @@ impl Library {
         ensures refused { IfErr result (λ fault. (s m : Signature) → StandsFor script.now s → StandsFor self.old m
             → (fault ≡ Memory) ⊎ (item_in s m.entries (sexp_of item.now) ≡ Err fault)) }
         ensures unchanged { OnErr result ((m : Signature) → StandsFor self.old m → StandsFor self.new m) }
-        ensures terms { (i : id.TermId) (t : Sexp) → IsTerm self.old i t → IsTerm self.new i t }
+        ensures grown { Extends (contents_of self.old) (contents_of self.new) }
         ensures theories { HasTheoriesOf self.new script.now }
     {
         let form = item_form(item)?;
         self.check_name(script, form.name)?;
-        let parameters = sorted_params_of(self.alloc, script.theories, form.parameters)?;
-        let sort = sort_of_tree(script.theories, form.sort)?;
+        let parameters = sorted_params_of(self.alloc, &script.sorts, form.parameters)?;
+        let sort = script.sorts.sort_of(form.sort)?;
         if !self.has_declared_rank(script, form.name, parameters.as_slice(), sort)? {
             return Err(TermFault::IllSorted);
         }

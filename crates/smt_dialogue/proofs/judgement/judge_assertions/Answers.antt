@@ -2,26 +2,27 @@ use Rattle.std.proofs.Common.{Some, ap, ◌∙◌, sym}
 use Rattle.std.proofs.Common as std
 use Rattle.smt_values.specs.Element.{Truth}
 use Rattle.smt_values.specs.KnownOperations.{is_known}
+use Rattle.smt_terms.specs.Contents.{contents_of}
 use Rattle.smt_eval.specs.Structure.{structure_of}
 use Rattle.smt_dialogue.proofs.JudgementLemmas.{judged_from, left-open, left-true, terms_left}
 use Rattle.smt_dialogue.proofs.judgement.judge_assertions.Goals as goal
 
 pub loop-assertion-preserved-in-Some-true : goal.loop-assertion-preserved-in-Some-true
 loop-assertion-preserved-in-Some-true c = record {
-  terms = terms_left c.args.library.now c.loop-assertion.left.now c.in-Some.rest.now c.in-Some.assertion.now c.in-Some.ensures.cases.0 c.loop-assertion.invariant.terms;
+  terms = terms_left (contents_of c.args.library.now) c.loop-assertion.left.now c.in-Some.rest.now c.in-Some.assertion.now c.in-Some.ensures.cases.0 c.loop-assertion.invariant.terms;
   judged = λ script definitions all stands holds assertions.
       let s = structure_of script definitions in
-      left-true c.args.library.now c.loop-assertion.left.now c.in-Some.rest.now c.in-Some.assertion.now s c.loop-assertion.first_open (judged_from s std.None all) c.in-Some.ensures.cases.0
+      left-true (contents_of c.args.library.now) c.loop-assertion.left.now c.in-Some.rest.now c.in-Some.assertion.now s c.loop-assertion.first_open (judged_from s std.None all) c.in-Some.ensures.cases.0
       (λ t term. sym (c.in_ok-eval.ensures script definitions t stands holds term) ∙ c.in-Some-true.ensures ∙ ap (λ b. Some (Truth b)) c.in-Some-true.field-0-test)
       (c.loop-assertion.invariant.judged script definitions all stands holds assertions);
 }
 
 pub loop-assertion-preserved : goal.loop-assertion-preserved
 loop-assertion-preserved c = record {
-  terms = terms_left c.args.library.now c.loop-assertion.left.now c.in-Some.rest.now c.in-Some.assertion.now c.in-Some.ensures.cases.0 c.loop-assertion.invariant.terms;
+  terms = terms_left (contents_of c.args.library.now) c.loop-assertion.left.now c.in-Some.rest.now c.in-Some.assertion.now c.in-Some.ensures.cases.0 c.loop-assertion.invariant.terms;
   judged = λ script definitions all stands holds assertions.
       let s = structure_of script definitions in
-      left-open c.args.library.now c.loop-assertion.left.now c.in-Some.rest.now c.in-Some.assertion.now s c.loop-assertion.first_open (judged_from s std.None all) c.in-Some.ensures.cases.0
+      left-open (contents_of c.args.library.now) c.loop-assertion.left.now c.in-Some.rest.now c.in-Some.assertion.now s c.loop-assertion.first_open (judged_from s std.None all) c.in-Some.ensures.cases.0
       (λ t term.
       let known = c.in_ok-eval.ensures script definitions t stands holds term in
       (ap (is_known std.false) (sym known) ∙ c.in-None.ensures.0, ap (is_known std.true) (sym known) ∙ c.in-None.ensures.1))

@@ -1,5 +1,6 @@
 -- what is found of the assertions that are left, behind those so far, is what is found of all
 use Rattle.std.proofs.Common.{◌≡◌, List, None, length}
+use Rattle.smt_terms.specs.Contents.{contents_of}
 use Rattle.smt_terms.specs.Library as libraries
 use Rattle.smt_terms.specs.Signature.{Signature}
 use Rattle.smt_eval.specs.Interpretation.{IsInterpretation}
@@ -11,9 +12,9 @@ use Rattle.smt_dialogue.proofs.judgement.judge_assertions.Given as goal
 
 abbrev pub invariant-loop-assertion : goal.invariant-loop-assertion
 invariant-loop-assertion l = record {
-  terms : (rest : List stacks.Assertion) × AreAssertions l.library l.left rest;
-  judged : (script definitions : Signature) (all : List stacks.Assertion) → libraries.StandsFor l.library script → IsInterpretation l.interpretation script definitions → AreAssertions l.library l.assertions all
-      → (rest : List stacks.Assertion) × AreAssertions l.library l.left rest × (judged_from (structure_of script definitions) l.first_open rest ≡ judged_from (structure_of script definitions) None all);
+  terms : (rest : List stacks.Assertion) × AreAssertions (contents_of l.library) l.left rest;
+  judged : (script definitions : Signature) (all : List stacks.Assertion) → libraries.StandsFor l.library script → IsInterpretation l.interpretation script definitions → AreAssertions (contents_of l.library) l.assertions all
+      → (rest : List stacks.Assertion) × AreAssertions (contents_of l.library) l.left rest × (judged_from (structure_of script definitions) l.first_open rest ≡ judged_from (structure_of script definitions) None all);
 }
 
 abbrev pub decreases-loop-assertion : goal.decreases-loop-assertion

@@ -1,7 +1,8 @@
 use Rattle.std.proofs.Common.{◌≡◌, ℕ, length, map, Option, ap, sym, ◌∙◌, arith}
 use Rattle.std.proofs.lemmas.List.{length-map}
 use Rattle.std.specs.Option.{option_or}
-use Rattle.smt_terms.specs.Library.{declaration_view, name_count}
+use Rattle.smt_terms.specs.Contents.{declaration_view}
+use Rattle.smt_terms.specs.Library.{name_count}
 use Rattle.smt_terms.specs.Signature.{Entry, entry_named, rank_of_entry}
 use Rattle.smt_eval.proofs.DefinitionLemmas.{absent_is_lacking, found_is_not_lacking, next_declared, none_declared_left, within}
 use Rattle.smt_eval.specs.Model as model

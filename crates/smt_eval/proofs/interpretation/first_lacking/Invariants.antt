@@ -1,6 +1,7 @@
 -- what is lacking is what is lacking among the entries whose declarations are left
 use Rattle.std.proofs.Common.{◌≡◌, ℕ, List, length, map}
-use Rattle.smt_terms.specs.Library.{StandsFor, declaration_view, declarations_from}
+use Rattle.smt_terms.specs.Contents.{declaration_view}
+use Rattle.smt_terms.specs.Library.{StandsFor, declarations_from}
 use Rattle.smt_terms.specs.Signature.{Entry, Signature}
 use Rattle.smt_eval.specs.Model.{first_lacking}
 use Rattle.smt_eval.proofs.DefinitionLemmas.{StandFrom}

@@ -1,9 +1,10 @@
 use Rattle.std.proofs.Common.{◌≡◌, [], drop, map}
 use Rattle.smt_terms.specs.Definitions.{parameters_named}
+use Rattle.smt_terms.specs.Internal.LibraryView.{sort_names}
 use Rattle.smt_terms.specs.ParamView.{param_view}
 use Rattle.smt_terms.specs.ScopeView.{scope_view}
 use Rattle.smt_terms.proofs.definitions.sorted_params.Given as goal
 
 abbrev pub invariant-loop-param : goal.invariant-loop-param
 invariant-loop-param l =
-    parameters_named l.theories [] (map param_view l.params) ≡ parameters_named l.theories (scope_view l.variables.items) (map param_view (drop l.param-index l.params))
+    parameters_named (sort_names l.sorts) [] (map param_view l.params) ≡ parameters_named (sort_names l.sorts) (scope_view l.variables.items) (map param_view (drop l.param-index l.params))

@@ -2,9 +2,9 @@ use Rattle.std.proofs.Common.{refl}
 use Rattle.std.proofs.lemmas.Result.{err_from_is_err_and}
 use Rattle.smt_text.specs.Sexp.{Nil}
 use Rattle.smt_text.specs.Tree.{sexp_of}
-use Rattle.smt_terms.specs.Signature.{declared_in, names_of}
+use Rattle.smt_terms.specs.Signature.{declared_in}
 use Rattle.smt_script.specs.Stack.{signature_in_force}
-use Rattle.smt_script.proofs.EffectLemmas.{declare_const_effect, refused_entry, unchanged_by}
+use Rattle.smt_script.proofs.EffectLemmas.{declare_const_effect, refused_by, unchanged_by}
 use Rattle.smt_script.proofs.stack.Stack.declare_const.Goals as goal
 
 pub returns-in_err-declare-clause-refused : goal.returns-in_err-declare-clause-refused
@@ -14,15 +14,15 @@ returns-in_err-declare-clause-refused c =
     let sort = sexp_of c.args.sort.now in
     rw p.1
     (λ cs h.
-    let names = names_of (signature_in_force cs) in
-    refused_entry (declared_in names c.args.number name Nil sort) c.in_err-declare.field-0.0 p.0
-    (c.faults_are_no_memory.ensures.declarations names c.args.number name Nil sort) p.2 (c.in_err-declare.ensures.refused (signature_in_force cs) h.library))
+    let s = signature_in_force cs in
+    refused_by (declared_in s c.args.number name Nil sort) c.in_err-declare.field-0.0 p.0
+    (c.faults_are_no_memory.ensures.declarations s c.args.number name Nil sort) p.2 (c.in_err-declare.ensures.refused s h.library))
 
 pub returns-in_err-declare-clause-unchanged : goal.returns-in_err-declare-clause-unchanged
 returns-in_err-declare-clause-unchanged c =
     let p = err_from_is_err_and c.from_residual.result c.from_residual.ensures.1 in
-    rw p.1 (unchanged_by c.args.self.now c.declare.new.self c.args.self.now.assertions c.in_err-declare.ensures.unchanged c.in_err-declare.ensures.terms refl)
+    rw p.1 (unchanged_by c.args.self.now c.declare.new.self c.args.self.now.assertions c.in_err-declare.ensures.unchanged c.in_err-declare.ensures.grown refl)
 
 pub returns-clause-effect : goal.returns-clause-effect
 returns-clause-effect c =
-    declare_const_effect c.args.self.now c.declare.new.self c.args.number c.args.name.now (sexp_of c.args.sort.now) c.in_ok-declare.ensures.declared c.in_ok-declare.ensures.terms
+    declare_const_effect c.args.self.now c.declare.new.self c.args.number c.args.name.now (sexp_of c.args.sort.now) c.in_ok-declare.ensures.declared c.in_ok-declare.ensures.grown

@@ -3,9 +3,12 @@ use Rattle.smt_text.specs.Sexp.{weight, weight_all}
 use Rattle.smt_text.specs.Tree.{sexp_of, sexps_of}
 use Rattle.smt_terms.specs.Bindings.{are_named_trees}
 use Rattle.smt_terms.specs.Checking.{bound_in, sorts_in}
-use Rattle.smt_terms.specs.Internal.LibraryView.{names_of_library}
+use Rattle.smt_terms.specs.Internal.LabelsView.{labels_view}
+use Rattle.smt_terms.specs.Internal.LibraryView.{names_for, names_of_library}
+use Rattle.smt_terms.specs.Labels.{labels_in_all, labels_in_bindings}
 use Rattle.smt_terms.specs.ScopeView.{scope_view}
 use Rattle.smt_terms.proofs.CheckerLemmas.{sorts_behind}
+use Rattle.smt_terms.proofs.LabelLemmas.{AreGivenOf}
 use Rattle.smt_terms.proofs.library.Library.+check.Given as goal
 
 abbrev pub decreases-sort_of : goal.decreases-sort_of
@@ -28,7 +31,8 @@ decreases-bound_by l = 2 * weight_all (sexps_of l.bindings.now) + 1
 
 abbrev pub invariant-sorts_of-loop-term : goal.invariant-sorts_of-loop-term
 invariant-sorts_of-loop-term l = record {
-  answer : sorts_in (names_of_library l.self) (scope_view l.scope) (sexps_of l.terms) ≡ sorts_behind (names_of_library l.self) (scope_view l.scope) l.sorts.items (sexps_of l.left);
+  answer : sorts_in (names_for l.self (labels_view l.fn.labels)) (scope_view l.scope) (sexps_of l.terms) ≡ sorts_behind (names_for l.self (labels_view l.labels)) (scope_view l.scope) l.sorts.items (sexps_of l.left);
+  given : AreGivenOf (names_of_library l.self) l.fn.labels l.labels (labels_in_all (sexps_of l.terms)) (labels_in_all (sexps_of l.left));
   lighter : weight_all (sexps_of l.left) ≤ weight_all (sexps_of l.terms);
 }
 
@@ -37,7 +41,8 @@ decreases-sorts_of-loop-term l = weight_all (sexps_of l.left)
 
 abbrev pub invariant-bound_by-loop-name : goal.invariant-bound_by-loop-name
 invariant-bound_by-loop-name l = record {
-  answer : bound_in (names_of_library l.self) (scope_view l.scope) [] (sexps_of l.bindings) ≡ bound_in (names_of_library l.self) (scope_view l.scope) (scope_view l.bound.items) (sexps_of l.left);
+  answer : bound_in (names_for l.self (labels_view l.fn.labels)) (scope_view l.scope) [] (sexps_of l.bindings) ≡ bound_in (names_for l.self (labels_view l.labels)) (scope_view l.scope) (scope_view l.bound.items) (sexps_of l.left);
+  given : AreGivenOf (names_of_library l.self) l.fn.labels l.labels (labels_in_bindings (sexps_of l.bindings)) (labels_in_bindings (sexps_of l.left));
   named : are_named_trees (sexps_of l.left) ≡ true;
   lighter : weight_all (sexps_of l.left) ≤ weight_all (sexps_of l.bindings);
 }

@@ -1,25 +1,70 @@
 -- The new name goes last, among the names and among the declarations.
-use Rattle.std.proofs.Common.{◌≡◌, ℕ, List, ◌++◌, ◌∷◌, [], refl, ap, ◌∙◌, arith}
+use Rattle.std.proofs.Common.{◌≡◌, ℕ, List, ◌++◌, ◌∷◌, [], map, refl, ap, ◌∙◌, arith, length, sym}
 use Rattle.std.proofs.lemmas.Grind.{common_steps}
+use Rattle.std.proofs.lemmas.List.{length-map, map-append}
+use Rattle.smt_text.specs.Tree.{sexp_of}
 use Rattle.smt_theory.specs.declared.sort.Sort.{Sort}
-use Rattle.smt_terms.specs.Internal.LibraryView.{places_of_library, ranks_of_library}
+use Rattle.smt_terms.specs.Contents.{contents_of, declaration_view}
+use Rattle.smt_terms.specs.Internal.LibraryView.{abbreviations_of, places_of_library, ranks_of_library}
 use Rattle.smt_terms.specs.declared.library.Found.TheVariants as place
+use Rattle.smt_terms.specs.declared.sorts.SortNames.{SortNames}
+use Rattle.smt_terms.proofs.ContentsLemmas.{nothing_more}
 use Rattle.smt_terms.proofs.StandsLemmas.{counted, on_err, stands_declared, stands_still}
 use Rattle.smt_terms.proofs.library.Library.add_declared.Goals as goal
 
 pub returns-in_err-push-clause-unchanged : goal.returns-in_err-push-clause-unchanged
-returns-in_err-push-clause-unchanged c = on_err c.from_residual-in_err-push.result (λ s stands. stands_still c.args.self.now _ s refl refl refl c.in_err-push.ensures.items refl (λ i t h. h) stands)
+returns-in_err-push-clause-unchanged c =
+    on_err c.from_residual-in_err-push.result (λ s stands. stands_still (contents_of c.args.self.now) _ s refl refl refl refl (ap (map declaration_view) c.in_err-push.ensures.items) refl (λ i t h. h) stands)
+
+pub returns-in_err-push-clause-grown : goal.returns-in_err-push-clause-grown
+returns-in_err-push-clause-grown c = record {
+  theories = refl;
+  abbreviations = nothing_more _ _ refl;
+  ranks = nothing_more _ _ refl;
+  places = nothing_more _ _ refl;
+  declared = nothing_more _ _ (ap (map declaration_view) c.in_err-push.ensures.items);
+  definitions = nothing_more _ _ refl;
+  terms = nothing_more _ _ refl;
+}
 
 pub returns-in-Err-clause-unchanged : goal.returns-in-Err-clause-unchanged
 returns-in-Err-clause-unchanged c =
     let same : c.pop.new.self.items ≡ c.args.self.now.declared.items = grind (arith, common_steps, c.pop.ensures.items, c.pop.ensures.variant, c.insert.ensures.declared, c.in_ok-push.ensures.items) in
-    λ s stands. stands_still c.args.self.now _ s c.insert.ensures.theories c.in-Err.ensures.unchanged.0 c.in-Err.ensures.unchanged.1 same c.insert.ensures.definitions c.insert.ensures.terms stands
+    λ s stands.
+    stands_still (contents_of c.args.self.now) _ s (ap (λ (z : SortNames). z.theories) c.insert.ensures.sorts) (ap abbreviations_of c.insert.ensures.sorts) c.in-Err.ensures.unchanged.0 c.in-Err.ensures.unchanged.1 (ap (map declaration_view) same) c.insert.ensures.definitions
+    (λ i t is. rw c.insert.ensures.terms is) stands
+
+pub returns-in-Err-clause-grown : goal.returns-in-Err-clause-grown
+returns-in-Err-clause-grown c =
+    let same : c.pop.new.self.items ≡ c.args.self.now.declared.items = grind (arith, common_steps, c.pop.ensures.items, c.pop.ensures.variant, c.insert.ensures.declared, c.in_ok-push.ensures.items) in
+    record {
+      theories = ap (λ (z : SortNames). z.theories) c.insert.ensures.sorts;
+      abbreviations = nothing_more _ _ (ap abbreviations_of c.insert.ensures.sorts);
+      ranks = nothing_more _ _ c.in-Err.ensures.unchanged.0;
+      places = nothing_more _ _ c.in-Err.ensures.unchanged.1;
+      declared = nothing_more _ _ (ap (map declaration_view) same);
+      definitions = nothing_more _ _ c.insert.ensures.definitions;
+      terms = nothing_more _ _ (ap (map sexp_of) c.insert.ensures.terms);
+    }
 
 pub returns-in-Ok-clause-added : goal.returns-in-Ok-clause-added
 returns-in-Ok-clause-added c =
+    let old = c.args.self.now in
     let params = c.in_ok-from_slice.ensures.items ∙ c.as_slice.ensures.value in
+    let stood : c.len.result ≡ length (map declaration_view old.declared.items) = counted old.declared c.len.result c.len.ensures ∙ sym (length-map old.declared.items declaration_view) in
     λ s stands.
-    stands_declared c.args.self.now c.insert.new.self s c.args.name.now c.args.declared c.requires.absent c.requires.next c.insert.ensures.theories
-    (c.in-Ok.ensures.ranks ∙ ap (λ (ps : List Sort). ranks_of_library c.args.self.now ++ (c.args.name.now, record { parameters = ps; sort = c.args.declared.result }) ∷ []) params)
-    (c.in-Ok.ensures.places ∙ ap (λ (n : ℕ). places_of_library c.args.self.now ++ (c.args.name.now, place.Declared n) ∷ []) (counted c.args.self.now.declared c.len.result c.len.ensures))
-    (c.insert.ensures.declared ∙ c.in_ok-push.ensures.items) c.insert.ensures.definitions c.insert.ensures.terms stands
+    stands_declared (contents_of old) (contents_of c.insert.new.self) s c.args.name.now (declaration_view c.args.declared) c.requires.absent c.requires.next (ap (λ (z : SortNames). z.theories) c.insert.ensures.sorts) (ap abbreviations_of c.insert.ensures.sorts)
+    (c.in-Ok.ensures.ranks ∙ ap (λ (ps : List Sort). ranks_of_library old ++ (c.args.name.now, record { parameters = ps; sort = c.args.declared.result }) ∷ []) params)
+    (c.in-Ok.ensures.places ∙ ap (λ (n : ℕ). places_of_library old ++ (c.args.name.now, place.Declared n) ∷ []) stood)
+    (ap (map declaration_view) (c.insert.ensures.declared ∙ c.in_ok-push.ensures.items) ∙ map-append declaration_view c.args.self.now.declared.items (c.args.declared ∷ [])) c.insert.ensures.definitions (λ i t is. rw c.insert.ensures.terms is) stands
+
+pub returns-in-Ok-clause-grown : goal.returns-in-Ok-clause-grown
+returns-in-Ok-clause-grown c = record {
+  theories = ap (λ (z : SortNames). z.theories) c.insert.ensures.sorts;
+  abbreviations = nothing_more _ _ (ap abbreviations_of c.insert.ensures.sorts);
+  ranks = (_, c.in-Ok.ensures.ranks);
+  places = (_, c.in-Ok.ensures.places);
+  declared = (_, ap (map declaration_view) (c.insert.ensures.declared ∙ c.in_ok-push.ensures.items) ∙ map-append declaration_view c.args.self.now.declared.items (c.args.declared ∷ []));
+  definitions = nothing_more _ _ c.insert.ensures.definitions;
+  terms = nothing_more _ _ (ap (map sexp_of) c.insert.ensures.terms);
+}

@@ -1,10 +1,13 @@
-use Rattle.std.proofs.Common.{true, sym, ◌∙◌}
+use Rattle.std.proofs.Common.{true, ap, sym, ◌∙◌}
 use Rattle.std.proofs.lemmas.Result.{on_ok_weaker}
 use Rattle.smt_text.specs.Tree.{sexp_of}
+use Rattle.smt_terms.specs.Checking.{sort_in}
 use Rattle.smt_terms.specs.Definitions.{definition}
-use Rattle.smt_terms.specs.Internal.LibraryView.{names_of_library}
+use Rattle.smt_terms.specs.Internal.LibraryView.{names_for, names_of_library}
+use Rattle.smt_terms.specs.Labels.{Labels}
 use Rattle.smt_terms.specs.ScopeView.{scope_view}
 use Rattle.smt_terms.specs.Signature.{names_of}
+use Rattle.smt_terms.proofs.ContentsLemmas.{extends_on}
 use Rattle.smt_terms.proofs.DefinitionLemmas.{definition_by}
 use Rattle.smt_terms.proofs.ItemLemmas.{names_as}
 use Rattle.smt_terms.proofs.library.Library.add_definition.Goals as goal
@@ -16,11 +19,12 @@ returns-clause-added c =
     on_ok_weaker c.insert_definition.result
     (λ added s stands. (
       definition c.args.name.now ps c.args.sort body,
-      definition_by (names_of s) (names_of_library c.args.self.now) c.args.name.now ps c.args.sort c.in_ok-sort_of.field-0 body true (names_as c.args.self.now s stands) c.in_ok-sort_of.ensures
+      definition_by (names_of s) (names_of_library c.args.self.now) c.args.name.now ps c.args.sort c.in_ok-sort_of.field-0 body true (names_as c.args.self.now s stands)
+          (ap (λ (l : Labels). sort_in (names_for c.args.self.now l) ps body) (sym c.refused-labels.ensures.view) ∙ c.in_ok-sort_of.ensures.sort)
           (sym c.are_equal.ensures ∙ c.if-not-are_equal.false),
       added s body (c.in_ok-body.ensures.kept s stands) c.in_ok-body.ensures.term,
     ))
     c.insert_definition.ensures.added
 
-pub returns-clause-terms : goal.returns-clause-terms
-returns-clause-terms c = λ i t is. c.insert_definition.ensures.terms i t (c.in_ok-body.ensures.terms i t is)
+pub returns-clause-grown : goal.returns-clause-grown
+returns-clause-grown c = extends_on _ _ _ c.in_ok-body.ensures.grown c.insert_definition.ensures.grown

@@ -1,0 +1,22 @@
+use Rattle.std.proofs.Common.{◌≡◌, ◌-◌, ◌+◌, ℕ, sym, subst, arith, length}
+use Rattle.std.specs.Str.Parse.{digits_value}
+use Rattle.smt_script.specs.Command.{Pop}
+use Rattle.smt_script.specs.Internal.Effect.{HasEffect}
+use Rattle.smt_script.proofs.LevelLemmas.{pop_effect, pop_none}
+use Rattle.smt_script.proofs.stack.Stack.pop.Goals as goal
+
+pub returns-then-count-gt0-clause-effect : goal.returns-then-count-gt0-clause-effect
+returns-then-count-gt0-clause-effect c =
+    let notes = c.cut_to.ensures.notes in
+    let same = c.in-Some.ensures.0 in
+    let most = c.in-Some.ensures.1 in
+    let depth = c.len-depth.ensures in
+    let sum : (c.len-depth.result - c.in-Some.count) + digits_value 10 c.args.digits.now ≡ length c.args.self.now.levels.items = omega arith in
+    pop_effect c.args.self.now c.cut_to.new.self (digits_value 10 c.args.digits.now) (c.len-depth.result - c.in-Some.count) c.cut_to.ensures.cut sum notes.fixed notes.print_success notes.exited notes.start
+
+pub returns-else-count-gt0-clause-effect : goal.returns-else-count-gt0-clause-effect
+returns-else-count-gt0-clause-effect c =
+    let same = c.in-Some.ensures.0 in
+    let none = c.if-count-gt0.false in
+    let zero : digits_value 10 c.args.digits.now ≡ 0 = omega arith in
+    subst (λ (m : ℕ). (n : ℕ) → HasEffect c.args.self.now c.args.self.now n (Pop m)) (sym zero) (pop_none c.args.self.now)

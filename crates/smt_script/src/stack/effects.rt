@@ -1,0 +1,204 @@
+//! What each command does to what is in force.
+
+ghost use Rattle.std.specs.Prelude.{◌≡◌, ◌∷◌, ℕ, List, [], IfErr, OnOk, OnErr};
+ghost use Rattle.std.specs.Str.Parse.{digits_value};
+ghost use Rattle.smt_text.specs.Tree.{sexp_of, sexps_of};
+ghost use Rattle.smt_terms.specs.Bindings.{named_trees};
+ghost use Rattle.smt_script.specs.Command as commands;
+ghost use Rattle.smt_script.specs.Command.{SetLogic, DeclareConst, DeclareFun, DefineFun, DefineSort, Assert, Push, Pop};
+ghost use Rattle.smt_script.specs.CommandView.{command_view};
+ghost use Rattle.smt_script.specs.Stack as stack;
+ghost use Rattle.smt_script.specs.StackView.{last_of, start_of};
+ghost use Rattle.smt_script.specs.Internal.Effect.{HasEffect, IsRefused, IsUnchanged, noted};
+
+use crate::command::Command;
+use crate::fault::CommandFault;
+use crate::stack::{Assertion, Stack, all_theories};
+use smt_terms::laws::faults_are_no_memory;
+use smt_terms::{Library, params_of};
+use smt_text::Tree;
+use smt_theory::theories_of;
+
+impl Stack {
+    // What a command does, but for what is noted of it.
+    pub(super) fn take_effect(&mut self, number: u64, command: &Command) -> Result<(), CommandFault>
+        ensures effect { OnOk result (HasEffect self.old self.new number (command_view command.now)) }
+        ensures refused { IfErr result (λ fault. IsRefused self.old number (command_view command.now) fault) }
+        ensures unchanged { OnErr result (IsUnchanged self.old self.new) }
+    {
+        match command {
+            Command::SetLogic { name } => self.set_logic(name.as_slice()),
+            Command::DeclareConst { name, sort } => self.declare_const(
+                number,
+                name.as_slice(),
+                sort,
+            ),
+            Command::DeclareFun { name, params, sort } => {
+                self.declare_fun(number, name.as_slice(), params.as_slice(), sort)
+            }
+            Command::DefineFun {
+                name,
+                params,
+                sort,
+                body,
+            } => self.define(name.as_slice(), params.as_slice(), sort, body),
+            Command::DefineSort { name, sort } => self.define_sort(name.as_slice(), sort),
+            Command::Assert { term } => self.assert(number, term),
+            Command::Push { levels } => self.push(levels.as_slice()),
+            Command::Pop { levels } => self.pop(levels.as_slice()),
+            Command::Reset => self.reset(),
+            Command::ResetAssertions => self.reset_assertions(),
+            Command::SetPrintSuccess { .. } => Ok(()),
+            Command::SetOption { .. } => Ok(()),
+            Command::SetInfo { .. } => Ok(()),
+            Command::Exit => Ok(()),
+            Command::CheckSat => Ok(()),
+            Command::GetModel => Ok(()),
+            Command::Echo { .. } => Ok(()),
+            Command::Get { .. } => Ok(()),
+        }
+    }
+
+    // Notes of a command that took effect whether a logic may be set, whether `success` is printed, and whether it was `exit`.
+    pub(super) fn note(&mut self, command: &Command)
+        ensures { self.new ≡ noted (command_view command.now) self.old }
+    {
+        self.fixed = is_fixed_after(self.fixed, command);
+        self.print_success = print_success_after(self.start, self.print_success, command);
+        self.exited |= is_exit(command);
+    }
+
+    // A logic is set while nothing is in force and there are no levels.
+    fn set_logic(&mut self, name: &[u8]) -> Result<(), CommandFault>
+        ensures effect { OnOk result ((number : ℕ) → HasEffect self.old self.new number (SetLogic name.now)) }
+        ensures refused { IfErr result (λ fault. (number : ℕ) → IsRefused self.old number (SetLogic name.now) fault) }
+        ensures unchanged { OnErr result (IsUnchanged self.old self.new) }
+    {
+        if self.fixed {
+            return Err(CommandFault::Logic);
+        }
+        let Some(theories) = theories_of(name) else {
+            return Err(CommandFault::Logic);
+        };
+        self.library = Library::new(self.alloc, theories);
+        Ok(())
+    }
+
+    fn declare_const(&mut self, number: u64, name: &[u8], sort: &Tree) -> Result<(), CommandFault>
+        ensures effect { OnOk result (HasEffect self.old self.new number (DeclareConst name.now (sexp_of sort.now))) }
+        ensures refused { IfErr result (λ fault. IsRefused self.old number (DeclareConst name.now (sexp_of sort.now)) fault) }
+        ensures unchanged { OnErr result (IsUnchanged self.old self.new) }
+    {
+        faults_are_no_memory();
+        Ok(self.library.declare(number, name, &[], sort)?)
+    }
+
+    fn declare_fun(
+        &mut self,
+        number: u64,
+        name: &[u8],
+        params: &[Tree],
+        sort: &Tree,
+    ) -> Result<(), CommandFault>
+        ensures effect { OnOk result (HasEffect self.old self.new number (DeclareFun name.now (sexps_of params.now) (sexp_of sort.now))) }
+        ensures refused { IfErr result (λ fault. IsRefused self.old number (DeclareFun name.now (sexps_of params.now) (sexp_of sort.now)) fault) }
+        ensures unchanged { OnErr result (IsUnchanged self.old self.new) }
+    {
+        faults_are_no_memory();
+        Ok(self.library.declare(number, name, params, sort)?)
+    }
+
+    fn define(
+        &mut self,
+        name: &[u8],
+        params: &[Tree],
+        sort: &Tree,
+        body: &Tree,
+    ) -> Result<(), CommandFault>
+        ensures effect { OnOk result ((number : ℕ) → HasEffect self.old self.new number (DefineFun name.now (named_trees (sexps_of params.now)) (sexp_of sort.now) (sexp_of body.now))) }
+        ensures refused { IfErr result (λ fault. (number : ℕ) → IsRefused self.old number (DefineFun name.now (named_trees (sexps_of params.now)) (sexp_of sort.now) (sexp_of body.now)) fault) }
+        ensures unchanged { OnErr result (IsUnchanged self.old self.new) }
+    {
+        faults_are_no_memory();
+        let params = params_of(self.alloc, params)?;
+        Ok(self.library.define(name, params.as_slice(), sort, body)?)
+    }
+
+    fn define_sort(&mut self, name: &[u8], sort: &Tree) -> Result<(), CommandFault>
+        ensures effect { OnOk result ((number : ℕ) → HasEffect self.old self.new number (DefineSort name.now (sexp_of sort.now))) }
+        ensures refused { IfErr result (λ fault. (number : ℕ) → IsRefused self.old number (DefineSort name.now (sexp_of sort.now)) fault) }
+        ensures unchanged { OnErr result (IsUnchanged self.old self.new) }
+    {
+        faults_are_no_memory();
+        Ok(self.library.abbreviate(name, sort)?)
+    }
+
+    fn assert(&mut self, number: u64, term: &Tree) -> Result<(), CommandFault>
+        ensures effect { OnOk result (HasEffect self.old self.new number (Assert (sexp_of term.now))) }
+        ensures refused { IfErr result (λ fault. IsRefused self.old number (Assert (sexp_of term.now)) fault) }
+        ensures unchanged { OnErr result (IsUnchanged self.old self.new) }
+    {
+        faults_are_no_memory();
+        let mark = self.library.mark();
+        let term = self.library.check_assert(term)?;
+        let command = number;
+        match self.assertions.push(Assertion { command, term }) {
+            Ok(()) => Ok(()),
+            Err(_) => {
+                self.library.cut(mark);
+                Err(CommandFault::Memory)
+            }
+        }
+    }
+}
+
+// Whether no logic may be set after a command, by whether one might before.
+fn is_fixed_after(fixed: bool, command: &Command) -> bool
+    ensures { result ≡ stack.is_fixed_after fixed (command_view command.now) }
+{
+    match command {
+        Command::Reset => false,
+        Command::SetLogic { .. } | Command::DeclareConst { .. } => true,
+        Command::DeclareFun { .. } | Command::DefineFun { .. } => true,
+        Command::DefineSort { .. } | Command::Assert { .. } => true,
+        Command::Push { .. } | Command::Pop { .. } => true,
+        Command::ResetAssertions | Command::CheckSat => true,
+        Command::SetPrintSuccess { .. } | Command::SetOption { .. } => fixed,
+        Command::SetInfo { .. } | Command::Exit | Command::GetModel => fixed,
+        Command::Echo { .. } | Command::Get { .. } => fixed,
+    }
+}
+
+// Whether `success` is printed after a command, by whether it was at the start and before.
+fn print_success_after(start: bool, before: bool, command: &Command) -> bool
+    ensures { result ≡ stack.print_success_after start before (command_view command.now) }
+{
+    match command {
+        Command::SetPrintSuccess { on } => *on,
+        Command::Reset => start,
+        Command::SetLogic { .. } | Command::DeclareConst { .. } => before,
+        Command::DeclareFun { .. } | Command::DefineFun { .. } => before,
+        Command::DefineSort { .. } | Command::Assert { .. } => before,
+        Command::Push { .. } | Command::Pop { .. } => before,
+        Command::ResetAssertions | Command::CheckSat => before,
+        Command::SetOption { .. } | Command::SetInfo { .. } => before,
+        Command::Exit | Command::GetModel => before,
+        Command::Echo { .. } | Command::Get { .. } => before,
+    }
+}
+
+fn is_exit(command: &Command) -> bool
+    ensures { result ≡ stack.is_exit (command_view command.now) }
+{
+    match command {
+        Command::Exit => true,
+        Command::SetLogic { .. } | Command::DeclareConst { .. } => false,
+        Command::DeclareFun { .. } | Command::DefineFun { .. } => false,
+        Command::DefineSort { .. } | Command::Assert { .. } => false,
+        Command::Push { .. } | Command::Pop { .. } => false,
+        Command::Reset | Command::ResetAssertions | Command::CheckSat => false,
+        Command::SetPrintSuccess { .. } | Command::SetOption { .. } => false,
+        Command::SetInfo { .. } | Command::GetModel => false,
+        Command::Echo { .. } | Command::Get { .. } => false,
+    }
+}

@@ -1,0 +1,137 @@
+//! Assertion levels (SMT-LIB 2.6, section 4.1.4).
+
+ghost use Rattle.std.specs.Prelude.{◌≡◌, ◌≤◌, ◌++◌, IfErr, MatchOption, OnErr, OnOk};
+ghost use Rattle.std.specs.Str.Parse.{digits_value};
+ghost use Rattle.smt_script.specs.Internal.Effect.{copies};
+ghost use Rattle.smt_script.specs.declared.fault.CommandFault.TheVariants.{Memory};
+
+use crate::fault::CommandFault;
+use crate::stack::{Stack, all_theories};
+use smt_terms::{Library, Mark};
+use smt_theory::number;
+
+/// What came outside a level: how much of the library, and how many assertions.
+#[derive(Clone, Copy, Debug, PartialEq, Eq)]
+pub struct Level {
+    pub(crate) mark: Mark,
+    pub(crate) assertions: usize,
+}
+
+// The greatest number of levels.
+const LIMIT: usize = 10_000;
+
+impl Stack {
+    ghost use Rattle.std.specs.Prelude.{◌<◌, ℕ, length};
+    ghost use Rattle.smt_script.specs.Command.{Push, Pop};
+    ghost use Rattle.smt_script.specs.Command as commands;
+    ghost use Rattle.smt_script.specs.Internal.Effect.{HasEffect, HasNotesOf, IsCut, IsRefused, IsUnchanged, NotesAll};
+
+    // Adds levels. What is in force came outside each of them.
+    pub(super) fn push(&mut self, digits: &[u8]) -> Result<(), CommandFault>
+        ensures effect { OnOk result ((n : ℕ) → HasEffect self.old self.new n (Push (digits_value 10 digits.now))) }
+        ensures refused { IfErr result (λ fault. (n : ℕ) → IsRefused self.old n (Push (digits_value 10 digits.now)) fault) }
+        ensures unchanged { OnErr result (IsUnchanged self.old self.new) }
+    {
+        let Some(room) = LIMIT.checked_sub(self.levels.len()) else {
+            return Err(CommandFault::TooDeep);
+        };
+        let Some(count) = count_to(room, digits) else {
+            return Err(CommandFault::TooDeep);
+        };
+        let level = self.level();
+        let Ok(()) = add_levels(&mut self.levels, count, level) else {
+            return Err(CommandFault::Memory);
+        };
+        Ok(())
+    }
+
+    // The level that begins now.
+    fn level(&self) -> Level
+        ensures { NotesAll self.now result }
+    {
+        Level {
+            mark: self.library.mark(),
+            assertions: self.assertions.len(),
+        }
+    }
+
+    // Removes levels, and what came in them.
+    pub(super) fn pop(&mut self, digits: &[u8]) -> Result<(), CommandFault>
+        ensures effect { OnOk result ((n : ℕ) → HasEffect self.old self.new n (Pop (digits_value 10 digits.now))) }
+        ensures refused { IfErr result (λ fault. (n : ℕ) → IsRefused self.old n (Pop (digits_value 10 digits.now)) fault) }
+        ensures unchanged { OnErr result (IsUnchanged self.old self.new) }
+    {
+        let depth = self.levels.len();
+        let Some(count) = count_to(depth, digits) else {
+            return Err(CommandFault::NoLevel);
+        };
+        if count > 0 {
+            self.cut_to(depth - count);
+        }
+        Ok(())
+    }
+
+    // Leaves so many levels, and what came outside the others.
+    fn cut_to(&mut self, depth: usize)
+        requires { depth < length self.old.levels.items }
+        ensures cut { IsCut self.old self.new depth }
+        ensures notes { HasNotesOf self.old self.new }
+    {
+        let level = self.levels.as_slice()[depth];
+        self.library.cut(level.mark);
+        self.assertions.truncate(level.assertions);
+        self.levels.truncate(depth);
+    }
+
+    // Removes all, the logic too.
+    pub(super) fn reset(&mut self) -> Result<(), CommandFault>
+        ensures effect { OnOk result ((n : ℕ) → HasEffect self.old self.new n commands.Reset) }
+        ensures refused { IfErr result (λ fault. (n : ℕ) → IsRefused self.old n commands.Reset fault) }
+        ensures unchanged { OnErr result (IsUnchanged self.old self.new) }
+    {
+        self.library = Library::new(self.alloc, all_theories());
+        self.assertions.truncate(0);
+        self.levels.truncate(0);
+        Ok(())
+    }
+
+    // Removes all but the logic.
+    pub(super) fn reset_assertions(&mut self) -> Result<(), CommandFault>
+        ensures effect { OnOk result ((n : ℕ) → HasEffect self.old self.new n commands.ResetAssertions) }
+        ensures refused { IfErr result (λ fault. (n : ℕ) → IsRefused self.old n commands.ResetAssertions fault) }
+        ensures unchanged { OnErr result (IsUnchanged self.old self.new) }
+    {
+        self.library = Library::new(self.alloc, self.library.theories());
+        self.assertions.truncate(0);
+        self.levels.truncate(0);
+        Ok(())
+    }
+}
+
+// Adds so many levels, or none where memory is refused.
+fn add_levels(levels: &mut Vec<Level>, count: usize, level: Level) -> Result<(), CommandFault>
+    ensures added { OnOk result (levels.new.items ≡ levels.old.items ++ copies count level) }
+    ensures refused { IfErr result (λ fault. fault ≡ Memory) }
+    ensures unchanged { OnErr result (levels.new.items ≡ levels.old.items) }
+{
+    let depth = levels.len();
+    let mut left = count;
+    while left > 0 {
+        let Ok(()) = levels.push(level) else {
+            levels.truncate(depth);
+            return Err(CommandFault::Memory);
+        };
+        left -= 1;
+    }
+    Ok(())
+}
+
+// The number that digits are, where it is no more than this.
+fn count_to(most: usize, digits: &[u8]) -> Option<usize>
+    ensures { MatchOption result (digits_value 10 digits.now ≤ most → ⊥) (λ n. (n ≡ digits_value 10 digits.now) × (n ≤ most)) }
+{
+    match number(10, digits) {
+        Some(count) if count <= most as u128 => Some(count as usize),
+        _ => None,
+    }
+}

@@ -1,0 +1,132 @@
+-- The contents of libraries, cut and grown.
+use Rattle.std.proofs.Common.{◌≡◌, ◌≤◌, ℕ, zero, suc, ◌+◌, List, [], ◌∷◌, ◌++◌, length, map, take, slice_get, Some, refl, ap, sym, ◌∙◌, arith, append_assoc, Result, Ok, Err, OnOk, OnErr}
+use Rattle.std.proofs.lemmas.List.{append-nil, length-append, length-take-le, take-append-le, take-map}
+use Rattle.smt_text.specs.Sexp.{Sexp}
+use Rattle.smt_theory.specs.declared.sort.Sort.{Sort}
+use Rattle.smt_terms.specs.Contents.{Contents, Extends, IsBelow, IsWithin, first_of}
+use Rattle.smt_terms.specs.Library.{IsTermOf}
+use Rattle.smt_terms.specs.declared.library.TermId.{TermId}
+use Rattle.smt_terms.specs.declared.library.marks.Mark.{Mark}
+use Rattle.smt_terms.proofs.TermLemmas.{stays}
+
+-- contents whose parts are the same
+pub same_contents : (c d : Contents) → c.theories ≡ d.theories → c.abbreviations ≡ d.abbreviations → c.ranks ≡ d.ranks → c.places ≡ d.places → c.declared ≡ d.declared → c.definitions ≡ d.definitions → c.terms ≡ d.terms → c ≡ d
+same_contents c d theories abbreviations ranks places declared definitions terms = λ i. record {
+  theories = theories i;
+  abbreviations = abbreviations i;
+  ranks = ranks i;
+  places = places i;
+  declared = declared i;
+  definitions = definitions i;
+  terms = terms i;
+}
+
+-- ---- lists
+
+-- the first so many stay as more come behind
+take_kept : {A : Type 0} (n : ℕ) (xs ys : List A) → n ≤ length xs → (more : List A) × (ys ≡ xs ++ more) → take n ys ≡ take n xs
+take_kept n xs ys within (more, is) = ap (take n) is ∙ take-append-le n xs more within
+
+-- and there are so many still
+within_kept : {A : Type 0} (n : ℕ) (xs ys : List A) → n ≤ length xs → (more : List A) × (ys ≡ xs ++ more) → n ≤ length ys
+within_kept {A = A} n xs ys within (more, is) =
+    let len : length ys ≡ length xs + length more = ap (λ (zs : List A). length zs) is ∙ length-append xs more in
+    omega (arith, within, len)
+
+-- the first so many of the first more
+take_earlier : {A : Type 0} (m n : ℕ) (xs : List A) → m ≤ n → take m (take n xs) ≡ take m xs
+take_earlier zero n xs h = refl
+take_earlier (suc m) zero xs h = absurd (omega arith)
+take_earlier (suc m) (suc n) [] h = refl
+take_earlier {A = A} (suc m) (suc n) (x ∷ xs) h = ap (λ (ys : List A). x ∷ ys) (take_earlier m n xs (omega arith))
+
+-- what is seen of the first so many
+pub mapped : {A B : Type 0} (f : A → B) (n : ℕ) (xs new : List A) → new ≡ take n xs → map f new ≡ take n (map f xs)
+mapped f n xs new is = ap (map f) is ∙ sym (take-map f n xs)
+
+-- there are so many among the first more
+within_earlier : {A : Type 0} (m n : ℕ) (xs : List A) → m ≤ n → n ≤ length xs → m ≤ length (take n xs)
+within_earlier m n xs below within = let len : length (take n xs) ≡ n = length-take-le n xs within in omega (arith, below, len)
+
+-- ---- marks
+
+pub mark_kept : (mark : Mark) (c d : Contents) → IsWithin mark c → Extends c d → first_of mark d ≡ first_of mark c
+mark_kept mark c d within more =
+    same_contents (first_of mark d) (first_of mark c) more.theories (take_kept mark.abbreviations c.abbreviations d.abbreviations within.abbreviations more.abbreviations) (take_kept mark.names c.ranks d.ranks within.ranks more.ranks)
+    (take_kept mark.names c.places d.places within.places more.places) (take_kept mark.declared c.declared d.declared within.declared more.declared)
+    (take_kept mark.definitions c.definitions d.definitions within.definitions more.definitions) (take_kept mark.terms c.terms d.terms within.terms more.terms)
+
+pub mark_within : (mark : Mark) (c d : Contents) → IsWithin mark c → Extends c d → IsWithin mark d
+mark_within mark c d within more = record {
+  abbreviations = within_kept mark.abbreviations c.abbreviations d.abbreviations within.abbreviations more.abbreviations;
+  ranks = within_kept mark.names c.ranks d.ranks within.ranks more.ranks;
+  places = within_kept mark.names c.places d.places within.places more.places;
+  declared = within_kept mark.declared c.declared d.declared within.declared more.declared;
+  definitions = within_kept mark.definitions c.definitions d.definitions within.definitions more.definitions;
+  terms = within_kept mark.terms c.terms d.terms within.terms more.terms;
+}
+
+pub earlier_kept : (mark later : Mark) (c : Contents) → IsBelow mark later → first_of mark (first_of later c) ≡ first_of mark c
+earlier_kept mark later c below =
+    same_contents (first_of mark (first_of later c)) (first_of mark c) refl (take_earlier mark.abbreviations later.abbreviations c.abbreviations below.abbreviations) (take_earlier mark.names later.names c.ranks below.names)
+    (take_earlier mark.names later.names c.places below.names) (take_earlier mark.declared later.declared c.declared below.declared) (take_earlier mark.definitions later.definitions c.definitions below.definitions)
+    (take_earlier mark.terms later.terms c.terms below.terms)
+
+pub earlier_within : (mark later : Mark) (c : Contents) → IsBelow mark later → IsWithin later c → IsWithin mark (first_of later c)
+earlier_within mark later c below within = record {
+  abbreviations = within_earlier mark.abbreviations later.abbreviations c.abbreviations below.abbreviations within.abbreviations;
+  ranks = within_earlier mark.names later.names c.ranks below.names within.ranks;
+  places = within_earlier mark.names later.names c.places below.names within.places;
+  declared = within_earlier mark.declared later.declared c.declared below.declared within.declared;
+  definitions = within_earlier mark.definitions later.definitions c.definitions below.definitions within.definitions;
+  terms = within_earlier mark.terms later.terms c.terms below.terms within.terms;
+}
+
+-- a term has its number among more
+pub term_kept : (c d : Contents) (i : TermId) (t : Sexp) → Extends c d → IsTermOf c i t → IsTermOf d i t
+term_kept c d i t more is = by more.terms
+  where
+    by : (ms : List Sexp) × (d.terms ≡ c.terms ++ ms) → slice_get d.terms i.number ≡ Some t
+    by (ms, same) = ap (λ (ts : List Sexp). slice_get ts i.number) same ∙ stays c.terms ms i.number t is
+
+-- ---- growing
+
+-- perhaps more of the same behind
+abbrev pub Goes : {A : Type 0} → List A → List A → Type 0
+Goes {A} xs ys = (more : List A) × (ys ≡ xs ++ more)
+
+goes_on : {A : Type 0} (xs ys zs : List A) → Goes xs ys → Goes ys zs → Goes xs zs
+goes_on {A = A} xs ys zs (more, h) (rest, i) = (more ++ rest, i ∙ ap (λ (ls : List A). ls ++ rest) h ∙ append_assoc xs more rest)
+
+-- what extends an extension extends the first
+pub extends_on : (c d e : Contents) → Extends c d → Extends d e → Extends c e
+extends_on c d e first second = record {
+  theories = second.theories ∙ first.theories;
+  abbreviations = goes_on c.abbreviations d.abbreviations e.abbreviations first.abbreviations second.abbreviations;
+  ranks = goes_on c.ranks d.ranks e.ranks first.ranks second.ranks;
+  places = goes_on c.places d.places e.places first.places second.places;
+  declared = goes_on c.declared d.declared e.declared first.declared second.declared;
+  definitions = goes_on c.definitions d.definitions e.definitions first.definitions second.definitions;
+  terms = goes_on c.terms d.terms e.terms first.terms second.terms;
+}
+
+-- nothing more
+pub nothing_more : {A : Type 0} (xs ys : List A) → ys ≡ xs → Goes xs ys
+nothing_more xs ys is = ([], is ∙ sym (append-nil xs))
+
+-- contents extend themselves
+pub extends_itself : (c : Contents) → Extends c c
+extends_itself c = record {
+  theories = refl;
+  abbreviations = nothing_more _ _ refl;
+  ranks = nothing_more _ _ refl;
+  places = nothing_more _ _ refl;
+  declared = nothing_more _ _ refl;
+  definitions = nothing_more _ _ refl;
+  terms = nothing_more _ _ refl;
+}
+
+-- there is perhaps one abbreviation more
+pub more_abbreviations : {A E : Type 0} (P : Sort → Type 0) (r : Result A E) (old new : List (List ℕ × Sort)) (x : List ℕ) → OnOk r ((sort : Sort) × P sort × (new ≡ old ++ (x, sort) ∷ [])) → OnErr r (new ≡ old) → Goes old new
+more_abbreviations P (Ok a) old new x h i = ((x, h.0) ∷ [], h.2)
+more_abbreviations P (Err e) old new x h i = nothing_more old new i

@@ -1,0 +1,9 @@
+use Rattle.std.proofs.Common.{length}
+use Rattle.smt_terms.proofs.AssertionLemmas.{AreAdded}
+use Rattle.smt_terms.proofs.library.Library.add_labels.Given as goal
+
+abbrev pub invariant-loop-label : goal.invariant-loop-label
+invariant-loop-label l = AreAdded l.fn.self l.self l.labels l.left
+
+abbrev pub decreases-loop-label : goal.decreases-loop-label
+decreases-loop-label l = length l.left

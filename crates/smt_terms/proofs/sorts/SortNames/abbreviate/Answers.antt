@@ -1,0 +1,17 @@
+use Rattle.std.proofs.Common.{Err, cond, ap, sym, ◌∙◌}
+use Rattle.smt_text.specs.Tree.{sexp_of}
+use Rattle.smt_terms.specs.Internal.LibraryView.{sort_names}
+use Rattle.smt_terms.specs.SortTrees.{sort_named}
+use Rattle.smt_terms.specs.declared.fault.TermFault.TheVariants.{NotFresh}
+use Rattle.smt_terms.proofs.LibraryLemmas.{goes_last}
+use Rattle.smt_terms.proofs.SortLemmas.{not_abbreviated}
+use Rattle.smt_terms.proofs.sorts.SortNames.abbreviate.Goals as goal
+
+pub returns-clause-abbreviated : goal.returns-clause-abbreviated
+returns-clause-abbreviated c =
+    let old = c.args.self.now in (
+      c.in_ok-sort.sort,
+      ap (λ b. cond b (Err NotFresh) (sort_named (sort_names old) (sexp_of c.args.tree.now))) (sym c.if-is_taken.ensures) ∙ sym c.in_ok-sort.ensures,
+      goes_last (λ s. s) (λ s. s) old.abbreviations.entries c.insert.new.self.entries c.in_ok-key.key c.args.name.now c.in_ok-sort.sort (not_abbreviated (sort_names old) c.args.name.now (sym c.if-is_taken.ensures)) c.in_ok-key.ensures.items
+          c.in_ok-insert.ensures.entries,
+    )

@@ -1,0 +1,86 @@
+-- What a library holds, as plain lists, and its beginnings.
+use Rattle.std.specs.Prelude.{◌≡◌, ◌≤◌, ℕ, List, ◌++◌, length, map, take}
+use Rattle.smt_text.specs.Sexp.{Sexp}
+use Rattle.smt_text.specs.Tree.{sexp_of}
+use Rattle.smt_theory.specs.declared.sort.Sort.{Sort}
+use Rattle.smt_theory.specs.declared.theories.Theories.{Theories}
+use Rattle.smt_terms.specs.Internal.LibraryView.{abbreviations_of, places_of_library, ranks_of_library}
+use Rattle.smt_terms.specs.Signature.{Rank}
+use Rattle.smt_terms.specs.declared.library.Declared.{Declared}
+use Rattle.smt_terms.specs.declared.library.Definition.{Definition}
+use Rattle.smt_terms.specs.declared.library.Found.{Found}
+use Rattle.smt_terms.specs.declared.library.Library.{Library}
+use Rattle.smt_terms.specs.declared.library.marks.Mark.{Mark}
+
+-- a declared name: its place among all names, its rank, and its command
+pub record Declaration : Type 0 where
+  pub name : ℕ
+  pub parameters : List Sort
+  pub sort : Sort
+  pub command : ℕ
+
+abbrev pub declaration_view : Declared → Declaration
+declaration_view d = record { name = d.name; parameters = d.params.items; sort = d.result; command = d.command }
+
+-- the theories; the abbreviations, and the names with their ranks and with where they stand; the declarations, the definitions and the
+-- terms; each in the order in which they came
+pub record Contents : Type 0 where
+  pub theories : Theories
+  pub abbreviations : List (List ℕ × Sort)
+  pub ranks : List (List ℕ × Rank)
+  pub places : List (List ℕ × Found)
+  pub declared : List Declaration
+  pub definitions : List Definition
+  pub terms : List Sexp
+
+abbrev pub contents_of : Library → Contents
+contents_of library = record {
+  theories = library.sorts.theories;
+  abbreviations = abbreviations_of library.sorts;
+  ranks = ranks_of_library library;
+  places = places_of_library library;
+  declared = map declaration_view library.declared.items;
+  definitions = library.definitions.items;
+  terms = map sexp_of library.terms.items;
+}
+
+-- ---- beginnings
+
+-- the first so many of each
+abbrev pub first_of : Mark → Contents → Contents
+first_of mark c = record {
+  theories = c.theories;
+  abbreviations = take mark.abbreviations c.abbreviations;
+  ranks = take mark.names c.ranks;
+  places = take mark.names c.places;
+  declared = take mark.declared c.declared;
+  definitions = take mark.definitions c.definitions;
+  terms = take mark.terms c.terms;
+}
+
+-- there are so many of each
+pub record IsWithin (mark : Mark) (c : Contents) : Type 0 where
+  pub abbreviations : mark.abbreviations ≤ length c.abbreviations
+  pub ranks : mark.names ≤ length c.ranks
+  pub places : mark.names ≤ length c.places
+  pub declared : mark.declared ≤ length c.declared
+  pub definitions : mark.definitions ≤ length c.definitions
+  pub terms : mark.terms ≤ length c.terms
+
+-- the first mark counts no more of any than the second
+pub record IsBelow (mark later : Mark) : Type 0 where
+  pub abbreviations : mark.abbreviations ≤ later.abbreviations
+  pub names : mark.names ≤ later.names
+  pub declared : mark.declared ≤ later.declared
+  pub definitions : mark.definitions ≤ later.definitions
+  pub terms : mark.terms ≤ later.terms
+
+-- the second contents are the first, and perhaps more of each behind them
+pub record Extends (c d : Contents) : Type 0 where
+  pub theories : d.theories ≡ c.theories
+  pub abbreviations : (more : List (List ℕ × Sort)) × (d.abbreviations ≡ c.abbreviations ++ more)
+  pub ranks : (more : List (List ℕ × Rank)) × (d.ranks ≡ c.ranks ++ more)
+  pub places : (more : List (List ℕ × Found)) × (d.places ≡ c.places ++ more)
+  pub declared : (more : List Declaration) × (d.declared ≡ c.declared ++ more)
+  pub definitions : (more : List Definition) × (d.definitions ≡ c.definitions ++ more)
+  pub terms : (more : List Sexp) × (d.terms ≡ c.terms ++ more)

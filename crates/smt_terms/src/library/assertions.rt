@@ -1,0 +1,91 @@
+//! Assertions.
+
+ghost use Rattle.std.specs.Prelude.{◌≡◌, ◌⊎◌, ◌∷◌, ◌++◌, List, [], None, Ok, Err, map, IfErr, IfOk, OnErr, OnOk};
+ghost use Rattle.smt_text.specs.Tree.{sexp_of};
+ghost use Rattle.smt_theory.specs.Words.{look_up};
+ghost use Rattle.smt_terms.specs.Assertions.{asserted_in};
+ghost use Rattle.smt_terms.specs.Contents.{Extends, contents_of};
+ghost use Rattle.smt_terms.specs.Internal.LabelsView.{AreNew, label_entry};
+ghost use Rattle.smt_terms.specs.Internal.LibraryView.{ranks_of_library};
+ghost use Rattle.smt_terms.specs.Library.{IsTerm, StandsFor};
+ghost use Rattle.smt_terms.specs.Signature as signature;
+ghost use Rattle.smt_terms.specs.Signature.{Signature, names_of, rank_of_entry, with_entries, with_entry};
+ghost use Rattle.smt_terms.specs.declared.fault.TermFault.TheVariants.{Memory};
+
+use crate::fault::TermFault;
+use crate::labels::{Label, Labels};
+use crate::library::items::are_equal;
+use crate::library::{Library, TermId};
+use smt_text::Tree;
+use smt_theory::Sort;
+
+impl Library {
+    /// Checks a term that is asserted, and adds the labels in it, which stand for their terms from then on (SMT-LIB 2.6, sections 3.6.5
+    /// and 4.2.5): the number of the term. No term sees a label of its own assertion.
+    ///
+    /// Refused is a term with a fault, with the first; for a label that is a term that uses a variable bound outside it (`Label`), and
+    /// then a name that is in use, a plain operator's, or that of an earlier label of the assertion (`NotFresh`). Then a term that is no
+    /// formula (`IllSorted`). Then, and where memory is refused (`Memory`), no name is added; a term that nothing names may be.
+    #[tactic(auto, using(crate::proofs::ContentsLemmas::extends_itself))]
+    pub fn check_assert(&mut self, term: &Tree) -> Result<TermId, TermFault>
+        ensures asserted { OnOk result ((s : Signature) → StandsFor self.old s → (labels : List signature.Entry)
+            × (asserted_in (names_of s) (sexp_of term.now) ≡ Ok labels) × StandsFor self.new (with_entries s labels)) }
+        ensures term { IfOk result (λ i. IsTerm self.new i (sexp_of term.now)) }
+        ensures refused { IfErr result (λ fault. (s : Signature) → StandsFor self.old s
+            → (fault ≡ Memory) ⊎ (asserted_in (names_of s) (sexp_of term.now) ≡ Err fault)) }
+        ensures unchanged { OnErr result ((s : Signature) → StandsFor self.old s → StandsFor self.new s) }
+        ensures grown { Extends (contents_of self.old) (contents_of self.new) }
+    {
+        let mut labels = Labels::new(self.alloc);
+        let sort = self.sort_of(&[], &mut labels, term)?;
+        if !are_equal(sort, Sort::Bool) {
+            return Err(TermFault::IllSorted);
+        }
+        let mark = self.mark();
+        match self.add_assertion(labels.given.as_slice(), term) {
+            Ok(term) => Ok(term),
+            Err(fault) => {
+                self.cut(mark);
+                Err(fault)
+            }
+        }
+    }
+
+    // Adds the labels that an assertion gave, and its term. Only want of memory is refused; then some of them may have been added.
+    fn add_assertion(&mut self, labels: &[Label], term: &Tree) -> Result<TermId, TermFault>
+        requires { AreNew (ranks_of_library self.old) labels.now }
+        ensures added { OnOk result ((s : Signature) → StandsFor self.old s → StandsFor self.new (with_entries s (map label_entry labels.now))) }
+        ensures term { IfOk result (λ i. IsTerm self.new i (sexp_of term.now)) }
+        ensures refused { IfErr result (λ fault. fault ≡ Memory) }
+        ensures grown { Extends (contents_of self.old) (contents_of self.new) }
+    {
+        self.add_labels(labels)?;
+        self.add_term(term)
+    }
+
+    // Adds labels, each as a constant that its term defines. Only want of memory is refused; then some of them may have been added.
+    fn add_labels(&mut self, labels: &[Label]) -> Result<(), TermFault>
+        requires { AreNew (ranks_of_library self.old) labels.now }
+        ensures added { OnOk result ((s : Signature) → StandsFor self.old s → StandsFor self.new (with_entries s (map label_entry labels.now))) }
+        ensures refused { IfErr result (λ fault. fault ≡ Memory) }
+        ensures grown { Extends (contents_of self.old) (contents_of self.new) }
+    {
+        let mut left = labels;
+        while let Some((label, rest)) = left.split_first() {
+            self.add_label(label)?;
+            left = rest;
+        }
+        Ok(())
+    }
+
+    fn add_label(&mut self, label: &Label) -> Result<(), TermFault>
+        requires { look_up (ranks_of_library self.old) label.now.name.items ≡ None }
+        ensures added { OnOk result ((s : Signature) → StandsFor self.old s → StandsFor self.new (with_entry s (label_entry label.now))) }
+        ensures ranks { OnOk result (ranks_of_library self.new ≡ ranks_of_library self.old ++ (label.now.name.items, rank_of_entry (label_entry label.now)) ∷ []) }
+        ensures refused { IfErr result (λ fault. fault ≡ Memory) }
+        ensures grown { Extends (contents_of self.old) (contents_of self.new) }
+    {
+        let body = self.add_term(&label.body)?;
+        self.insert_definition(label.name.as_slice(), &[], label.sort, body)
+    }
+}
