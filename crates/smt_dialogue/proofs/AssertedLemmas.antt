@@ -7,8 +7,8 @@ use Rattle.smt_script.specs.Stack as stacks
 use Rattle.smt_script.specs.Stack.{Assertion, Numbered, Stands, assertions_in_force, depth_in_force, is_reset}
 use Rattle.smt_dialogue.proofs.PairLemmas.{effective_from-append}
 use Rattle.smt_dialogue.proofs.StructureLemmas.{one_more}
-use Rattle.smt_dialogue.specs.InForce.{KeepLevels, effective_commands, effective_from, levels_after, removes_all}
-use Rattle.smt_dialogue.specs.Pairing.{Pair, is_effective}
+use Rattle.smt_dialogue.specs.InForce.{KeepLevels, levels_after, removes_all}
+use Rattle.smt_dialogue.specs.Pairs.{Pair, effective_commands, effective_from, is_effective}
 use Rattle.smt_dialogue.specs.Validity.{IsAsserted}
 
 -- the laws of the assertions in force: those of commands that stand

@@ -10,12 +10,12 @@ use Rattle.smt_dialogue.proofs.PairLemmas.{is_word, lines_in-append}
 use Rattle.smt_dialogue.proofs.AssertedLemmas.{AssertionsAreFound, AssertionsStand, asserted_stands}
 use Rattle.smt_script.specs.Command.{Assert}
 use Rattle.smt_dialogue.specs.Validity.{IsConfirmed, IsSatCheck, IsTrueModel}
-use Rattle.smt_dialogue.specs.InForce.{AreFaultless, assertions_after, effective_commands, fault_of_pair, signature_after}
+use Rattle.smt_dialogue.specs.InForce.{AreFaultless, assertions_after, fault_of_pair, signature_after}
+use Rattle.smt_dialogue.specs.Pairs.{Pair, effective_commands, is_effective}
 use Rattle.smt_script.specs.Stack.{Assertion, fault_of}
 use Rattle.smt_dialogue.specs.Lines.{checks_in, is_empty, line_of_judgement, lines_in, lines_of_answer, lines_of_pair, lines_of_sat, sat_lines, unconfirmed_line}
 use Rattle.smt_report.specs.Verdict.{is_refuted_line, is_undecided_line}
 use Rattle.std.specs.Option.{option_or}
-use Rattle.smt_dialogue.specs.Pairing.{Pair, is_effective}
 use Rattle.smt_dialogue.specs.Window.{Printed, models_from, structure_at, window}
 use Rattle.smt_dialogue.specs.Judgement.{first_assertion, is_false_over, is_open_over, judged_in, judgement_of, refuted_or}
 use Rattle.smt_values.specs.Element.{Agrees, Element, Truth, Integer, Vector}
@@ -47,9 +47,9 @@ use Rattle.smt_theory.specs.declared.sort.Sort.TheVariants.{Bool as BooleanSort,
 
 -- a pair among faultless ones has no fault
 pub faultless_at : (before xs : List Pair) (p : Pair) (ys : List Pair) → AreFaultless before (xs ++ p ∷ ys) → fault_of_pair (before ++ xs) p ≡ None
-faultless_at before [] p ys h = ap (λ (b : List Pair). fault_of_pair b p) (append-nil before) ∙ h.0
+faultless_at before [] p ys h = ap (λ (b : List Pair). fault_of_pair b p) (append-nil before) ∙ h.1
 faultless_at before (x ∷ xs) p ys h =
-    ap (λ (b : List Pair). fault_of_pair b p) (sym (append_assoc before (x ∷ []) xs)) ∙ faultless_at (before ++ x ∷ []) xs p ys h.1
+    ap (λ (b : List Pair). fault_of_pair b p) (sym (append_assoc before (x ∷ []) xs)) ∙ faultless_at (before ++ x ∷ []) xs p ys h.2
 
 -- what is asserted without a fault is a formula, whatever labels it brings
 formula_sort : (r : Result Sort TermFault) (labels : List Entry) → fault_of (result_and_then {B = List Entry} r (λ sort. cond (is_same_sort sort BooleanSort) (Ok labels) (Err IllSorted))) ≡ None → r ≡ Ok BooleanSort

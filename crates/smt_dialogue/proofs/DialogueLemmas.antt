@@ -1,5 +1,5 @@
 -- How the state of a dialogue goes on with one more pair.
-use Rattle.std.proofs.Common.{◌≡◌, ◌⊎◌, inl, inr, ◌+◌, ℕ, Bool, true, List, [], ◌∷◌, ◌++◌, length, Some, ap, sym, ◌∙◌, subst, arith, append_assoc, length-append}
+use Rattle.std.proofs.Common.{◌≡◌, ◌≤◌, ◌⊎◌, inl, inr, ◌+◌, ℕ, Bool, true, List, [], ◌∷◌, ◌++◌, length, Option, None, Some, ap, sym, ◌∙◌, subst, arith, append_assoc, length-append}
 use Rattle.std.proofs.lemmas.List.{append-nil}
 use Rattle.smt_text.specs.Sexp.{Sexp}
 use Rattle.smt_script.specs.Command.{Command}
@@ -9,18 +9,14 @@ use Rattle.smt_script.specs.declared.fault.CommandFault.{CommandFault}
 use Rattle.smt_script.specs.declared.fault.CommandFault.TheVariants.{Memory as OutOfMemory}
 use Rattle.smt_script.specs.StackView.{last_of}
 use Rattle.smt_dialogue.proofs.ChecksLemmas.{GoesOn, goes_on, pending-end}
-use Rattle.smt_dialogue.proofs.PairLemmas.{answers_taken-append, checks_in-append, effective_commands-push, lines_in-append, taken_is_effective}
-use Rattle.smt_dialogue.specs.Answers.{takes}
-use Rattle.smt_dialogue.specs.InForce.{assertions_after, effective_commands, fault_of_pair, signature_after}
-use Rattle.smt_dialogue.specs.Internal.ChecksState.{ChecksState, checks_after, pending_lines, with_window_ended}
-use Rattle.smt_dialogue.specs.Internal.DialogueState.{State, StandsFor}
+use Rattle.smt_dialogue.proofs.PairLemmas.{answers_taken-append, checks_in-append, effective_commands-push, lines_in-append}
+use Rattle.smt_dialogue.specs.Answers.{is_effective_with}
+use Rattle.smt_dialogue.specs.InForce.{assertions_after, fault_of_pair, signature_after}
+use Rattle.smt_dialogue.specs.Internal.ChecksState.{ChecksState, IsAnswered, checks_after, pending_lines, with_window_ended}
+use Rattle.smt_dialogue.specs.Internal.DialogueState.{State, StandsFor, fault_if}
 use Rattle.smt_dialogue.specs.Lines.{lines_in, lines_of_pair}
-use Rattle.smt_dialogue.specs.Pairing.{Pair, answered_by}
+use Rattle.smt_dialogue.specs.Pairs.{Pair, answer_count, effective_commands, is_effective, numbered_if, pair_of}
 use Rattle.smt_report.specs.declared.line.Line.{Line}
-
--- a numbered command
-abbrev pub numbered : ℕ → Command → Numbered
-numbered n c = record { number = n; command = c }
 
 -- the lines of the pairs and one more
 lines_in-push : (ended : Bool) (pairs : List Pair) (p : Pair) (after : List Pair) → lines_in ended [] (pairs ++ p ∷ []) after ≡ lines_in ended [] pairs (p ∷ after) ++ lines_of_pair ended pairs p after
@@ -28,48 +24,47 @@ lines_in-push ended pairs p after =
     lines_in-append ended [] pairs (p ∷ []) after ∙ ap (λ (ls : List Line). lines_in ended [] pairs (p ∷ after) ++ ls) (append-nil (lines_of_pair ended pairs p after))
 
 -- the stack behind one more pair
-stack_push : (s t : State) (pairs : List Pair) (c : Command) (a : Sexp) → takes c a ≡ true → s.commands ≡ length pairs
-    → stacks.StandsFor t.stack (effective_commands pairs ++ numbered (s.commands + 1) c ∷ []) → stacks.StandsFor t.stack (effective_commands (pairs ++ answered_by c a ∷ []))
-stack_push s t pairs c a h count stack =
-    subst (stacks.StandsFor t.stack) (ap (λ (n : ℕ). effective_commands pairs ++ numbered (n + 1) c ∷ []) count ∙ sym (effective_commands-push pairs c a h)) stack
+stack_push : (s t : State) (pairs : List Pair) (p : Pair) → s.commands ≡ length pairs
+    → stacks.StandsFor t.stack (effective_commands pairs ++ numbered_if (is_effective p) (s.commands + 1) p.command) → stacks.StandsFor t.stack (effective_commands (pairs ++ p ∷ []))
+stack_push s t pairs p count stack =
+    subst (stacks.StandsFor t.stack) (ap (λ (n : ℕ). effective_commands pairs ++ numbered_if (is_effective p) (n + 1) p.command) count ∙ sym (effective_commands-push pairs p)) stack
 
 -- the checks behind one more pair
-checks_push : (s t : State) (pairs : List Pair) (c : Command) (a : Sexp) → takes c a ≡ true → StandsFor s pairs → stacks.StandsFor t.stack (effective_commands (pairs ++ answered_by c a ∷ []))
-    → ((cs : List Numbered) → stacks.StandsFor t.stack cs → t.checks ≡ checks_after s.checks (signature_in_force cs) (assertions_in_force cs) (s.commands + 1) c a) → GoesOn s.checks pairs c a t.checks
-checks_push s t pairs c a h before stack is =
-    let new = pairs ++ answered_by c a ∷ [] in
-    let same : t.checks ≡ checks_after s.checks (signature_after new) (assertions_after new) (length pairs + 1) c a =
+checks_push : (s t : State) (pairs : List Pair) (c : Command) (o : Option Sexp) → IsAnswered c o → StandsFor s pairs → stacks.StandsFor t.stack (effective_commands (pairs ++ pair_of c o ∷ []))
+    → ((cs : List Numbered) → stacks.StandsFor t.stack cs → t.checks ≡ checks_after (is_effective_with o) s.checks (signature_in_force cs) (assertions_in_force cs) (s.commands + 1) c o) → GoesOn s.checks pairs (pair_of c o) t.checks
+checks_push s t pairs c o h before stack is =
+    let new = pairs ++ pair_of c o ∷ [] in
+    let same : t.checks ≡ checks_after (is_effective_with o) s.checks (signature_after new) (assertions_after new) (length pairs + 1) c o =
     is (effective_commands new) stack
-    ∙ ap (λ (n : ℕ). checks_after s.checks (signature_after new) (assertions_after new) (n + 1) c a) before.commands in
-    subst (GoesOn s.checks pairs c a) (sym same) (goes_on s.checks pairs c a h before.checks)
+    ∙ ap (λ (n : ℕ). checks_after (is_effective_with o) s.checks (signature_after new) (assertions_after new) (n + 1) c o) before.commands in
+    subst (GoesOn s.checks pairs (pair_of c o)) (sym same) (goes_on s.checks pairs c o h before.checks)
 
 -- t is s after one more pair
-pub accepted_stands : (s t : State) (pairs : List Pair) (c : Command) (a : Sexp) → takes c a ≡ true → StandsFor s pairs
-    → stacks.StandsFor t.stack (effective_commands pairs ++ numbered (s.commands + 1) c ∷ []) → last_of t.stack ≡ s.commands + 1
-    → ((cs : List Numbered) → stacks.StandsFor t.stack cs → t.checks ≡ checks_after s.checks (signature_in_force cs) (assertions_in_force cs) (s.commands + 1) c a) → t.commands ≡ s.commands + 1 → t.answers ≡ s.answers + 1
-    → StandsFor t (pairs ++ answered_by c a ∷ [])
-accepted_stands s t pairs c a h before applied last checks commands answers =
-    let len : length (pairs ++ answered_by c a ∷ []) ≡ length pairs + 1 = length-append pairs (answered_by c a ∷ []) ∙ omega arith in
-    let stack = stack_push s t pairs c a h before.commands applied in
-    let g = checks_push s t pairs c a h before stack checks in
+pub accepted_stands : (s t : State) (pairs : List Pair) (c : Command) (o : Option Sexp) → IsAnswered c o → StandsFor s pairs
+    → stacks.StandsFor t.stack (effective_commands pairs ++ numbered_if (is_effective_with o) (s.commands + 1) c) → last_of t.stack ≤ s.commands + 1
+    → ((cs : List Numbered) → stacks.StandsFor t.stack cs → t.checks ≡ checks_after (is_effective_with o) s.checks (signature_in_force cs) (assertions_in_force cs) (s.commands + 1) c o)
+    → t.commands ≡ s.commands + 1 → t.answers ≡ s.answers + answer_count o → StandsFor t (pairs ++ pair_of c o ∷ [])
+accepted_stands s t pairs c o h before applied last checks commands answers =
+    let p = pair_of c o in
+    let len : length (pairs ++ p ∷ []) ≡ length pairs + 1 = length-append pairs (p ∷ []) ∙ omega arith in
+    let stack = stack_push s t pairs p before.commands applied in
+    let g = checks_push s t pairs c o h before stack checks in
     record {
       stack = stack;
       last = omega (arith, last, commands);
       commands = omega (arith, commands, before.commands, len);
-      answers = omega (arith, answers, before.answers, answers_taken-append pairs (answered_by c a ∷ []));
-      checks = omega (arith, g.count, before.checks, checks_in-append pairs (answered_by c a ∷ []));
+      answers = omega (arith, answers, before.answers, answers_taken-append pairs (p ∷ []));
+      checks = omega (arith, g.count, before.checks, checks_in-append pairs (p ∷ []));
       lines = λ ended after.
-          lines_in-push ended pairs (answered_by c a) after
-          ∙ ap (λ (ls : List Line). ls ++ lines_of_pair ended pairs (answered_by c a) after) (before.lines ended (answered_by c a ∷ after))
-          ∙ append_assoc s.checks.lines (pending_lines ended s.checks.pending (signature_after pairs) (assertions_after pairs) (length pairs + 1) (answered_by c a ∷ after)) (lines_of_pair ended pairs (answered_by c a) after)
+          lines_in-push ended pairs p after
+          ∙ ap (λ (ls : List Line). ls ++ lines_of_pair ended pairs p after) (before.lines ended (p ∷ after))
+          ∙ append_assoc s.checks.lines (pending_lines ended s.checks.pending (signature_after pairs) (assertions_after pairs) (length pairs + 1) (p ∷ after)) (lines_of_pair ended pairs p after)
           ∙ g.lines ended after;
     }
 
--- the fault of a pair whose command took effect
-pub fault_of_taken : (s : State) (pairs : List Pair) (c : Command) (a : Sexp) → takes c a ≡ true → StandsFor s pairs → fault_of_pair pairs (answered_by c a) ≡ fault_of_effect (effective_commands pairs) (s.commands + 1) c
-fault_of_taken s pairs c a h before =
-    let number : length pairs + 1 ≡ s.commands + 1 = ap (λ (n : ℕ). n + 1) (sym before.commands) in
-    rw (taken_is_effective c a h) (ap (λ (n : ℕ). fault_of_effect (effective_commands pairs) n c) number)
+-- the fault of a pair is that of its command, if that took effect
+pub fault_same : (s : State) (pairs : List Pair) (c : Command) (o : Option Sexp) → StandsFor s pairs → fault_of_pair pairs (pair_of c o) ≡ fault_if (is_effective_with o) (effective_commands pairs) (s.commands + 1) c
+fault_same s pairs c o before = ap (λ (n : ℕ). fault_if (is_effective_with o) (effective_commands pairs) (n + 1) c) (sym before.commands)
 
 -- where the stack is as it was, and nothing else changed
 pub refused_stands : (s t : State) (pairs : List Pair) → StandsFor s pairs → stacks.StandsFor t.stack (effective_commands pairs) → last_of t.stack ≡ last_of s.stack → t.checks ≡ s.checks → t.commands ≡ s.commands → t.answers ≡ s.answers → StandsFor t pairs
@@ -84,10 +79,19 @@ refused_stands s t pairs before stack last checks commands answers = record {
 }
 
 -- so a refused command has the fault that the stack told, or there was no memory
-pub refused_fault : (s t : State) (pairs : List Pair) (c : Command) (a : Sexp) (fault : CommandFault) → takes c a ≡ true → StandsFor s pairs → (fault ≡ OutOfMemory) ⊎ (fault_of_effect (effective_commands pairs) (s.commands + 1) c ≡ Some fault) → StandsFor t pairs
-    → (fault ≡ OutOfMemory) ⊎ ((fault_of_pair pairs (answered_by c a) ≡ Some fault) × StandsFor t pairs)
-refused_fault s t pairs c a fault h before (inl memory) after = inl memory
-refused_fault s t pairs c a fault h before (inr told) after = inr (fault_of_taken s pairs c a h before ∙ told, after)
+pub refused_fault : (s t : State) (pairs : List Pair) (c : Command) (o : Option Sexp) (e : Bool) (fault : CommandFault) → e ≡ is_effective_with o → StandsFor s pairs → (fault ≡ OutOfMemory) ⊎ (fault_if e (effective_commands pairs) (s.commands + 1) c ≡ Some fault) → StandsFor t pairs
+    → (fault ≡ OutOfMemory) ⊎ ((fault_of_pair pairs (pair_of c o) ≡ Some fault) × StandsFor t pairs)
+refused_fault s t pairs c o e fault is before (inl memory) after = inl memory
+refused_fault s t pairs c o e fault is before (inr told) after = inr (fault_same s pairs c o before ∙ rw is at told, after)
+
+-- the same of a command, said of whether it took effect
+pub accepted : (s t : State) (pairs : List Pair) (c : Command) (o : Option Sexp) (e : Bool) → e ≡ is_effective_with o → IsAnswered c o → StandsFor s pairs
+    → (fault_if e (effective_commands pairs) (s.commands + 1) c ≡ None) × stacks.StandsFor t.stack (effective_commands pairs ++ numbered_if e (s.commands + 1) c) → last_of t.stack ≤ s.commands + 1
+    → ((cs : List Numbered) → stacks.StandsFor t.stack cs → t.checks ≡ checks_after e s.checks (signature_in_force cs) (assertions_in_force cs) (s.commands + 1) c o)
+    → t.commands ≡ s.commands + 1 → t.answers ≡ s.answers + answer_count o → (fault_of_pair pairs (pair_of c o) ≡ None) × StandsFor t (pairs ++ pair_of c o ∷ [])
+accepted s t pairs c o e is h before applied last checks commands answers =
+    let told = rw is at applied in
+    (fault_same s pairs c o before ∙ told.0, accepted_stands s t pairs c o h before told.1 last (rw is at checks) commands answers)
 
 -- at the end the window that has not ended does
 pub ended_lines : (s : State) (pairs : List Pair) → StandsFor s pairs → lines_in true [] pairs [] ≡ (with_window_ended s.checks).lines

@@ -4,14 +4,15 @@ use Rattle.std.specs.List.{list_any}
 use Rattle.smt_text.specs.Sexp.{Sexps, Nil, Cons}
 use Rattle.smt_text.specs.declared.fault.TextFault.{TextFault}
 use Rattle.smt_text.specs.declared.fault.TextFault.TheVariants as texts
-use Rattle.smt_script.specs.Command.{Command}
-use Rattle.smt_dialogue.specs.FirstFault.{Stop, step_after, step_of_fault, step_of_tree}
+use Rattle.smt_script.specs.Command.{Command, command_of}
+use Rattle.smt_script.specs.declared.fault.CommandFault.TheVariants.{AfterExit}
+use Rattle.smt_dialogue.specs.Answers.{Missing, Taken, Takes, Unfit, taken}
+use Rattle.smt_dialogue.specs.FirstFault.{Stop, step_after, step_of_command, step_of_fault, step_of_taken}
+use Rattle.smt_dialogue.specs.InForce.{fault_of_pair, has_exited_after, need_after}
+use Rattle.smt_dialogue.specs.Pairs.{Pair, answers_taken, next_of, pair_of}
 use Rattle.smt_report.specs.FaultLine.{text_line}
 use Rattle.smt_dialogue.specs.Report.{lines_of_end}
-use Rattle.smt_dialogue.specs.InForce.{fault_of_pair}
 use Rattle.smt_report.specs.Verdict.{is_fault_line, is_refuted_line, is_undecided_line, verdict_of}
-use Rattle.smt_dialogue.specs.Pairing.{Pair, answered_by, answers_taken}
-use Rattle.smt_dialogue.specs.Answers.{answered_command, takes}
 use Rattle.smt_report.specs.declared.line.Line.{Line}
 use Rattle.smt_report.specs.declared.line.Line.TheVariants as lines
 use Rattle.smt_report.specs.declared.line.Side.{Side}
@@ -91,20 +92,24 @@ turn_of_fault_line : {P : Type 0} (n : ℕ) (f : Option CommandFault) (fault : O
 turn_of_fault_line n None fault e h = absurd (cc)
 turn_of_fault_line n (Some f) fault e h = no_line (lines.CommandFault n f) fault refl e h
 
-chosen_line : {P : Type 0} (b : Bool) (n : ℕ) (f : Option CommandFault) (line : Line) (fault : Option Line) → is_fault_line line ≡ true → cond b (step_of_fault n f) (Stop (Some line)) ≡ Stop fault → list_any is_fault_line (lines_of_end fault) ≡ false → P
-chosen_line true n f line fault is e h = turn_of_fault_line n f fault e h
-chosen_line false n f line fault is e h = no_line line fault is e h
+taken_line : {P : Type 0} (pairs : List Pair) (c : Command) (af : Option TextFault) (t : Taken) (fault : Option Line) → step_of_taken pairs c af t ≡ Stop fault → list_any is_fault_line (lines_of_end fault) ≡ false → P
+taken_line pairs c af (Takes answer) fault e h = turn_of_fault_line (length pairs + 1) (fault_of_pair pairs (pair_of c answer)) fault e h
+taken_line pairs c None Missing fault e h = no_line (lines.MissingAnswer (length pairs + 1)) fault refl e h
+taken_line pairs c (Some f) Missing fault e h = no_line (text_line Answers f) fault (text_line_is_fault Answers f) e h
+taken_line pairs c af Unfit fault e h = no_line (lines.UnexpectedAnswer (length pairs + 1) (answers_taken pairs + 1)) fault refl e h
 
-command_line : {P : Type 0} (pairs : List Pair) (r : Result Command CommandFault) (rest : Sexps) (af : Option TextFault) (fault : Option Line) → step_of_tree pairs r rest af ≡ Stop fault → list_any is_fault_line (lines_of_end fault) ≡ false → P
-command_line pairs (Err f) rest af fault e h = no_line (lines.CommandFault (length pairs + 1) f) fault refl e h
-command_line pairs (Ok c) Nil None fault e h = no_line (lines.MissingAnswer (length pairs + 1)) fault refl e h
-command_line pairs (Ok c) Nil (Some f) fault e h = no_line (text_line Answers f) fault (text_line_is_fault Answers f) e h
-command_line pairs (Ok c) (Cons a rest) af fault e h =
-    chosen_line (takes c a) (length pairs + 1) (fault_of_pair pairs (answered_by c a)) (lines.UnexpectedAnswer (length pairs + 1) (answers_taken pairs + 1)) fault refl e h
+command_line : {P : Type 0} (start : Bool) (pairs : List Pair) (r : Result Command CommandFault) (rest : Sexps) (af : Option TextFault) (fault : Option Line) → step_of_command start pairs r rest af ≡ Stop fault → list_any is_fault_line (lines_of_end fault) ≡ false → P
+command_line start pairs (Err f) rest af fault e h = no_line (lines.CommandFault (length pairs + 1) f) fault refl e h
+command_line start pairs (Ok c) rest af fault e h = taken_line pairs c af (taken (need_after start pairs c) (next_of rest)) fault e h
 
-pub ends_clean : (pairs : List Pair) (later : Sexps) (sf : Option TextFault) (rest : Sexps) (af : Option TextFault) (fault : Option Line) → step_after pairs later sf rest af ≡ Stop fault → list_any is_fault_line (lines_of_end fault) ≡ false → IsClean later sf rest af fault
-ends_clean pairs (Cons t ts) sf rest af fault e h = command_line pairs (answered_command t) rest af fault e h
-ends_clean pairs Nil (Some f) rest af fault e h = no_line (text_line Script f) fault (text_line_is_fault Script f) e h
-ends_clean pairs Nil None (Cons a rest) af fault e h = no_line (lines.ExtraAnswer (answers_taken pairs + 1)) fault refl e h
-ends_clean pairs Nil None Nil (Some f) fault e h = no_line (text_line Answers f) fault (text_line_is_fault Answers f) e h
-ends_clean pairs Nil None Nil None fault e h = record { trees = refl; script = refl; left = refl; answers = refl; none = cc }
+exit_line : {P : Type 0} (start : Bool) (b : Bool) (pairs : List Pair) (r : Result Command CommandFault) (rest : Sexps) (af : Option TextFault) (fault : Option Line)
+    → cond b (Stop (Some (lines.CommandFault (length pairs + 1) AfterExit))) (step_of_command start pairs r rest af) ≡ Stop fault → list_any is_fault_line (lines_of_end fault) ≡ false → P
+exit_line start true pairs r rest af fault e h = no_line (lines.CommandFault (length pairs + 1) AfterExit) fault refl e h
+exit_line start false pairs r rest af fault e h = command_line start pairs r rest af fault e h
+
+pub ends_clean : (start : Bool) (pairs : List Pair) (later : Sexps) (sf : Option TextFault) (rest : Sexps) (af : Option TextFault) (fault : Option Line) → step_after start pairs later sf rest af ≡ Stop fault → list_any is_fault_line (lines_of_end fault) ≡ false → IsClean later sf rest af fault
+ends_clean start pairs (Cons t ts) sf rest af fault e h = exit_line start (has_exited_after pairs) pairs (command_of t) rest af fault e h
+ends_clean start pairs Nil (Some f) rest af fault e h = no_line (text_line Script f) fault (text_line_is_fault Script f) e h
+ends_clean start pairs Nil None (Cons a rest) af fault e h = no_line (lines.ExtraAnswer (answers_taken pairs + 1)) fault refl e h
+ends_clean start pairs Nil None Nil (Some f) fault e h = no_line (text_line Answers f) fault (text_line_is_fault Answers f) e h
+ends_clean start pairs Nil None Nil None fault e h = record { trees = refl; script = refl; left = refl; answers = refl; none = cc }

@@ -1,5 +1,5 @@
 -- What is in force behind a command that brings nothing.
-use Rattle.std.proofs.Common.{◌≡◌, ◌≤◌, ℕ, ◌+◌, Bool, true, false, cond, not, ◌&&◌, List, [], ◌∷◌, ◌++◌, refl, ap, sym, ◌∙◌, subst, arith, append_assoc}
+use Rattle.std.proofs.Common.{◌≡◌, ◌≤◌, ℕ, ◌+◌, Bool, true, false, cond, not, ◌&&◌, List, [], ◌∷◌, ◌++◌, Option, refl, ap, sym, ◌∙◌, subst, arith, append_assoc}
 use Rattle.std.specs.Prelude.{nat_le}
 use Rattle.std.specs.List.{flat_map, list_all}
 use Rattle.std.proofs.lemmas.List.{append-nil}
@@ -8,7 +8,8 @@ use Rattle.std.proofs.lemmas.List.Sums.{fold-append}
 use Rattle.smt_theory.specs.declared.sort.Sort.{Sort}
 use Rattle.smt_theory.specs.declared.theories.Theories.{Theories}
 use Rattle.smt_terms.specs.Signature.{Entry, Signature}
-use Rattle.smt_script.specs.Command.{Command, CheckSat, GetModel}
+use Rattle.smt_text.specs.Sexp.{Sexp}
+use Rattle.smt_script.specs.Command.{Command, Query, SetPrintSuccess, SetOption, SetInfo, Exit, CheckSat, GetModel, Echo, Get}
 use Rattle.smt_script.specs.Stack.{Brought, Numbered, abbreviations_by, abbreviations_of, all_theories, assertions_by, assertions_in_force, assertions_of, brought_by, brought_from, depth_after, depth_in_force, entries_by, entries_of, history, in_force, is_reset, signature_in_force, signature_of, stands_after, theories_after, theories_in_force}
 
 -- a command that changes no level and no theories, and brings nothing
@@ -20,25 +21,33 @@ pub record IsQuiet (c : Command) : Type 0 where
   pub abbreviations : (s : Signature) → abbreviations_by s c ≡ []
   pub assertions : (n : ℕ) → assertions_by n c ≡ []
 
+-- so is each that computes to that
+quiet : {c : Command} → ((d : ℕ) → depth_after d c ≡ d) → is_reset c ≡ false → ((t : Theories) → theories_after t c ≡ t) → ((s : Signature) (n : ℕ) → entries_by s n c ≡ []) → ((s : Signature) → abbreviations_by s c ≡ []) → ((n : ℕ) → assertions_by n c ≡ []) → IsQuiet c
+quiet level resets theories entries abbreviations assertions = record { level = level; resets = resets; theories = theories; entries = entries; abbreviations = abbreviations; assertions = assertions }
+
 pub check_is_quiet : IsQuiet CheckSat
-check_is_quiet = record {
-  level = λ d. refl;
-  resets = refl;
-  theories = λ t. refl;
-  entries = λ s n. refl;
-  abbreviations = λ s. refl;
-  assertions = λ n. refl;
-}
+check_is_quiet = quiet (λ d. refl) refl (λ t. refl) (λ s n. refl) (λ s. refl) (λ n. refl)
 
 pub model_is_quiet : IsQuiet GetModel
-model_is_quiet = record {
-  level = λ d. refl;
-  resets = refl;
-  theories = λ t. refl;
-  entries = λ s n. refl;
-  abbreviations = λ s. refl;
-  assertions = λ n. refl;
-}
+model_is_quiet = quiet (λ d. refl) refl (λ t. refl) (λ s n. refl) (λ s. refl) (λ n. refl)
+
+pub exit_is_quiet : IsQuiet Exit
+exit_is_quiet = quiet (λ d. refl) refl (λ t. refl) (λ s n. refl) (λ s. refl) (λ n. refl)
+
+pub echo_is_quiet : (text : List ℕ) → IsQuiet (Echo text)
+echo_is_quiet text = quiet (λ d. refl) refl (λ t. refl) (λ s n. refl) (λ s. refl) (λ n. refl)
+
+pub query_is_quiet : (query : Query) → IsQuiet (Get query)
+query_is_quiet query = quiet (λ d. refl) refl (λ t. refl) (λ s n. refl) (λ s. refl) (λ n. refl)
+
+pub print_success_is_quiet : (on : Bool) → IsQuiet (SetPrintSuccess on)
+print_success_is_quiet on = quiet (λ d. refl) refl (λ t. refl) (λ s n. refl) (λ s. refl) (λ n. refl)
+
+pub option_is_quiet : (keyword : List ℕ) (value : Option Sexp) → IsQuiet (SetOption keyword value)
+option_is_quiet keyword value = quiet (λ d. refl) refl (λ t. refl) (λ s n. refl) (λ s. refl) (λ n. refl)
+
+pub info_is_quiet : (keyword : List ℕ) (value : Option Sexp) → IsQuiet (SetInfo keyword value)
+info_is_quiet keyword value = quiet (λ d. refl) refl (λ t. refl) (λ s n. refl) (λ s. refl) (λ n. refl)
 
 -- ## What stands at the end is within the last level
 

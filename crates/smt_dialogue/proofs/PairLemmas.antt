@@ -1,19 +1,24 @@
 -- Laws of pairs side by side: what they bring, take and print.
-use Rattle.std.proofs.Common.{◌≡◌, ◌≤◌, ◌+◌, ℕ, suc, Bool, true, false, not, ◌||◌, List, [], ◌∷◌, ◌++◌, length, Option, Some, None, cond, codes, refl, ap, sym, ◌∙◌, arith, append_assoc}
+use Rattle.std.proofs.Common.{◌≡◌, ◌≤◌, ◌+◌, ℕ, suc, Bool, true, false, List, [], ◌∷◌, ◌++◌, length, Option, Some, None, cond, refl, ap, sym, ◌∙◌, arith, append_assoc}
 use Rattle.std.proofs.lemmas.List.{append-nil}
-use Rattle.smt_text.specs.Sexp.{Sexp, Sexps, Atom, Reserved, Items, Nil, Cons, is_symbol}
+use Rattle.smt_text.specs.Sexp.{Sexp, Sexps, Atom, Reserved, Items, is_symbol}
 use Rattle.smt_text.specs.Sexp as sexp
 use Rattle.smt_terms.proofs.NameLemmas.{same_name}
 use Rattle.smt_script.specs.Command.{Command, SetLogic, SetPrintSuccess, SetOption, SetInfo, DeclareConst, DeclareFun, DefineFun, DefineSort, Assert, Push, Pop, Reset, ResetAssertions, Exit, CheckSat, GetModel, Echo, Get}
 use Rattle.smt_script.specs.Stack.{Numbered, assertions_in_force, signature_in_force}
-use Rattle.smt_dialogue.proofs.InForceLemmas.{assertions-quiet, check_is_quiet, model_is_quiet, signature-quiet}
-use Rattle.smt_dialogue.specs.Answers.{fits, is_effective_with, is_model, is_refusal, takes}
-use Rattle.smt_dialogue.specs.InForce.{AreFaultless, assertions_after, effective_commands, effective_from, fault_of_pair, signature_after}
+use Rattle.smt_dialogue.proofs.InForceLemmas.{IsQuiet, assertions-quiet, signature-quiet}
+use Rattle.smt_dialogue.specs.Answers.{Takes, Unfit, has_form, need_of, taken}
+use Rattle.smt_dialogue.specs.InForce.{AreFaultless, assertions_after, fault_of_pair, has_exited_after, need_after, signature_after}
+use Rattle.smt_dialogue.specs.Internal.ChecksState.{IsAnswered}
 use Rattle.smt_dialogue.specs.Lines.{checks_in, is_check, lines_in, lines_of_pair}
-use Rattle.smt_dialogue.specs.Pairing.{AllFit, Pair, answer_count, answered_by, answers_taken, answers_then, is_effective, with_answer}
+use Rattle.smt_dialogue.specs.Pairing.{AllTake}
+use Rattle.smt_dialogue.specs.Pairs.{Pair, answer_count, answers_taken, answers_then, effective_commands, effective_from, is_effective, next_of, numbered_if, with_answer}
+use Rattle.smt_dialogue.specs.declared.answer.AnswerForm.{AnswerForm}
+use Rattle.smt_dialogue.specs.declared.answer.AnswerForm.TheVariants.{Check}
+use Rattle.smt_dialogue.specs.declared.answer.Need.TheVariants.{Needed}
 use Rattle.smt_report.specs.declared.line.Line.{Line}
 
--- ## Answers that commands take are no refusals
+-- ## What answers are
 
 pub is_word : (word : List ℕ) (a : Sexp) → is_symbol word a ≡ true → (x : List ℕ) × (a ≡ Atom sexp.Symbol x) × (x ≡ word)
 is_word word (Atom sexp.Symbol x) h = (x, refl, same_name x word h)
@@ -26,80 +31,83 @@ is_word word (Atom sexp.Keyword x) h = cc
 is_word word (Reserved w) h = cc
 is_word word (Items parts) h = cc
 
--- a word but `unsupported` is no refusal
-pub word_is_effective : (word : List ℕ) (a : Sexp) → is_refusal (Atom sexp.Symbol word) ≡ false → is_symbol word a ≡ true → is_effective_with (Some a) ≡ true
-word_is_effective word a other h =
-    let w = is_word word a h in
-    let e : a ≡ Atom sexp.Symbol word = w.1 ∙ ap (λ (x : List ℕ). Atom sexp.Symbol x) w.2 in
-    rw e (ap not other)
+-- what is taken where an answer is needed is one of its form
+pub needed_takes : (form : AnswerForm) (next answer : Option Sexp) → taken (Needed form) next ≡ Takes answer → (a : Sexp) × (answer ≡ Some a) × (has_form form a ≡ true)
+needed_takes form None answer h = absurd (cc)
+needed_takes form (Some a) answer h = by (has_form form a) refl h
+  where
+    by : (b : Bool) → has_form form a ≡ b → cond b (Takes (Some a)) Unfit ≡ Takes answer → (x : Sexp) × (answer ≡ Some x) × (has_form form x ≡ true)
+    by true is e = (a, cc, is)
+    by false is e = absurd (cc)
 
-pub model_is_effective : (a : Sexp) → is_model a ≡ true → is_effective_with (Some a) ≡ true
-model_is_effective (Items parts) h = h
-model_is_effective (Reserved w) h = cc
-model_is_effective (Atom kind x) h = cc
-
-pub or_cases : (a b : Bool) (P : Type 0) → (a ≡ true → P) → (b ≡ true → P) → a || b ≡ true → P
-or_cases true b P f g h = f refl
-or_cases false b P f g h = g h
-
-pub taken_is_effective : (c : Command) (a : Sexp) → takes c a ≡ true → is_effective_with (Some a) ≡ true
-taken_is_effective (SetLogic name) a h = word_is_effective (codes "success") a refl h
-taken_is_effective (SetPrintSuccess on) a h = cc
-taken_is_effective (SetOption keyword value) a h = cc
-taken_is_effective (SetInfo keyword value) a h = cc
-taken_is_effective (DeclareConst x sort) a h = word_is_effective (codes "success") a refl h
-taken_is_effective (DeclareFun x parameters sort) a h = word_is_effective (codes "success") a refl h
-taken_is_effective (DefineFun x parameters sort body) a h = word_is_effective (codes "success") a refl h
-taken_is_effective (DefineSort x sort) a h = word_is_effective (codes "success") a refl h
-taken_is_effective (Assert term) a h = word_is_effective (codes "success") a refl h
-taken_is_effective (Push levels) a h = word_is_effective (codes "success") a refl h
-taken_is_effective (Pop levels) a h = word_is_effective (codes "success") a refl h
-taken_is_effective Reset a h = word_is_effective (codes "success") a refl h
-taken_is_effective ResetAssertions a h = word_is_effective (codes "success") a refl h
-taken_is_effective Exit a h = cc
-taken_is_effective (Echo text) a h = cc
-taken_is_effective (Get query) a h = cc
-taken_is_effective CheckSat a h =
-    or_cases (is_symbol (codes "sat") a || is_symbol (codes "unsat") a) (is_symbol (codes "unknown") a) _
-    (or_cases (is_symbol (codes "sat") a) (is_symbol (codes "unsat") a) _ (word_is_effective (codes "sat") a refl) (word_is_effective (codes "unsat") a refl))
-    (word_is_effective (codes "unknown") a refl) h
-taken_is_effective GetModel a h = model_is_effective a h
+-- so a check has one of the answers of checks
+pub check_answered : (on : Bool) (c : Command) (next answer : Option Sexp) → taken (need_of on c) next ≡ Takes answer → IsAnswered c answer
+check_answered on (SetLogic name) next answer h = tt
+check_answered on (SetPrintSuccess value) next answer h = tt
+check_answered on (SetOption keyword value) next answer h = tt
+check_answered on (SetInfo keyword value) next answer h = tt
+check_answered on (DeclareConst x sort) next answer h = tt
+check_answered on (DeclareFun x parameters sort) next answer h = tt
+check_answered on (DefineFun x parameters sort body) next answer h = tt
+check_answered on (DefineSort x sort) next answer h = tt
+check_answered on (Assert term) next answer h = tt
+check_answered on (Push levels) next answer h = tt
+check_answered on (Pop levels) next answer h = tt
+check_answered on Reset next answer h = tt
+check_answered on ResetAssertions next answer h = tt
+check_answered on Exit next answer h = tt
+check_answered on (Echo text) next answer h = tt
+check_answered on (Get query) next answer h = tt
+check_answered on GetModel next answer h = tt
+check_answered on CheckSat next answer h = needed_takes Check next answer h
 
 -- ## Pairs side by side
 
 pub effective_from-append : (n : ℕ) (xs ys : List Pair) → effective_from n (xs ++ ys) ≡ effective_from n xs ++ effective_from (n + length xs) ys
 effective_from-append n [] ys = ap (λ (k : ℕ). effective_from k ys) (omega arith)
 effective_from-append n (x ∷ xs) ys =
-    let here = cond (is_effective x) (record { number = n; command = x.command } ∷ []) [] in
+    let here = numbered_if (is_effective x) n x.command in
     ap (λ (cs : List Numbered). here ++ cs) (effective_from-append (n + 1) xs ys ∙ ap (λ (k : ℕ). effective_from (n + 1) xs ++ effective_from k ys) (omega arith))
     ∙ sym (append_assoc here (effective_from (n + 1) xs) (effective_from (n + suc (length xs)) ys))
 
-effective_here : (b : Bool) (c : Numbered) → b ≡ true → cond b (c ∷ []) [] ++ [] ≡ c ∷ []
-effective_here b c h = rw h refl
+-- one more pair brings its command, where it took effect
+pub effective_commands-push : (pairs : List Pair) (p : Pair) → effective_commands (pairs ++ p ∷ []) ≡ effective_commands pairs ++ numbered_if (is_effective p) (length pairs + 1) p.command
+effective_commands-push pairs p =
+    effective_from-append 1 pairs (p ∷ [])
+    ∙ ap (λ (cs : List Numbered). effective_commands pairs ++ cs) (append-nil (numbered_if (is_effective p) (1 + length pairs) p.command))
+    ∙ ap (λ (n : ℕ). effective_commands pairs ++ numbered_if (is_effective p) n p.command) (omega arith)
 
--- one more pair whose command took its answer
-pub effective_commands-push : (pairs : List Pair) (c : Command) (a : Sexp) → takes c a ≡ true → effective_commands (pairs ++ answered_by c a ∷ []) ≡ effective_commands pairs ++ record { number = length pairs + 1; command = c } ∷ []
-effective_commands-push pairs c a h =
-    effective_from-append 1 pairs (answered_by c a ∷ [])
-    ∙ ap (λ (cs : List Numbered). effective_commands pairs ++ cs) (effective_here (is_effective (answered_by c a)) (record { number = 1 + length pairs; command = c }) (taken_is_effective c a h))
-    ∙ ap (λ (n : ℕ). effective_commands pairs ++ record { number = n; command = c } ∷ []) (omega arith)
+-- a pair whose command brings nothing, or took no effect, changes nothing that is in force
+quiet_if : {A : Type 0} (f : List Numbered → A) (b : Bool) (n : ℕ) (c : Command) (cs : List Numbered) → f (cs ++ record { number = n; command = c } ∷ []) ≡ f cs → f (cs ++ numbered_if b n c) ≡ f cs
+quiet_if f true n c cs quiet = quiet
+quiet_if f false n c cs quiet = ap f (append-nil cs)
 
--- a check and a model change nothing that is in force
-pub signature_after-check : (pairs : List Pair) (a : Sexp) → takes CheckSat a ≡ true → signature_after (pairs ++ answered_by CheckSat a ∷ []) ≡ signature_after pairs
-signature_after-check pairs a h =
-    ap signature_in_force (effective_commands-push pairs CheckSat a h) ∙ signature-quiet (effective_commands pairs) (record { number = length pairs + 1; command = CheckSat }) check_is_quiet
+none_if : {A : Type 0} (f : List Numbered → A) (b : Bool) (n : ℕ) (c : Command) (cs : List Numbered) → b ≡ false → f (cs ++ numbered_if b n c) ≡ f cs
+none_if f b n c cs h = rw h (ap f (append-nil cs))
 
-pub signature_after-model : (pairs : List Pair) (a : Sexp) → takes GetModel a ≡ true → signature_after (pairs ++ answered_by GetModel a ∷ []) ≡ signature_after pairs
-signature_after-model pairs a h =
-    ap signature_in_force (effective_commands-push pairs GetModel a h) ∙ signature-quiet (effective_commands pairs) (record { number = length pairs + 1; command = GetModel }) model_is_quiet
+-- a pair that changes nothing that is in force
+pub record IsIdle (pairs : List Pair) (p : Pair) : Type 0 where
+  pub signature : signature_after (pairs ++ p ∷ []) ≡ signature_after pairs
+  pub assertions : assertions_after (pairs ++ p ∷ []) ≡ assertions_after pairs
 
-pub assertions_after-check : (pairs : List Pair) (a : Sexp) → takes CheckSat a ≡ true → assertions_after (pairs ++ answered_by CheckSat a ∷ []) ≡ assertions_after pairs
-assertions_after-check pairs a h =
-    ap assertions_in_force (effective_commands-push pairs CheckSat a h) ∙ assertions-quiet (effective_commands pairs) (record { number = length pairs + 1; command = CheckSat }) check_is_quiet
+pub quiet_is_idle : (pairs : List Pair) (p : Pair) → IsQuiet p.command → IsIdle pairs p
+quiet_is_idle pairs p quiet =
+    let cs = effective_commands pairs in
+    let n = length pairs + 1 in
+    let c : Numbered = record { number = n; command = p.command } in
+    record {
+      signature = ap signature_in_force (effective_commands-push pairs p) ∙ quiet_if signature_in_force (is_effective p) n p.command cs (signature-quiet cs c quiet);
+      assertions = ap assertions_in_force (effective_commands-push pairs p) ∙ quiet_if assertions_in_force (is_effective p) n p.command cs (assertions-quiet cs c quiet);
+    }
 
-pub assertions_after-model : (pairs : List Pair) (a : Sexp) → takes GetModel a ≡ true → assertions_after (pairs ++ answered_by GetModel a ∷ []) ≡ assertions_after pairs
-assertions_after-model pairs a h =
-    ap assertions_in_force (effective_commands-push pairs GetModel a h) ∙ assertions-quiet (effective_commands pairs) (record { number = length pairs + 1; command = GetModel }) model_is_quiet
+pub refused_is_idle : (pairs : List Pair) (p : Pair) → is_effective p ≡ false → IsIdle pairs p
+refused_is_idle pairs p h =
+    let cs = effective_commands pairs in
+    let n = length pairs + 1 in
+    record {
+      signature = ap signature_in_force (effective_commands-push pairs p) ∙ none_if signature_in_force (is_effective p) n p.command cs h;
+      assertions = ap assertions_in_force (effective_commands-push pairs p) ∙ none_if assertions_in_force (is_effective p) n p.command cs h;
+    }
 
 pub checks_in-append : (xs ys : List Pair) → checks_in (xs ++ ys) ≡ checks_in xs + checks_in ys
 checks_in-append [] ys = omega arith
@@ -139,10 +147,19 @@ pub answers_then-append : (xs ys : List Pair) (rest : Sexps) → answers_then (x
 answers_then-append [] ys rest = refl
 answers_then-append (x ∷ xs) ys rest = ap (with_answer x.answer) (answers_then-append xs ys rest)
 
-pub AllFit-append : (xs : List Pair) (y : Pair) → AllFit xs → fits y.command y.answer ≡ true → AllFit (xs ++ y ∷ [])
-AllFit-append [] y all one = (one, tt)
-AllFit-append (x ∷ xs) y all one = (all.0, AllFit-append xs y all.1 one)
+-- the pairs and one more take what they have, where the one takes it of what they leave
+pub AllTake-append : (start : Bool) (before xs : List Pair) (y : Pair) (rest left : Sexps) → AllTake start before xs rest → rest ≡ with_answer y.answer left
+    → taken (need_after start (before ++ xs) y.command) (next_of rest) ≡ Takes y.answer → AllTake start before (xs ++ y ∷ []) left
+AllTake-append start before [] y rest left all next one =
+    (ap (λ (r : Sexps). taken (need_after start before y.command) (next_of r)) (sym next) ∙ rw (append-nil before) at one, tt)
+AllTake-append start before (x ∷ xs) y rest left all next one =
+    let same : answers_then (x ∷ (xs ++ y ∷ [])) left ≡ answers_then (x ∷ xs) rest =
+    ap (with_answer x.answer) (answers_then-append xs (y ∷ []) left ∙ ap (answers_then xs) (sym next)) in (
+      ap (λ (r : Sexps). taken (need_after start before x.command) (next_of r)) same ∙ all.0,
+      AllTake-append start (before ++ x ∷ []) xs y rest left all.1 next (rw (append_assoc before (x ∷ []) xs) one),
+    )
 
-pub AreFaultless-append : (before xs : List Pair) (y : Pair) → AreFaultless before xs → fault_of_pair (before ++ xs) y ≡ None → AreFaultless before (xs ++ y ∷ [])
-AreFaultless-append before [] y all one = (rw (append-nil before) at one, tt)
-AreFaultless-append before (x ∷ xs) y all one = (all.0, AreFaultless-append (before ++ x ∷ []) xs y all.1 (rw (append_assoc before (x ∷ []) xs) one))
+pub AreFaultless-append : (before xs : List Pair) (y : Pair) → AreFaultless before xs → has_exited_after (before ++ xs) ≡ false → fault_of_pair (before ++ xs) y ≡ None → AreFaultless before (xs ++ y ∷ [])
+AreFaultless-append before [] y all goes_on one = (rw (append-nil before) at goes_on, rw (append-nil before) at one, tt)
+AreFaultless-append before (x ∷ xs) y all goes_on one =
+    (all.0, all.1, AreFaultless-append (before ++ x ∷ []) xs y all.2 (rw (append_assoc before (x ∷ []) xs) goes_on) (rw (append_assoc before (x ∷ []) xs) one))

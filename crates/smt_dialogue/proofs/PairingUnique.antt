@@ -1,10 +1,12 @@
 -- There is one pairing.
-use Rattle.std.proofs.Common.{◌≡◌, suc, true, List, [], ◌∷◌, length, Option, Some, None, Result, Ok, refl, ap, sym, ◌∙◌, arith}
+use Rattle.std.proofs.Common.{◌≡◌, suc, Bool, List, [], ◌∷◌, ◌++◌, length, Option, Some, None, Result, Ok, refl, ap, sym, ◌∙◌, subst, arith}
 use Rattle.smt_text.specs.Sexp.{Sexp, Sexps, Nil, Cons, count}
 use Rattle.smt_script.specs.Command.{Command}
 use Rattle.smt_script.specs.declared.fault.CommandFault.{CommandFault}
-use Rattle.smt_dialogue.specs.Answers.{fits}
-use Rattle.smt_dialogue.specs.Pairing.{AllFit, AreCommands, Pair, answers_then, with_answer}
+use Rattle.smt_dialogue.specs.Answers.{Taken, Takes, taken}
+use Rattle.smt_dialogue.specs.InForce.{need_after}
+use Rattle.smt_dialogue.specs.Pairing.{AllTake, AreCommands}
+use Rattle.smt_dialogue.specs.Pairs.{Pair, answers_then, next_of, with_answer}
 
 pub pair_same : (x y : Pair) → x.command ≡ y.command → x.answer ≡ y.answer → x ≡ y
 pair_same x y e f =
@@ -13,29 +15,43 @@ pair_same x y e f =
     let second : through ≡ y = ap (λ (a : Option Sexp). record { command = y.command; answer = a }) f in
     first ∙ second
 
-pub some_answer : (c : Command) (o : Option Sexp) → fits c o ≡ true → (a : Sexp) × (o ≡ Some a)
-some_answer c None h = absurd (cc)
-some_answer c (Some a) h = (a, refl)
+pub takes_same : {a b : Option Sexp} → Takes a ≡ Takes b → a ≡ b
+takes_same h = cc
+
+pub ok_same : {a b : Command} → ◌≡◌ {A = Result Command CommandFault} (Ok a) (Ok b) → a ≡ b
+ok_same h = cc
+
+pub left_same : (o : Option Sexp) (xs ys : Sexps) → with_answer o xs ≡ with_answer o ys → xs ≡ ys
+left_same None xs ys h = h
+left_same (Some a) xs ys h = cc
+
+-- the first of two pairings of the same trees and answers are the same, and leave the same
+pub record AreAlike (x y : Pair) (xs ys : List Pair) (rest rest' : Sexps) : Type 0 where
+  pub same : x ≡ y
+  pub left : answers_then xs rest ≡ answers_then ys rest'
+
+pub alike : (start : Bool) (before : List Pair) (x y : Pair) (xs ys : List Pair) (answers rest rest' : Sexps) → x.command ≡ y.command → answers ≡ answers_then (x ∷ xs) rest → answers ≡ answers_then (y ∷ ys) rest'
+    → taken (need_after start before x.command) (next_of (answers_then (x ∷ xs) rest)) ≡ Takes x.answer → taken (need_after start before y.command) (next_of (answers_then (y ∷ ys) rest')) ≡ Takes y.answer → AreAlike x y xs ys rest rest'
+alike start before x y xs ys answers rest rest' command a b f g =
+    let both : answers_then (x ∷ xs) rest ≡ answers_then (y ∷ ys) rest' = sym a ∙ b in
+    let answer : x.answer ≡ y.answer =
+    takes_same (sym f ∙ ap (λ (c : Command). taken (need_after start before c) (next_of (answers_then (x ∷ xs) rest))) command ∙ ap (λ (r : Sexps). taken (need_after start before y.command) (next_of r)) both ∙ g) in
+    record {
+      same = pair_same x y command answer;
+      left = left_same y.answer (answers_then xs rest) (answers_then ys rest') (ap (λ (o : Option Sexp). with_answer o (answers_then xs rest)) (sym answer) ∙ both);
+    }
 
 -- pairs of as many commands, with the same trees and answers, are the same, and leave the same
-pub one_pairing : (xs ys : List Pair) (trees later later' answers rest rest' : Sexps) → length xs ≡ length ys → AreCommands xs trees later → AreCommands ys trees later' → answers ≡ answers_then xs rest → answers ≡ answers_then ys rest' → AllFit xs → AllFit ys → (xs ≡ ys) × (later ≡ later') × (rest ≡ rest')
-one_pairing [] [] trees later later' answers rest rest' len c d a b f g = (refl, sym c ∙ d, sym a ∙ b)
-one_pairing [] (y ∷ ys) trees later later' answers rest rest' len c d a b f g = absurd (omega arith)
-one_pairing (x ∷ xs) [] trees later later' answers rest rest' len c d a b f g = absurd (omega arith)
-one_pairing (x ∷ xs) (y ∷ ys) Nil later later' answers rest rest' len c d a b f g = absurd c
-one_pairing (x ∷ xs) (y ∷ ys) (Cons t ts) later later' answers rest rest' len c d a b f g =
-    let p = some_answer x.command x.answer f.0 in
-    let q = some_answer y.command y.answer g.0 in
-    let e1 : answers ≡ Cons p.0 (answers_then xs rest) = a ∙ ap (λ (o : Option Sexp). with_answer o (answers_then xs rest)) p.1 in
-    let e2 : answers ≡ Cons q.0 (answers_then ys rest') = b ∙ ap (λ (o : Option Sexp). with_answer o (answers_then ys rest')) q.1 in
-    let e : Cons p.0 (answers_then xs rest) ≡ Cons q.0 (answers_then ys rest') = sym e1 ∙ e2 in
-    let same_answer : p.0 ≡ q.0 = cc in
-    let same_rest : answers_then xs rest ≡ answers_then ys rest' = cc in
-    let read : ◌≡◌ {A = Result Command CommandFault} (Ok x.command) (Ok y.command) = sym c.0 ∙ d.0 in
-    let same_command : x.command ≡ y.command = cc in
-    let tail = one_pairing xs ys ts later later' (answers_then xs rest) rest rest' (omega arith) c.1 d.1 refl same_rest f.1 g.1 in
-    let head : x ≡ y = pair_same x y same_command (p.1 ∙ ap (λ (s : Sexp). Some s) same_answer ∙ sym q.1) in
-    (ap (λ (z : Pair). z ∷ xs) head ∙ ap (λ (zs : List Pair). y ∷ zs) tail.0, tail.1, tail.2)
+pub one_pairing : (start : Bool) (before xs ys : List Pair) (trees later later' answers rest rest' : Sexps) → length xs ≡ length ys → AreCommands xs trees later → AreCommands ys trees later' → answers ≡ answers_then xs rest → answers ≡ answers_then ys rest' → AllTake start before xs rest → AllTake start before ys rest' → (xs ≡ ys) × (later ≡ later') × (rest ≡ rest')
+one_pairing start before [] [] trees later later' answers rest rest' len c d a b f g = (refl, sym c ∙ d, sym a ∙ b)
+one_pairing start before [] (y ∷ ys) trees later later' answers rest rest' len c d a b f g = absurd (omega arith)
+one_pairing start before (x ∷ xs) [] trees later later' answers rest rest' len c d a b f g = absurd (omega arith)
+one_pairing start before (x ∷ xs) (y ∷ ys) Nil later later' answers rest rest' len c d a b f g = absurd c
+one_pairing start before (x ∷ xs) (y ∷ ys) (Cons t ts) later later' answers rest rest' len c d a b f g =
+    let head = alike start before x y xs ys answers rest rest' (ok_same (sym c.0 ∙ d.0)) a b f.0 g.0 in
+    let others : AllTake start (before ++ x ∷ []) ys rest' = subst (λ (z : Pair). AllTake start (before ++ z ∷ []) ys rest') (sym head.same) g.1 in
+    let tail = one_pairing start (before ++ x ∷ []) xs ys ts later later' (answers_then xs rest) rest rest' (omega arith) c.1 d.1 refl head.left f.1 others in
+    (ap (λ (z : Pair). z ∷ xs) head.same ∙ ap (λ (zs : List Pair). y ∷ zs) tail.0, tail.1, tail.2)
 
 -- pairs of all the commands are as many as the trees
 pub all_commands : (xs : List Pair) (trees : Sexps) → AreCommands xs trees Nil → length xs ≡ count trees

@@ -1,72 +1,89 @@
 -- How the turns of a dialogue go on, and what they come to.
-use Rattle.std.proofs.Common.{◌≡◌, ◌≤◌, ◌<◌, ◌+◌, ℕ, true, List, [], ◌∷◌, ◌++◌, length, Option, Some, None, Result, Ok, Err, refl, ap, sym, ◌∙◌, arith, length-append}
+use Rattle.std.proofs.Common.{◌≡◌, ◌≤◌, ◌<◌, ◌+◌, ℕ, Bool, true, false, List, [], ◌∷◌, ◌++◌, length, Option, Some, None, Result, Ok, Err, refl, ap, sym, ◌∙◌, arith, length-append}
 use Rattle.smt_text.specs.Sexp.{Sexp, Sexps, Nil, Cons}
 use Rattle.smt_text.specs.Tree.{sexps_of}
 use Rattle.smt_text.specs.declared.tree.Tree.{Tree}
 use Rattle.smt_report.specs.declared.line.Line.TheVariants.{ExtraAnswer}
+use Rattle.smt_report.specs.declared.line.Line.TheVariants as lines
 use Rattle.smt_text.specs.declared.fault.TextFault.{TextFault}
-use Rattle.smt_dialogue.proofs.PairLemmas.{AllFit-append, AreFaultless-append, answers_taken-le, answers_then-append, checks_in-le}
+use Rattle.smt_dialogue.proofs.PairLemmas.{AllTake-append, AreFaultless-append, answers_taken-le, answers_then-append, checks_in-le}
 use Rattle.std.specs.Result.{IfOk}
 use Rattle.smt_eval.specs.declared.memory.Memory.{Memory}
-use Rattle.smt_script.specs.Command.{Command}
+use Rattle.smt_script.specs.Command.{Command, command_of}
 use Rattle.smt_script.specs.declared.fault.CommandFault.{CommandFault}
-use Rattle.smt_dialogue.specs.Answers.{answered_command, takes}
+use Rattle.smt_script.specs.declared.fault.CommandFault.TheVariants.{AfterExit}
+use Rattle.smt_dialogue.specs.Answers.{Taken, Takes, Unfit, taken}
 use Rattle.smt_script.specs.StackView.{last_of}
-use Rattle.smt_dialogue.specs.FirstFault.{Stop, end_without_fault, step_after, step_of_tree}
+use Rattle.smt_dialogue.specs.FirstFault.{Stop, end_without_fault, step_after, step_of_command, step_of_taken}
+use Rattle.smt_dialogue.specs.InForce.{has_exited_after, need_after}
 use Rattle.smt_dialogue.specs.Report.{lines_of_end}
 use Rattle.smt_dialogue.specs.Lines.{lines_in}
 use Rattle.smt_report.specs.Verdict.{verdict_of, with_verdict}
-use Rattle.smt_dialogue.specs.Pairing.{AreCommands, Pair, answered_by, answers_taken, answers_then}
+use Rattle.smt_dialogue.specs.Pairing.{AreCommands}
+use Rattle.smt_dialogue.specs.Pairs.{Pair, answers_taken, answers_then, next_of, pair_of, with_answer}
 use Rattle.smt_dialogue.specs.Internal.DialogueState.{State, StandsFor}
-use Rattle.smt_dialogue.specs.Internal.Steps.{EndsAt, IsAccepted, IsJudged, IsStep, SoFar, TakesUp}
+use Rattle.smt_dialogue.specs.Internal.Steps.{EndsAt, IsAccepted, IsJudged, IsStep, IsUnfit, SoFar, TakesUp}
+use Rattle.smt_dialogue.specs.declared.answer.AnswerForm.{AnswerForm}
+use Rattle.smt_dialogue.specs.declared.answer.Need.TheVariants.{Needed}
 use Rattle.smt_report.specs.declared.line.Line.{Line}
+use Rattle.smt_report.specs.declared.report.Report.{Report}
 use Rattle.smt_report.specs.declared.verdict.Verdict.{Verdict}
 
 -- before the first turn
-pub so_far-start : (s : State) (script answers : Sexps) → StandsFor s [] → SoFar s script script answers answers
-so_far-start s script answers stands = record {
+pub so_far-start : (start : Bool) (s : State) (script answers : Sexps) → StandsFor s [] → SoFar start s script script answers answers
+so_far-start start s script answers stands = record {
   pairs = [];
   stands = stands;
-  pairing = record { commands = refl; answered = refl; fit = tt };
+  pairing = record { commands = refl; answered = refl; taken_so = tt };
   faultless = tt;
 }
 
-pub AreCommands-push : (pairs : List Pair) (p : Pair) (trees : Sexps) (tree : Sexp) (later : Sexps) → AreCommands pairs trees (Cons tree later) → answered_command tree ≡ Ok p.command → AreCommands (pairs ++ p ∷ []) trees later
+pub AreCommands-push : (pairs : List Pair) (p : Pair) (trees : Sexps) (tree : Sexp) (later : Sexps) → AreCommands pairs trees (Cons tree later) → command_of tree ≡ Ok p.command → AreCommands (pairs ++ p ∷ []) trees later
 AreCommands-push [] p Nil tree later h read = cc
-AreCommands-push [] p (Cons t ts) tree later h read = (let same : t ≡ tree = cc in ap answered_command same ∙ read, cc)
+AreCommands-push [] p (Cons t ts) tree later h read = (let same : t ≡ tree = cc in ap command_of same ∙ read, cc)
 AreCommands-push (q ∷ qs) p Nil tree later h read = absurd h
 AreCommands-push (q ∷ qs) p (Cons t ts) tree later h read = (h.0, AreCommands-push qs p ts tree later h.1 read)
 
 -- after one more turn that took up a command
-pub so_far-push : (s t : State) (script : Sexps) (tree : Sexp) (later answers rest left : Sexps) → (g : SoFar s script (Cons tree later) answers rest) → TakesUp g.pairs tree rest left t → SoFar t script later answers left
-so_far-push s t script tree later answers rest left g u = record {
-  pairs = g.pairs ++ answered_by u.command u.answer ∷ [];
-  stands = u.stands;
-  pairing = record {
-    commands = AreCommands-push g.pairs (answered_by u.command u.answer) script tree later g.pairing.commands u.read;
-    answered = g.pairing.answered ∙ ap (answers_then g.pairs) u.next ∙ sym (answers_then-append g.pairs (answered_by u.command u.answer ∷ []) left);
-    fit = AllFit-append g.pairs (answered_by u.command u.answer) g.pairing.fit u.taken;
-  };
-  faultless = AreFaultless-append [] g.pairs (answered_by u.command u.answer) g.faultless u.faultless;
-}
+pub so_far-push : (start : Bool) (s t : State) (script : Sexps) (tree : Sexp) (later answers rest left : Sexps) → (g : SoFar start s script (Cons tree later) answers rest) → TakesUp start g.pairs tree rest left t → SoFar start t script later answers left
+so_far-push start s t script tree later answers rest left g u =
+    let p = pair_of u.command u.answer in
+    record {
+      pairs = g.pairs ++ p ∷ [];
+      stands = u.stands;
+      pairing = record {
+        commands = AreCommands-push g.pairs p script tree later g.pairing.commands u.read;
+        answered = g.pairing.answered ∙ ap (answers_then g.pairs) u.next ∙ sym (answers_then-append g.pairs (p ∷ []) left);
+        taken_so = AllTake-append start [] g.pairs p rest left g.pairing.taken_so u.next u.taken_so;
+      };
+      faultless = AreFaultless-append [] g.pairs p g.faultless u.goes_on u.faultless;
+    }
 
 -- what the turns came to, if the dialogue ends at a tree
-pub judged-at : (s t : State) (script : Sexps) (tree : Sexp) (later answers rest : Sexps) (script_fault answers_fault : Option TextFault) (line : Line) (ls : List Line) (v : Verdict) → (g : SoFar s script (Cons tree later) answers rest) → EndsAt g.pairs tree rest answers_fault line t → ((pairs : List Pair) → StandsFor t pairs → ls ≡ with_verdict (lines_in true [] pairs [] ++ lines_of_end (Some line))) → ((pairs : List Pair) → StandsFor t pairs → v ≡ verdict_of (lines_in true [] pairs [] ++ lines_of_end (Some line))) → IsJudged script answers script_fault answers_fault ls v
-judged-at s t script tree later answers rest script_fault answers_fault line ls v g e lines_are verdict_is = record {
+pub judged-at : (start : Bool) (s t : State) (script : Sexps) (tree : Sexp) (later answers rest : Sexps) (script_fault answers_fault : Option TextFault) (line : Line) (ls : List Line) (v : Verdict) → (g : SoFar start s script (Cons tree later) answers rest) → EndsAt start g.pairs tree rest answers_fault line t → ((pairs : List Pair) → StandsFor t pairs → ls ≡ with_verdict (lines_in true [] pairs [] ++ lines_of_end (Some line))) → ((pairs : List Pair) → StandsFor t pairs → v ≡ verdict_of (lines_in true [] pairs [] ++ lines_of_end (Some line))) → IsJudged start script answers script_fault answers_fault ls v
+judged-at start s t script tree later answers rest script_fault answers_fault line ls v g e lines_are verdict_is = record {
   pairs = g.pairs;
   later = Cons tree later;
   rest = rest;
   pairing = g.pairing;
   faultless = g.faultless;
   fault = Some line;
-  ends = e.ends;
+  ends = e.ends later script_fault;
   lines_are = lines_are g.pairs e.stands;
   verdict_is = verdict_is g.pairs e.stands;
 }
 
+-- the same, said of what the last call answered
+pub judged-answer : (start : Bool) (r : Result Report Memory) (s t : State) (script : Sexps) (tree : Sexp) (later answers rest : Sexps) (script_fault answers_fault : Option TextFault) (line : Line) → (g : SoFar start s script (Cons tree later) answers rest) → EndsAt start g.pairs tree rest answers_fault line t
+    → IfOk r (λ x. (pairs : List Pair) → StandsFor t pairs → x.lines.items ≡ with_verdict (lines_in true [] pairs [] ++ lines_of_end (Some line))) → IfOk r (λ x. (pairs : List Pair) → StandsFor t pairs → x.verdict ≡ verdict_of (lines_in true [] pairs [] ++ lines_of_end (Some line)))
+    → IfOk r (λ x. IsJudged start script answers script_fault answers_fault x.lines.items x.verdict)
+judged-answer start (Ok x) s t script tree later answers rest script_fault answers_fault line g e lines_are verdict_is =
+    judged-at start s t script tree later answers rest script_fault answers_fault line x.lines.items x.verdict g e lines_are verdict_is
+judged-answer start (Err x) s t script tree later answers rest script_fault answers_fault line g e lines_are verdict_is = tt
+
 -- what the turns came to, if the dialogue ends behind the last tree
-pub judged-end : (s : State) (script answers rest : Sexps) (script_fault answers_fault : Option TextFault) (fault : Option Line) (ls : List Line) (v : Verdict) → (g : SoFar s script Nil answers rest) → step_after g.pairs Nil script_fault rest answers_fault ≡ Stop fault → ((pairs : List Pair) → StandsFor s pairs → ls ≡ with_verdict (lines_in true [] pairs [] ++ lines_of_end fault)) → ((pairs : List Pair) → StandsFor s pairs → v ≡ verdict_of (lines_in true [] pairs [] ++ lines_of_end fault)) → IsJudged script answers script_fault answers_fault ls v
-judged-end s script answers rest script_fault answers_fault fault ls v g ends lines_are verdict_is = record {
+pub judged-end : (start : Bool) (s : State) (script answers rest : Sexps) (script_fault answers_fault : Option TextFault) (fault : Option Line) (ls : List Line) (v : Verdict) → (g : SoFar start s script Nil answers rest) → step_after start g.pairs Nil script_fault rest answers_fault ≡ Stop fault → ((pairs : List Pair) → StandsFor s pairs → ls ≡ with_verdict (lines_in true [] pairs [] ++ lines_of_end fault)) → ((pairs : List Pair) → StandsFor s pairs → v ≡ verdict_of (lines_in true [] pairs [] ++ lines_of_end fault)) → IsJudged start script answers script_fault answers_fault ls v
+judged-end start s script answers rest script_fault answers_fault fault ls v g ends lines_are verdict_is = record {
   pairs = g.pairs;
   later = Nil;
   rest = rest;
@@ -79,11 +96,11 @@ judged-end s script answers rest script_fault answers_fault fault ls v g ends li
 }
 
 -- no count is above that of the commands
-pub answers-le : (s : State) (script later answers rest : Sexps) → SoFar s script later answers rest → s.answers ≤ s.commands
-answers-le s script later answers rest g = omega (arith, g.stands.answers, g.stands.commands, answers_taken-le g.pairs)
+pub answers-le : (start : Bool) (s : State) (script later answers rest : Sexps) → SoFar start s script later answers rest → s.answers ≤ s.commands
+answers-le start s script later answers rest g = omega (arith, g.stands.answers, g.stands.commands, answers_taken-le g.pairs)
 
-pub checks-le : (s : State) (script later answers rest : Sexps) → SoFar s script later answers rest → s.checks.count ≤ s.commands
-checks-le s script later answers rest g = omega (arith, g.stands.checks, g.stands.commands, checks_in-le g.pairs)
+pub checks-le : (start : Bool) (s : State) (script later answers rest : Sexps) → SoFar start s script later answers rest → s.checks.count ≤ s.commands
+checks-le start s script later answers rest g = omega (arith, g.stands.checks, g.stands.commands, checks_in-le g.pairs)
 
 pub commands-push : (s t : State) (pairs : List Pair) (p : Pair) → StandsFor s pairs → StandsFor t (pairs ++ p ∷ []) → t.commands ≡ s.commands + 1
 commands-push s t pairs p before after = omega (arith, before.commands, after.commands, length-append pairs (p ∷ []))
@@ -93,28 +110,56 @@ pub left_over : (items : List Tree) (pairs : List Pair) (n : ℕ) (fault : Optio
 left_over [] pairs n fault h is = absurd (omega arith)
 left_over (x ∷ xs) pairs n fault h is = ap (λ (i : ℕ). Some (ExtraAnswer (i + 1))) (sym is)
 
--- the last command that was applied is among those that were counted
-pub last-le : (s : State) (script later answers rest : Sexps) → SoFar s script later answers rest → last_of s.stack ≤ s.commands
-last-le s script later answers rest g = g.stands.last
+-- an answer is unfit where some are left, and the next one has another form
+pub unfit_taken : (form : AnswerForm) (items : List Tree) → 0 < length items → IsUnfit form (sexps_of items) → taken (Needed form) (next_of (sexps_of items)) ≡ Unfit
+unfit_taken form [] some h = absurd (omega arith)
+unfit_taken form (x ∷ xs) some h = rw h refl
 
--- a step of a tree that is a command, with an answer that it takes
-pub step_taken : (r : Result (Option Line) Memory) (s t : State) (tree : Sexp) (answers left : Sexps) (fault : Option TextFault) (c : Command) (a : Sexp) → answered_command tree ≡ Ok c → answers ≡ Cons a left → takes c a ≡ true
-    → IfOk r (λ line. (pairs : List Pair) → StandsFor s pairs → IsAccepted line pairs c a t) → IfOk r (λ line. (pairs : List Pair) → StandsFor s pairs → IsStep line pairs tree answers fault left t)
-step_taken (Err e) s t tree answers left fault c a read next taken h = tt
-step_taken (Ok None) s t tree answers left fault c a read next taken h = λ pairs stands.
+-- the last command that was applied is among those that were counted
+pub last-le : (start : Bool) (s : State) (script later answers rest : Sexps) → SoFar start s script later answers rest → last_of s.stack ≤ s.commands
+last-le start s script later answers rest g = g.stands.last
+
+-- ## One step
+
+-- a step at a command behind an exit
+pub step_exited : (start : Bool) (s : State) (pairs : List Pair) (tree : Sexp) (answers : Sexps) (fault : Option TextFault) → StandsFor s pairs → s.commands + 1 ≡ length pairs + 1 → has_exited_after pairs ≡ true
+    → EndsAt start pairs tree answers fault (lines.CommandFault (s.commands + 1) AfterExit) s
+step_exited start s pairs tree answers fault stands number exited = record {
+  ends = λ later script_fault. rw exited (ap (λ (n : ℕ). Stop (Some (lines.CommandFault n AfterExit))) (sym number));
+  stands = stands;
+}
+
+-- a step that ends at a tree behind no exit
+pub step_ends : (start : Bool) (t : State) (pairs : List Pair) (tree : Sexp) (answers : Sexps) (fault : Option TextFault) (line : Line) → StandsFor t pairs → has_exited_after pairs ≡ false
+    → step_of_command start pairs (command_of tree) answers fault ≡ Stop (Some line) → EndsAt start pairs tree answers fault line t
+step_ends start t pairs tree answers fault line stands goes_on ends = record {
+  ends = λ later script_fault. rw goes_on ends;
+  stands = stands;
+}
+
+-- the step of a tree that is a command, by what it takes
+pub step_by : (start : Bool) (pairs : List Pair) (tree : Sexp) (answers : Sexps) (fault : Option TextFault) (c : Command) (t : Taken) → command_of tree ≡ Ok c → taken (need_after start pairs c) (next_of answers) ≡ t
+    → step_of_command start pairs (command_of tree) answers fault ≡ step_of_taken pairs c fault t
+step_by start pairs tree answers fault c t read is =
+    ap (λ (r : Result Command CommandFault). step_of_command start pairs r answers fault) read ∙ ap (step_of_taken pairs c fault) is
+
+-- a step of a tree that is a command, with what it takes
+pub step_taken : (start : Bool) (r : Result (Option Line) Memory) (s t : State) (tree : Sexp) (answers left : Sexps) (fault : Option TextFault) (c : Command) (o : Option Sexp) → command_of tree ≡ Ok c → answers ≡ with_answer o left
+    → ((pairs : List Pair) → StandsFor s pairs → (has_exited_after pairs ≡ false) × (taken (need_after start pairs c) (next_of answers) ≡ Takes o))
+    → IfOk r (λ line. (pairs : List Pair) → StandsFor s pairs → IsAccepted line pairs (pair_of c o) t) → IfOk r (λ line. (pairs : List Pair) → StandsFor s pairs → IsStep start line pairs tree answers fault left t)
+step_taken start (Err e) s t tree answers left fault c o read next known h = tt
+step_taken start (Ok None) s t tree answers left fault c o read next known h = λ pairs stands.
     let accepted = h pairs stands in
     record {
       command = c;
-      answer = a;
+      answer = o;
+      goes_on = (known pairs stands).0;
       read = read;
       next = next;
-      taken = taken;
+      taken_so = (known pairs stands).1;
       faultless = accepted.0;
       stands = accepted.1;
     }
-step_taken (Ok (Some line)) s t tree answers left fault c a read next taken h = λ pairs stands.
+step_taken start (Ok (Some line)) s t tree answers left fault c o read next known h = λ pairs stands.
     let accepted = h pairs stands in
-    record {
-      ends = ap (λ (r : Result Command CommandFault). step_of_tree pairs r answers fault) read ∙ rw (next, taken) accepted.0;
-      stands = accepted.1;
-    }
+    step_ends start t pairs tree answers fault line accepted.1 (known pairs stands).0 (step_by start pairs tree answers fault c (Takes o) read (known pairs stands).1 ∙ accepted.0)

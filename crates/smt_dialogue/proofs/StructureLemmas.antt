@@ -6,28 +6,25 @@ use Rattle.smt_terms.specs.WellSorted.{AreIntroduced}
 use Rattle.smt_eval.specs.Model.{model_in}
 use Rattle.smt_eval.specs.Structure.{IsStructure, structure_of}
 use Rattle.smt_script.specs.Stack.{HaveNoFault, Numbered, fault_of_effect, signature_in_force}
-use Rattle.smt_dialogue.specs.InForce.{AreFaultless, effective_commands, effective_from, signature_after}
-use Rattle.smt_dialogue.specs.Pairing.{Pair, is_effective}
+use Rattle.smt_dialogue.specs.InForce.{AreFaultless, signature_after}
+use Rattle.smt_dialogue.specs.Pairs.{Pair, effective_commands, effective_from, is_effective, numbered_if}
 use Rattle.smt_dialogue.specs.Window.{structure_at}
-use Rattle.smt_dialogue.proofs.PairLemmas.{effective_from-append}
+use Rattle.smt_dialogue.proofs.PairLemmas.{effective_commands-push}
 
 -- the first of faultless pairs are faultless
 faultless_first : (before xs ys : List Pair) → AreFaultless before (xs ++ ys) → AreFaultless before xs
 faultless_first before [] ys h = tt
-faultless_first before (x ∷ xs) ys h = (h.0, faultless_first (before ++ x ∷ []) xs ys h.1)
+faultless_first before (x ∷ xs) ys h = (h.0, h.1, faultless_first (before ++ x ∷ []) xs ys h.2)
 
 -- one more pair brings its command, where it took effect
 pub one_more : (before : List Pair) (p : Pair) (b : Bool) → is_effective p ≡ b → effective_commands (before ++ p ∷ []) ≡ effective_commands before ++ cond b (record { number = length before + 1; command = p.command } ∷ []) []
 one_more before p b is =
-    effective_from-append 1 before (p ∷ [])
-    ∙ ap (λ c. effective_commands before ++ (cond c (record { number = 1 + length before; command = p.command } ∷ []) [] ++ [])) is
-    ∙ ap (λ (cs : List Numbered). effective_commands before ++ cs) (append-nil (cond b (record { number = 1 + length before; command = p.command } ∷ []) []))
-    ∙ ap (λ (n : ℕ). effective_commands before ++ cond b (record { number = n; command = p.command } ∷ []) []) (omega arith)
+    effective_commands-push before p ∙ ap (λ (e : Bool). effective_commands before ++ numbered_if e (length before + 1) p.command) is
 
 -- so the commands of faultless pairs that took effect have no fault
 no_faults : (before pairs : List Pair) → AreFaultless before pairs → HaveNoFault (effective_commands before) (effective_from (length before + 1) pairs)
 no_faults before [] h = tt
-no_faults before (p ∷ pairs) h = by (is_effective p) refl h.0 (no_faults (before ++ p ∷ []) pairs h.1)
+no_faults before (p ∷ pairs) h = by (is_effective p) refl h.1 (no_faults (before ++ p ∷ []) pairs h.2)
   where
     further : length (before ++ p ∷ []) + 1 ≡ (length before + 1) + 1
     further = omega (arith, length-append before (p ∷ []))

@@ -15,12 +15,13 @@ use Rattle.smt_dialogue.proofs.ConfirmedLemmas.{Laws, asserted_formula, closed_v
 use Rattle.smt_script.specs.Command.{Command, SetLogic, SetPrintSuccess, SetOption, SetInfo, DeclareConst, DeclareFun, DefineFun, DefineSort, Assert, Push, Pop, Reset, ResetAssertions, Exit, CheckSat, GetModel, Echo, Get}
 use Rattle.smt_dialogue.specs.Report.{lines_of_end}
 use Rattle.smt_dialogue.specs.Validity.{IsAsserted, IsFullyPaired, IsInvalid, IsSatCheck, IsTrueModel, IsValid}
-use Rattle.smt_dialogue.specs.InForce.{AreFaultless, assertions_after, effective_commands, signature_after}
+use Rattle.smt_dialogue.specs.InForce.{AreFaultless, assertions_after, signature_after}
+use Rattle.smt_dialogue.specs.Pairing.{IsPairing}
+use Rattle.smt_dialogue.specs.Pairs.{Pair, effective_commands}
 use Rattle.smt_script.specs.Stack.{Assertion}
-use Rattle.smt_dialogue.specs.Lines.{checks_in, is_empty, line_of_judgement, lines_in, lines_of_pair, lines_of_sat, sat_lines, unconfirmed_line}
+use Rattle.smt_dialogue.specs.Lines.{checks_in, is_empty, line_of_judgement, lines_in, lines_of_pair, lines_of_sat, sat_lines, unchecked_answer, unchecked_line_or, unconfirmed_line}
 use Rattle.smt_report.specs.Verdict.{is_fault_line, is_refuted_line, is_undecided_line, tally_of, verdict_of}
 use Rattle.std.specs.Option.{option_or}
-use Rattle.smt_dialogue.specs.Pairing.{IsPairing, Pair}
 use Rattle.smt_dialogue.specs.Internal.Steps.{IsJudged}
 use Rattle.smt_dialogue.specs.Window.{Printed, models_from, structure_at, window}
 use Rattle.smt_dialogue.specs.Judgement.{first_assertion, is_false_over, is_open_over, judged_in, judgement_of, open_or_confirmed, refuted_or}
@@ -36,7 +37,7 @@ use Rattle.smt_dialogue.specs.declared.judgement.Judgement.{Judgement}
 use Rattle.smt_dialogue.specs.declared.judgement.Judgement.TheVariants as judgements
 use Rattle.smt_eval.specs.declared.interpretation.ModelFault.{ModelFault}
 use Rattle.smt_eval.specs.declared.interpretation.ModelFault.TheVariants as faults
-use Rattle.smt_report.specs.declared.line.CheckAnswer.TheVariants.{Unsat, Unknown}
+use Rattle.smt_report.specs.declared.line.CheckAnswer.{CheckAnswer}
 use Rattle.smt_report.specs.declared.line.Line.{Line}
 use Rattle.smt_report.specs.declared.line.Line.TheVariants as lines
 use Rattle.smt_eval.specs.declared.memory.Memory.{Memory}
@@ -46,16 +47,16 @@ use Rattle.smt_report.specs.declared.verdict.Verdict.TheVariants.{Valid, Invalid
 
 -- ## A dialogue without the line of a fault is paired whole
 
-pub fully_paired : (script answers : List ℕ) (st at' : Sexps) (sf af : Option TextFault) (ls : List Line) (v : Verdict) → Reads limit true script st sf → Reads limit true answers at' af → (j : IsJudged st at' sf af ls v) → list_any is_fault_line (lines_in true [] j.pairs [] ++ lines_of_end j.fault) ≡ false → IsFullyPaired script answers j.pairs × (j.fault ≡ None)
-fully_paired script answers st at' sf af ls v rs ra j h =
-    let clean = ends_clean j.pairs j.later sf j.rest af j.fault j.ends (none_of is_fault_line (lines_in true [] j.pairs []) (lines_of_end j.fault) h).1 in
-    let one : IsPairing j.pairs st Nil at' j.rest = subst (λ (t : Sexps). IsPairing j.pairs st t at' j.rest) clean.trees j.pairing in (
+pub fully_paired : (start : Bool) (script answers : List ℕ) (st at' : Sexps) (sf af : Option TextFault) (ls : List Line) (v : Verdict) → Reads limit true script st sf → Reads limit true answers at' af → (j : IsJudged start st at' sf af ls v) → list_any is_fault_line (lines_in true [] j.pairs [] ++ lines_of_end j.fault) ≡ false → IsFullyPaired start script answers j.pairs × (j.fault ≡ None)
+fully_paired start script answers st at' sf af ls v rs ra j h =
+    let clean = ends_clean start j.pairs j.later sf j.rest af j.fault j.ends (none_of is_fault_line (lines_in true [] j.pairs []) (lines_of_end j.fault) h).1 in
+    let one : IsPairing start j.pairs st Nil at' j.rest = subst (λ (t : Sexps). IsPairing start j.pairs st t at' j.rest) clean.trees j.pairing in (
       record {
         script_trees = st;
         script_forest = subst (λ (f : Option TextFault). Reads limit true script st f) clean.script rs;
         answer_trees = at';
         answers_forest = subst (λ (f : Option TextFault). Reads limit true answers at' f) clean.answers ra;
-        pairing = subst (λ (t : Sexps). IsPairing j.pairs st Nil at' t) clean.left one;
+        pairing = subst (λ (t : Sexps). IsPairing start j.pairs st Nil at' t) clean.left one;
       },
       clean.none,
     )
@@ -65,26 +66,26 @@ abbrev pub OneForest : Type 0
 OneForest = (bound other : ℕ) (text : List ℕ) (xs ys : Sexps) → Forest bound text xs → Forest other text ys → xs ≡ ys
 
 -- there is one such pairing, and none that leaves answers
-pub only_pairing : OneForest → (script answers : List ℕ) (pairs others : List Pair) (trees answered rest : Sexps) → IsFullyPaired script answers pairs → Forest limit script trees → Forest limit answers answered → IsPairing others trees Nil answered rest → (others ≡ pairs) × (rest ≡ Nil)
-only_pairing one script answers pairs others trees answered rest whole f g p =
+pub only_pairing : OneForest → (start : Bool) (script answers : List ℕ) (pairs others : List Pair) (trees answered rest : Sexps) → IsFullyPaired start script answers pairs → Forest limit script trees → Forest limit answers answered → IsPairing start others trees Nil answered rest → (others ≡ pairs) × (rest ≡ Nil)
+only_pairing one start script answers pairs others trees answered rest whole f g p =
     let same_script : whole.script_trees ≡ trees = one limit limit script whole.script_trees trees whole.script_forest f in
     let same_answers : whole.answer_trees ≡ answered = one limit limit answers whole.answer_trees answered whole.answers_forest g in
-    let once : IsPairing pairs trees Nil whole.answer_trees Nil = subst (λ (t : Sexps). IsPairing pairs t Nil whole.answer_trees Nil) same_script whole.pairing in
-    let mine : IsPairing pairs trees Nil answered Nil = subst (λ (t : Sexps). IsPairing pairs trees Nil t Nil) same_answers once in
-    let same = one_pairing others pairs trees Nil Nil answered rest Nil (all_commands others trees p.commands ∙ sym (all_commands pairs trees mine.commands)) p.commands mine.commands p.answered mine.answered p.fit mine.fit in
+    let once : IsPairing start pairs trees Nil whole.answer_trees Nil = subst (λ (t : Sexps). IsPairing start pairs t Nil whole.answer_trees Nil) same_script whole.pairing in
+    let mine : IsPairing start pairs trees Nil answered Nil = subst (λ (t : Sexps). IsPairing start pairs trees Nil t Nil) same_answers once in
+    let same = one_pairing start [] others pairs trees Nil Nil answered rest Nil (all_commands others trees p.commands ∙ sym (all_commands pairs trees mine.commands)) p.commands mine.commands p.answered mine.answered p.taken_so mine.taken_so in
     (same.0, same.2)
 
 -- ## Valid means valid
 
-pub valid_means : Laws → OneForest → (script answers : List ℕ) (st at' : Sexps) (sf af : Option TextFault) (ls : List Line) (v : Verdict) → Reads limit true script st sf → Reads limit true answers at' af → IsJudged st at' sf af ls v → v ≡ Valid → IsValid script answers
-valid_means laws one script answers st at' sf af ls v rs ra j h =
+pub valid_means : Laws → OneForest → (start : Bool) (script answers : List ℕ) (st at' : Sexps) (sf af : Option TextFault) (ls : List Line) (v : Verdict) → Reads limit true script st sf → Reads limit true answers at' af → IsJudged start st at' sf af ls v → v ≡ Valid → IsValid start script answers
+valid_means laws one start script answers st at' sf af ls v rs ra j h =
     let mine = lines_in true [] j.pairs [] in
     let tests = valid_lines (mine ++ lines_of_end j.fault) (sym j.verdict_is ∙ h) in
-    let whole = (fully_paired script answers st at' sf af ls v rs ra j tests.0).0 in
+    let whole = (fully_paired start script answers st at' sf af ls v rs ra j tests.0).0 in
     record {
       pairs = j.pairs;
       paired = whole;
-      only = λ others trees answered rest f g p. only_pairing one script answers j.pairs others trees answered rest whole f g p;
+      only = λ others trees answered rest f g p. only_pairing one start script answers j.pairs others trees answered rest whole f g p;
       confirmed = λ before after p place sat. confirmed_at laws j.pairs before after p place j.faultless (none_of is_refuted_line mine (lines_of_end j.fault) tests.1).0 (none_of is_undecided_line mine (lines_of_end j.fault) tests.2).0 sat;
     }
 
@@ -121,11 +122,11 @@ some_line test before (p ∷ ps) h =
       line = ap (λ (b : List Pair). list_any test (lines_of_pair true b g.pair g.last)) (sym (append_assoc before (p ∷ []) g.first)) ∙ g.line;
     })
 
-answer_cases : (unsat unknown sat : Bool) (k n : ℕ) (ls : List Line) → list_any is_refuted_line (cond unsat (lines.Unchecked k n Unsat ∷ []) (cond unknown (lines.Unchecked k n Unknown ∷ []) (cond sat ls []))) ≡ true → (sat ≡ true) × (list_any is_refuted_line ls ≡ true)
-answer_cases true unknown sat k n ls h = absurd (cc)
-answer_cases false true sat k n ls h = absurd (cc)
-answer_cases false false true k n ls h = (refl, h)
-answer_cases false false false k n ls h = absurd (cc)
+-- the line of a refuted model is not that of a check answered otherwise
+answer_cases : (u : Option CheckAnswer) (sat : Bool) (k n : ℕ) (ls : List Line) → list_any is_refuted_line (unchecked_line_or k n u (cond sat ls [])) ≡ true → (sat ≡ true) × (list_any is_refuted_line ls ≡ true)
+answer_cases (Some a) sat k n ls h = absurd (cc)
+answer_cases None true k n ls h = (refl, h)
+answer_cases None false k n ls h = absurd (cc)
 
 -- a pair that has the line of a refuted model is a check that was answered sat
 pub record IsRefutedCheck (before : List Pair) (p : Pair) (after : List Pair) : Type 0 where
@@ -152,7 +153,7 @@ refuted_check before (Get query) o after h = absurd (cc)
 refuted_check before GetModel o after h = absurd (cc)
 refuted_check before CheckSat None after h = absurd (cc)
 refuted_check before CheckSat (Some a) after h =
-    let cases = answer_cases (is_symbol (codes "unsat") a) (is_symbol (codes "unknown") a) (is_symbol (codes "sat") a) (checks_in before + 1) (length before + 1) (lines_of_sat true (checks_in before + 1) (length before + 1) (signature_after before) (assertions_after before) ((length before + 1) + 1) after) h in
+    let cases = answer_cases (unchecked_answer a) (is_symbol (codes "sat") a) (checks_in before + 1) (length before + 1) (lines_of_sat true (checks_in before + 1) (length before + 1) (signature_after before) (assertions_after before) ((length before + 1) + 1) after) h in
     record {
       sat = record { check = refl; answer = a; answered = refl; sat = cases.0 };
       line = cases.1;
@@ -271,11 +272,11 @@ refuted_over script as' (Err faults.Memory) n h = absurd (cc)
 line_place : (l1 l2 end : List Line) (line : Line) → (l1 ++ (line ∷ [] ++ l2)) ++ end ≡ l1 ++ line ∷ (l2 ++ end)
 line_place l1 l2 end line = append_assoc l1 (line ∷ l2) end
 
-pub invalid_means : Laws → (script answers : List ℕ) (st at' : Sexps) (sf af : Option TextFault) (ls : List Line) (v : Verdict) → Reads limit true script st sf → Reads limit true answers at' af → IsJudged st at' sf af ls v → v ≡ Invalid → IsInvalid script answers ls
-invalid_means laws script answers st at' sf af ls v rs ra j h =
+pub invalid_means : Laws → (start : Bool) (script answers : List ℕ) (st at' : Sexps) (sf af : Option TextFault) (ls : List Line) (v : Verdict) → Reads limit true script st sf → Reads limit true answers at' af → IsJudged start st at' sf af ls v → v ≡ Invalid → IsInvalid start script answers ls
+invalid_means laws start script answers st at' sf af ls v rs ra j h =
     let mine = lines_in true [] j.pairs [] in
     let tests = invalid_lines (mine ++ lines_of_end j.fault) (sym j.verdict_is ∙ h) in
-    let whole = fully_paired script answers st at' sf af ls v rs ra j tests.0 in
+    let whole = fully_paired start script answers st at' sf af ls v rs ra j tests.0 in
     let no_fault : mine ++ lines_of_end j.fault ≡ mine = ap (λ (f : Option Line). mine ++ lines_of_end f) whole.1 ∙ append-nil mine in
     let at_pair = some_line is_refuted_line [] j.pairs (ap (list_any is_refuted_line) (sym no_fault) ∙ tests.1) in
     let before = at_pair.first in
@@ -329,12 +330,12 @@ invalid_means laws script answers st at' sf af ls v rs ra j h =
 -- ## Laws of the verdicts
 
 -- the pairs of a valid dialogue are all its pairs
-valid_pairs : (script answers : List ℕ) (pairs : List Pair) → (v : IsValid script answers) → IsFullyPaired script answers pairs → v.pairs ≡ pairs
-valid_pairs script answers pairs v w = sym (v.only pairs w.script_trees w.answer_trees Nil w.script_forest w.answers_forest w.pairing).0
+valid_pairs : (start : Bool) (script answers : List ℕ) (pairs : List Pair) → (v : IsValid start script answers) → IsFullyPaired start script answers pairs → v.pairs ≡ pairs
+valid_pairs start script answers pairs v w = sym (v.only pairs w.script_trees w.answer_trees Nil w.script_forest w.answers_forest w.pairing).0
 
-pub without_model : (script answers : List ℕ) (pairs before after : List Pair) (p : Pair) → IsFullyPaired script answers pairs → pairs ≡ before ++ p ∷ after → IsSatCheck p → models_from (length before + 2) (window after) ≡ [] → IsValid script answers → ⊥
-without_model script answers pairs before after p whole place sat none v =
-    let confirmed = v.confirmed before after p (valid_pairs script answers pairs v whole ∙ place) sat in
+pub without_model : (start : Bool) (script answers : List ℕ) (pairs before after : List Pair) (p : Pair) → IsFullyPaired start script answers pairs → pairs ≡ before ++ p ∷ after → IsSatCheck p → models_from (length before + 2) (window after) ≡ [] → IsValid start script answers → ⊥
+without_model start script answers pairs before after p whole place sat none v =
+    let confirmed = v.confirmed before after p (valid_pairs start script answers pairs v whole ∙ place) sat in
     let bad : [] ≡ confirmed.first ∷ confirmed.others = sym none ∙ confirmed.models in
     cc
 
@@ -345,10 +346,10 @@ all_at P (y ∷ xs) x ys h = all_at P xs x ys h.1
 not_both : (t : Element) → t ≡ Truth true → t ≡ Truth false → ⊥
 not_both t a b = let bad : Truth true ≡ Truth false = sym a ∙ b in let worse : true ≡ false = cc in cc
 
-pub with_false : (script answers : List ℕ) (pairs before after : List Pair) (p : Pair) (first last : List Printed) (m : Printed) (definitions : Signature) (earlier : List Pair) (term : Sexp) → IsFullyPaired script answers pairs → pairs ≡ before ++ p ∷ after → IsSatCheck p
-    → models_from (length before + 2) (window after) ≡ first ++ m ∷ last → IsModelOf (signature_after before) m.parts definitions → IsAsserted before earlier term → ((z : DivisionByZero) → value_over z (structure_at definitions before) [] term ≡ Truth false) → IsValid script answers → ⊥
-with_false script answers pairs before after p first last m definitions earlier term whole place sat models of asserted is_false v =
-    let confirmed = v.confirmed before after p (valid_pairs script answers pairs v whole ∙ place) sat in
+pub with_false : (start : Bool) (script answers : List ℕ) (pairs before after : List Pair) (p : Pair) (first last : List Printed) (m : Printed) (definitions : Signature) (earlier : List Pair) (term : Sexp) → IsFullyPaired start script answers pairs → pairs ≡ before ++ p ∷ after → IsSatCheck p
+    → models_from (length before + 2) (window after) ≡ first ++ m ∷ last → IsModelOf (signature_after before) m.parts definitions → IsAsserted before earlier term → ((z : DivisionByZero) → value_over z (structure_at definitions before) [] term ≡ Truth false) → IsValid start script answers → ⊥
+with_false start script answers pairs before after p first last m definitions earlier term whole place sat models of asserted is_false v =
+    let confirmed = v.confirmed before after p (valid_pairs start script answers pairs v whole ∙ place) sat in
     let all = subst (AllByRecursion (λ (n : Printed). IsTrueModel before n.parts)) (sym confirmed.models ∙ models) confirmed.true_models in
     let one = all_at (λ (n : Printed). IsTrueModel before n.parts) first m last all in
     let both : ◌≡◌ {A = Result Signature ModelFault} (Ok one.definitions) (Ok definitions) = sym one.model.read ∙ of.read in
@@ -358,10 +359,10 @@ with_false script answers pairs before after p first last m definitions earlier 
 
 -- ## What a call answered
 
-pub valid_answer : Laws → OneForest → (r : Result Report Memory) (script answers : List ℕ) (st at' : Sexps) (sf af : Option TextFault) → Reads limit true script st sf → Reads limit true answers at' af → IfOk r (λ x. IsJudged st at' sf af x.lines.items x.verdict) → IfOk r (λ x. x.verdict ≡ Valid → IsValid script answers)
-valid_answer laws one (Ok x) script answers st at' sf af rs ra j = valid_means laws one script answers st at' sf af x.lines.items x.verdict rs ra j
-valid_answer laws one (Err e) script answers st at' sf af rs ra j = tt
+pub valid_answer : Laws → OneForest → (r : Result Report Memory) (start : Bool) (script answers : List ℕ) (st at' : Sexps) (sf af : Option TextFault) → Reads limit true script st sf → Reads limit true answers at' af → IfOk r (λ x. IsJudged start st at' sf af x.lines.items x.verdict) → IfOk r (λ x. x.verdict ≡ Valid → IsValid start script answers)
+valid_answer laws one (Ok x) start script answers st at' sf af rs ra j = valid_means laws one start script answers st at' sf af x.lines.items x.verdict rs ra j
+valid_answer laws one (Err e) start script answers st at' sf af rs ra j = tt
 
-pub invalid_answer : Laws → (r : Result Report Memory) (script answers : List ℕ) (st at' : Sexps) (sf af : Option TextFault) → Reads limit true script st sf → Reads limit true answers at' af → IfOk r (λ x. IsJudged st at' sf af x.lines.items x.verdict) → IfOk r (λ x. x.verdict ≡ Invalid → IsInvalid script answers x.lines.items)
-invalid_answer laws (Ok x) script answers st at' sf af rs ra j = invalid_means laws script answers st at' sf af x.lines.items x.verdict rs ra j
-invalid_answer laws (Err e) script answers st at' sf af rs ra j = tt
+pub invalid_answer : Laws → (r : Result Report Memory) (start : Bool) (script answers : List ℕ) (st at' : Sexps) (sf af : Option TextFault) → Reads limit true script st sf → Reads limit true answers at' af → IfOk r (λ x. IsJudged start st at' sf af x.lines.items x.verdict) → IfOk r (λ x. x.verdict ≡ Invalid → IsInvalid start script answers x.lines.items)
+invalid_answer laws (Ok x) start script answers st at' sf af rs ra j = invalid_means laws start script answers st at' sf af x.lines.items x.verdict rs ra j
+invalid_answer laws (Err e) start script answers st at' sf af rs ra j = tt

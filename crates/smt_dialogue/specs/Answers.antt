@@ -1,55 +1,76 @@
--- SMT-LIB 2.6, section 4.1: which answers a command takes, and which answers say that a command took no effect. That the answers of some
--- commands are not taken is this project's choice for now.
-use Rattle.std.specs.Prelude.{Bool, true, false, not, ◌&&◌, ◌||◌, Option, Some, None, Result, Ok, Err, codes, if◌then◌else◌}
+-- SMT-LIB 2.6, sections 3.9.1, 4.1.7 and 4.2: which answers a command takes, and which answers say that a command took no effect. Which
+-- commands take an answer only where it fits is this project's rule, for what solvers print.
+use Rattle.std.specs.Prelude.{Bool, true, false, not, ◌||◌, Option, Some, None, codes, if◌then◌else◌}
 use Rattle.smt_text.specs.Sexp.{Sexp, Atom, Items, Nil, Cons, Text, is_symbol}
-use Rattle.smt_theory.specs.Words.{result_and_then}
-use Rattle.smt_script.specs.Command.{Command, SetLogic, SetPrintSuccess, SetOption, SetInfo, DeclareConst, DeclareFun, DefineFun, DefineSort, Assert, Push, Pop, Reset, ResetAssertions, Exit, CheckSat, GetModel, Echo, Get, command_of}
-use Rattle.smt_script.specs.declared.fault.CommandFault.{CommandFault}
-use Rattle.smt_script.specs.declared.fault.CommandFault.TheVariants.{Unsupported}
+use Rattle.smt_script.specs.Command.{Command, SetPrintSuccess, SetOption, SetInfo, Exit, CheckSat, GetModel, Echo, Get}
+use Rattle.smt_dialogue.specs.declared.answer.AnswerForm.{AnswerForm}
+use Rattle.smt_dialogue.specs.declared.answer.AnswerForm.TheVariants as forms
+use Rattle.smt_dialogue.specs.declared.answer.Need.{Need}
+use Rattle.smt_dialogue.specs.declared.answer.Need.TheVariants.{Nothing, Optional, Needed}
+
+-- ---- answers
 
 -- whether an answer is an error: the symbol `error` and a string
 abbrev pub is_error : Sexp → Bool
 is_error (Items (Cons first (Cons (Atom Text message) Nil))) = is_symbol (codes "error") first
 is_error _ = false
 
--- whether an answer is a list that is no error
-abbrev pub is_model : Sexp → Bool
-is_model (Items parts) = not (is_error (Items parts))
-is_model _ = false
-
--- whether the answers of a command are taken: not those of commands that set options or ask for something else than models, nor `exit`'s
-abbrev pub is_answered : Command → Bool
-is_answered (SetPrintSuccess on) = false
-is_answered (SetOption keyword value) = false
-is_answered (SetInfo keyword value) = false
-is_answered Exit = false
-is_answered (Echo text) = false
-is_answered (Get query) = false
-is_answered _ = true
-
--- the command, if its answers are taken
-abbrev pub if_answered : Command → Result Command CommandFault
-if_answered command = if is_answered command then Ok command else Err Unsupported
-
--- the command that a tree is, or why it is refused
-abbrev pub answered_command : Sexp → Result Command CommandFault
-answered_command tree = result_and_then (command_of tree) (λ command. if_answered command)
-
--- whether a command takes an answer: one that asks for nothing takes `success`
-abbrev pub takes : Command → Sexp → Bool
-takes CheckSat answer = is_symbol (codes "sat") answer || is_symbol (codes "unsat") answer || is_symbol (codes "unknown") answer
-takes GetModel answer = is_model answer
-takes command answer = is_answered command && is_symbol (codes "success") answer
-
--- whether a command may have this answer, or none: each command needs one
-abbrev pub fits : Command → Option Sexp → Bool
-fits command None = false
-fits command (Some answer) = takes command answer
-
--- whether a command took effect: it was answered neither by `unsupported` nor by an error
+-- whether an answer says that its command took no effect
 abbrev pub is_refusal : Sexp → Bool
 is_refusal answer = is_symbol (codes "unsupported") answer || is_error answer
 
+-- a command took effect that had no answer, or one that says no such thing
 abbrev pub is_effective_with : Option Sexp → Bool
 is_effective_with None = true
 is_effective_with (Some answer) = not (is_refusal answer)
+
+abbrev pub is_list : Sexp → Bool
+is_list (Items parts) = true
+is_list _ = false
+
+abbrev pub is_text : Sexp → Bool
+is_text (Atom Text bytes) = true
+is_text _ = false
+
+-- whether an answer has a form
+abbrev pub has_form : AnswerForm → Sexp → Bool
+has_form forms.General answer = is_symbol (codes "success") answer || is_refusal answer
+has_form forms.Success answer = is_symbol (codes "success") answer
+has_form forms.Unsupported answer = is_symbol (codes "unsupported") answer
+has_form forms.Check answer = is_symbol (codes "sat") answer || is_symbol (codes "unsat") answer || is_symbol (codes "unknown") answer || is_refusal answer
+has_form forms.Model answer = is_list answer || is_symbol (codes "unsupported") answer
+has_form forms.Echo answer = is_text answer || is_refusal answer
+has_form forms.Other answer = not (is_symbol (codes "success") answer)
+
+-- ---- what a command needs, and takes
+
+-- what a command needs that has no answer of its own, where `success` is printed
+abbrev pub general_need : Need
+general_need = Needed forms.General
+
+-- what a command needs of the answers, where `success` is printed for a command that has no answer of its own, or is not. A command that
+-- sets whether it is printed goes by the value that it sets
+abbrev pub need_of : Bool → Command → Need
+need_of on CheckSat = Needed forms.Check
+need_of on GetModel = Needed forms.Model
+need_of on (Echo text) = Needed forms.Echo
+need_of on (Get query) = Needed forms.Other
+need_of on Exit = Optional forms.Success
+need_of on (SetPrintSuccess value) = if value then general_need else Optional forms.General
+need_of on (SetOption keyword value) = if on then general_need else Optional forms.Unsupported
+need_of on (SetInfo keyword value) = if on then general_need else Optional forms.Unsupported
+need_of on command = if on then general_need else Nothing
+
+-- what is taken for a command: an answer or none; or one is missing; or the next one is unfit
+pub data Taken : Type 0 where
+  Takes : (answer : Option Sexp) → Taken
+  Missing : Taken
+  Unfit : Taken
+
+-- what a command that needs this takes, the next answer being this one, or there being none
+abbrev pub taken : Need → Option Sexp → Taken
+taken Nothing next = Takes None
+taken (Optional form) None = Takes None
+taken (Optional form) (Some answer) = if has_form form answer then Takes (Some answer) else Takes None
+taken (Needed form) None = Missing
+taken (Needed form) (Some answer) = if has_form form answer then Takes (Some answer) else Unfit

@@ -1,12 +1,13 @@
 -- Which fault ends a dialogue. The order in which faults are told is this project's rule.
-use Rattle.std.specs.Prelude.{ℕ, ◌+◌, List, length, Option, Some, None, Result, Ok, Err, if◌then◌else◌}
+use Rattle.std.specs.Prelude.{ℕ, ◌+◌, List, length, Bool, Option, Some, None, Result, Ok, Err, if◌then◌else◌}
 use Rattle.smt_text.specs.Sexp.{Sexps, Nil, Cons}
 use Rattle.smt_text.specs.declared.fault.TextFault.{TextFault}
-use Rattle.smt_script.specs.Command.{Command}
+use Rattle.smt_script.specs.Command.{Command, command_of}
 use Rattle.smt_script.specs.declared.fault.CommandFault.{CommandFault}
-use Rattle.smt_dialogue.specs.Answers.{answered_command, takes}
-use Rattle.smt_dialogue.specs.InForce.{fault_of_pair}
-use Rattle.smt_dialogue.specs.Pairing.{Pair, answers_taken, answered_by}
+use Rattle.smt_script.specs.declared.fault.CommandFault.TheVariants.{AfterExit}
+use Rattle.smt_dialogue.specs.Answers.{Taken, Takes, Missing, Unfit, taken}
+use Rattle.smt_dialogue.specs.InForce.{fault_of_pair, has_exited_after, need_after}
+use Rattle.smt_dialogue.specs.Pairs.{Pair, answers_taken, next_of, pair_of}
 use Rattle.smt_report.specs.FaultLine.{text_line}
 use Rattle.smt_report.specs.declared.line.Line.{Line}
 use Rattle.smt_report.specs.declared.line.Line.TheVariants as lines
@@ -34,18 +35,21 @@ abbrev pub want_of_answer : ℕ → Option TextFault → Line
 want_of_answer n None = lines.MissingAnswer n
 want_of_answer n (Some fault) = text_line Answers fault
 
--- a command that needs an answer: there is none, or one that it doesn't take, or else its effect decides
-abbrev pub step_of_command : List Pair → Command → Sexps → Option TextFault → Step
-step_of_command pairs command Nil fault = Stop (Some (want_of_answer (length pairs + 1) fault))
-step_of_command pairs command (Cons answer rest) fault =
-    if takes command answer then step_of_fault (length pairs + 1) (fault_of_pair pairs (answered_by command answer)) else Stop (Some (lines.UnexpectedAnswer (length pairs + 1) (answers_taken pairs + 1)))
+-- a command, by what it takes of the answers: its effect decides where that is what it needs
+abbrev pub step_of_taken : List Pair → Command → Option TextFault → Taken → Step
+step_of_taken pairs command fault (Takes answer) = step_of_fault (length pairs + 1) (fault_of_pair pairs (pair_of command answer))
+step_of_taken pairs command fault Missing = Stop (Some (want_of_answer (length pairs + 1) fault))
+step_of_taken pairs command fault Unfit = Stop (Some (lines.UnexpectedAnswer (length pairs + 1) (answers_taken pairs + 1)))
 
-abbrev pub step_of_tree : List Pair → Result Command CommandFault → Sexps → Option TextFault → Step
-step_of_tree pairs (Err fault) answers answers_fault = Stop (Some (lines.CommandFault (length pairs + 1) fault))
-step_of_tree pairs (Ok command) answers answers_fault = step_of_command pairs command answers answers_fault
+abbrev pub step_of_command : Bool → List Pair → Result Command CommandFault → Sexps → Option TextFault → Step
+step_of_command start pairs (Err fault) answers answers_fault = Stop (Some (lines.CommandFault (length pairs + 1) fault))
+step_of_command start pairs (Ok command) answers answers_fault =
+    step_of_taken pairs command answers_fault (taken (need_after start pairs command) (next_of answers))
 
--- the turn behind pairs: of the trees that are left of the script, then its fault, and of the answers that are left, then theirs
-abbrev pub step_after : List Pair → Sexps → Option TextFault → Sexps → Option TextFault → Step
-step_after pairs (Cons tree trees) script_fault answers answers_fault = step_of_tree pairs (answered_command tree) answers answers_fault
-step_after pairs Nil (Some fault) answers answers_fault = Stop (Some (text_line Script fault))
-step_after pairs Nil None answers answers_fault = Stop (end_without_fault pairs answers answers_fault)
+-- the turn behind pairs: of the trees that are left of the script, then its fault, and of the answers that are left, then theirs. No
+-- command comes behind an `exit`
+abbrev pub step_after : Bool → List Pair → Sexps → Option TextFault → Sexps → Option TextFault → Step
+step_after start pairs (Cons tree trees) script_fault answers answers_fault =
+    if has_exited_after pairs then Stop (Some (lines.CommandFault (length pairs + 1) AfterExit)) else step_of_command start pairs (command_of tree) answers answers_fault
+step_after start pairs Nil (Some fault) answers answers_fault = Stop (Some (text_line Script fault))
+step_after start pairs Nil None answers answers_fault = Stop (end_without_fault pairs answers answers_fault)

@@ -1,19 +1,13 @@
 -- SMT-LIB 2.6, sections 4.1 and 4.2: what is in force after pairs of commands and answers, and the faults of pairs. A command that was
--- answered by `unsupported` or an error took no effect. Commands count from 1.
-use Rattle.std.specs.Prelude.{◌≡◌, ◌≤◌, ℕ, ◌+◌, List, [], ◌∷◌, ◌++◌, length, Bool, ◌&&◌, Option, None, if◌then◌else◌}
+-- answered by `unsupported` or an error took no effect.
+use Rattle.std.specs.Prelude.{◌≡◌, ◌≤◌, ℕ, ◌+◌, List, [], ◌∷◌, ◌++◌, length, Bool, false, ◌&&◌, Option, None, if◌then◌else◌}
 use Rattle.smt_terms.specs.Signature.{Signature}
-use Rattle.smt_script.specs.Stack.{Assertion, Numbered, assertions_in_force, depth_in_force, fault_of_effect, is_reset, signature_in_force}
+use Rattle.smt_script.specs.Command.{Command}
+use Rattle.smt_script.specs.Stack.{Assertion, assertions_in_force, depth_in_force, fault_of_effect, has_exited, is_reset, print_success_in_force, signature_in_force}
 use Rattle.smt_script.specs.declared.fault.CommandFault.{CommandFault}
-use Rattle.smt_dialogue.specs.Pairing.{Pair, is_effective}
-
--- the commands that took effect among pairs, the first of which is command n
-abbrev pub effective_from : ℕ → List Pair → List Numbered
-effective_from n [] = []
-effective_from n (pair ∷ pairs) =
-    (if is_effective pair then record { number = n; command = pair.command } ∷ [] else []) ++ effective_from (n + 1) pairs
-
-abbrev pub effective_commands : List Pair → List Numbered
-effective_commands pairs = effective_from 1 pairs
+use Rattle.smt_dialogue.specs.Answers.{need_of}
+use Rattle.smt_dialogue.specs.Pairs.{Pair, effective_commands, is_effective}
+use Rattle.smt_dialogue.specs.declared.answer.Need.{Need}
 
 -- the theories and names in force after pairs
 abbrev pub signature_after : List Pair → Signature
@@ -22,6 +16,17 @@ signature_after pairs = signature_in_force (effective_commands pairs)
 -- the assertions in force after pairs
 abbrev pub assertions_after : List Pair → List Assertion
 assertions_after pairs = assertions_in_force (effective_commands pairs)
+
+-- whether `success` is printed after pairs, and what a command then needs of the answers. `start` says whether it is at the start
+abbrev pub print_success_after : Bool → List Pair → Bool
+print_success_after start pairs = print_success_in_force start (effective_commands pairs)
+
+abbrev pub need_after : Bool → List Pair → Command → Need
+need_after start pairs command = need_of (print_success_after start pairs) command
+
+-- whether an `exit` is among pairs
+abbrev pub has_exited_after : List Pair → Bool
+has_exited_after pairs = has_exited (effective_commands pairs)
 
 -- how many assertion levels there are after pairs
 abbrev pub levels_after : List Pair → ℕ
@@ -36,12 +41,13 @@ KeepLevels level before (pair ∷ pairs) = (level ≤ levels_after (before ++ pa
 abbrev pub removes_all : Pair → Bool
 removes_all pair = is_effective pair && is_reset pair.command
 
--- the fault of a pair behind others: a command that took no effect has none
+-- the fault of a pair's effect behind others: a command that took no effect has none
 abbrev pub fault_of_pair : List Pair → Pair → Option CommandFault
 fault_of_pair before pair =
     if is_effective pair then fault_of_effect (effective_commands before) (length before + 1) pair.command else None
 
--- no pair has a fault, behind those that come before
+-- no pair has a fault, behind those that come before: none stands behind an `exit`, and no effect has a fault
 abbrev pub AreFaultless : List Pair → List Pair → Type 0
 AreFaultless before [] = Unit {0}
-AreFaultless before (pair ∷ pairs) = (fault_of_pair before pair ≡ None) × AreFaultless (before ++ pair ∷ []) pairs
+AreFaultless before (pair ∷ pairs) =
+    (has_exited_after before ≡ false) × (fault_of_pair before pair ≡ None) × AreFaultless (before ++ pair ∷ []) pairs

@@ -6,13 +6,15 @@ use Rattle.smt_text.specs.Sexp.{Sexp, is_symbol}
 use Rattle.smt_script.specs.Command.{Command, CheckSat}
 use Rattle.smt_script.specs.Stack.{Assertion}
 use Rattle.smt_dialogue.specs.InForce.{signature_after, assertions_after}
-use Rattle.smt_dialogue.specs.Pairing.{Pair}
+use Rattle.smt_dialogue.specs.Answers.{is_error}
+use Rattle.smt_dialogue.specs.Pairs.{Pair}
 use Rattle.smt_dialogue.specs.Window.{Printed, closes, models_from, window}
 use Rattle.smt_dialogue.specs.Judgement.{judgement_of}
 use Rattle.smt_terms.specs.Signature.{Signature}
 use Rattle.smt_dialogue.specs.declared.judgement.Judgement.{Judgement}
 use Rattle.smt_dialogue.specs.declared.judgement.Judgement.TheVariants as judgements
-use Rattle.smt_report.specs.declared.line.CheckAnswer.TheVariants.{Unsat, Unknown}
+use Rattle.smt_report.specs.declared.line.CheckAnswer.{CheckAnswer}
+use Rattle.smt_report.specs.declared.line.CheckAnswer.TheVariants.{Unsat, Unknown, Unsupported, Error}
 use Rattle.smt_report.specs.declared.line.Line.{Line}
 use Rattle.smt_report.specs.declared.line.Line.TheVariants as lines
 
@@ -50,12 +52,27 @@ lines_of_sat ended k n names assertions m after =
     let models = models_from m (window after) in
     sat_lines k n (unconfirmed_line k n names assertions models) (not (is_empty models)) (ended || list_any closes after)
 
+-- what a check was answered otherwise than `sat`
+abbrev pub unchecked_answer : Sexp → Option CheckAnswer
+unchecked_answer answer =
+    if is_symbol (codes "unsat") answer then Some Unsat
+    else if is_symbol (codes "unknown") answer then Some Unknown
+    else if is_symbol (codes "unsupported") answer then Some Unsupported
+    else if is_error answer then Some Error
+    else None
+
+-- the line of a check that was answered otherwise than `sat`, or else other lines
+abbrev pub unchecked_line_or : ℕ → ℕ → Option CheckAnswer → List Line → List Line
+unchecked_line_or k n (Some answer) others = lines.Unchecked k n answer ∷ []
+unchecked_line_or k n None others = others
+
 -- the lines of a check with its answer
 abbrev pub lines_of_answer : Bool → List Pair → ℕ → Option Sexp → List Pair → List Line
 lines_of_answer ended before k None after = []
 lines_of_answer ended before k (Some answer) after =
     let n = length before + 1 in
-    if is_symbol (codes "unsat") answer then lines.Unchecked k n Unsat ∷ [] else if is_symbol (codes "unknown") answer then lines.Unchecked k n Unknown ∷ [] else if is_symbol (codes "sat") answer then lines_of_sat ended k n (signature_after before) (assertions_after before) (n + 1) after else []
+    unchecked_line_or k n (unchecked_answer answer)
+    (if is_symbol (codes "sat") answer then lines_of_sat ended k n (signature_after before) (assertions_after before) (n + 1) after else [])
 
 abbrev pub is_check : Command → Bool
 is_check CheckSat = true

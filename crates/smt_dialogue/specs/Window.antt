@@ -5,7 +5,7 @@ use Rattle.smt_terms.specs.Signature.{Signature}
 use Rattle.smt_eval.specs.Structure.{structure_of}
 use Rattle.smt_script.specs.Command.{Command, SetLogic, DeclareConst, DeclareFun, DefineFun, DefineSort, Assert, Push, Pop, Reset, ResetAssertions, CheckSat, GetModel}
 use Rattle.smt_dialogue.specs.InForce.{signature_after}
-use Rattle.smt_dialogue.specs.Pairing.{Pair, is_effective}
+use Rattle.smt_dialogue.specs.Pairs.{Pair, is_effective}
 
 -- whether a command ends the window of an earlier check: a check does, and what changes something where it took effect. (A logic is
 -- set before every check, so that in a dialogue without a fault it ends none.)

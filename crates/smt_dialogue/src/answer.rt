@@ -1,16 +1,64 @@
 //! Which answers a command takes.
 
-ghost use Rattle.std.specs.Prelude.{◌≡◌, Ok, Err, MatchResult};
+ghost use Rattle.std.specs.Prelude.{◌≡◌, if◌then◌else◌, option_map};
 ghost use Rattle.smt_text.specs.Tree.{sexp_of};
 ghost use Rattle.smt_script.specs.CommandView.{command_view};
-ghost use Rattle.smt_dialogue.specs.Answers as answering;
+ghost use Rattle.smt_dialogue.specs.Answers as answers;
 
-use smt_script::{Command, CommandFault, read_command};
+use smt_script::Command;
 use smt_text::{Tree, split_first};
 
-// Whether an answer is an error: a list of the symbol `error` and a string.
-fn is_error(answer: &Tree) -> bool
-    ensures { result ≡ answering.is_error (sexp_of answer.now) }
+/// Which answers a command takes (SMT-LIB 2.6, section 3.9.1).
+#[derive(Clone, Copy, Debug, PartialEq, Eq)]
+pub enum AnswerForm {
+    /// `success`, `unsupported` or an error.
+    General,
+    /// `success`.
+    Success,
+    /// `unsupported`.
+    Unsupported,
+    /// `sat`, `unsat`, `unknown`, `unsupported` or an error.
+    Check,
+    /// A list, an error among them, or `unsupported`.
+    Model,
+    /// A string, `unsupported` or an error.
+    Echo,
+    /// Every tree but `success`.
+    Other,
+}
+
+/// What a command needs of the answers.
+#[derive(Clone, Copy, Debug, PartialEq, Eq)]
+pub enum Need {
+    /// It takes none.
+    Nothing,
+    /// It takes the next one exactly where that has this form.
+    Optional(AnswerForm),
+    /// It takes the next one, which has to have this form.
+    Needed(AnswerForm),
+}
+
+/// What is taken for a command.
+#[derive(Drop)]
+pub enum Taken {
+    /// The next answer, or none.
+    Takes(Option<Tree>),
+    /// It needs an answer, and there is none.
+    Missing,
+    /// It needs an answer, and the next one is none of its own.
+    Unfit,
+}
+
+/// Whether an answer says that its command took no effect (section 3.9.1).
+fn is_refusal(answer: &Tree) -> bool
+    ensures { result ≡ answers.is_refusal (sexp_of answer.now) }
+{
+    answer.is_symbol(b"unsupported") || is_error(answer)
+}
+
+/// Whether an answer is an error: a list of the symbol `error` and a string (section 3.9.1).
+pub(crate) fn is_error(answer: &Tree) -> bool
+    ensures { result ≡ answers.is_error (sexp_of answer.now) }
 {
     let Tree::List(parts) = answer else {
         return false;
@@ -24,55 +72,72 @@ fn is_error(answer: &Tree) -> bool
     }
 }
 
-/// The command that a tree is; refused as unsupported where its answers are not taken.
-pub(crate) fn read_answered(tree: Tree) -> Result<Command, CommandFault>
-    ensures { MatchResult result (λ command. answering.answered_command (sexp_of tree) ≡ Ok (command_view command))
-        (λ fault. answering.answered_command (sexp_of tree) ≡ Err fault) }
+/// Whether a command with this answer, or with none, took effect.
+pub(crate) fn is_effective(answer: &Option<Tree>) -> bool
+    ensures { result ≡ answers.is_effective_with (option_map sexp_of answer.now) }
 {
-    let command = read_command(tree)?;
-    if is_answered(&command) {
-        Ok(command)
+    match answer {
+        Some(answer) => !is_refusal(answer),
+        None => true,
+    }
+}
+
+/// Whether an answer has a form.
+pub(crate) fn has_form(form: AnswerForm, answer: &Tree) -> bool
+    ensures { result ≡ answers.has_form form (sexp_of answer.now) }
+{
+    match form {
+        AnswerForm::General => answer.is_symbol(b"success") || is_refusal(answer),
+        AnswerForm::Success => answer.is_symbol(b"success"),
+        AnswerForm::Unsupported => answer.is_symbol(b"unsupported"),
+        AnswerForm::Check => {
+            answer.is_symbol(b"sat")
+                || answer.is_symbol(b"unsat")
+                || answer.is_symbol(b"unknown")
+                || is_refusal(answer)
+        }
+        AnswerForm::Model => matches!(answer, Tree::List(_)) || answer.is_symbol(b"unsupported"),
+        AnswerForm::Echo => matches!(answer, Tree::Text(_)) || is_refusal(answer),
+        AnswerForm::Other => !answer.is_symbol(b"success"),
+    }
+}
+
+/// What a command needs of the answers, where `success` is printed for a command that has no answer of its own, or is not (SMT-LIB 2.6,
+/// section 4.1.7).
+pub(crate) fn need_of(print_success: bool, command: &Command) -> Need
+    ensures { result ≡ answers.need_of print_success (command_view command.now) }
+{
+    match command {
+        Command::CheckSat => Need::Needed(AnswerForm::Check),
+        Command::GetModel => Need::Needed(AnswerForm::Model),
+        Command::Echo { .. } => Need::Needed(AnswerForm::Echo),
+        Command::Get { .. } => Need::Needed(AnswerForm::Other),
+        Command::Exit => Need::Optional(AnswerForm::Success),
+        Command::SetPrintSuccess { on } => needed_or(*on, Need::Optional(AnswerForm::General)),
+        Command::SetOption { .. } | Command::SetInfo { .. } => {
+            needed_or(print_success, Need::Optional(AnswerForm::Unsupported))
+        }
+        Command::SetLogic { .. } | Command::DeclareConst { .. } => {
+            needed_or(print_success, Need::Nothing)
+        }
+        Command::DeclareFun { .. } | Command::DefineFun { .. } => {
+            needed_or(print_success, Need::Nothing)
+        }
+        Command::DefineSort { .. } | Command::Assert { .. } => {
+            needed_or(print_success, Need::Nothing)
+        }
+        Command::Push { .. } | Command::Pop { .. } => needed_or(print_success, Need::Nothing),
+        Command::Reset | Command::ResetAssertions => needed_or(print_success, Need::Nothing),
+    }
+}
+
+// A general answer is needed where `success` is printed, or else this.
+fn needed_or(print_success: bool, otherwise: Need) -> Need
+    ensures { result ≡ (if print_success then answers.general_need else otherwise) }
+{
+    if print_success {
+        Need::Needed(AnswerForm::General)
     } else {
-        Err(CommandFault::Unsupported)
-    }
-}
-
-// Whether the answers of a command are taken.
-fn is_answered(command: &Command) -> bool
-    ensures { result ≡ answering.is_answered (command_view command.now) }
-{
-    match command {
-        Command::SetPrintSuccess { .. } | Command::SetOption { .. } => false,
-        Command::SetInfo { .. } | Command::Exit | Command::Echo { .. } | Command::Get { .. } =>
-            false,
-        Command::SetLogic { .. } | Command::DeclareConst { .. } => true,
-        Command::DeclareFun { .. } | Command::DefineFun { .. } => true,
-        Command::DefineSort { .. } | Command::Assert { .. } => true,
-        Command::Push { .. } | Command::Pop { .. } => true,
-        Command::Reset | Command::ResetAssertions => true,
-        Command::CheckSat | Command::GetModel => true,
-    }
-}
-
-/// Whether a command takes an answer (SMT-LIB 2.6, section 4.1).
-pub(crate) fn takes(command: &Command, answer: &Tree) -> bool
-    ensures { result ≡ answering.takes (command_view command.now) (sexp_of answer.now) }
-{
-    match command {
-        Command::CheckSat => {
-            answer.is_symbol(b"sat") || answer.is_symbol(b"unsat") || answer.is_symbol(b"unknown")
-        }
-        Command::GetModel => matches!(answer, Tree::List(_)) && !is_error(answer),
-        Command::SetLogic { .. } | Command::DefineSort { .. } => answer.is_symbol(b"success"),
-        Command::DeclareConst { .. } | Command::DeclareFun { .. } | Command::DefineFun { .. } => {
-            answer.is_symbol(b"success")
-        }
-        Command::Assert { .. } | Command::Push { .. } | Command::Pop { .. } => {
-            answer.is_symbol(b"success")
-        }
-        Command::Reset | Command::ResetAssertions => answer.is_symbol(b"success"),
-        Command::SetPrintSuccess { .. } | Command::SetOption { .. } => false,
-        Command::SetInfo { .. } | Command::Exit | Command::Echo { .. } | Command::Get { .. } =>
-            false,
+        otherwise
     }
 }

@@ -1,18 +1,21 @@
 //! The dialogue so far: what is in force, the checks, and the lines of the report.
 
-ghost use Rattle.std.specs.Prelude.{◌≡◌, ◌≤◌, ◌<◌, ◌+◌, ◌^◌, ◌++◌, ◌∷◌, ◌⊎◌, List, [], None, Some, true, IfOk, IfErr, OnOk};
+ghost use Rattle.std.specs.Prelude.{◌≡◌, ◌≤◌, ◌<◌, ◌+◌, ◌^◌, ◌++◌, ◌∷◌, ◌⊎◌, List, [], None, Some, true, IfOk, IfErr, OnErr, OnOk, option_map};
 ghost use Rattle.smt_text.specs.Tree.{sexp_of};
 ghost use Rattle.smt_script.specs.CommandView.{command_view};
-ghost use Rattle.smt_script.specs.StackView.{last_of};
+ghost use Rattle.smt_script.specs.Stack.{Numbered};
+ghost use Rattle.smt_script.specs.StackView as stacks;
+ghost use Rattle.smt_script.specs.StackView.{last_of, start_of};
 ghost use Rattle.smt_script.specs.declared.fault.CommandFault.TheVariants.{Memory as OutOfMemory};
-ghost use Rattle.smt_dialogue.specs.Answers as answering;
 ghost use Rattle.smt_dialogue.specs.InForce.{fault_of_pair};
 ghost use Rattle.smt_dialogue.specs.Lines.{lines_in};
-ghost use Rattle.smt_dialogue.specs.Pairing.{Pair, answered_by};
+ghost use Rattle.smt_dialogue.specs.Pairs.{Pair, answer_count, numbered_if, pair_of};
 ghost use Rattle.smt_dialogue.specs.Report.{lines_of_end};
 ghost use Rattle.smt_report.specs.Verdict.{verdict_of, with_verdict};
-ghost use Rattle.smt_dialogue.specs.Internal.DialogueState.{StandsFor, state_of};
+ghost use Rattle.smt_dialogue.specs.Internal.ChecksState.{IsAnswered};
+ghost use Rattle.smt_dialogue.specs.Internal.DialogueState.{StandsFor, fault_if, state_of};
 
+use crate::answer::is_effective;
 use crate::window::Checks;
 use smt_eval::Memory;
 use smt_report::{Line, Report};
@@ -31,42 +34,49 @@ pub struct Dialogue {
 }
 
 impl Dialogue {
-    /// A dialogue without pairs.
-    pub(crate) fn new(alloc: Global) -> Self
-        ensures { StandsFor (state_of result) [] }
+    /// A dialogue without pairs. `start` says whether `success` is printed.
+    pub(crate) fn new(alloc: Global, start: bool) -> Self
+        ensures stands { StandsFor (state_of result) [] }
+        ensures start { start_of result.stack ≡ start }
     {
         Dialogue {
-            stack: Stack::new(alloc, true),
+            stack: Stack::new(alloc, start),
             checks: Checks::new(alloc),
             commands: 0,
             answers: 0,
         }
     }
 
-    /// Accepts one more command with an answer that it takes. At a fault of its effect the dialogue stays as it is.
-    pub(crate) fn accept(&mut self, command: &Command, answer: &Tree) -> Result<(), CommandFault>
+    /// Accepts one more command with what it takes of the answers. At a fault of its effect the dialogue stays as it is.
+    pub(crate) fn accept(
+        &mut self,
+        command: &Command,
+        answer: &Option<Tree>,
+    ) -> Result<(), CommandFault>
         requires commands { self.old.commands + 1 < 2 ^ 64 }
         requires answers { self.old.answers + 1 < 2 ^ 64 }
         requires checks { self.old.checks.count + 1 < 2 ^ 64 }
         requires last { last_of self.old.stack ≤ self.old.commands }
         requires stands { (pairs : List Pair) × StandsFor (state_of self.old) pairs }
-        requires taken { answering.takes (command_view command.now) (sexp_of answer.now) ≡ true }
+        requires answered { IsAnswered (command_view command.now) (option_map sexp_of answer.now) }
         ensures accepted { OnOk result ((pairs : List Pair) → StandsFor (state_of self.old) pairs
-            → (fault_of_pair pairs (answered_by (command_view command.now) (sexp_of answer.now)) ≡ None)
-            × StandsFor (state_of self.new) (pairs ++ answered_by (command_view command.now) (sexp_of answer.now) ∷ [])) }
+            → (fault_of_pair pairs (pair_of (command_view command.now) (option_map sexp_of answer.now)) ≡ None)
+            × StandsFor (state_of self.new) (pairs ++ pair_of (command_view command.now) (option_map sexp_of answer.now) ∷ [])) }
         ensures refused { IfErr result (λ fault. (pairs : List Pair) → StandsFor (state_of self.old) pairs
-            → (fault ≡ OutOfMemory) ⊎ ((fault_of_pair pairs (answered_by (command_view command.now) (sexp_of answer.now)) ≡ Some fault)
+            → (fault ≡ OutOfMemory) ⊎ ((fault_of_pair pairs (pair_of (command_view command.now) (option_map sexp_of answer.now)) ≡ Some fault)
             × StandsFor (state_of self.new) pairs)) }
+        ensures start { start_of self.new.stack ≡ start_of self.old.stack }
     {
         let number = self.commands + 1;
-        if let Err(fault) = self.stack.apply(number, command) {
+        let effective = is_effective(answer);
+        if let Err(fault) = apply_if(effective, &mut self.stack, number, command) {
             return Err(fault);
         }
-        let Ok(()) = self.checks.take(number, command, answer, &self.stack) else {
+        let Ok(()) = self.checks.take(effective, number, command, answer, &self.stack) else {
             return Err(CommandFault::Memory);
         };
         self.commands = number;
-        self.answers += 1;
+        self.answers += count_of(answer);
         Ok(())
     }
 
@@ -80,5 +90,39 @@ impl Dialogue {
             self.checks.lines.push(line)?;
         }
         Ok(Report::from_lines(self.checks.lines)?)
+    }
+}
+
+// Applies a command to what is in force, if it took effect.
+fn apply_if(
+    effective: bool,
+    stack: &mut Stack,
+    number: u64,
+    command: &Command,
+) -> Result<(), CommandFault>
+    requires { last_of stack.old < number }
+    ensures applied { OnOk result ((commands : List Numbered) → stacks.StandsFor stack.old commands
+        → (fault_if effective commands number (command_view command.now) ≡ None) × stacks.StandsFor stack.new (commands ++ numbered_if effective number (command_view command.now))) }
+    ensures last { OnOk result (last_of stack.new ≤ number) }
+    ensures refused { IfErr result (λ fault. (commands : List Numbered) → stacks.StandsFor stack.old commands
+        → (fault ≡ OutOfMemory) ⊎ (fault_if effective commands number (command_view command.now) ≡ Some fault)) }
+    ensures unchanged { OnErr result (((commands : List Numbered) → stacks.StandsFor stack.old commands → stacks.StandsFor stack.new commands) × (last_of stack.new ≡ last_of stack.old)) }
+    ensures start { start_of stack.new ≡ start_of stack.old }
+{
+    if effective {
+        stack.apply(number, command)
+    } else {
+        Ok(())
+    }
+}
+
+// How many answers that are: one or none.
+fn count_of(answer: &Option<Tree>) -> u64
+    ensures count { result ≡ answer_count (option_map sexp_of answer.now) }
+    ensures most { result ≤ 1 }
+{
+    match answer {
+        Some(_) => 1,
+        None => 0,
     }
 }

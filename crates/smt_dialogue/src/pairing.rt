@@ -1,21 +1,22 @@
 //! The commands of a dialogue, each with its answer.
 
-ghost use Rattle.std.specs.Prelude.{◌≡◌, ◌<◌, ◌≤◌, ◌+◌, ◌^◌, List, [], length, Ok, Err, Some, None, true, IfOk};
+ghost use Rattle.std.specs.Prelude.{◌≡◌, ◌<◌, ◌≤◌, ◌+◌, ◌^◌, List, [], length, Ok, Err, Some, None, true, IfOk, option_map};
 ghost use Rattle.smt_text.specs.Tree.{sexp_of, sexps_of};
 ghost use Rattle.smt_script.specs.CommandView.{command_view};
+ghost use Rattle.smt_script.specs.StackView.{last_of, start_of};
 ghost use Rattle.smt_dialogue.specs.Answers as answering;
 ghost use Rattle.smt_dialogue.specs.FirstFault as first_fault;
-ghost use Rattle.smt_dialogue.specs.Pairing.{Pair};
-ghost use Rattle.smt_script.specs.StackView.{last_of};
+ghost use Rattle.smt_dialogue.specs.Pairs.{Pair, next_of, pair_of};
+ghost use Rattle.smt_dialogue.specs.Internal.ChecksState.{IsAnswered};
 ghost use Rattle.smt_dialogue.specs.Internal.DialogueState.{StandsFor, state_of};
-ghost use Rattle.smt_dialogue.specs.Internal.Steps.{IsAccepted, IsJudged, IsStep};
+ghost use Rattle.smt_dialogue.specs.Internal.Steps.{IsAccepted, IsJudged, IsLeft, IsStep, taken_view};
 
-use crate::answer::{read_answered, takes};
+use crate::answer::{Need, Taken, need_of};
 use crate::dialogue::Dialogue;
 use crate::read_text::ReadText;
 use smt_eval::Memory;
 use smt_report::{Line, Report, Side};
-use smt_script::{Command, CommandFault};
+use smt_script::{Command, CommandFault, read_command};
 use smt_text::{TextFault, Tree};
 
 /// Judges the commands of a script with their answers, from a dialogue without pairs on.
@@ -25,7 +26,7 @@ pub(crate) fn judge_all(
     mut answers: ReadText,
 ) -> Result<Report, Memory>
     requires { StandsFor (state_of dialogue) [] }
-    ensures { IfOk result (λ r. IsJudged (sexps_of script.trees.items) (sexps_of answers.trees.items) script.fault answers.fault r.lines.items r.verdict) }
+    ensures { IfOk result (λ r. IsJudged (start_of dialogue.stack) (sexps_of script.trees.items) (sexps_of answers.trees.items) script.fault answers.fault r.lines.items r.verdict) }
 {
     while let Some(tree) = script.trees.pop_front() {
         match take_step(&mut dialogue, tree, &mut answers)? {
@@ -40,7 +41,7 @@ pub(crate) fn judge_all(
     dialogue.finish(fault)
 }
 
-// Accepts the command that a tree is with the next answer, or answers the line of its fault.
+// Accepts the command that a tree is with what it takes of the answers, or answers the line of its fault.
 fn take_step(
     dialogue: &mut Dialogue,
     tree: Tree,
@@ -51,49 +52,82 @@ fn take_step(
     requires checks { dialogue.old.checks.count + 1 < 2 ^ 64 }
     requires last { last_of dialogue.old.stack ≤ dialogue.old.commands }
     requires stands { (pairs : List Pair) × StandsFor (state_of dialogue.old) pairs }
-    ensures step { IfOk result (λ line. (pairs : List Pair) → StandsFor (state_of dialogue.old) pairs → IsStep line pairs (sexp_of tree) (sexps_of answers.old.trees.items) answers.old.fault (sexps_of answers.new.trees.items) (state_of dialogue.new)) }
+    ensures step { IfOk result (λ line. (pairs : List Pair) → StandsFor (state_of dialogue.old) pairs
+        → IsStep (start_of dialogue.old.stack) line pairs (sexp_of tree) (sexps_of answers.old.trees.items) answers.old.fault (sexps_of answers.new.trees.items) (state_of dialogue.new)) }
+    ensures start { IfOk result (λ _. start_of dialogue.new.stack ≡ start_of dialogue.old.stack) }
     ensures fault { answers.new.fault ≡ answers.old.fault }
 {
     let number = dialogue.commands + 1;
-    let command = match read_answered(tree) {
-        Ok(command) => command,
-        Err(fault) => return Ok(Some(Line::CommandFault {
-            command: number,
-            fault,
-        })),
-    };
-    let Some(answer) = answers.trees.pop_front() else {
-        return Ok(Some(want_of_answer(number, answers.fault)));
-    };
-    if !takes(&command, &answer) {
-        let answer = dialogue.answers + 1;
-        return Ok(Some(Line::UnexpectedAnswer {
-            command: number,
-            answer,
-        }));
+    if dialogue.stack.exited() {
+        return Ok(Some(refused(number, CommandFault::AfterExit)));
     }
-    accept(dialogue, &command, &answer)
+    let command = match read_command(tree) {
+        Ok(command) => command,
+        Err(fault) => return Ok(Some(refused(number, fault))),
+    };
+    let need = need_of(dialogue.stack.print_success(), &command);
+    match take_answer(need, answers) {
+        Taken::Takes(answer) => accept(dialogue, &command, &answer),
+        Taken::Missing => Ok(Some(want_of_answer(number, answers.fault))),
+        Taken::Unfit => {
+            let answer = dialogue.answers + 1;
+            Ok(Some(Line::UnexpectedAnswer {
+                command: number,
+                answer,
+            }))
+        }
+    }
 }
 
-// Accepts a command with an answer that it takes, or answers the line of the fault of its effect.
-fn accept(dialogue: &mut Dialogue, command: &Command, answer: &Tree) -> Result<Option<Line>, Memory>
+// The line on a command that is refused.
+fn refused(command: u64, fault: CommandFault) -> Line
+    ensures { result ≡ Line.CommandFault command fault }
+{
+    Line::CommandFault { command, fault }
+}
+
+// What a command that needs this takes of the answers that are left.
+fn take_answer(need: Need, answers: &mut ReadText) -> Taken
+    ensures taken { taken_view result ≡ answering.taken need (next_of (sexps_of answers.old.trees.items)) }
+    ensures left { IsLeft result (sexps_of answers.old.trees.items) (sexps_of answers.new.trees.items) }
+    ensures fault { answers.new.fault ≡ answers.old.fault }
+{
+    match need {
+        Need::Nothing => Taken::Takes(None),
+        Need::Optional(form) => Taken::Takes(answers.take_first(form)),
+        Need::Needed(form) => {
+            if answers.trees.is_empty() {
+                return Taken::Missing;
+            }
+            match answers.take_first(form) {
+                Some(answer) => Taken::Takes(Some(answer)),
+                None => Taken::Unfit,
+            }
+        }
+    }
+}
+
+// Accepts a command with what it takes of the answers, or answers the line of the fault of its effect.
+fn accept(
+    dialogue: &mut Dialogue,
+    command: &Command,
+    answer: &Option<Tree>,
+) -> Result<Option<Line>, Memory>
     requires commands { dialogue.old.commands + 1 < 2 ^ 64 }
     requires answers { dialogue.old.answers + 1 < 2 ^ 64 }
     requires checks { dialogue.old.checks.count + 1 < 2 ^ 64 }
     requires last { last_of dialogue.old.stack ≤ dialogue.old.commands }
     requires stands { (pairs : List Pair) × StandsFor (state_of dialogue.old) pairs }
-    requires taken { answering.takes (command_view command.now) (sexp_of answer.now) ≡ true }
-    ensures { IfOk result (λ line. (pairs : List Pair) → StandsFor (state_of dialogue.old) pairs
-        → IsAccepted line pairs (command_view command.now) (sexp_of answer.now) (state_of dialogue.new)) }
+    requires answered { IsAnswered (command_view command.now) (option_map sexp_of answer.now) }
+    ensures accepted { IfOk result (λ line. (pairs : List Pair) → StandsFor (state_of dialogue.old) pairs
+        → IsAccepted line pairs (pair_of (command_view command.now) (option_map sexp_of answer.now)) (state_of dialogue.new)) }
+    ensures start { IfOk result (λ _. start_of dialogue.new.stack ≡ start_of dialogue.old.stack) }
 {
     let number = dialogue.commands + 1;
     match dialogue.accept(command, answer) {
         Ok(()) => Ok(None),
         Err(CommandFault::Memory) => Err(Memory),
-        Err(fault) => Ok(Some(Line::CommandFault {
-            command: number,
-            fault,
-        })),
+        Err(fault) => Ok(Some(refused(number, fault))),
     }
 }
 

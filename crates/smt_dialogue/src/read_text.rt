@@ -1,11 +1,15 @@
 //! Texts, read to their end.
 
-ghost use Rattle.std.specs.Prelude.{◌≡◌, ◌≢◌, true, Some, None, IfOk, MatchOption};
+ghost use Rattle.std.specs.Prelude.{◌≡◌, ◌≢◌, true, false, Some, None, IfOk, MatchOption};
 ghost use Rattle.smt_text.specs.Reading.{Reads};
-ghost use Rattle.smt_text.specs.Tree.{sexps_of};
+ghost use Rattle.smt_text.specs.Sexp.{Cons};
+ghost use Rattle.smt_text.specs.Tree.{sexp_of, sexps_of};
 ghost use Rattle.smt_text.specs.declared.fault.TextFault.TheVariants.{Memory as OutOfMemory};
 ghost use Rattle.smt_text.specs.Grammar.{limit};
+ghost use Rattle.smt_dialogue.specs.Answers as answers;
+ghost use Rattle.smt_dialogue.specs.Internal.Steps.{IsUnfit};
 
+use crate::answer::{AnswerForm, has_form};
 use smt_eval::Memory;
 use smt_text::{Next, Reader, TextFault, Tree};
 use std::alloc::Global;
@@ -16,6 +20,20 @@ use std::collections::VecDeque;
 pub struct ReadText {
     pub trees: VecDeque<Tree>,
     pub fault: Option<TextFault>,
+}
+
+impl ReadText {
+    /// Takes the first tree that is left, where it has the form of an answer.
+    pub(crate) fn take_first(&mut self, form: AnswerForm) -> Option<Tree>
+        ensures taken { MatchOption result (IsUnfit form (sexps_of self.old.trees.items) × (self.new.trees.items ≡ self.old.trees.items))
+            (λ tree. (answers.has_form form (sexp_of tree) ≡ true) × (sexps_of self.old.trees.items ≡ Cons (sexp_of tree) (sexps_of self.new.trees.items))) }
+        ensures fault { self.new.fault ≡ self.old.fault }
+    {
+        match self.trees.front() {
+            Some(tree) if has_form(form, tree) => self.trees.pop_front(),
+            _ => None,
+        }
+    }
 }
 
 /// Reads a whole text.

@@ -1,6 +1,6 @@
 //! The report on a whole script and whole answers.
 
-ghost use Rattle.std.specs.Prelude.{◌≡◌, true, IfOk};
+ghost use Rattle.std.specs.Prelude.{◌≡◌, IfOk};
 ghost use Rattle.smt_dialogue.specs.Report.{IsReport};
 ghost use Rattle.smt_dialogue.specs.Validity.{IsValid, IsInvalid};
 ghost use Rattle.smt_report.specs.Verdict.{IsVerdictOf};
@@ -17,15 +17,14 @@ use std::alloc::Global;
 
 /// Checks a solver's dialogue: the script that it read, and the answers that it printed, in order.
 ///
-/// `start` says whether the solver prints `success` for commands without an answer of their own; it has to be true for now.
+/// `start` says whether the solver prints `success`, from the start on, for commands without an answer of their own (SMT-LIB 2.6, section
+/// 4.1.7); a script may say otherwise later.
 pub fn validate(alloc: Global, script: &[u8], answers: &[u8], start: bool) -> Result<Report, Memory>
-    requires { start ≡ true }
-    ensures report { IfOk result (λ r. IsReport script.now answers.now r.lines.items) }
+    ensures report { IfOk result (λ r. IsReport start script.now answers.now r.lines.items) }
     ensures verdict { IfOk result (λ r. IsVerdictOf r.verdict r.lines.items) }
-    ensures valid { IfOk result (λ r. r.verdict ≡ Verdict.Valid → IsValid script.now answers.now) }
-    ensures invalid { IfOk result (λ r. r.verdict ≡ Verdict.Invalid → IsInvalid script.now answers.now r.lines.items) }
+    ensures valid { IfOk result (λ r. r.verdict ≡ Verdict.Valid → IsValid start script.now answers.now) }
+    ensures invalid { IfOk result (λ r. r.verdict ≡ Verdict.Invalid → IsInvalid start script.now answers.now r.lines.items) }
 {
-    let _ = start;
     // Laws: the texts have no other trees, models that are read are complete and give structures, the assertions in force are those of
     // the commands that stand, and what is known of a term is its value.
     one_forest();
@@ -36,5 +35,5 @@ pub fn validate(alloc: Global, script: &[u8], answers: &[u8], start: bool) -> Re
     known_values_are_true();
     let script = read_whole(alloc, script)?;
     let answers = read_whole(alloc, answers)?;
-    judge_all(Dialogue::new(alloc), script, answers)
+    judge_all(Dialogue::new(alloc, start), script, answers)
 }

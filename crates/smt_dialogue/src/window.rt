@@ -1,18 +1,20 @@
 //! The window of a check: the models printed behind it, and its line.
 
-ghost use Rattle.std.specs.Prelude.{◌≡◌, ◌<◌, ◌+◌, ◌^◌, List, [], None, OnOk};
+ghost use Rattle.std.specs.Prelude.{◌≡◌, ◌<◌, ◌+◌, ◌^◌, List, [], None, OnOk, if◌then◌else◌, option_map};
 ghost use Rattle.smt_text.specs.Tree.{sexp_of};
 ghost use Rattle.smt_script.specs.CommandView.{command_view};
 ghost use Rattle.smt_script.specs.Stack.{Numbered, assertions_in_force, signature_in_force};
 ghost use Rattle.smt_script.specs.StackView.{StandsFor};
 ghost use Rattle.smt_dialogue.specs.Lines as check_lines;
-ghost use Rattle.smt_dialogue.specs.Internal.ChecksState.{checks_after, checks_state, with_check, with_model, with_window_ended};
+ghost use Rattle.smt_dialogue.specs.Internal.ChecksState.{IsAnswered, checks_after, checks_state, with_check, with_line, with_models, with_window_ended};
+ghost use Rattle.smt_dialogue.specs.Judgement.{judgement_of};
 
+use crate::answer::is_error;
 use crate::judgement::{Judgement, judge};
 use smt_eval::Memory;
 use smt_report::{CheckAnswer, Line};
 use smt_script::{Command, Stack};
-use smt_text::Tree;
+use smt_text::{Tree, Trees};
 use std::alloc::Global;
 
 /// A check that was answered `sat`, whose window has not ended.
@@ -46,27 +48,32 @@ impl Checks {
         }
     }
 
-    /// Takes the command of this number, which took effect, with its answer, and what is in force after it.
+    /// Takes the command of this number with its answer, which says whether it took effect, and what is in force after it.
     pub(crate) fn take(
         &mut self,
+        effective: bool,
         number: u64,
         command: &Command,
-        answer: &Tree,
+        answer: &Option<Tree>,
         stack: &Stack,
     ) -> Result<(), Memory>
         requires count { self.old.count + 1 < 2 ^ 64 }
         requires stands { (commands : List Numbered) × StandsFor stack.now commands }
+        requires answered { IsAnswered (command_view command.now) (option_map sexp_of answer.now) }
         ensures { OnOk result ((commands : List Numbered) → StandsFor stack.now commands → checks_state self.new
-            ≡ checks_after (checks_state self.old) (signature_in_force commands) (assertions_in_force commands) number (command_view command.now) (sexp_of answer.now)) }
+            ≡ checks_after effective (checks_state self.old) (signature_in_force commands) (assertions_in_force commands) number (command_view command.now) (option_map sexp_of answer.now)) }
     {
         match command {
-            Command::CheckSat => self.begin_window(number, answer),
-            Command::GetModel => self.judge_model(number, answer, stack),
-            Command::SetLogic { .. } | Command::DeclareConst { .. } => self.end_window(),
-            Command::DeclareFun { .. } | Command::DefineFun { .. } => self.end_window(),
-            Command::DefineSort { .. } | Command::Assert { .. } => self.end_window(),
-            Command::Push { .. } | Command::Pop { .. } => self.end_window(),
-            Command::Reset | Command::ResetAssertions => self.end_window(),
+            Command::CheckSat => match answer {
+                Some(answer) => self.begin_window(number, answer),
+                None => unreachable!(),
+            },
+            Command::GetModel => self.judge_model_if(effective, number, answer, stack),
+            Command::SetLogic { .. } | Command::DeclareConst { .. } => self.end_window_if(effective),
+            Command::DeclareFun { .. } | Command::DefineFun { .. } => self.end_window_if(effective),
+            Command::DefineSort { .. } | Command::Assert { .. } => self.end_window_if(effective),
+            Command::Push { .. } | Command::Pop { .. } => self.end_window_if(effective),
+            Command::Reset | Command::ResetAssertions => self.end_window_if(effective),
             Command::SetPrintSuccess { .. } | Command::SetOption { .. } => Ok(()),
             Command::SetInfo { .. } | Command::Exit => Ok(()),
             Command::Echo { .. } | Command::Get { .. } => Ok(()),
@@ -80,42 +87,54 @@ impl Checks {
     {
         self.end_window()?;
         let check = self.count + 1;
-        let command = number;
-        if answer.is_symbol(b"unsat") {
-            let answer = CheckAnswer::Unsat;
-            self.lines.push(Line::Unchecked {
+        match unchecked_answer(answer) {
+            Some(answer) => self.lines.push(Line::Unchecked {
                 check,
-                command,
+                command: number,
                 answer,
-            })?;
-        } else if answer.is_symbol(b"unknown") {
-            let answer = CheckAnswer::Unknown;
-            self.lines.push(Line::Unchecked {
+            })?,
+            None => self.pending = Some(PendingCheck {
                 check,
-                command,
-                answer,
-            })?;
-        } else {
-            let some_model = false;
-            self.pending = Some(PendingCheck {
-                check,
-                command,
-                some_model,
-            });
+                command: number,
+                some_model: false,
+            }),
         }
         self.count = check;
         Ok(())
     }
 
-    // A model printed outside every window is not looked at.
-    fn judge_model(&mut self, number: u64, answer: &Tree, stack: &Stack) -> Result<(), Memory>
+    // A model printed outside every window is not looked at, nor is an error.
+    fn judge_model_if(
+        &mut self,
+        effective: bool,
+        number: u64,
+        answer: &Option<Tree>,
+        stack: &Stack,
+    ) -> Result<(), Memory>
         requires { (commands : List Numbered) × StandsFor stack.now commands }
         ensures { OnOk result ((commands : List Numbered) → StandsFor stack.now commands
-            → checks_state self.new ≡ with_model (checks_state self.old) self.old.pending (signature_in_force commands) (assertions_in_force commands) number (sexp_of answer.now)) }
+            → checks_state self.new ≡ with_models (checks_state self.old) self.old.pending (signature_in_force commands) (assertions_in_force commands) number effective (option_map sexp_of answer.now)) }
     {
-        let (Some(pending), Tree::List(model)) = (self.pending, answer) else {
-            return Ok(());
-        };
+        match (self.pending, answer) {
+            (Some(pending), Some(Tree::List(model))) if effective => {
+                self.judge_model(pending, number, model, stack)
+            }
+            _ => Ok(()),
+        }
+    }
+
+    // Judges a model that was printed in the window of a check.
+    fn judge_model(
+        &mut self,
+        pending: PendingCheck,
+        number: u64,
+        model: &Trees,
+        stack: &Stack,
+    ) -> Result<(), Memory>
+        requires { (commands : List Numbered) × StandsFor stack.now commands }
+        ensures { OnOk result ((commands : List Numbered) → StandsFor stack.now commands → checks_state self.new
+            ≡ with_line (checks_state self.old) pending (check_lines.line_of_judgement pending.check pending.command number (judgement_of (signature_in_force commands) (assertions_in_force commands) model.now))) }
+    {
         let judgement = judge(stack, model)?;
         match line_of_judgement(pending, number, judgement) {
             Some(line) => {
@@ -128,6 +147,17 @@ impl Checks {
             }),
         }
         Ok(())
+    }
+
+    // Ends the window where a command took effect.
+    fn end_window_if(&mut self, effective: bool) -> Result<(), Memory>
+        ensures { OnOk result (checks_state self.new ≡ (if effective then with_window_ended (checks_state self.old) else checks_state self.old)) }
+    {
+        if effective {
+            self.end_window()
+        } else {
+            Ok(())
+        }
     }
 
     /// Ends the window of the last check, if it has not ended: each model in it is confirmed.
@@ -188,5 +218,22 @@ fn line_of_judgement(pending: PendingCheck, model: u64, judgement: Judgement) ->
             assertion,
         }),
         Judgement::Confirmed => None,
+    }
+}
+
+// What a check was answered otherwise than `sat`.
+fn unchecked_answer(answer: &Tree) -> Option<CheckAnswer>
+    ensures { result ≡ check_lines.unchecked_answer (sexp_of answer.now) }
+{
+    if answer.is_symbol(b"unsat") {
+        Some(CheckAnswer::Unsat)
+    } else if answer.is_symbol(b"unknown") {
+        Some(CheckAnswer::Unknown)
+    } else if answer.is_symbol(b"unsupported") {
+        Some(CheckAnswer::Unsupported)
+    } else if is_error(answer) {
+        Some(CheckAnswer::Error)
+    } else {
+        None
     }
 }

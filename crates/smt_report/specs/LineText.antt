@@ -2,7 +2,7 @@
 use Rattle.std.specs.Prelude.{ℕ, List, ◌++◌, codes}
 use Rattle.std.specs.Fmt.{decimal}
 use Rattle.smt_report.specs.declared.line.CheckAnswer.{CheckAnswer}
-use Rattle.smt_report.specs.declared.line.CheckAnswer.TheVariants.{Unsat, Unknown}
+use Rattle.smt_report.specs.declared.line.CheckAnswer.TheVariants.{Unsat, Unknown, Unsupported, Error}
 use Rattle.smt_report.specs.declared.line.Line.{Line}
 use Rattle.smt_report.specs.declared.line.Line.TheVariants.{Unchecked, Confirmed, NoModel, ItemFault, Lacks, Refuted, NotDecided, TextFault, CommandFault, MissingAnswer, UnexpectedAnswer, ExtraAnswer, Verdict as VerdictLine}
 use Rattle.smt_report.specs.declared.line.Side.{Side}
@@ -18,6 +18,8 @@ use Rattle.smt_terms.specs.FaultText.{text_of_term_fault}
 abbrev pub text_of_answer : CheckAnswer → List ℕ
 text_of_answer Unsat = codes "unsat"
 text_of_answer Unknown = codes "unknown"
+text_of_answer Unsupported = codes "unsupported"
+text_of_answer Error = codes "error"
 
 abbrev pub text_of_side : Side → List ℕ
 text_of_side Script = codes "script"

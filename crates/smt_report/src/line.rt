@@ -15,6 +15,9 @@ use std::fmt;
 pub enum CheckAnswer {
     Unsat,
     Unknown,
+    Unsupported,
+    /// A list of the symbol `error` and a string.
+    Error,
 }
 
 /// Which of the two texts.
@@ -199,6 +202,8 @@ impl fmt::Display for CheckAnswer {
         f.write_str(match self {
             CheckAnswer::Unsat => "unsat",
             CheckAnswer::Unknown => "unknown",
+            CheckAnswer::Unsupported => "unsupported",
+            CheckAnswer::Error => "error",
         })
     }
 }

@@ -17,6 +17,8 @@ pub enum CommandFault {
     NoLevel,
     /// It sets a logic that isn't taken, or sets one too late (`C5`).
     Logic,
+    /// It stands behind an `exit` (`C6`).
+    AfterExit,
     /// A term, a sort or a name in it has a fault (`C7`).
     Term { fault: TermFault },
     /// Memory was refused (`C0`).
@@ -36,6 +38,7 @@ impl fmt::Display for CommandFault {
             CommandFault::TooDeep => write!(f, "C3"),
             CommandFault::NoLevel => write!(f, "C4"),
             CommandFault::Logic => write!(f, "C5"),
+            CommandFault::AfterExit => write!(f, "C6"),
             CommandFault::Term { fault } => write!(f, "C7 {fault}"),
             CommandFault::Memory => write!(f, "C0"),
         }

@@ -101,6 +101,7 @@ fn word_of_fault(fault: CommandFault) -> &'static [u8] {
         CommandFault::TooDeep => b"C3",
         CommandFault::NoLevel => b"C4",
         CommandFault::Logic => b"C5",
+        CommandFault::AfterExit => b"C6",
         CommandFault::Term { .. } => b"C7",
         CommandFault::Memory => b"C0",
     }

@@ -1,17 +1,19 @@
 -- What is kept of the checks so far, and how it goes on with one more pair.
-use Rattle.std.specs.Prelude.{ℕ, ◌+◌, List, [], ◌∷◌, ◌++◌, Bool, false, true, not, ◌||◌, Option, Some, None, codes, if◌then◌else◌}
+use Rattle.std.specs.Prelude.{◌≡◌, ℕ, ◌+◌, List, [], ◌∷◌, ◌++◌, Bool, false, true, not, ◌||◌, Option, Some, None, if◌then◌else◌}
 use Rattle.std.specs.List.{list_any}
-use Rattle.smt_text.specs.Sexp.{Sexp, Atom, Reserved, Items, is_symbol}
+use Rattle.smt_text.specs.Sexp.{Sexp, Items}
 use Rattle.smt_terms.specs.Signature.{Signature}
 use Rattle.smt_script.specs.Command.{Command, CheckSat, GetModel}
 use Rattle.smt_script.specs.Stack.{Assertion}
+use Rattle.smt_dialogue.specs.Answers.{has_form}
 use Rattle.smt_dialogue.specs.Judgement.{judgement_of}
-use Rattle.smt_dialogue.specs.Lines.{confirmed_line, is_empty, line_of_judgement, sat_lines, unconfirmed_line}
-use Rattle.smt_dialogue.specs.Pairing.{Pair}
+use Rattle.smt_dialogue.specs.Lines.{confirmed_line, is_empty, line_of_judgement, sat_lines, unchecked_answer, unconfirmed_line}
+use Rattle.smt_dialogue.specs.Pairs.{Pair}
 use Rattle.smt_dialogue.specs.Window.{closes, closes_by, models_from, window}
-use Rattle.smt_report.specs.declared.line.CheckAnswer.TheVariants.{Unsat, Unknown}
+use Rattle.smt_report.specs.declared.line.CheckAnswer.{CheckAnswer}
 use Rattle.smt_report.specs.declared.line.Line.{Line}
 use Rattle.smt_report.specs.declared.line.Line.TheVariants as lines
+use Rattle.smt_dialogue.specs.declared.answer.AnswerForm.TheVariants.{Check}
 use Rattle.smt_dialogue.specs.declared.window.Checks.{Checks}
 use Rattle.smt_dialogue.specs.declared.window.PendingCheck.{PendingCheck}
 
@@ -40,27 +42,32 @@ closing_lines (Some c) = confirmed_line c.check c.command c.some_model ∷ []
 abbrev pub with_window_ended : ChecksState → ChecksState
 with_window_ended s = record s { pending = None; lines = s.lines ++ closing_lines s.pending }
 
--- a check answered by a word, at command n; its window begins at `sat`
+-- check k at command n, answered otherwise than `sat`, or else a window begins
+abbrev pub with_answer_of : ChecksState → ℕ → ℕ → Option CheckAnswer → ChecksState
+with_answer_of s k n (Some answer) = record s { count = k; lines = s.lines ++ lines.Unchecked k n answer ∷ [] }
+with_answer_of s k n None = record s { count = k; pending = Some (record { check = k; command = n; some_model = false }) }
+
+-- a check at command n with its answer
 abbrev pub with_check : ChecksState → ℕ → Sexp → ChecksState
-with_check s n answer =
-    let k = s.count + 1 in
-    let c = with_window_ended s in
-    if is_symbol (codes "unsat") answer then record c { count = k; lines = c.lines ++ lines.Unchecked k n Unsat ∷ [] } else if is_symbol (codes "unknown") answer then record c { count = k; lines = c.lines ++ lines.Unchecked k n Unknown ∷ [] } else record c { count = k; pending = Some (record { check = k; command = n; some_model = false }) }
+with_check s n answer = with_answer_of (with_window_ended s) (s.count + 1) n (unchecked_answer answer)
 
 -- a model that isn't confirmed gives the line of the check, and its window is let go; a model that is confirmed is noted
 abbrev pub with_line : ChecksState → PendingCheck → Option Line → ChecksState
 with_line s c (Some line) = record s { pending = None; lines = s.lines ++ line ∷ [] }
 with_line s c None = record s { pending = Some (record c { some_model = true }) }
 
--- an answer to `get-model` at command n
-abbrev pub with_model : ChecksState → Option PendingCheck → Signature → List Assertion → ℕ → Sexp → ChecksState
-with_model s None names assertions n answer = s
-with_model s (Some c) names assertions n (Items parts) = with_line s c (line_of_judgement c.check c.command n (judgement_of names assertions parts))
-with_model s (Some c) names assertions n (Atom kind bytes) = s
-with_model s (Some c) names assertions n (Reserved word) = s
+-- the answer to a `get-model` at command n, which took effect or did not: a list in a window is a model
+abbrev pub with_models : ChecksState → Option PendingCheck → Signature → List Assertion → ℕ → Bool → Option Sexp → ChecksState
+with_models s (Some c) names assertions n true (Some (Items parts)) = with_line s c (line_of_judgement c.check c.command n (judgement_of names assertions parts))
+with_models s pending names assertions n effective answer = s
 
--- a command n that took effect, with its answer
-abbrev pub checks_after : ChecksState → Signature → List Assertion → ℕ → Command → Sexp → ChecksState
-checks_after s names assertions n CheckSat answer = with_check s n answer
-checks_after s names assertions n GetModel answer = with_model s s.pending names assertions n answer
-checks_after s names assertions n command answer = if closes_by true command then with_window_ended s else s
+-- a check has one of the answers of checks
+abbrev pub IsAnswered : Command → Option Sexp → Type 0
+IsAnswered CheckSat answer = (a : Sexp) × (answer ≡ Some a) × (has_form Check a ≡ true)
+IsAnswered command answer = Unit {0}
+
+-- command n with its answer, which says whether it took effect
+abbrev pub checks_after : Bool → ChecksState → Signature → List Assertion → ℕ → Command → Option Sexp → ChecksState
+checks_after effective s names assertions n CheckSat (Some answer) = with_check s n answer
+checks_after effective s names assertions n GetModel answer = with_models s s.pending names assertions n effective answer
+checks_after effective s names assertions n command answer = if closes_by effective command then with_window_ended s else s

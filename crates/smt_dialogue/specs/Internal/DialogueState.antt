@@ -1,11 +1,14 @@
 -- What the dialogue so far keeps, and what it stands for: which pairs of commands and answers it accepted.
-use Rattle.std.specs.Prelude.{◌≡◌, ◌≤◌, ℕ, ◌+◌, List, [], ◌++◌, length, Bool}
+use Rattle.std.specs.Prelude.{◌≡◌, ◌≤◌, ℕ, ◌+◌, List, [], ◌++◌, length, Bool, Option, None, if◌then◌else◌}
+use Rattle.smt_script.specs.Command.{Command}
+use Rattle.smt_script.specs.Stack.{Numbered, fault_of_effect}
 use Rattle.smt_script.specs.StackView as stacks
 use Rattle.smt_script.specs.StackView.{last_of}
+use Rattle.smt_script.specs.declared.fault.CommandFault.{CommandFault}
 use Rattle.smt_script.specs.declared.stack.Stack.{Stack}
-use Rattle.smt_dialogue.specs.InForce.{assertions_after, effective_commands, signature_after}
+use Rattle.smt_dialogue.specs.InForce.{assertions_after, signature_after}
 use Rattle.smt_dialogue.specs.Lines.{checks_in, lines_in}
-use Rattle.smt_dialogue.specs.Pairing.{Pair, answers_taken}
+use Rattle.smt_dialogue.specs.Pairs.{Pair, answers_taken, effective_commands}
 use Rattle.smt_dialogue.specs.Internal.ChecksState.{ChecksState, checks_state, pending_lines}
 use Rattle.smt_dialogue.specs.declared.dialogue.Dialogue.{Dialogue}
 
@@ -18,6 +21,10 @@ pub record State : Type 0 where
 
 abbrev pub state_of : Dialogue → State
 state_of d = record { stack = d.stack; checks = checks_state d.checks; commands = d.commands; answers = d.answers }
+
+-- the fault of a command's effect, if it took effect
+abbrev pub fault_if : Bool → List Numbered → ℕ → Command → Option CommandFault
+fault_if effective before n command = if effective then fault_of_effect before n command else None
 
 -- the state fits these pairs: what it keeps is in force behind them, and whatever pairs come, the lines are those that are
 -- decided and those of the check whose window has not ended
