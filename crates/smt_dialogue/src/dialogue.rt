@@ -72,7 +72,10 @@ impl Dialogue {
         if let Err(fault) = apply_if(effective, &mut self.stack, number, command) {
             return Err(fault);
         }
-        let Ok(()) = self.checks.take(effective, number, command, answer, &self.stack) else {
+        let Ok(()) = self
+            .checks
+            .take(effective, number, command, answer, &self.stack)
+        else {
             return Err(CommandFault::Memory);
         };
         self.commands = number;

@@ -69,7 +69,9 @@ impl Checks {
                 None => unreachable!(),
             },
             Command::GetModel => self.judge_model_if(effective, number, answer, stack),
-            Command::SetLogic { .. } | Command::DeclareConst { .. } => self.end_window_if(effective),
+            Command::SetLogic { .. } | Command::DeclareConst { .. } => self.end_window_if(
+                effective,
+            ),
             Command::DeclareFun { .. } | Command::DefineFun { .. } => self.end_window_if(effective),
             Command::DefineSort { .. } | Command::Assert { .. } => self.end_window_if(effective),
             Command::Push { .. } | Command::Pop { .. } => self.end_window_if(effective),
@@ -153,11 +155,7 @@ impl Checks {
     fn end_window_if(&mut self, effective: bool) -> Result<(), Memory>
         ensures { OnOk result (checks_state self.new ≡ (if effective then with_window_ended (checks_state self.old) else checks_state self.old)) }
     {
-        if effective {
-            self.end_window()
-        } else {
-            Ok(())
-        }
+        if effective { self.end_window() } else { Ok(()) }
     }
 
     /// Ends the window of the last check, if it has not ended: each model in it is confirmed.
