@@ -1,4 +1,4 @@
-//! The trees that fields hold, logics and declarations.
+//! The trees that fields hold, logics, declarations, and what is answered to them.
 
 ghost use Rattle.smt_terms.specs.Library.{StandsFor};
 ghost use Rattle.smt_terms.specs.Signature.{Signature};
