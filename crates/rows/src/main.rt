@@ -1,9 +1,12 @@
 //! rows: prints what the crates answer to the rows of the files that its words name.
 #![tactic(auto)]
 
+mod commands;
 mod dialogues;
 mod escapes;
+mod items;
 mod models;
+mod names;
 mod rows;
 mod terms;
 mod trees;
@@ -48,6 +51,8 @@ fn print_row<W: Write>(alloc: Global, out: &mut W, title: &Field, fields: &[Fiel
         "terms" => terms::print(alloc, out, fields)?,
         "values" => values::print(alloc, out, title, fields)?,
         "models" => models::print(alloc, out, fields)?,
+        "items" => items::print(alloc, out, fields)?,
+        "commands" => commands::print(alloc, out, fields)?,
         key => bail!("line {}: `{key}` is no kind of row", title.line),
     }
     writeln!(out)?;

@@ -1,21 +1,26 @@
-//! Rows of terms: each with its sort, or the first fault that is told of it.
+//! Rows of terms: each with its sort, or the first fault that is told of it; and of definitions, assertions and names.
 
+use crate::names::{print_counts, print_name, write_sort};
 use crate::rows::Field;
-use crate::trees::{declare, refuse, split_logic, trees_of};
+use crate::trees::{declare, print_answer, refuse, split_logic, tree_of, trees_of};
 use anyhow::{Result, bail};
-use smt_terms::Library;
-use smt_theory::Sort;
+use smt_terms::{Library, are_named, params_of};
+use smt_text::Tree;
 use std::alloc::Global;
 use std::io::Write;
 
-/// Prints what is answered to declarations and terms, in order. Each declaration is the command of its place behind the logic.
+/// Prints what is answered to the fields, in order. Each declaration is the command of its place behind the logic.
 pub(crate) fn print<W: Write>(alloc: Global, out: &mut W, fields: &[Field]) -> Result<()> {
     let (theories, fields) = split_logic(alloc, fields)?;
     let mut library = Library::new(alloc, theories);
     for (command, field) in (1..u64::MAX).zip(fields) {
         match field.key {
             "declare" => declare(alloc, out, &mut library, command, field)?,
+            "define" => define(alloc, out, &mut library, field)?,
+            "assert" => assert(alloc, out, &mut library, field)?,
             "term" => print_term(alloc, out, &mut library, field)?,
+            "find" => print_name(alloc, out, &library, field)?,
+            "names" => print_counts(out, "names", &library)?,
             _ => return refuse(field),
         }
     }
@@ -28,20 +33,50 @@ fn print_term<W: Write>(
     library: &mut Library,
     field: &Field,
 ) -> Result<()> {
-    let trees = trees_of(alloc, field)?;
-    let [term] = trees.as_slice() else {
-        bail!("line {}: this is no term", field.line);
-    };
-    match &library.check(term) {
-        Ok((_, Sort::Bool)) => writeln!(out, "{} => Bool", field.text)?,
-        Ok((_, Sort::Int)) => writeln!(out, "{} => Int", field.text)?,
-        Ok((_, Sort::Bits(width))) => writeln!(
-            out,
-            "{} => (_ BitVec {})",
-            field.text,
-            width.bits()
-        )?,
-        Err(fault) => writeln!(out, "{} => {fault}", field.text)?,
+    let term = tree_of(alloc, field)?;
+    write!(out, "{} => ", field.text)?;
+    match &library.check(&term) {
+        Ok((_, sort)) => write_sort(out, sort)?,
+        Err(fault) => write!(out, "{fault}")?,
     }
+    writeln!(out)?;
     Ok(())
+}
+
+// Defines the name that a field holds, and prints the answer. Behind the name stand the parameters, the sort and the body.
+fn define<W: Write>(
+    alloc: Global,
+    out: &mut W,
+    library: &mut Library,
+    field: &Field,
+) -> Result<()> {
+    let trees = trees_of(alloc, field)?;
+    let [Tree::Symbol(name), Tree::List(params), sort, body] = trees.as_slice() else {
+        bail!(
+            "line {}: a definition is a symbol, parameters in a list, a sort and a body",
+            field.line
+        );
+    };
+    if !are_named(params.as_slice()) {
+        bail!(
+            "line {}: a parameter is a list of a symbol and a sort",
+            field.line
+        );
+    }
+    let Ok(params) = params_of(alloc, params.as_slice()) else {
+        bail!("out of memory");
+    };
+    let answer = library.define(name.as_slice(), params.as_slice(), sort, body);
+    print_answer(out, field, "defined", answer.err())
+}
+
+// Asserts the term that a field holds, and prints the answer.
+fn assert<W: Write>(
+    alloc: Global,
+    out: &mut W,
+    library: &mut Library,
+    field: &Field,
+) -> Result<()> {
+    let term = tree_of(alloc, field)?;
+    print_answer(out, field, "asserted", library.check_assert(&term).err())
 }

@@ -1,4 +1,4 @@
-//! The trees that fields hold, logics and declarations.
+//! The trees that fields hold, logics, declarations, and what is answered to them.
 
 ghost use Rattle.smt_terms.specs.Library.{StandsFor};
 ghost use Rattle.smt_terms.specs.Signature.{Signature};
@@ -6,7 +6,7 @@ ghost use Rattle.smt_terms.specs.Signature.{Signature};
 use crate::rows::Field;
 use anyhow::{Result, bail};
 use smt_script::all_theories;
-use smt_terms::Library;
+use smt_terms::{Library, TermFault};
 use smt_text::{Tree, Trees};
 use smt_theory::{Theories, theories_of};
 use std::alloc::Global;
@@ -18,6 +18,14 @@ pub(crate) fn trees_of(alloc: Global, field: &Field) -> Result<Trees> {
     match Trees::read(alloc, bytes.as_slice()) {
         Ok(trees) => Ok(trees),
         Err(_) => bail!("line {}: this is no text of the language", field.line),
+    }
+}
+
+/// The one tree of a field.
+pub(crate) fn tree_of(alloc: Global, field: &Field) -> Result<Tree> {
+    match trees_of(alloc, field)?.as_slice() {
+        [tree] => Ok(tree.copy(alloc)?),
+        _ => bail!("line {}: this is not one S-expression", field.line),
     }
 }
 
@@ -67,9 +75,20 @@ pub(crate) fn declare<W: Write>(
             field.line
         ),
     };
-    match library.declare(command, name, params, sort) {
-        Ok(()) => writeln!(out, "{} => declared", field.text)?,
-        Err(fault) => writeln!(out, "{} => {fault}", field.text)?,
+    let answer = library.declare(command, name, params, sort);
+    print_answer(out, field, "declared", answer.err())
+}
+
+/// Prints the fault of what a field holds, or, where it has none, what was done with it.
+pub(crate) fn print_answer<W: Write>(
+    out: &mut W,
+    field: &Field,
+    done: &str,
+    fault: Option<TermFault>,
+) -> Result<()> {
+    match fault {
+        None => writeln!(out, "{} => {done}", field.text)?,
+        Some(fault) => writeln!(out, "{} => {fault}", field.text)?,
     }
     Ok(())
 }

@@ -4,7 +4,7 @@ ghost use Rattle.smt_eval.specs.Interpretation.{Fits};
 
 use crate::models::print_model;
 use crate::rows::Field;
-use crate::trees::{refuse, split_logic, trees_of};
+use crate::trees::{refuse, split_logic, tree_of};
 use anyhow::{Result, bail};
 use smt_eval::plain::Closed;
 use smt_eval::{Checked, Interpretation};
@@ -49,14 +49,11 @@ fn print_value<W: Write>(
 ) -> Result<()>
     requires { Fits interpretation.now library.now }
 {
-    let trees = trees_of(alloc, field)?;
-    let [tree] = trees.as_slice() else {
-        bail!("line {}: this is no term", field.line);
-    };
+    let tree = tree_of(alloc, field)?;
     let term = Closed {
         library,
         interpretation,
-        tree,
+        tree: &tree,
     };
     match &term.known() {
         Ok(Some(Value::Bool(value))) => writeln!(out, "{} => {value}", field.text)?,

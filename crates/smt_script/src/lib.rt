@@ -14,8 +14,6 @@ mod fault;
 mod forms;
 pub mod laws;
 mod stack;
-#[cfg(test)]
-mod tests;
 
 pub use command::{Command, Query};
 pub use fault::CommandFault;

@@ -20,8 +20,6 @@ pub mod laws;
 mod library;
 mod scope;
 mod sorts;
-#[cfg(test)]
-mod tests;
 mod variables;
 
 pub use bindings::{are_named, split_let, split_named};

@@ -1,4 +1,4 @@
-use Rattle.std.proofs.Common.{◌≡◌, Result, Ok, Err}
+use Rattle.std.proofs.Common.{Result, Ok, Err}
 use Rattle.std.specs.Prelude.{OnErr, OnOk}
 use Rattle.smt_terms.specs.Contents.{Contents}
 use Rattle.smt_terms.specs.Library.{Holds}
@@ -13,4 +13,4 @@ stands (Ok a) before after Is declared unchanged s h = let d = declared s h in (
 stands (Err f) before after Is declared unchanged s h = (s, unchanged s h)
 
 pub returns : goal.returns
-returns g c = stands c.declare.result _ _ _ c.declare.ensures.declared c.declare.ensures.unchanged
+returns g c = stands c.declare-answer.result _ _ _ c.declare-answer.ensures.declared c.declare-answer.ensures.unchanged

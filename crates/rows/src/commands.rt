@@ -1,0 +1,70 @@
+//! Rows of commands: each with what is answered to it, and then what is in force.
+
+ghost use Rattle.std.specs.Prelude.{◌<◌, ◌≤◌};
+ghost use Rattle.smt_script.specs.StackView.{last_of};
+
+use crate::names::print_counts;
+use crate::rows::Field;
+use crate::trees::{refuse, tree_of};
+use anyhow::{Result, bail};
+use smt_script::{CommandFault, Stack, read_command};
+use smt_text::Tree;
+use std::alloc::Global;
+use std::io::Write;
+
+/// Prints what is answered to commands, in order, and then what the stack holds. Each command has the number of its place behind
+/// `start`, from 1, also where an earlier one was refused.
+pub(crate) fn print<W: Write>(alloc: Global, out: &mut W, fields: &[Field]) -> Result<()> {
+    let (start, fields) = split_start(fields)?;
+    let mut stack = Stack::new(alloc, start);
+    let mut left = fields;
+    for number in 1..u64::MAX {
+        let Some((field, rest)) = left.split_first() else {
+            break;
+        };
+        if field.key != "command" {
+            return refuse(field);
+        }
+        match take(&mut stack, number, tree_of(alloc, field)?) {
+            Ok(()) => writeln!(out, "{number} {} => done", field.text)?,
+            Err(fault) => writeln!(out, "{number} {} => {fault}", field.text)?,
+        }
+        left = rest;
+    }
+    print_stack(out, &stack)
+}
+
+// Whether the solver prints `success` at the start, as the first field says, and the fields behind it. Where none says so, it does.
+fn split_start<'a, 'b>(fields: &'b [Field<'a>]) -> Result<(bool, &'b [Field<'a>])> {
+    match fields.split_first() {
+        Some((first, rest)) if first.key == "start" => match first.text.as_str() {
+            "on" => Ok((true, rest)),
+            "off" => Ok((false, rest)),
+            _ => bail!("line {}: the start is `on` or `off`", first.line),
+        },
+        _ => Ok((true, fields)),
+    }
+}
+
+// Reads a command, and applies it.
+fn take(stack: &mut Stack, number: u64, tree: Tree) -> Result<(), CommandFault>
+    requires { last_of stack.old < number }
+    ensures { last_of stack.new ≤ number }
+{
+    let command = read_command(tree)?;
+    stack.apply(number, &command)
+}
+
+// Prints what is in force: names, the numbers of the commands of the assertions, levels, and what the solver was told.
+fn print_stack<W: Write>(out: &mut W, stack: &Stack) -> Result<()> {
+    print_counts(out, "names", stack.library())?;
+    write!(out, "assertions =>")?;
+    for assertion in stack.assertions() {
+        write!(out, " {}", assertion.command)?;
+    }
+    writeln!(out)?;
+    writeln!(out, "depth => {}", stack.depth())?;
+    writeln!(out, "print-success => {}", stack.print_success())?;
+    writeln!(out, "exited => {}", stack.exited())?;
+    Ok(())
+}

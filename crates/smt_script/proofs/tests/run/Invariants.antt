@@ -1,7 +1,0 @@
-use Rattle.std.proofs.Common.{◌<◌}
-use Rattle.smt_script.specs.StackView.{last_of}
-use Rattle.smt_script.proofs.tests.run.Given as goal
-
--- the commands that were applied have smaller numbers
-abbrev pub invariant-loop-number : goal.invariant-loop-number
-invariant-loop-number g l = last_of l.stack < l.number
