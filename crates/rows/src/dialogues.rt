@@ -26,12 +26,19 @@ pub(crate) fn print<W: Write>(
             title.line
         );
     }
-    if start.text.as_str() != "on" {
-        bail!("line {}: the start is `on`", start.line);
-    }
+    let print_success = match start.text.as_str() {
+        "on" => true,
+        "off" => false,
+        _ => bail!("line {}: the start is `on` or `off`", start.line),
+    };
     let script = script.bytes(alloc)?;
     let answers = answers.bytes(alloc)?;
-    let Ok(report) = validate(alloc, script.as_slice(), answers.as_slice(), true) else {
+    let Ok(report) = validate(
+        alloc,
+        script.as_slice(),
+        answers.as_slice(),
+        print_success,
+    ) else {
         bail!("out of memory");
     };
     for line in &report.lines {
