@@ -1,2 +1,3 @@
 pub mod ClapLemmas
+pub mod DefaultLemmas
 pub mod SettingsLemmas

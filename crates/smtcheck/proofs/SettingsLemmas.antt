@@ -1,15 +1,17 @@
--- What clap's definition says of the program's command on two words that begin with no hyphen.
-use Rattle.std.proofs.Common.{◌≡◌, ◌∙◌, ◌==◌, ◌&&◌, ◌||◌, ℕ, Bool, List, [], ◌∷◌, ap, true, false, not, Some, None, codes, refl, if◌then◌else◌}
+-- What clap's definition says of the program's command on two words that begin with no hyphen, alone or behind the option with its word.
+use Rattle.std.proofs.Common.{◌≡◌, ◌∙◌, ◌==◌, ◌&&◌, ◌||◌, ◌++◌, ℕ, Bool, List, [], ◌∷◌, ap, true, false, not, Option, Some, None, unwrap_or, codes, refl, if◌then◌else◌}
 use Rattle.std.specs.List.{list_all}
 use Rattle.std.specs.Option.{option_map_or}
+use Rattle.std.specs.Prelude.{fold}
 use Rattle.std.specs.Str.{bytes_eq}
 use Rattle.clap.specs.Lexer.{long_of, short_of}
 use Rattle.clap.specs.Words.{Rule, Text, first_of, matches_of, takes}
-use Rattle.clap.specs.Walk.{Held, Walk, after_step, arg_by_index, finished, idle, long_or_other, nothing_held, short_or_plain, to_positional, trailing, value, walk_from, walked, word_met}
-use Rattle.clap.specs.Simple.{Shape, argument_words, built}
-use Rattle.clap.specs.Takes.{bundle_passes, default_passes, flag_word_passes, is_valid, level_passes, settle_passes, step_passes, turn_passes, walk_passes, word_passes}
+use Rattle.clap.specs.Walk.{Held, Walk, after_step, arg_by_index, finished, idle, long_or_other, nothing_held, short_or_plain, to_positional, trailing, value, walk, walk_from, walked, word_met}
+use Rattle.clap.specs.Simple.{Shape, built}
+use Rattle.clap.specs.Takes.{bundle_passes, default_passes, flag_word_passes, is_valid, settle_passes, step_passes, turn_passes, walk_passes, word_passes}
 use Rattle.clap.proofs.TakesLemmas.{leaf_takes}
-use Rattle.smtcheck.specs.Settings.{is_plain, smtcheck_app}
+use Rattle.clap.proofs.OnLiterals.{clap_on_literals}
+use Rattle.smtcheck.specs.Settings.{Places, is_plain, smtcheck_app, success_word}
 
 is_false : (b : Bool) → not b ≡ true → b ≡ false
 is_false true e = cc
@@ -58,50 +60,135 @@ plain_turn s position word h e step =
     ap (λ m. word_passes s [] false idle word h && step_passes s position m.0 m.1) (plain_met s.rules position word h e) in
     met ∙ ap (λ b. b && step_passes s position h value) (plain_passes s word h e) ∙ step
 
-abbrev top : Shape
-top = (built smtcheck_app).top
+-- the words of the option, and what is held behind them, where it is given
+abbrev option_words : Option Bool → List Text
+option_words None = []
+option_words (Some start) = codes "--print-success" ∷ success_word start ∷ []
+
+abbrev option_held : Option Bool → Held
+option_held None = nothing_held
+option_held (Some start) = record nothing_held { pending = Some (codes "print-success", success_word start ∷ []) }
+
+-- the program's name, the option and the two words
+abbrev pub line_of : Text → Option Bool → Text → Text → List Text
+line_of name option script answers = name ∷ option_words option ++ script ∷ answers ∷ []
+
+abbrev top : Places → Shape
+top places = (built (smtcheck_app places)).top
 
 -- what is held after the first word, and after both
-abbrev first_held : Text → Held
-first_held script = record { rows = []; pending = Some (codes "SCRIPT", script ∷ []); skip = 0 }
+abbrev first_held : Places → Option Bool → Text → Held
+first_held places option script =
+    (to_positional (top places).rules (arg_by_index (top places).rules 1) script (standing 1 (option_held option)) (option_held option)).held
 
-abbrev both_held : Text → Text → Held
-both_held script answers = (to_positional top.rules (arg_by_index top.rules 2) answers (standing 2 (first_held script)) (first_held script)).held
+abbrev both_held : Places → Option Bool → Text → Text → Held
+both_held places option script answers =
+    let h = first_held places option script in
+    (to_positional (top places).rules (arg_by_index (top places).rules 2) answers (standing 2 h) h).held
 
-first_walked : (script : Text) → is_plain script ≡ true → walked top.rules [] (walk_from nothing_held) script ≡ standing 2 (first_held script)
+option_walked : (places : Places) (option : Option Bool) (rest : List Text)
+    → walk (top places).rules [] nothing_held (option_words option ++ rest) ≡ fold (walked (top places).rules []) (standing 1 (option_held option)) rest
+unfolding smtcheck_app clap_on_literals
+option_walked places None rest = refl
+option_walked places (Some true) rest = refl
+option_walked places (Some false) rest = refl
+
+option_passes : (places : Places) (option : Option Bool) (rest : List Text)
+    → walk_passes (top places) [] (walk_from nothing_held) (option_words option ++ rest) ≡ walk_passes (top places) [] (standing 1 (option_held option)) rest
+unfolding smtcheck_app clap_on_literals
+option_passes places None rest = refl
+option_passes places (Some true) rest = refl
+option_passes places (Some false) rest = refl
+
+first_walked : (places : Places) (option : Option Bool) (script : Text) → is_plain script ≡ true
+    → walked (top places).rules [] (standing 1 (option_held option)) script ≡ standing 2 (first_held places option script)
 unfolding smtcheck_app
-first_walked script e = plain_walked top.rules 1 script nothing_held e
+first_walked places option script e = plain_walked (top places).rules 1 script (option_held option) e
 
-both_walked : (script answers : Text) → is_plain script ≡ true → is_plain answers ≡ true
-    → walked top.rules [] (walked top.rules [] (walk_from nothing_held) script) answers ≡ standing 3 (both_held script answers)
+both_walked : (places : Places) (option : Option Bool) (script answers : Text) → is_plain script ≡ true → is_plain answers ≡ true
+    → fold (walked (top places).rules []) (standing 1 (option_held option)) (script ∷ answers ∷ []) ≡ standing 3 (both_held places option script answers)
 unfolding smtcheck_app
-both_walked script answers p q =
-    ap (λ w. walked top.rules [] w answers) (first_walked script p) ∙ plain_walked top.rules 2 answers (first_held script) q
+both_walked places option script answers p q =
+    ap (λ w. walked (top places).rules [] w answers) (first_walked places option script p)
+    ∙ plain_walked (top places).rules 2 answers (first_held places option script) q
 
-both_pass : (script answers : Text) → is_plain script ≡ true → is_plain answers ≡ true → walk_passes top [] (walk_from nothing_held) (script ∷ answers ∷ []) ≡ true
-unfolding smtcheck_app walk_passes
-both_pass script answers p q =
-    let second : (w : Walk) → w ≡ standing 2 (first_held script) → (turn_passes top [] w answers && true) ≡ true =
-    λ w e. ap (λ v. turn_passes top [] v answers && true) e ∙ ap (λ b. b && true) (plain_turn top 2 answers (first_held script) q refl) in
-    ap (λ b. b && (turn_passes top [] (walked top.rules [] (walk_from nothing_held) script) answers && true)) (plain_turn top 1 script nothing_held p refl)
-    ∙ second _ (first_walked script p)
+line_walked : (places : Places) (option : Option Bool) (script answers : Text) → is_plain script ≡ true → is_plain answers ≡ true
+    → walk (top places).rules [] nothing_held (option_words option ++ script ∷ answers ∷ []) ≡ standing 3 (both_held places option script answers)
+line_walked places option script answers p q =
+    option_walked places option (script ∷ answers ∷ []) ∙ both_walked places option script answers p q
 
-pub two_words-taken : (name script answers : Text) → is_plain script ≡ true → is_plain answers ≡ true → takes smtcheck_app (name ∷ script ∷ answers ∷ []) ≡ true
+steps_pass : (places : Places) (option : Option Bool) (script : Text)
+    → (step_passes (top places) 1 (option_held option) value ≡ true) × (step_passes (top places) 2 (first_held places option script) value ≡ true)
 unfolding smtcheck_app
-two_words-taken name script answers p q =
-    let rest = λ (w : Walk). settle_passes top.rules top.args_override_self w.held && (list_all default_passes top.rules && is_valid top (finished top.rules w.held) false) in
-    let ends : rest (walked top.rules [] (walked top.rules [] (walk_from nothing_held) script) answers) ≡ true = ap rest (both_walked script answers p q) in
-    leaf-taken (name ∷ script ∷ answers ∷ []) (ap (λ b. b && rest (walked top.rules [] (walked top.rules [] (walk_from nothing_held) script) answers)) (both_pass script answers p q) ∙ ends)
+steps_pass places None script = (refl, refl)
+steps_pass places (Some true) script = (refl, refl)
+steps_pass places (Some false) script = (refl, refl)
+
+both_pass : (places : Places) (option : Option Bool) (script answers : Text) → is_plain script ≡ true → is_plain answers ≡ true
+    → walk_passes (top places) [] (standing 1 (option_held option)) (script ∷ answers ∷ []) ≡ true
+unfolding walk_passes
+both_pass places option script answers p q =
+    let steps = steps_pass places option script in
+    let behind = λ (w : Walk). turn_passes (top places) [] w answers && true in
+    let second : behind (standing 2 (first_held places option script)) ≡ true =
+    ap (λ b. b && true) (plain_turn (top places) 2 answers (first_held places option script) q steps.1) in
+    ap (λ b. b && behind (walked (top places).rules [] (standing 1 (option_held option)) script)) (plain_turn (top places) 1 script (option_held option) p steps.0)
+    ∙ ap behind (first_walked places option script p) ∙ second
+
+-- what is checked after the words
+abbrev end_passes : Places → Held → Bool
+end_passes places h = settle_passes (top places).rules (top places).args_override_self h
+    && (list_all default_passes (top places).rules && is_valid (top places) (finished (top places).rules h) false)
+
+end_holds : (places : Places) (option : Option Bool) (script answers : Text) → end_passes places (both_held places option script answers) ≡ true
+unfolding smtcheck_app
+end_holds places None script answers = refl
+end_holds places (Some true) script answers = refl
+end_holds places (Some false) script answers = refl
+
+pub line-taken : (places : Places) (name : Text) (option : Option Bool) (script answers : Text) → is_plain script ≡ true → is_plain answers ≡ true
+    → takes (smtcheck_app places) (line_of name option script answers) ≡ true
+unfolding smtcheck_app
+line-taken places name option script answers p q =
+    let words = option_words option ++ script ∷ answers ∷ [] in
+    let ends : end_passes places (walk (top places).rules [] nothing_held words).held ≡ true =
+    ap (λ (w : Walk). end_passes places w.held) (line_walked places option script answers p q) ∙ end_holds places option script answers in
+    let passes = option_passes places option (script ∷ answers ∷ []) ∙ both_pass places option script answers p q in
+    leaf_takes (built (smtcheck_app places)) nothing_held words refl (ap (λ b. b && end_passes places (walk (top places).rules [] nothing_held words).held) passes ∙ ends)
+
+-- the three values that the command has on the words
+abbrev value_of : Places → Text → Held → Option Text
+value_of places id h = first_of id (finished (top places).rules h)
+
+pub line-script : (places : Places) (name : Text) (option : Option Bool) (script answers : Text) → is_plain script ≡ true → is_plain answers ≡ true
+    → first_of (codes "SCRIPT") (matches_of (smtcheck_app places) (line_of name option script answers)) ≡ Some script
+unfolding smtcheck_app
+line-script places name option script answers p q =
+    ap (λ (w : Walk). value_of places (codes "SCRIPT") w.held) (line_walked places option script answers p q) ∙ held option
   where
-    leaf-taken : (words : List Text) → level_passes top [] nothing_held (argument_words smtcheck_app words) false ≡ true → takes smtcheck_app words ≡ true
-    leaf-taken words e = leaf_takes (built smtcheck_app) nothing_held (argument_words smtcheck_app words) refl e
+    held : (o : Option Bool) → value_of places (codes "SCRIPT") (both_held places o script answers) ≡ Some script
+    held None = refl
+    held (Some true) = refl
+    held (Some false) = refl
 
-pub two_words-script : (name script answers : Text) → is_plain script ≡ true → is_plain answers ≡ true
-    → first_of (codes "SCRIPT") (matches_of smtcheck_app (name ∷ script ∷ answers ∷ [])) ≡ Some script
+pub line-answers : (places : Places) (name : Text) (option : Option Bool) (script answers : Text) → is_plain script ≡ true → is_plain answers ≡ true
+    → first_of (codes "ANSWERS") (matches_of (smtcheck_app places) (line_of name option script answers)) ≡ Some answers
 unfolding smtcheck_app
-two_words-script name script answers p q = ap (λ (w : Walk). first_of (codes "SCRIPT") (finished top.rules w.held)) (both_walked script answers p q)
+line-answers places name option script answers p q =
+    ap (λ (w : Walk). value_of places (codes "ANSWERS") w.held) (line_walked places option script answers p q) ∙ held option
+  where
+    held : (o : Option Bool) → value_of places (codes "ANSWERS") (both_held places o script answers) ≡ Some answers
+    held None = refl
+    held (Some true) = refl
+    held (Some false) = refl
 
-pub two_words-answers : (name script answers : Text) → is_plain script ≡ true → is_plain answers ≡ true
-    → first_of (codes "ANSWERS") (matches_of smtcheck_app (name ∷ script ∷ answers ∷ [])) ≡ Some answers
+pub line-success : (places : Places) (name : Text) (option : Option Bool) (script answers : Text) → is_plain script ≡ true → is_plain answers ≡ true
+    → first_of (codes "print-success") (matches_of (smtcheck_app places) (line_of name option script answers)) ≡ Some (success_word (unwrap_or option true))
 unfolding smtcheck_app
-two_words-answers name script answers p q = ap (λ (w : Walk). first_of (codes "ANSWERS") (finished top.rules w.held)) (both_walked script answers p q)
+line-success places name option script answers p q =
+    ap (λ (w : Walk). value_of places (codes "print-success") w.held) (line_walked places option script answers p q) ∙ held option
+  where
+    held : (o : Option Bool) → value_of places (codes "print-success") (both_held places o script answers) ≡ Some (success_word (unwrap_or o true))
+    held None = refl
+    held (Some true) = refl
+    held (Some false) = refl

@@ -1,9 +1,9 @@
 //! The command line: what it may say, and what the program says of it.
 
-ghost use Rattle.std.specs.Prelude.{◌≡◌, IfErr, IfOk, None, true, false};
+ghost use Rattle.std.specs.Prelude.{◌≡◌, IfErr, IfOk, None, [], true, false};
 ghost use Rattle.clap.specs.Walk.{texts};
 ghost use Rattle.clap.specs.Words.{IsPlainArg, app_of, rule_of, takes};
-ghost use Rattle.smtcheck.specs.Settings.{AreSettings, IsFaultOf, NeedsFiles, TakesTwo, file_rule, smtcheck_app};
+ghost use Rattle.smtcheck.specs.Settings.{AreSettings, HasSuccessWord, IsFaultOf, NeedsFiles, OfCommand, Places, TakesOption, TakesTwo, file_rule, success_rule};
 
 use crate::settings::{LineFault, Settings};
 use clap::error::ErrorKind;
@@ -14,6 +14,15 @@ const ABOUT: &str = "Checks the models that an SMT solver printed.
 
 SCRIPT is the SMT-LIB 2.6 script that the solver read, and ANSWERS the text that it printed for it. Each answer is paired with its \
 command, and every `sat` is checked by evaluating the printed model in each assertion that was in force.";
+
+const PRINT_SUCCESS: &str =
+    "Whether the solver prints `success`, from the start, for each command that has no answer of its own.
+
+off: for z3, cvc5 and cvc4, which print it only once the script says (set-option :print-success true)
+on:  for SMTInterpol and others that keep to the default of SMT-LIB, and for a run that was told to print it, such as \
+`z3 smtlib2_compliant=true` or `cvc5 --print-success`
+
+A script's own (set-option :print-success ..) is followed from there on.";
 
 const VERDICTS: &str =
     "The last line of the report is the verdict, and the exit status says the same:
@@ -26,8 +35,9 @@ const VERDICTS: &str =
 
 /// The command line of the program.
 pub fn smtcheck_command<'a>(alloc: Global) -> Result<Command<'a>, AllocError>
-    ensures app { IfOk result (λ c. app_of c ≡ smtcheck_app) }
+    ensures app { IfOk result (λ c. OfCommand (λ a. app_of c ≡ a)) }
     ensures needs { IfOk result NeedsFiles }
+    ensures success { IfOk result HasSuccessWord }
 {
     let script = file(alloc, "SCRIPT", "the script that the solver read");
     let answers = file(alloc, "ANSWERS", "what the solver printed");
@@ -36,7 +46,8 @@ pub fn smtcheck_command<'a>(alloc: Global) -> Result<Command<'a>, AllocError>
         .bin_name("smtcheck")?
         .after_help(VERDICTS)
         .arg(script)?
-        .arg(answers)
+        .arg(answers)?
+        .arg(print_success(alloc))
 }
 
 // The argument that names a file.
@@ -52,13 +63,34 @@ fn file<'a>(alloc: Global, id: &'a str, help: &'a str) -> Arg<'a>
         .help(help)
 }
 
+// The option that says whether the solver prints `success` from the start.
+fn print_success<'a>(alloc: Global) -> Arg<'a>
+    ensures rule { (places : Places) × (rule_of result ≡ success_rule places) }
+    ensures plain { IsPlainArg result }
+    ensures local { result.global ≡ false }
+    ensures undivided { result.val_delim ≡ None }
+    ensures unconditional { result.default_vals_ifs.items ≡ [] }
+{
+    let choices: &'a [&'a str] = &["on", "off"];
+    Arg::new(alloc, "print-success")
+        .long("print-success")
+        .action(ArgAction::Set)
+        .value_name("on|off")
+        .value_parser(choices)
+        .default_value("on")
+        .hide_possible_values(true)
+        .help("whether the solver printed `success` from the start")
+        .long_help(PRINT_SUCCESS)
+}
+
 /// Reads the words of a command line, the program's name first.
 pub fn settings<'a>(alloc: Global, words: &'a [&'a str]) -> Result<Settings<'a>, LineFault>
-    ensures ok { IfOk result (AreSettings (texts words.entry.now)) }
+    ensures ok { IfOk result (λ s. OfCommand (AreSettings (texts words.entry.now) s)) }
     ensures two_words { TakesTwo (texts words.entry.now) result }
-    ensures taken { IfOk result (λ _. takes smtcheck_app (texts words.entry.now) ≡ true) }
-    ensures refused { IfErr result (IsFaultOf (texts words.entry.now)) }
-    ensures memory { IfErr result (λ f. takes smtcheck_app (texts words.entry.now) ≡ true → f ≡ LineFault.Memory) }
+    ensures option { TakesOption (texts words.entry.now) result }
+    ensures taken { IfOk result (λ _. OfCommand (λ a. takes a (texts words.entry.now) ≡ true)) }
+    ensures refused { IfErr result (λ f. OfCommand (IsFaultOf (texts words.entry.now) f)) }
+    ensures memory { IfErr result (λ f. OfCommand (λ a. takes a (texts words.entry.now) ≡ true → f ≡ LineFault.Memory)) }
 {
     let Ok(command) = smtcheck_command(alloc) else {
         return Err(LineFault::Memory);
@@ -71,7 +103,7 @@ pub fn settings<'a>(alloc: Global, words: &'a [&'a str]) -> Result<Settings<'a>,
     Ok(Settings {
         script: matches.get_str("SCRIPT").unwrap(),
         answers: matches.get_str("ANSWERS").unwrap(),
-        start: true,
+        start: matches.get_str("print-success").unwrap() == "on",
     })
 }
 

@@ -1,7 +1,5 @@
 //! The program's work on files.
 
-ghost use Rattle.std.specs.Prelude.{◌≡◌, true};
-
 use crate::settings::Settings;
 use smt_dialogue::{Report, validate};
 use smtcheck_status::status_of;
@@ -28,10 +26,8 @@ pub enum RunFault {
     Memory,
 }
 
-/// Checks the dialogue in two files, and prints the report. Answers the status. `settings.start` has to be true for now.
-pub fn run<R: Files + AllocGlobal + Print>(rt: &R, settings: Settings) -> Result<u8, RunFault>
-    requires { settings.start ≡ true }
-{
+/// Checks the dialogue in two files, and prints the report. Answers the status.
+pub fn run<R: Files + AllocGlobal + Print>(rt: &R, settings: Settings) -> Result<u8, RunFault> {
     let Ok(mut script) = fs::open(rt, settings.script) else {
         return Err(RunFault::Script);
     };

@@ -57,6 +57,13 @@ fn statuses_without_a_report(rt: HostRuntime) -> Result<(), Fail> {
         5
     );
     assert_eq!(rt; run_words(&rt, ["smtcheck", name].as_slice()), 5);
+    assert_eq!(rt;
+        run_words(
+            &rt,
+            ["smtcheck", "--print-success", "no", name, name].as_slice()
+        ),
+        5
+    );
     fs::remove_file(&rt, name)?;
     Ok(())
 }
