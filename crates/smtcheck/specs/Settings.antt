@@ -41,7 +41,7 @@ unfoldable pub smtcheck_app : Places → App
 smtcheck_app places =
     with_rule (with_rule (with_rule (new_app (codes "smtcheck")) (file_rule (codes "SCRIPT"))) (file_rule (codes "ANSWERS"))) (success_rule places)
 
--- what holds of the program's command
+-- of the program's command, whose words lie at some places
 abbrev pub OfCommand : (App → Type 0) → Type 0
 OfCommand P = (places : Places) × P (smtcheck_app places)
 

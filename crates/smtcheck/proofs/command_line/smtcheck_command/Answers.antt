@@ -13,6 +13,7 @@ use Rattle.clap.specs.declared.builder.ArgAction.TheVariants.{Set}
 use Rattle.clap.specs.declared.builder.command.Command.{Command}
 use Rattle.clap.specs.declared.builder.value_parser.ValueParser.TheVariants.{Names}
 use Rattle.clap.specs.declared.parser.matches.ArgMatches.{ArgMatches}
+use Rattle.clap.specs.declared.parser.matches.Found.{Found}
 use Rattle.clap.specs.Simple.{app_of_fields}
 use Rattle.clap.specs.declared.builder.Arg.{Arg}
 use Rattle.clap.specs.declared.builder.command.Command.TheViews.{out-Command}
@@ -68,6 +69,12 @@ word_of t e = go (bytes_eq (codes "on") t) (bytes_eq (codes "off") t) refl refl 
     go false true on off e = (false, sym ((bytes_eq-Decides _ _).0 off))
     go false false on off e = cc
 
+worded : (f : Found) (ignore_case : Bool) (places : Places) (id t : Text) → id ≡ codes "print-success" → first_value f id ≡ Some t
+    → ignore_case ≡ false → Accepts ignore_case (Names (choices places)) t → (start : Bool) × (first_value f (codes "print-success") ≡ Some (success_word start))
+worded f ignore_case places id t is read exact passed =
+    let word = word_of t (subst (λ i. Accepts i (Names (choices places)) t) exact passed) in
+    (word.0, ap (first_value f) (sym is) ∙ read ∙ ap Some word.1)
+
 some_items : (xs : List (Bor Text)) (t : Text) → texts xs ≡ t ∷ [] → 0 < length xs
 some_items [] t e = cc
 some_items (x ∷ xs) t e = omega arith
@@ -91,9 +98,7 @@ success_read old m a b c d places p plain globals list same a_id b_id rule undiv
     let read = default_reads old m p plain globals 2 c there (ap (λ l. slice_index_or l 2 c) list) wants (same.action Set set) (same.val_delim ∙ undivided) (same.least set one)
     unique (λ e. fit.2 (sym own ∙ e)) (λ auto. fit.3 (elim auto [ inl h ↦ inl (sym own ∙ h) | inr h ↦ inr (sym own ∙ h) ]))
     (Names (choices places)) (same.parser _ (ap (λ (r : Rule). r.parser) rule)) in
-    let exact : c.ignore_case ≡ false = same.ignore_case ∙ ap (λ (r : Rule). r.ignore_case) rule in
-    let word = word_of read.0 (subst (λ i. Accepts i (Names (choices places)) read.0) exact read.2) in
-    (word.0, ap (first_value (found_of m)) (sym id) ∙ read.1 ∙ ap Some word.1)
+    worded (found_of m) c.ignore_case places _ read.0 id read.1 (same.ignore_case ∙ ap (λ (r : Rule). r.ignore_case) rule) read.2
 
 pub returns-clause-app : goal.returns-clause-app
 unfolding smtcheck_app
