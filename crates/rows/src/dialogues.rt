@@ -33,12 +33,7 @@ pub(crate) fn print<W: Write>(
     };
     let script = script.bytes(alloc)?;
     let answers = answers.bytes(alloc)?;
-    let Ok(report) = validate(
-        alloc,
-        script.as_slice(),
-        answers.as_slice(),
-        print_success,
-    ) else {
+    let Ok(report) = validate(alloc, script.as_slice(), answers.as_slice(), print_success) else {
         bail!("out of memory");
     };
     for line in &report.lines {

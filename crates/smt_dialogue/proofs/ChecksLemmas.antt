@@ -11,11 +11,11 @@ use Rattle.smt_dialogue.proofs.InForceLemmas.{IsQuiet, check_is_quiet, echo_is_q
 use Rattle.smt_dialogue.proofs.PairLemmas.{IsIdle, quiet_is_idle, refused_is_idle}
 use Rattle.smt_dialogue.specs.Answers.{has_form, is_effective_with, is_error}
 use Rattle.smt_dialogue.specs.InForce.{assertions_after, signature_after}
-use Rattle.smt_dialogue.specs.Internal.ChecksState.{ChecksState, IsAnswered, checks_after, closing_lines, pending_lines, with_answer_of, with_check, with_line, with_models, with_window_ended}
+use Rattle.smt_dialogue.specs.Internal.ChecksState.{ChecksState, IsAnswered, checks_after, closing_lines, pending_lines, with_answer_of, with_line, with_models, with_window_ended}
 use Rattle.smt_dialogue.specs.Judgement.{judgement_of}
 use Rattle.smt_dialogue.specs.Lines.{checks_in, confirmed_line, is_check, line_of_judgement, lines_of_pair, lines_of_sat, sat_lines, unchecked_answer, unchecked_line_or, unconfirmed_line}
 use Rattle.smt_dialogue.specs.Pairs.{Pair, is_effective, pair_of}
-use Rattle.smt_dialogue.specs.Window.{Printed, closes, closes_by, models_from, printed_by, window}
+use Rattle.smt_dialogue.specs.Window.{Printed, closes, models_from, printed_by, window}
 use Rattle.smt_dialogue.specs.declared.answer.AnswerForm.TheVariants.{Check}
 use Rattle.smt_report.specs.declared.line.CheckAnswer.{CheckAnswer}
 use Rattle.smt_report.specs.declared.line.CheckAnswer.TheVariants.{Unsat, Unknown, Unsupported, Error}

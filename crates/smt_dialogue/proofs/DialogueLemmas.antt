@@ -3,7 +3,7 @@ use Rattle.std.proofs.Common.{◌≡◌, ◌≤◌, ◌⊎◌, inl, inr, ◌+◌
 use Rattle.std.proofs.lemmas.List.{append-nil}
 use Rattle.smt_text.specs.Sexp.{Sexp}
 use Rattle.smt_script.specs.Command.{Command}
-use Rattle.smt_script.specs.Stack.{Numbered, assertions_in_force, fault_of_effect, signature_in_force}
+use Rattle.smt_script.specs.Stack.{Numbered, assertions_in_force, signature_in_force}
 use Rattle.smt_script.specs.StackView as stacks
 use Rattle.smt_script.specs.declared.fault.CommandFault.{CommandFault}
 use Rattle.smt_script.specs.declared.fault.CommandFault.TheVariants.{Memory as OutOfMemory}

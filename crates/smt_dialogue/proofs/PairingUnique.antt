@@ -3,7 +3,7 @@ use Rattle.std.proofs.Common.{◌≡◌, suc, Bool, List, [], ◌∷◌, ◌++�
 use Rattle.smt_text.specs.Sexp.{Sexp, Sexps, Nil, Cons, count}
 use Rattle.smt_script.specs.Command.{Command}
 use Rattle.smt_script.specs.declared.fault.CommandFault.{CommandFault}
-use Rattle.smt_dialogue.specs.Answers.{Taken, Takes, taken}
+use Rattle.smt_dialogue.specs.Answers.{Takes, taken}
 use Rattle.smt_dialogue.specs.InForce.{need_after}
 use Rattle.smt_dialogue.specs.Pairing.{AllTake, AreCommands}
 use Rattle.smt_dialogue.specs.Pairs.{Pair, answers_then, next_of, with_answer}

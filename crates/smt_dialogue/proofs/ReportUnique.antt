@@ -1,23 +1,22 @@
 -- A dialogue has one report.
-use Rattle.std.proofs.Common.{◌≡◌, ℕ, Bool, true, false, List, [], ◌∷◌, ◌++◌, Option, Some, None, Result, Ok, refl, ap, sym, ◌∙◌, subst, append_assoc}
+use Rattle.std.proofs.Common.{◌≡◌, ℕ, Bool, true, false, List, [], ◌∷◌, ◌++◌, Option, None, Ok, refl, ap, sym, ◌∙◌, subst, append_assoc}
 use Rattle.std.proofs.lemmas.List.{append-nil}
 use Rattle.smt_text.specs.Reading.{Reads}
 use Rattle.smt_text.specs.Sexp.{Sexp, Sexps, Nil, Cons}
 use Rattle.smt_text.specs.declared.fault.TextFault.{TextFault}
 use Rattle.smt_dialogue.proofs.PairingUnique.{alike, ok_same}
-use Rattle.smt_script.specs.Command.{Command, command_of}
+use Rattle.smt_script.specs.Command.{command_of}
 use Rattle.smt_dialogue.proofs.StepLemmas.{step_by}
 use Rattle.smt_dialogue.specs.Answers.{Takes, taken}
 use Rattle.smt_dialogue.specs.FirstFault.{Continue, Stop, step_after}
 use Rattle.smt_dialogue.specs.InForce.{AreFaultless, fault_of_pair, has_exited_after, need_after}
 use Rattle.smt_dialogue.specs.Pairing.{AllTake, AreCommands}
-use Rattle.smt_dialogue.specs.Pairs.{Pair, answers_then, next_of, pair_of}
+use Rattle.smt_dialogue.specs.Pairs.{Pair, answers_then, next_of}
 use Rattle.smt_dialogue.specs.Report.{IsReport, lines_of_end}
 use Rattle.smt_text.specs.Grammar.{limit}
 use Rattle.smt_dialogue.specs.Lines.{lines_in}
 use Rattle.smt_report.specs.Verdict.{with_verdict}
 use Rattle.smt_report.specs.declared.line.Line.{Line}
-use Rattle.smt_script.specs.declared.fault.CommandFault.{CommandFault}
 
 ends_same : {f g : Option Line} → Stop f ≡ Stop g → f ≡ g
 ends_same h = cc
