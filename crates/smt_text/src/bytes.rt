@@ -94,7 +94,12 @@ impl Bytes {
     pub fn copy(&self, alloc: Global) -> Result<Bytes, AllocError>
         ensures { IfOk result (λ b. b ≡ self.now) }
     {
-        Bytes::new(alloc, self.as_slice())
+        match &self.kept {
+            Kept::Short(length, bytes) => Ok(Bytes {
+                kept: Kept::Short(*length, *bytes),
+            }),
+            Kept::Long(bytes) => Bytes::long(alloc, Vec::from_slice(alloc, bytes.as_slice())?),
+        }
     }
 }
 

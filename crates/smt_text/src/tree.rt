@@ -87,7 +87,7 @@ impl Trees {
     pub fn copy(&self, alloc: Global) -> Result<Trees, AllocError>
         ensures { IfOk result (λ ts. ts ≡ self.now) }
     {
-        let mut items = Vec::new(alloc);
+        let mut items = Vec::with_capacity(alloc, self.items.len())?;
         for tree in self.items.as_slice() {
             items.push(tree.copy(alloc)?)?;
         }
