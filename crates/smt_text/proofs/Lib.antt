@@ -1,3 +1,4 @@
+mod BeginningLemmas
 pub mod SexpLemmas
 pub mod ReservedLemmas
 pub mod ByteLemmas

@@ -216,7 +216,7 @@ both_most xs ys a b e f =
     let none : a ≡ Nil = nil_if_none a (omega (arith, ap count e, ap count f, count-append xs a, count-append ys b)) in
     sym (e ∙ ap (append xs) none ∙ append_nil xs)
 
-one_complete : (limit : ℕ) (prefix : List ℕ) (xs ys : Sexps) → AreComplete limit prefix xs → AreComplete limit prefix ys → xs ≡ ys
+pub one_complete : (limit : ℕ) (prefix : List ℕ) (xs ys : Sexps) → AreComplete limit prefix xs → AreComplete limit prefix ys → xs ≡ ys
 one_complete limit prefix xs ys a b =
     let f = a.most ys b.settled in
     let g = b.most xs a.settled in

@@ -2,10 +2,10 @@
 
 pub mod examples;
 
-ghost use Rattle.std.specs.Prelude.{◌≡◌, ℕ, List, ◌++◌, Bool, Option};
+ghost use Rattle.std.specs.Prelude.{◌≡◌, ◌≤◌, ℕ, List, ◌++◌, Bool, false, true, length, Option};
 ghost use Rattle.smt_text.specs.Grammar.{Forest};
 ghost use Rattle.smt_text.specs.Reading.{Begins, AreComplete, Reads};
-ghost use Rattle.smt_text.specs.Sexp.{Sexps, append};
+ghost use Rattle.smt_text.specs.Sexp.{Sexps, append, count};
 ghost use Rattle.smt_text.specs.declared.fault.TextFault.{TextFault as Fault};
 
 /// A text has at most one forest, whatever the limits on the depth of lists.
@@ -26,4 +26,14 @@ pub fn every_text_reads()
 /// The complete trees of a prefix of a text stay, in their order, whatever comes after it.
 pub fn complete_trees_stay()
     ensures stay { (limit : ℕ) (prefix more : List ℕ) (xs ys : Sexps) → Begins limit (prefix ++ more) → AreComplete limit prefix xs → AreComplete limit (prefix ++ more) ys → (later : Sexps) × (ys ≡ append xs later) }
+{}
+
+/// The trees that are read of the beginning of a text, while more of it may come, are the first that are read of the whole.
+pub fn read_trees_stay()
+    ensures stay { (limit : ℕ) (text more : List ℕ) (xs ys : Sexps) (f g : Option Fault) → Reads limit false text xs f → Reads limit true (text ++ more) ys g → (later : Sexps) × (ys ≡ append xs later) }
+{}
+
+/// A text has no more trees than bytes.
+pub fn trees_are_no_more_than_bytes()
+    ensures few { (limit : ℕ) (text : List ℕ) (trees : Sexps) (f : Option Fault) → Reads limit true text trees f → count trees ≤ length text }
 {}
