@@ -15,12 +15,16 @@ use crate::calls::{is_choice, known_applied, known_of_operator, known_plain};
 use crate::definitions::Definitions;
 use crate::memory::Memory;
 use crate::scope::push_variable;
+use smallvec::SmallVec;
 use smt_terms::{
     Identifier, TermFault, Variable, applied_identifier, find_variable, indexed_identifier,
     split_let, split_named,
 };
 use smt_text::{Tree, Trees, Word, split_first};
 use smt_values::{Value, bin, hex, numeral};
+
+// Of how many arguments what is known is kept without memory of its own.
+const FEW: usize = 4;
 
 /// What is known of a term over the definitions that are seen, where the variables have these values, the innermost first.
 #[cycle(known)]
@@ -198,12 +202,12 @@ fn known_all<'a>(
     over: Definitions<'_>,
     scope: &[Variable<'a, Option<Value>>],
     terms: &'a [Tree],
-) -> Result<Vec<Option<Value>>, Memory>
+) -> Result<SmallVec<Option<Value>, FEW>, Memory>
     requires { (d : Signature) × Evaluates over d }
     ensures { (d : Signature) → Evaluates over.entry d
         → IfOk result (λ known. known_elements known.items ≡ knowns_of (meaning_over over.entry d) (known_scope scope.now) (sexps_of terms.now)) }
 {
-    let mut known = Vec::new(over.model.alloc());
+    let mut known = SmallVec::new(over.model.alloc());
     let mut left = terms;
     while let Some((term, rest)) = split_first(left) {
         known.push(known_value(over, scope, term)?)?;

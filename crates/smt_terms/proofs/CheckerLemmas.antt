@@ -1,6 +1,8 @@
 -- Sorts of lists, one step at a time.
-use Rattle.std.proofs.Common.{◌≡◌, ◌⊎◌, ℕ, true, false, List, [], ◌∷◌, ◌++◌, Option, Some, None, is_some, Result, Ok, Err, refl, sym, ap, ◌∙◌, append_assoc, inl, inr, MatchResult}
-use Rattle.smt_text.specs.Sexp.{Sexp, Sexps, Reserved, Items, Cons}
+use Rattle.std.proofs.Common.{◌≡◌, ◌⊎◌, ℕ, true, false, List, [], ◌∷◌, ◌++◌, Option, Some, None, is_some, Result, Ok, Err, refl, sym, ap, ◌∙◌, append_assoc, inl, inr, length, arith, MatchResult}
+use Rattle.smt_text.specs.Sexp.{Sexp, Sexps, Reserved, Items, Cons, count}
+use Rattle.smt_text.specs.Tree.{sexps_of}
+use Rattle.smt_text.specs.declared.tree.Tree.{Tree}
 use Rattle.smt_text.specs.declared.reserved.Word.TheVariants.{Bang, Let, Underscore}
 use Rattle.smt_theory.specs.Words.{look_up, result_and_then}
 use Rattle.smt_theory.specs.declared.sort.Sort.{Sort}
@@ -19,6 +21,14 @@ Scope = List (List ℕ × Sort)
 -- the sorts of all are those that are done, and then those of the trees that are left
 abbrev pub sorts_behind : Names → Scope → List Sort → Sexps → Result (List Sort) TermFault
 sorts_behind names scope before left = result_and_then (sorts_in names scope left) (λ ss. Ok (before ++ ss))
+
+-- at first no sort is done
+pub sorts_behind-start : (names : Names) (scope : Scope) (before : List Sort) (left : Sexps) → before ≡ [] → sorts_in names scope left ≡ sorts_behind names scope before left
+sorts_behind-start names scope before left none = rw none (by (sorts_in names scope left))
+  where
+    by : (r : Result (List Sort) TermFault) → r ≡ result_and_then r (λ ss. Ok ([] ++ ss))
+    by (Ok ss) = refl
+    by (Err f) = refl
 
 -- one sort more
 pub sorts_behind-next : (names later : Names) (scope : Scope) (before after : List Sort) (x : Sexp) (xs left : Sexps) (sort : Sort) → later ≡ behind (labels_in x) names → left ≡ Cons x xs → sort_in names scope x ≡ Ok sort
@@ -125,3 +135,8 @@ pub carried : {A : Type 0} (r s t : Result A TermFault) → t ≡ s → MatchRes
 carried (Ok v) s t e h = e ∙ h
 carried (Err f) s t e (inl m) = inl m
 carried (Err f) s t e (inr h) = inr (e ∙ h)
+
+-- as many trees as S-expressions
+pub count-trees : (ts : List Tree) → count (sexps_of ts) ≡ length ts
+count-trees [] = refl
+count-trees (t ∷ ts) = omega (arith, count-trees ts)

@@ -1,18 +1,20 @@
 -- Labels that are given, one behind another.
-use Rattle.std.proofs.Common.{◌≡◌, ◌⊎◌, ℕ, Bool, true, false, cond, ◌||◌, List, [], ◌∷◌, ◌++◌, map, Option, Some, None, Result, Ok, Err, OnOk, refl, ap, sym, ◌∙◌, append_assoc, append-nil, inl, inr}
+use Rattle.std.proofs.Common.{◌≡◌, ◌⊎◌, ℕ, Bool, true, false, cond, ◌||◌, List, [], ◌∷◌, ◌++◌, map, Option, Some, None, Result, Ok, Err, OnOk, refl, ap, sym, subst, ◌∙◌, append_assoc, append-nil, inl, inr}
 use Rattle.std.specs.Option.{option_or}
 use Rattle.std.proofs.lemmas.List.{map-append}
-use Rattle.smt_text.specs.Sexp.{Sexp, Sexps, Atom, Cons, Keyword}
+use Rattle.smt_text.specs.Sexp.{Sexp, Sexps, Atom, Cons, Items, Keyword, Reserved}
+use Rattle.smt_text.specs.declared.reserved.Word.TheVariants.{Bang, Let, Underscore}
 use Rattle.smt_text.specs.Tree.{sexp_of}
 use Rattle.smt_theory.specs.Words.{look_up}
 use Rattle.smt_theory.specs.declared.sort.Sort.{Sort}
-use Rattle.smt_terms.specs.Checking.{fault_of_label, fault_of_labels, sort_in, sort_of_call, sort_of_plain, sort_unless_variable}
+use Rattle.smt_terms.specs.Checking.{fault_of_label, fault_of_labels, is_underscore_tree, sort_in, sort_of_call, sort_of_plain, sort_unless_variable}
 use Rattle.smt_terms.specs.Identifier.{Identifier, Plain, Indexed}
 use Rattle.smt_terms.specs.Internal.Attributes.{label_of_tree}
+use Rattle.smt_terms.specs.Internal.Heads.{is_bang_tree, is_let_tree}
 use Rattle.smt_terms.specs.Internal.LabelsView.{AreGiven, AreSorted, given_names, given_terms, labels_view}
 use Rattle.smt_terms.specs.Internal.LibraryView.{names_for, names_of_library}
 use Rattle.smt_terms.specs.Labels as spec
-use Rattle.smt_terms.specs.Labels.{is_among, labels_among, uses_variable, with_labels}
+use Rattle.smt_terms.specs.Labels.{is_among, labels_among, labels_in, labels_in_all, uses_variable, with_labels}
 use Rattle.smt_terms.specs.Signature.{Names, Rank, behind, is_taken, unlabelled}
 use Rattle.smt_terms.specs.declared.fault.TermFault.{TermFault}
 use Rattle.smt_terms.specs.declared.fault.TermFault.TheVariants.{Label as IsLabel, Memory, NotFresh}
@@ -190,3 +192,16 @@ plain_without_labels library labels f args (Some rank) = refl
 pub call_without_labels : (library : Library) (labels : spec.Labels) (scope : Scope) (f : Identifier) (args : List Sort) → sort_of_call (names_for library labels) scope f args ≡ sort_of_call (names_of_library library) scope f args
 call_without_labels library labels scope (Plain f) args = ap (λ r. sort_unless_variable (look_up scope f) r) (plain_without_labels library labels f args (look_up (names_of_library library).ranks f))
 call_without_labels library labels scope (Indexed f is) args = refl
+
+-- a list with another head has the labels of its arguments
+other_labels : (head : Sexp) (args : Sexps) → is_underscore_tree head ≡ false → is_let_tree head ≡ false → is_bang_tree head ≡ false → labels_in (Items (Cons head args)) ≡ labels_in_all args
+other_labels (Reserved Underscore) args h i j = cc
+other_labels (Reserved Let) args h i j = cc
+other_labels (Reserved Bang) args h i j = cc
+other_labels _ args h i j = refl
+
+pub given_by_args : (r : Result Sort TermFault) (names : Names) (old new : Labels) (head : Sexp) (args parts : Sexps) → parts ≡ Cons head args → is_underscore_tree head ≡ false → is_let_tree head ≡ false → is_bang_tree head ≡ false
+    → AreGiven names old new (labels_in_all args) → OnOk r (AreGiven names old new (labels_in (Items parts)))
+given_by_args (Err e) names old new head args parts split h i j given = tt
+given_by_args (Ok sort) names old new head args parts split h i j given =
+    subst (AreGiven names old new) (sym (ap (λ ps. labels_in (Items ps)) split ∙ other_labels head args h i j)) given

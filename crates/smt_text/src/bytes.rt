@@ -1,6 +1,6 @@
 //! The bytes of an atom.
 
-ghost use Rattle.std.specs.Prelude.{◌≡◌, ◌≤◌, ℕ, List, [], IfOk, length, take};
+ghost use Rattle.std.specs.Prelude.{◌≡◌, ◌≤◌, ℕ, List, [], IfOk, IfSome, length, take};
 
 use std::alloc::{AllocError, Global};
 use std::marker::Model;
@@ -87,6 +87,19 @@ impl Bytes {
         match &self.kept {
             Kept::Short(length, bytes) => &bytes[..(*length as usize).min(SHORT)],
             Kept::Long(bytes) => bytes.as_slice(),
+        }
+    }
+
+    /// A copy of the bytes that takes no memory, if they are few.
+    #[inline(always)]
+    pub(crate) fn short_copy(&self) -> Option<Bytes>
+        ensures { IfSome result (λ b. b ≡ self.now) }
+    {
+        match &self.kept {
+            Kept::Short(length, bytes) => Some(Bytes {
+                kept: Kept::Short(*length, *bytes),
+            }),
+            Kept::Long(_) => None,
         }
     }
 

@@ -1,6 +1,6 @@
 //! S-expressions, as the reader hands them out.
 
-ghost use Rattle.std.specs.Prelude.{◌≡◌, IfOk, MatchOption};
+ghost use Rattle.std.specs.Prelude.{◌≡◌, IfOk, IfSome, MatchOption};
 ghost use Rattle.smt_text.specs.Sexp as sexp;
 ghost use Rattle.smt_text.specs.Sexp.{Nil, Cons};
 ghost use Rattle.smt_text.specs.Tree.{sexp_of, sexps_of};
@@ -89,7 +89,11 @@ impl Trees {
     {
         let mut items = Vec::with_capacity(alloc, self.items.len())?;
         for tree in self.items.as_slice() {
-            items.push(tree.copy(alloc)?)?;
+            let copy = match short_symbol(tree) {
+                Some(symbol) => symbol,
+                None => tree.copy(alloc)?,
+            };
+            items.push(copy)?;
         }
         Ok(Trees { items })
     }
@@ -122,6 +126,17 @@ impl Tree {
             Tree::Keyword(name) => Tree::Keyword(name.copy(alloc)?),
             Tree::List(parts) => Tree::List(parts.copy(alloc)?),
         })
+    }
+}
+
+// A copy of a tree that is a short symbol.
+#[inline(always)]
+fn short_symbol(tree: &Tree) -> Option<Tree>
+    ensures { IfSome result (λ t. sexp_of t ≡ sexp_of tree.now) }
+{
+    match tree {
+        Tree::Symbol(name) => name.short_copy().map(Tree::Symbol),
+        _ => None,
     }
 }
 

@@ -3,8 +3,9 @@
 use crate::width::Width;
 
 /// A sort of the theories (SMT-LIB 2.6, theories Core, Ints and FixedSizeBitVectors).
-#[derive(Clone, Copy, Debug, PartialEq, Eq)]
+#[derive(Clone, Copy, Debug, PartialEq, Eq, Default)]
 pub enum Sort {
+    #[default]
     Bool,
     Int,
     /// `(_ BitVec n)`.

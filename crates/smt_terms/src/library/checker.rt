@@ -25,13 +25,36 @@ use crate::labels::Labels;
 use crate::library::{Entry, Library};
 use crate::scope::{Variable, find_variable};
 use crate::sorts;
+use smallvec::SmallVec;
 use smt_text::{Tree, Trees, split_first};
 use smt_theory::{Op, OpFault, Sort, Width, op_of, rank};
+
+// How many arguments' sorts are kept without memory of their own.
+const FEW: usize = 4;
 
 impl Library {
     /// The sort of a term over these names and the variables that it sees, the innermost first, or its first fault.
     #[cycle(check)]
+    #[inline(always)]
     pub(crate) fn sort_of<'a>(
+        &self,
+        scope: &[Variable<'a, Sort>],
+        labels: &mut Labels,
+        term: &'a Tree,
+    ) -> Result<Sort, TermFault>
+        ensures sort { MatchResult result (λ sort. sort_in (names_for self.now (labels_view labels.old)) (scope_view scope.now) (sexp_of term.now) ≡ Ok sort)
+            (λ fault. (fault ≡ Memory) ⊎ (sort_in (names_for self.now (labels_view labels.old)) (scope_view scope.now) (sexp_of term.now) ≡ Err fault)) }
+        ensures labels { OnOk result (AreGiven (names_of_library self.now) labels.old labels.new (labels_in (sexp_of term.now))) }
+    {
+        match term {
+            Tree::Symbol(name) => self.sort_of_symbol(scope, name.as_slice()),
+            _ => self.sort_of_other(scope, labels, term),
+        }
+    }
+
+    // The same, out of line: most terms are symbols.
+    #[cycle(check)]
+    fn sort_of_other<'a>(
         &self,
         scope: &[Variable<'a, Sort>],
         labels: &mut Labels,
@@ -106,15 +129,16 @@ impl Library {
         scope: &[Variable<'a, Sort>],
         labels: &mut Labels,
         terms: &'a [Tree],
-    ) -> Result<Vec<Sort>, TermFault>
+    ) -> Result<SmallVec<Sort, FEW>, TermFault>
         ensures sorts { MatchResult result (λ sorts. sorts_in (names_for self.now (labels_view labels.old)) (scope_view scope.now) (sexps_of terms.now) ≡ Ok sorts.items)
             (λ fault. (fault ≡ Memory) ⊎ (sorts_in (names_for self.now (labels_view labels.old)) (scope_view scope.now) (sexps_of terms.now) ≡ Err fault)) }
         ensures labels { OnOk result (AreGiven (names_of_library self.now) labels.old labels.new (labels_in_all (sexps_of terms.now))) }
     {
-        let mut sorts = Vec::new(self.alloc);
+        let mut sorts = SmallVec::new(self.alloc);
+        sorts.reserve(terms.len())?;
         let mut left = terms;
         while let Some((term, rest)) = split_first(left) {
-            sorts.push(self.sort_of(scope, labels, term)?)?;
+            sorts.push_reserved(self.sort_of(scope, labels, term)?);
             left = rest;
         }
         Ok(sorts)

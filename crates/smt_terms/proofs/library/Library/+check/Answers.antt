@@ -1,7 +1,7 @@
-use Rattle.std.proofs.Common.{ap, sym, ◌∙◌, arith}
-use Rattle.std.proofs.lemmas.List.{map-append}
+use Rattle.std.proofs.Common.{[], ◌∷◌, length, ap, sym, ◌∙◌, arith}
+use Rattle.std.proofs.lemmas.List.{length-append, map-append}
 use Rattle.std.proofs.lemmas.Result.{err_from_is_err_and}
-use Rattle.smt_text.specs.Sexp.{Cons, Items, weight_all}
+use Rattle.smt_text.specs.Sexp.{Cons, Items, count, weight_all}
 use Rattle.smt_text.specs.Tree.{sexp_of, sexps_of}
 use Rattle.smt_terms.specs.Bindings.{are_named_trees}
 use Rattle.smt_terms.specs.Checking.{sort_in, sort_of_call}
@@ -12,9 +12,9 @@ use Rattle.smt_terms.specs.Labels.{labels_in, labels_in_all, labels_in_bindings}
 use Rattle.smt_terms.specs.ScopeView.{scope_view}
 use Rattle.smt_terms.specs.Signature.{unlabelled}
 use Rattle.smt_terms.proofs.BinderLemmas.{annotated, bang_in, bound_in-next, fault_of_annotated, fault_of_annotation, fault_of_bindings, let_in, let_of_body}
-use Rattle.smt_terms.proofs.CheckerLemmas.{applied_ok, bang_head, carried, fault_of_args, let_head, sorts_behind-next, told}
+use Rattle.smt_terms.proofs.CheckerLemmas.{applied_ok, bang_head, carried, fault_of_args, let_head, count-trees, sorts_behind-next, sorts_behind-start, told}
 use Rattle.smt_terms.proofs.KeptLemmas.{Keeps-unlabelled, kept-sort}
-use Rattle.smt_terms.proofs.LabelLemmas.{AreGivenOf-next, call_without_labels, names_behind}
+use Rattle.smt_terms.proofs.LabelLemmas.{AreGivenOf-next, AreGivenOf-none, call_without_labels, given_by_args, names_behind}
 use Rattle.smt_terms.proofs.library.Library.+check.Goals as goal
 
 pub sorts_of-sort_of-requires : goal.sorts_of-sort_of-requires
@@ -49,7 +49,7 @@ sort_of_list-returns-clause-sort t c =
     told c.sort_of_call.result (sort_in names scope (Items c.args.parts.now))
     (applied_ok names scope (sexp_of c.in-Some.head.now) (sexps_of c.in-Some.args.now) c.args.parts.now f c.in_ok-sorts.sorts.items
     (sym c.as_slice.ensures ∙ c.in-Some.ensures) (record { no_index = sym c.if-is_underscore.ensures; no_let = sym c.if-is_let.ensures; no_bang = sym c.if-is_bang.ensures }) c.in_ok-identifier-2.ensures c.in_ok-sorts.ensures.sorts
-    ∙ ap (λ ss. sort_of_call names scope f ss) (sym c.as_slice-2.ensures.value) ∙ call_without_labels c.args.self.now (labels_view c.args.labels.now) scope f c.as_slice-2.result.now ∙ sym c.sort_of_call.ensures)
+    ∙ ap (λ ss. sort_of_call names scope f ss) (sym c.as_slice-2.ensures) ∙ call_without_labels c.args.self.now (labels_view c.args.labels.now) scope f c.as_slice-2.result.now ∙ sym c.sort_of_call.ensures)
 
 pub sorts_of-loop-term-preserved : goal.sorts_of-loop-term-preserved
 sorts_of-loop-term-preserved t c =
@@ -57,13 +57,28 @@ sorts_of-loop-term-preserved t c =
     let term = sexp_of c.in-Some.term.now in
     record {
       answer = c.loop-term.invariant.answer
-          ∙ sorts_behind-next (names_for c.args.self.now (labels_view c.loop-term.labels)) (names_for c.args.self.now (labels_view c.sort_of.new.labels)) (scope_view c.args.scope.now) c.loop-term.sorts.items c.push.new.self.items term
+          ∙ sorts_behind-next (names_for c.args.self.now (labels_view c.loop-term.labels)) (names_for c.args.self.now (labels_view c.sort_of.new.labels)) (scope_view c.args.scope.now) c.loop-term.sorts.items c.push_reserved.new.self.items term
           (sexps_of c.in-Some.rest.now) (sexps_of c.loop-term.left.now) c.in_ok-sort_of.field-0
-          (names_behind c.args.self.now names c.loop-term.labels c.sort_of.new.labels (labels_in term) c.in_ok-sort_of.ensures.labels) c.in-Some.ensures c.in_ok-sort_of.ensures.sort c.in_ok-push.ensures.items;
+          (names_behind c.args.self.now names c.loop-term.labels c.sort_of.new.labels (labels_in term) c.in_ok-sort_of.ensures.labels) c.in-Some.ensures c.in_ok-sort_of.ensures.sort c.push_reserved.ensures.items;
       given = AreGivenOf-next names c.args.labels.now c.loop-term.labels c.sort_of.new.labels (labels_in_all (sexps_of c.args.terms.now)) (labels_in_all (sexps_of c.loop-term.left.now)) (labels_in term) (labels_in_all (sexps_of c.in-Some.rest.now))
           c.loop-term.invariant.given (ap labels_in_all c.in-Some.ensures) c.in_ok-sort_of.ensures.labels;
       lighter = omega (arith, ap weight_all c.in-Some.ensures, c.loop-term.invariant.lighter);
+      room = omega (arith, ap count c.in-Some.ensures, c.loop-term.invariant.room, ap length c.push_reserved.ensures.items, c.push_reserved.ensures.capacity, length-append c.loop-term.sorts.items (c.in_ok-sort_of.field-0 ∷ []));
     }
+
+pub sorts_of-loop-term-init : goal.sorts_of-loop-term-init
+sorts_of-loop-term-init t c =
+    let terms = sexps_of c.args.terms.now in
+    let none = c.in_ok-reserve.ensures.items ∙ c.new-sorts.ensures.items in
+    record {
+      answer = sorts_behind-start (names_for c.args.self.now (labels_view c.args.labels.now)) (scope_view c.args.scope.now) c.reserve.new.self.items terms none;
+      given = AreGivenOf-none (names_of_library c.args.self.now) c.args.labels.now (labels_in_all terms);
+      lighter = omega arith;
+      room = omega (arith, c.in_ok-reserve.ensures.ok, count-trees c.args.terms.now);
+    }
+
+pub sorts_of-push_reserved-requires : goal.sorts_of-push_reserved-requires
+sorts_of-push_reserved-requires t c = (omega arith, omega (arith, ap count c.in-Some.ensures, c.loop-term.invariant.room))
 
 pub bound_by-loop-name-preserved : goal.bound_by-loop-name-preserved
 bound_by-loop-name-preserved t c =
@@ -128,3 +143,8 @@ sort_of_annotated-returns-clause-sort t c =
     (sexp_of c.in-Some.term.now) c.in_ok-sort.sort
     (names_behind c.args.self.now (names_of_library c.args.self.now) c.args.labels.now c.sort_of.new.labels (labels_in (sexp_of c.in-Some.term.now)) c.in_ok-sort.ensures.labels) c.in-Some.ensures
     (sym c.are_attributes.ensures ∙ c.if-not-are_attributes.false) c.in_ok-sort.ensures.sort c.in_ok-give_labels.ensures.fault
+
+pub sort_of_list-returns-clause-labels : goal.sort_of_list-returns-clause-labels
+sort_of_list-returns-clause-labels t c =
+    given_by_args c.sort_of_call.result (names_of_library c.args.self.now) c.args.labels.now c.sorts_of.new.labels (sexp_of c.in-Some.head.now) (sexps_of c.in-Some.args.now) c.args.parts.now
+    (sym c.as_slice.ensures ∙ c.in-Some.ensures) (sym c.if-is_underscore.ensures) (sym c.if-is_let.ensures) (sym c.if-is_bang.ensures) c.in_ok-sorts.ensures.labels

@@ -1,5 +1,6 @@
 use Rattle.std.proofs.Common.{◌≡◌, ◌+◌, ◌*◌, ◌≤◌, [], true}
-use Rattle.smt_text.specs.Sexp.{weight, weight_all}
+use Rattle.smallvec.specs.SmallVec.{HasRoomFor}
+use Rattle.smt_text.specs.Sexp.{count, weight, weight_all}
 use Rattle.smt_text.specs.Tree.{sexp_of, sexps_of}
 use Rattle.smt_terms.specs.Bindings.{are_named_trees}
 use Rattle.smt_terms.specs.Checking.{bound_in, sorts_in}
@@ -12,28 +13,32 @@ use Rattle.smt_terms.proofs.LabelLemmas.{AreGivenOf}
 use Rattle.smt_terms.proofs.library.Library.+check.Given as goal
 
 abbrev pub decreases-sort_of : goal.decreases-sort_of
-decreases-sort_of l = 2 * weight (sexp_of l.term.now)
+decreases-sort_of l = 3 * weight (sexp_of l.term.now) + 1
+
+abbrev pub decreases-sort_of_other : goal.decreases-sort_of_other
+decreases-sort_of_other l = 3 * weight (sexp_of l.term.now)
 
 abbrev pub decreases-sort_of_list : goal.decreases-sort_of_list
-decreases-sort_of_list l = 2 * weight_all l.parts.now + 1
+decreases-sort_of_list l = 3 * weight_all l.parts.now + 2
 
 abbrev pub decreases-sort_of_let : goal.decreases-sort_of_let
-decreases-sort_of_let l = 2 * weight_all (sexps_of l.args.now) + 2
+decreases-sort_of_let l = 3 * weight_all (sexps_of l.args.now) + 2
 
 abbrev pub decreases-sort_of_annotated : goal.decreases-sort_of_annotated
-decreases-sort_of_annotated l = 2 * weight_all (sexps_of l.args.now) + 2
+decreases-sort_of_annotated l = 3 * weight_all (sexps_of l.args.now) + 2
 
 abbrev pub decreases-sorts_of : goal.decreases-sorts_of
-decreases-sorts_of l = 2 * weight_all (sexps_of l.terms.now) + 1
+decreases-sorts_of l = 3 * weight_all (sexps_of l.terms.now) + 2
 
 abbrev pub decreases-bound_by : goal.decreases-bound_by
-decreases-bound_by l = 2 * weight_all (sexps_of l.bindings.now) + 1
+decreases-bound_by l = 3 * weight_all (sexps_of l.bindings.now) + 2
 
 abbrev pub invariant-sorts_of-loop-term : goal.invariant-sorts_of-loop-term
 invariant-sorts_of-loop-term l = record {
   answer : sorts_in (names_for l.self (labels_view l.fn.labels)) (scope_view l.scope) (sexps_of l.terms) ≡ sorts_behind (names_for l.self (labels_view l.labels)) (scope_view l.scope) l.sorts.items (sexps_of l.left);
   given : AreGivenOf (names_of_library l.self) l.fn.labels l.labels (labels_in_all (sexps_of l.terms)) (labels_in_all (sexps_of l.left));
   lighter : weight_all (sexps_of l.left) ≤ weight_all (sexps_of l.terms);
+  room : HasRoomFor l.sorts (count (sexps_of l.left));
 }
 
 abbrev pub decreases-sorts_of-loop-term : goal.decreases-sorts_of-loop-term

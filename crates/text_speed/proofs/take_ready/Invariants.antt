@@ -1,7 +1,7 @@
 -- the trees that wait get fewer
 use Rattle.std.proofs.Common.{◌≡◌}
 use Rattle.smt_text.specs.Reader.{is_finished, bytes_fed, trees_waiting}
-use Rattle.text_speed.proofs.take.Given as goal
+use Rattle.text_speed.proofs.take_ready.Given as goal
 
 abbrev pub invariant-loop-tree : goal.invariant-loop-tree
 invariant-loop-tree l = (is_finished l.reader ≡ is_finished l.fn.reader) × (bytes_fed l.reader ≡ bytes_fed l.fn.reader)

@@ -1,0 +1,5 @@
+(declare-const p Bool)
+(declare-const x (_ BitVec 8))
+(assert (or p (= x #x0f)))
+(assert (= x p))
+(check-sat)
