@@ -1,4 +1,4 @@
-use Rattle.std.proofs.Common.{true, ap, sym, ◌∙◌}
+use Rattle.std.proofs.Common.{rules, true, ap, sym, ◌∙◌}
 use Rattle.std.proofs.lemmas.Result.{on_ok_weaker}
 use Rattle.smt_text.specs.Tree.{sexp_of}
 use Rattle.smt_terms.specs.Checking.{sort_in}
@@ -28,3 +28,30 @@ returns-clause-added c =
 
 pub returns-clause-grown : goal.returns-clause-grown
 returns-clause-grown c = extends_on _ _ _ c.in_ok-body.ensures.grown c.insert_definition.ensures.grown
+
+pub returns-in_err-sort_of-clause-refused : goal.returns-in_err-sort_of-clause-refused
+returns-in_err-sort_of-clause-refused c = search rules
+
+pub returns-in_err-sort_of-clause-unchanged : goal.returns-in_err-sort_of-clause-unchanged
+returns-in_err-sort_of-clause-unchanged c = search rules
+
+pub returns-then-not-are_equal-clause-refused : goal.returns-then-not-are_equal-clause-refused
+returns-then-not-are_equal-clause-refused c = search rules
+
+pub returns-then-not-are_equal-clause-unchanged : goal.returns-then-not-are_equal-clause-unchanged
+returns-then-not-are_equal-clause-unchanged c = search rules
+
+pub returns-in_err-body-clause-refused : goal.returns-in_err-body-clause-refused
+returns-in_err-body-clause-refused c = search rules
+
+pub returns-in_err-body-clause-unchanged : goal.returns-in_err-body-clause-unchanged
+returns-in_err-body-clause-unchanged c = search rules
+
+pub returns-in_err-body-clause-grown : goal.returns-in_err-body-clause-grown
+returns-in_err-body-clause-grown c = search rules
+
+pub returns-clause-refused : goal.returns-clause-refused
+returns-clause-refused c = search rules
+
+pub returns-clause-unchanged : goal.returns-clause-unchanged
+returns-clause-unchanged c = search rules
