@@ -1,4 +1,4 @@
-use Rattle.std.proofs.Common.{true, ap, sym, ◌∙◌}
+use Rattle.std.proofs.Common.{rules, true, ap, sym, ◌∙◌}
 use Rattle.std.proofs.lemmas.Result.{on_ok_weaker}
 use Rattle.smt_text.specs.Tree.{sexp_of}
 use Rattle.smt_terms.specs.Checking.{sort_in}
@@ -28,3 +28,57 @@ returns-clause-added c =
 
 pub returns-clause-grown : goal.returns-clause-grown
 returns-clause-grown c = extends_on _ _ _ c.in_ok-body.ensures.grown c.insert_definition.ensures.grown
+
+pub returns-in_err-sort_of-clause-refused : goal.returns-in_err-sort_of-clause-refused
+returns-in_err-sort_of-clause-refused c = search rules
+
+pub returns-in_err-sort_of-clause-unchanged : goal.returns-in_err-sort_of-clause-unchanged
+returns-in_err-sort_of-clause-unchanged c = search rules
+
+pub returns-then-not-are_equal-clause-refused : goal.returns-then-not-are_equal-clause-refused
+returns-then-not-are_equal-clause-refused c = search rules
+
+pub returns-then-not-are_equal-clause-unchanged : goal.returns-then-not-are_equal-clause-unchanged
+returns-then-not-are_equal-clause-unchanged c = search rules
+
+pub returns-in_err-body-clause-refused : goal.returns-in_err-body-clause-refused
+returns-in_err-body-clause-refused c = search rules
+
+pub returns-in_err-body-clause-unchanged : goal.returns-in_err-body-clause-unchanged
+returns-in_err-body-clause-unchanged c = search rules
+
+pub returns-in_err-body-clause-grown : goal.returns-in_err-body-clause-grown
+returns-in_err-body-clause-grown c = search rules
+
+pub returns-clause-refused : goal.returns-clause-refused
+returns-clause-refused c = search rules
+
+pub returns-clause-unchanged : goal.returns-clause-unchanged
+returns-clause-unchanged c = search rules
+
+pub returns-in_err-sort_of-clause-added : goal.returns-in_err-sort_of-clause-added
+returns-in_err-sort_of-clause-added c = search rules
+
+pub returns-in_err-sort_of-clause-grown : goal.returns-in_err-sort_of-clause-grown
+returns-in_err-sort_of-clause-grown c = search rules
+
+pub returns-in_err-sort_of-clause-sorts : goal.returns-in_err-sort_of-clause-sorts
+returns-in_err-sort_of-clause-sorts c = search rules
+
+pub returns-then-not-are_equal-clause-grown : goal.returns-then-not-are_equal-clause-grown
+returns-then-not-are_equal-clause-grown c = search rules
+
+pub returns-then-not-are_equal-clause-sorts : goal.returns-then-not-are_equal-clause-sorts
+returns-then-not-are_equal-clause-sorts c = search rules
+
+pub returns-in_err-body-clause-added : goal.returns-in_err-body-clause-added
+returns-in_err-body-clause-added c = search rules
+
+pub returns-in_err-body-clause-sorts : goal.returns-in_err-body-clause-sorts
+returns-in_err-body-clause-sorts c = search rules
+
+pub insert_definition-requires : goal.insert_definition-requires
+insert_definition-requires c = search rules
+
+pub returns-clause-sorts : goal.returns-clause-sorts
+returns-clause-sorts c = search rules

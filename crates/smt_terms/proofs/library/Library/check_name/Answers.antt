@@ -1,4 +1,4 @@
-use Rattle.std.proofs.Common.{true, false, refl, sym, ◌∙◌}
+use Rattle.std.proofs.Common.{rules, true, false, refl, sym, ◌∙◌}
 use Rattle.smt_terms.proofs.ItemLemmas.{in_force, name_fault_by}
 use Rattle.smt_terms.proofs.library.Library.check_name.Goals as goal
 
@@ -15,3 +15,12 @@ pub returns-clause-fault : goal.returns-clause-fault
 returns-clause-fault c = λ s m stands items.
     name_fault_by s m.entries c.args.name.now false false (in_force c.args.self.now m c.args.name.now c.is_in_force.result false items c.is_in_force.ensures c.if-is_in_force.false)
     (sym c.if-is_unfit.false ∙ c.is_unfit.ensures s stands)
+
+pub returns-then-is_in_force-clause-absent : goal.returns-then-is_in_force-clause-absent
+returns-then-is_in_force-clause-absent c = search rules
+
+pub returns-then-is_unfit-clause-absent : goal.returns-then-is_unfit-clause-absent
+returns-then-is_unfit-clause-absent c = search rules
+
+pub returns-clause-absent : goal.returns-clause-absent
+returns-clause-absent c = search rules

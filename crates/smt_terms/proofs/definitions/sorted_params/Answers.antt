@@ -1,0 +1,5 @@
+use Rattle.std.proofs.Common.{rules}
+use Rattle.smt_terms.proofs.definitions.sorted_params.Goals as goal
+
+pub returns-in_err-push_variable : goal.returns-in_err-push_variable
+returns-in_err-push_variable c = search rules
