@@ -55,7 +55,7 @@ fn read_text<R: AllocGlobal + Print>(rt: &R, text: &[u8], purpose: Purpose) -> i
     let fault = read_trees(rt.alloc(), text, &mut kept)?;
     print!(rt; "{} bytes, {} trees", text.len(), kept.count)?;
     if purpose == Purpose::Sort {
-        print!(rt; ", {} terms sorted", kept.terms)?;
+        print!(rt; ", terms sorted: {}", kept.terms)?;
     }
     match fault {
         None => println!(rt; "")?,

@@ -145,6 +145,7 @@ impl Library {
     }
 
     // The sort of a symbol alone: that of a variable, or else of a name or an operator without arguments.
+    #[inline(always)]
     fn sort_of_symbol(&self, scope: &[Variable<'_, Sort>], name: &[u8]) -> Result<Sort, TermFault>
         ensures { result ≡ checking.sort_of_symbol (names_of_library self.now) name.now (look_up (scope_view scope.now) name.now) }
     {
@@ -155,6 +156,7 @@ impl Library {
     }
 
     // The sort of an identifier applied to arguments of these sorts, where it may be a variable, which takes none.
+    #[inline(always)]
     fn sort_of_call(
         &self,
         scope: &[Variable<'_, Sort>],
@@ -170,6 +172,7 @@ impl Library {
     }
 
     // The sort of an identifier applied to arguments of these sorts.
+    #[inline(always)]
     fn sort_applied(&self, identifier: &Identifier<'_>, args: &[Sort]) -> Result<Sort, TermFault>
         ensures { result ≡ checking.sort_applied (names_of_library self.now) (identifier_view identifier.now) args.now }
     {
@@ -182,6 +185,7 @@ impl Library {
     }
 
     // The sort of a symbol that is no variable: a name in force, or else an operator.
+    #[inline(always)]
     fn sort_of_plain(&self, name: &[u8], args: &[Sort]) -> Result<Sort, TermFault>
         ensures { result ≡ checking.sort_applied (names_of_library self.now) (Plain name.now) args.now }
     {
@@ -204,6 +208,7 @@ fn sort_of_entry(entry: &Entry, args: &[Sort]) -> Result<Sort, TermFault>
 }
 
 // The sort of an operator applied to arguments of these sorts.
+#[inline(always)]
 fn sort_of_operator(op: Result<Op, OpFault>, args: &[Sort]) -> Result<Sort, TermFault>
     ensures { result ≡ checking.sort_of_operator op args.now }
 {
