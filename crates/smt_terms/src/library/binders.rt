@@ -27,7 +27,6 @@ use smt_theory::Sort;
 impl Library {
     // The sort of a `let` (SMT-LIB 2.6, section 3.6.1), by what stands behind its word. Its variables come before those around it.
     #[cycle(check)]
-    #[tactic(none)]
     pub(super) fn sort_of_let<'a>(
         &self,
         scope: &[Variable<'a, Sort>],
@@ -51,7 +50,6 @@ impl Library {
 
     // The variables that bindings bring, with the sorts of their terms, which do not see these variables.
     #[cycle(check)]
-    #[tactic(none)]
     fn bound_by<'a>(
         &self,
         scope: &[Variable<'a, Sort>],
@@ -78,7 +76,6 @@ impl Library {
 
     // The sort of an annotated term (SMT-LIB 2.6, section 3.6.5), by what stands behind the `!`: that of the term.
     #[cycle(check)]
-    #[tactic(none)]
     pub(super) fn sort_of_annotated<'a>(
         &self,
         scope: &[Variable<'a, Sort>],

@@ -31,7 +31,6 @@ use smt_theory::{Op, OpFault, Sort, Width, op_of, rank};
 impl Library {
     /// The sort of a term over these names and the variables that it sees, the innermost first, or its first fault.
     #[cycle(check)]
-    #[tactic(none)]
     pub(crate) fn sort_of<'a>(
         &self,
         scope: &[Variable<'a, Sort>],
@@ -72,7 +71,6 @@ impl Library {
 
     // The sort of the term that is a list of these parts.
     #[cycle(check)]
-    #[tactic(none)]
     fn sort_of_list<'a>(
         &self,
         scope: &[Variable<'a, Sort>],
@@ -103,7 +101,6 @@ impl Library {
 
     // The sorts of terms, in order.
     #[cycle(check)]
-    #[tactic(none)]
     fn sorts_of<'a>(
         &self,
         scope: &[Variable<'a, Sort>],

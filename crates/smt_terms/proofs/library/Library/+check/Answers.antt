@@ -1,5 +1,4 @@
 use Rattle.std.proofs.Common.{rules, ap, sym, ◌∙◌, arith}
-use Rattle.std.proofs.lemmas.Grind.{common_steps}
 use Rattle.std.proofs.lemmas.List.{map-append}
 use Rattle.std.proofs.lemmas.Result.{err_from_is_err_and}
 use Rattle.smt_text.specs.Sexp.{Cons, Items, weight_all}
@@ -285,51 +284,3 @@ sorts_of-returns-clause-sorts t c = search rules
 
 pub sorts_of-returns-clause-labels : goal.sorts_of-returns-clause-labels
 sorts_of-returns-clause-labels t c = search rules
-
-pub bound_by-loop-name-init : goal.bound_by-loop-name-init
-bound_by-loop-name-init t c = search rules
-
-pub bound_by-sort_of-requires : goal.bound_by-sort_of-requires
-bound_by-sort_of-requires t c = grind (arith, common_steps)
-
-pub bound_by-loop-name-smaller : goal.bound_by-loop-name-smaller
-bound_by-loop-name-smaller t c = grind (arith, common_steps)
-
-pub sort_of-sort_of_list-requires : goal.sort_of-sort_of_list-requires
-sort_of-sort_of_list-requires t c = grind (arith, common_steps)
-
-pub sort_of_annotated-sort_of-requires : goal.sort_of_annotated-sort_of-requires
-sort_of_annotated-sort_of-requires t c = grind (arith, common_steps)
-
-pub sort_of_annotated-returns-clause-labels : goal.sort_of_annotated-returns-clause-labels
-sort_of_annotated-returns-clause-labels t c = grind (arith, common_steps)
-
-pub sort_of_let-bound_by-requires : goal.sort_of_let-bound_by-requires
-sort_of_let-bound_by-requires t c = grind (arith, common_steps)
-
-pub sort_of_let-sort_of-requires : goal.sort_of_let-sort_of-requires
-sort_of_let-sort_of-requires t c = grind (arith, common_steps)
-
-pub sort_of_let-returns-clause-labels : goal.sort_of_let-returns-clause-labels
-sort_of_let-returns-clause-labels t c = grind (arith, common_steps)
-
-pub sort_of_list-slice_bounds-sort_applied-end : goal.sort_of_list-slice_bounds-sort_applied-end
-sort_of_list-slice_bounds-sort_applied-end t c = omega arith
-
-pub sort_of_list-sort_of_let-requires : goal.sort_of_list-sort_of_let-requires
-sort_of_list-sort_of_let-requires t c = grind (arith, common_steps)
-
-pub sort_of_list-sort_of_annotated-requires : goal.sort_of_list-sort_of_annotated-requires
-sort_of_list-sort_of_annotated-requires t c = grind (arith, common_steps)
-
-pub sort_of_list-sorts_of-requires : goal.sort_of_list-sorts_of-requires
-sort_of_list-sorts_of-requires t c = grind (arith, common_steps)
-
-pub sort_of_list-returns-clause-labels : goal.sort_of_list-returns-clause-labels
-sort_of_list-returns-clause-labels t c = grind (arith, common_steps)
-
-pub sorts_of-loop-term-init : goal.sorts_of-loop-term-init
-sorts_of-loop-term-init t c = search rules
-
-pub sorts_of-loop-term-smaller : goal.sorts_of-loop-term-smaller
-sorts_of-loop-term-smaller t c = grind (arith, common_steps)
