@@ -1,4 +1,4 @@
-use Rattle.std.proofs.Common.{arith, rules}
+use Rattle.std.proofs.Common.{rules}
 use Rattle.smt_terms.proofs.library.Library.check.Goals as goal
 
 pub returns-in_err-sort-clause-answer : goal.returns-in_err-sort-clause-answer
@@ -27,6 +27,3 @@ returns-clause-kept c = search rules
 
 pub returns-clause-grown : goal.returns-clause-grown
 returns-clause-grown c = search rules
-
-pub slice_bounds-sort_of-end : goal.slice_bounds-sort_of-end
-slice_bounds-sort_of-end c = omega arith

@@ -1,5 +1,4 @@
-use Rattle.std.proofs.Common.{arith, rules, map, sym, subst, ◌∙◌}
-use Rattle.std.proofs.lemmas.Grind.{common_steps}
+use Rattle.std.proofs.Common.{rules, map, sym, subst, ◌∙◌}
 use Rattle.smt_text.specs.Tree.{sexp_of}
 use Rattle.smt_terms.specs.Contents.{Extends, contents_of}
 use Rattle.smt_terms.specs.Internal.LabelsView.{AreNew, label_entry}
@@ -79,9 +78,3 @@ returns-clause-term c = search rules
 
 pub returns-clause-refused : goal.returns-clause-refused
 returns-clause-refused c = search rules
-
-pub slice_bounds-sort_of-end : goal.slice_bounds-sort_of-end
-slice_bounds-sort_of-end c = omega arith
-
-pub returns-clause-unchanged : goal.returns-clause-unchanged
-returns-clause-unchanged c = grind (arith, common_steps)

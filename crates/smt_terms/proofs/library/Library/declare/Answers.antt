@@ -40,6 +40,3 @@ returns-clause-unchanged c = search rules
 
 pub returns-clause-grown : goal.returns-clause-grown
 returns-clause-grown c = search rules
-
-pub add_declared-requires-clause-next : goal.add_declared-requires-clause-next
-add_declared-requires-clause-next c = search rules

@@ -1,5 +1,4 @@
-use Rattle.std.proofs.Common.{rules, arith, ap, ◌∙◌}
-use Rattle.std.proofs.lemmas.Grind.{common_steps}
+use Rattle.std.proofs.Common.{rules, ap, ◌∙◌}
 use Rattle.std.proofs.lemmas.Result.{IfErr-weaker, on_ok_weaker}
 use Rattle.smt_text.specs.Tree.{sexp_of}
 use Rattle.smt_terms.specs.Definitions.{definition_in}
@@ -140,9 +139,3 @@ returns-clause-grown c = search rules
 
 pub returns-clause-theories : goal.returns-clause-theories
 returns-clause-theories c = search rules
-
-pub returns-then-not-branch-clause-refused : goal.returns-then-not-branch-clause-refused
-returns-then-not-branch-clause-refused c = grind (arith, common_steps)
-
-pub add_definition-requires : goal.add_definition-requires
-add_definition-requires c = search rules
