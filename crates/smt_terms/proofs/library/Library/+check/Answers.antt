@@ -132,155 +132,44 @@ sort_of_annotated-returns-clause-sort t c =
 pub bound_by-returns-then-is_some-clause-bound : goal.bound_by-returns-then-is_some-clause-bound
 bound_by-returns-then-is_some-clause-bound t c = search rules
 
-pub bound_by-returns-then-is_some-clause-labels : goal.bound_by-returns-then-is_some-clause-labels
-bound_by-returns-then-is_some-clause-labels t c = search rules
-
 pub bound_by-returns-in_err-value-clause-bound : goal.bound_by-returns-in_err-value-clause-bound
 bound_by-returns-in_err-value-clause-bound t c = search rules
-
-pub bound_by-returns-in_err-value-clause-labels : goal.bound_by-returns-in_err-value-clause-labels
-bound_by-returns-in_err-value-clause-labels t c = search rules
-
-pub bound_by-returns-in_err-push_variable-clause-bound : goal.bound_by-returns-in_err-push_variable-clause-bound
-bound_by-returns-in_err-push_variable-clause-bound t c = search rules
-
-pub bound_by-returns-in_err-push_variable-clause-labels : goal.bound_by-returns-in_err-push_variable-clause-labels
-bound_by-returns-in_err-push_variable-clause-labels t c = search rules
-
-pub bound_by-returns-clause-bound : goal.bound_by-returns-clause-bound
-bound_by-returns-clause-bound t c = search rules
-
-pub bound_by-returns-clause-labels : goal.bound_by-returns-clause-labels
-bound_by-returns-clause-labels t c = search rules
-
-pub sort_of-returns-in-Symbol-clause-sort : goal.sort_of-returns-in-Symbol-clause-sort
-sort_of-returns-in-Symbol-clause-sort t c = search rules
-
-pub sort_of-returns-in-Symbol-clause-labels : goal.sort_of-returns-in-Symbol-clause-labels
-sort_of-returns-in-Symbol-clause-labels t c = search rules
-
-pub sort_of-returns-in-Numeral-clause-sort : goal.sort_of-returns-in-Numeral-clause-sort
-sort_of-returns-in-Numeral-clause-sort t c = search rules
-
-pub sort_of-returns-in-Numeral-clause-labels : goal.sort_of-returns-in-Numeral-clause-labels
-sort_of-returns-in-Numeral-clause-labels t c = search rules
-
-pub sort_of-returns-in-List-clause-sort : goal.sort_of-returns-in-List-clause-sort
-sort_of-returns-in-List-clause-sort t c = search rules
-
-pub sort_of-returns-in-List-clause-labels : goal.sort_of-returns-in-List-clause-labels
-sort_of-returns-in-List-clause-labels t c = search rules
-
-pub sort_of-returns-in-Hex-clause-sort : goal.sort_of-returns-in-Hex-clause-sort
-sort_of-returns-in-Hex-clause-sort t c = search rules
-
-pub sort_of-returns-in-Hex-clause-labels : goal.sort_of-returns-in-Hex-clause-labels
-sort_of-returns-in-Hex-clause-labels t c = search rules
-
-pub sort_of-returns-in-Bin-clause-sort : goal.sort_of-returns-in-Bin-clause-sort
-sort_of-returns-in-Bin-clause-sort t c = search rules
-
-pub sort_of-returns-in-Bin-clause-labels : goal.sort_of-returns-in-Bin-clause-labels
-sort_of-returns-in-Bin-clause-labels t c = search rules
 
 pub sort_of-returns-in-Keyword-clause-sort : goal.sort_of-returns-in-Keyword-clause-sort
 sort_of-returns-in-Keyword-clause-sort t c = search rules
 
-pub sort_of-returns-in-Keyword-clause-labels : goal.sort_of-returns-in-Keyword-clause-labels
-sort_of-returns-in-Keyword-clause-labels t c = search rules
-
-pub sort_of-returns-in-Decimal-clause-sort : goal.sort_of-returns-in-Decimal-clause-sort
-sort_of-returns-in-Decimal-clause-sort t c = search rules
-
-pub sort_of-returns-in-Decimal-clause-labels : goal.sort_of-returns-in-Decimal-clause-labels
-sort_of-returns-in-Decimal-clause-labels t c = search rules
-
 pub sort_of_annotated-returns-in_default-clause-sort : goal.sort_of_annotated-returns-in_default-clause-sort
 sort_of_annotated-returns-in_default-clause-sort t c = search rules
-
-pub sort_of_annotated-returns-in_default-clause-labels : goal.sort_of_annotated-returns-in_default-clause-labels
-sort_of_annotated-returns-in_default-clause-labels t c = search rules
 
 pub sort_of_annotated-returns-then-not-are_attributes-clause-sort : goal.sort_of_annotated-returns-then-not-are_attributes-clause-sort
 sort_of_annotated-returns-then-not-are_attributes-clause-sort t c = search rules
 
-pub sort_of_annotated-returns-then-not-are_attributes-clause-labels : goal.sort_of_annotated-returns-then-not-are_attributes-clause-labels
-sort_of_annotated-returns-then-not-are_attributes-clause-labels t c = search rules
-
-pub sort_of_annotated-returns-in_err-sort-clause-labels : goal.sort_of_annotated-returns-in_err-sort-clause-labels
-sort_of_annotated-returns-in_err-sort-clause-labels t c = search rules
-
-pub sort_of_annotated-returns-in_err-give_labels-clause-labels : goal.sort_of_annotated-returns-in_err-give_labels-clause-labels
-sort_of_annotated-returns-in_err-give_labels-clause-labels t c = search rules
-
 pub sort_of_let-returns-in_default-clause-sort : goal.sort_of_let-returns-in_default-clause-sort
 sort_of_let-returns-in_default-clause-sort t c = search rules
-
-pub sort_of_let-returns-in_default-clause-labels : goal.sort_of_let-returns-in_default-clause-labels
-sort_of_let-returns-in_default-clause-labels t c = search rules
 
 pub sort_of_let-returns-then-not-are_bindings-clause-sort : goal.sort_of_let-returns-then-not-are_bindings-clause-sort
 sort_of_let-returns-then-not-are_bindings-clause-sort t c = search rules
 
-pub sort_of_let-returns-then-not-are_bindings-clause-labels : goal.sort_of_let-returns-then-not-are_bindings-clause-labels
-sort_of_let-returns-then-not-are_bindings-clause-labels t c = search rules
-
-pub sort_of_let-returns-in_err-inner-clause-labels : goal.sort_of_let-returns-in_err-inner-clause-labels
-sort_of_let-returns-in_err-inner-clause-labels t c = search rules
-
 pub sort_of_let-returns-in_err-extend_from_slice-clause-sort : goal.sort_of_let-returns-in_err-extend_from_slice-clause-sort
 sort_of_let-returns-in_err-extend_from_slice-clause-sort t c = search rules
-
-pub sort_of_let-returns-in_err-extend_from_slice-clause-labels : goal.sort_of_let-returns-in_err-extend_from_slice-clause-labels
-sort_of_let-returns-in_err-extend_from_slice-clause-labels t c = search rules
 
 pub sort_of_list-returns-in_default-clause-sort : goal.sort_of_list-returns-in_default-clause-sort
 sort_of_list-returns-in_default-clause-sort t c = search rules
 
-pub sort_of_list-returns-in_default-clause-labels : goal.sort_of_list-returns-in_default-clause-labels
-sort_of_list-returns-in_default-clause-labels t c = search rules
-
 pub sort_of_list-returns-in_err-identifier-clause-sort : goal.sort_of_list-returns-in_err-identifier-clause-sort
 sort_of_list-returns-in_err-identifier-clause-sort t c = search rules
-
-pub sort_of_list-returns-in_err-identifier-clause-labels : goal.sort_of_list-returns-in_err-identifier-clause-labels
-sort_of_list-returns-in_err-identifier-clause-labels t c = search rules
 
 pub sort_of_list-returns-then-is_underscore-clause-sort : goal.sort_of_list-returns-then-is_underscore-clause-sort
 sort_of_list-returns-then-is_underscore-clause-sort t c = search rules
 
-pub sort_of_list-returns-then-is_underscore-clause-labels : goal.sort_of_list-returns-then-is_underscore-clause-labels
-sort_of_list-returns-then-is_underscore-clause-labels t c = search rules
-
-pub sort_of_list-returns-then-is_let-clause-labels : goal.sort_of_list-returns-then-is_let-clause-labels
-sort_of_list-returns-then-is_let-clause-labels t c = search rules
-
-pub sort_of_list-returns-then-is_bang-clause-labels : goal.sort_of_list-returns-then-is_bang-clause-labels
-sort_of_list-returns-then-is_bang-clause-labels t c = search rules
-
 pub sort_of_list-returns-in_err-identifier-2-clause-sort : goal.sort_of_list-returns-in_err-identifier-2-clause-sort
 sort_of_list-returns-in_err-identifier-2-clause-sort t c = search rules
-
-pub sort_of_list-returns-in_err-identifier-2-clause-labels : goal.sort_of_list-returns-in_err-identifier-2-clause-labels
-sort_of_list-returns-in_err-identifier-2-clause-labels t c = search rules
-
-pub sort_of_list-returns-in_err-sorts-clause-labels : goal.sort_of_list-returns-in_err-sorts-clause-labels
-sort_of_list-returns-in_err-sorts-clause-labels t c = search rules
 
 pub sorts_of-returns-in_err-sort_of-clause-sorts : goal.sorts_of-returns-in_err-sort_of-clause-sorts
 sorts_of-returns-in_err-sort_of-clause-sorts t c = search rules
 
-pub sorts_of-returns-in_err-sort_of-clause-labels : goal.sorts_of-returns-in_err-sort_of-clause-labels
-sorts_of-returns-in_err-sort_of-clause-labels t c = search rules
-
 pub sorts_of-returns-in_err-push-clause-sorts : goal.sorts_of-returns-in_err-push-clause-sorts
 sorts_of-returns-in_err-push-clause-sorts t c = search rules
 
-pub sorts_of-returns-in_err-push-clause-labels : goal.sorts_of-returns-in_err-push-clause-labels
-sorts_of-returns-in_err-push-clause-labels t c = search rules
-
 pub sorts_of-returns-clause-sorts : goal.sorts_of-returns-clause-sorts
 sorts_of-returns-clause-sorts t c = search rules
-
-pub sorts_of-returns-clause-labels : goal.sorts_of-returns-clause-labels
-sorts_of-returns-clause-labels t c = search rules
