@@ -162,7 +162,7 @@ impl Library {
 
     /// Declares a name by the command of this number (SMT-LIB 2.6, section 4.2.3), with the sorts of its parameters and of its result.
     /// Refused are a name that is in use or is a plain operator's, and a tree that names no sort, in this order; then nothing changes.
-    #[tactic(none)]
+    #[tactic(auto, using(crate::proofs::ContentsLemmas::extends_itself))]
     pub fn declare(
         &mut self,
         command: u64,
@@ -199,7 +199,7 @@ impl Library {
     }
 
     /// Checks a term without labels over the names: its number and its sort, or its first fault (SMT-LIB 2.6, sections 3.6 and 5.2).
-    #[tactic(none)]
+    #[tactic(auto, using(crate::proofs::ContentsLemmas::extends_itself))]
     pub fn check(&mut self, term: &Tree) -> Result<(TermId, Sort), TermFault>
         ensures answer { (s : Signature) → StandsFor self.old s
             → MatchResult result (λ p. (sort_in (names_of s) [] (sexp_of term.now) ≡ Ok p.1) × IsTerm self.new p.0 (sexp_of term.now))
@@ -276,7 +276,6 @@ impl Library {
     }
 
     // A declaration by the command, as the next name.
-    #[tactic(none)]
     fn declaration(&self, command: u64, params: &[Tree], sort: &Tree) -> Result<Declared, TermFault>
         ensures rank { MatchResult result (λ d. rank_named (sort_names self.now.sorts) (sexps_of params.now) (sexp_of sort.now) ≡ Ok (record { parameters = d.params.items; sort = d.result }))
             (λ fault. (fault ≡ Memory) ⊎ (rank_named (sort_names self.now.sorts) (sexps_of params.now) (sexp_of sort.now) ≡ Err fault)) }

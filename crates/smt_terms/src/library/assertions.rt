@@ -26,7 +26,7 @@ impl Library {
     /// Refused is a term with a fault, with the first; for a label that is a term that uses a variable bound outside it (`Label`), and
     /// then a name that is in use, a plain operator's, or that of an earlier label of the assertion (`NotFresh`). Then a term that is no
     /// formula (`IllSorted`). Then, and where memory is refused (`Memory`), no name is added; a term that nothing names may be.
-    #[tactic(none)]
+    #[tactic(auto, using(crate::proofs::ContentsLemmas::extends_itself))]
     pub fn check_assert(&mut self, term: &Tree) -> Result<TermId, TermFault>
         ensures asserted { OnOk result ((s : Signature) → StandsFor self.old s → (labels : List signature.Entry)
             × (asserted_in (names_of s) (sexp_of term.now) ≡ Ok labels) × StandsFor self.new (with_entries s labels)) }

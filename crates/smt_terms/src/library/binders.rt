@@ -141,7 +141,6 @@ impl Library {
     }
 
     // Gives a label to a term of this sort, or answers its fault.
-    #[tactic(none)]
     fn give_label(
         &self,
         scope: &[Variable<'_, Sort>],

@@ -31,7 +31,7 @@ impl Library {
     /// sort, with its fault, and then a name that an earlier parameter has (`BoundTwice`); for the result a tree that names no sort,
     /// with its fault; a body with a fault, with the first; a body of another sort (`IllSorted`). Then, and where memory is refused
     /// (`Memory`), no name is added; a term that nothing names may be.
-    #[tactic(none)]
+    #[tactic(auto, using(crate::proofs::ContentsLemmas::extends_itself))]
     pub fn define(
         &mut self,
         name: &[u8],
@@ -56,7 +56,7 @@ impl Library {
 
     // Adds the definition of a new name with these parameters, where its body has this sort over the names and the parameters, or
     // changes no name.
-    #[tactic(none)]
+    #[tactic(auto, using(crate::proofs::ContentsLemmas::extends_itself))]
     pub(super) fn add_definition(
         &mut self,
         name: &[u8],

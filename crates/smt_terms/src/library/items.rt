@@ -45,7 +45,7 @@ impl Library {
     /// a tree that names no sort, with its fault; another rank than the declared one (`IllSorted`); a body with a fault over the earlier
     /// items and the parameters, with the first (any label is one); a body of another sort (`IllSorted`). Then, and where memory is refused (`Memory`), no
     /// name is added; a term that nothing names may be.
-    #[tactic(none)]
+    #[tactic(auto, using(crate::proofs::ContentsLemmas::extends_itself))]
     pub fn define_item(&mut self, script: &Library, item: &Tree) -> Result<(), TermFault>
         requires { HasTheoriesOf self.old script.now }
         ensures defined { OnOk result ((s m : Signature) → StandsFor script.now s → StandsFor self.old m

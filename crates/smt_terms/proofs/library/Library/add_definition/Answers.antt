@@ -55,30 +55,3 @@ returns-clause-refused c = search rules
 
 pub returns-clause-unchanged : goal.returns-clause-unchanged
 returns-clause-unchanged c = search rules
-
-pub returns-in_err-sort_of-clause-added : goal.returns-in_err-sort_of-clause-added
-returns-in_err-sort_of-clause-added c = search rules
-
-pub returns-in_err-sort_of-clause-grown : goal.returns-in_err-sort_of-clause-grown
-returns-in_err-sort_of-clause-grown c = search rules
-
-pub returns-in_err-sort_of-clause-sorts : goal.returns-in_err-sort_of-clause-sorts
-returns-in_err-sort_of-clause-sorts c = search rules
-
-pub returns-then-not-are_equal-clause-grown : goal.returns-then-not-are_equal-clause-grown
-returns-then-not-are_equal-clause-grown c = search rules
-
-pub returns-then-not-are_equal-clause-sorts : goal.returns-then-not-are_equal-clause-sorts
-returns-then-not-are_equal-clause-sorts c = search rules
-
-pub returns-in_err-body-clause-added : goal.returns-in_err-body-clause-added
-returns-in_err-body-clause-added c = search rules
-
-pub returns-in_err-body-clause-sorts : goal.returns-in_err-body-clause-sorts
-returns-in_err-body-clause-sorts c = search rules
-
-pub insert_definition-requires : goal.insert_definition-requires
-insert_definition-requires c = search rules
-
-pub returns-clause-sorts : goal.returns-clause-sorts
-returns-clause-sorts c = search rules

@@ -1,4 +1,4 @@
-use Rattle.std.proofs.Common.{rules, [], ◌∷◌, map, refl, ap, ◌∙◌}
+use Rattle.std.proofs.Common.{[], ◌∷◌, map, refl, ap, ◌∙◌}
 use Rattle.std.proofs.lemmas.List.{map-append}
 use Rattle.smt_text.specs.Tree.{sexp_of}
 use Rattle.smt_terms.specs.Contents.{contents_of}
@@ -38,42 +38,3 @@ returns-in_err-push-clause-grown c = record {
 
 pub returns-clause-term : goal.returns-clause-term
 returns-clause-term c = term_added c.args.self.now.terms.items c.push.new.self.items c.in_ok-copy.copy c.len-number.result _ c.in_ok-push.ensures.items (counted c.args.self.now.terms c.len-number.result c.len-number.ensures) c.in_ok-copy.ensures
-
-pub returns-in_err-copy-clause-term : goal.returns-in_err-copy-clause-term
-returns-in_err-copy-clause-term c = search rules
-
-pub returns-in_err-copy-clause-refused : goal.returns-in_err-copy-clause-refused
-returns-in_err-copy-clause-refused c = search rules
-
-pub returns-in_err-copy-clause-kept : goal.returns-in_err-copy-clause-kept
-returns-in_err-copy-clause-kept c = search rules
-
-pub returns-in_err-copy-clause-names : goal.returns-in_err-copy-clause-names
-returns-in_err-copy-clause-names c = search rules
-
-pub returns-in_err-copy-clause-sorts : goal.returns-in_err-copy-clause-sorts
-returns-in_err-copy-clause-sorts c = search rules
-
-pub returns-in_err-copy-clause-grown : goal.returns-in_err-copy-clause-grown
-returns-in_err-copy-clause-grown c = search rules
-
-pub returns-in_err-push-clause-term : goal.returns-in_err-push-clause-term
-returns-in_err-push-clause-term c = search rules
-
-pub returns-in_err-push-clause-refused : goal.returns-in_err-push-clause-refused
-returns-in_err-push-clause-refused c = search rules
-
-pub returns-in_err-push-clause-names : goal.returns-in_err-push-clause-names
-returns-in_err-push-clause-names c = search rules
-
-pub returns-in_err-push-clause-sorts : goal.returns-in_err-push-clause-sorts
-returns-in_err-push-clause-sorts c = search rules
-
-pub returns-clause-refused : goal.returns-clause-refused
-returns-clause-refused c = search rules
-
-pub returns-clause-names : goal.returns-clause-names
-returns-clause-names c = search rules
-
-pub returns-clause-sorts : goal.returns-clause-sorts
-returns-clause-sorts c = search rules

@@ -1,17 +1,5 @@
-use Rattle.std.proofs.Common.{arith, rules}
+use Rattle.std.proofs.Common.{rules}
 use Rattle.smt_terms.proofs.library.Library.check.Goals as goal
-
-pub returns-in_err-sort-clause-answer : goal.returns-in_err-sort-clause-answer
-returns-in_err-sort-clause-answer c = search rules
-
-pub returns-in_err-sort-clause-kept : goal.returns-in_err-sort-clause-kept
-returns-in_err-sort-clause-kept c = search rules
-
-pub returns-in_err-sort-clause-grown : goal.returns-in_err-sort-clause-grown
-returns-in_err-sort-clause-grown c = search rules
-
-pub returns-in_err-add_term-clause-answer : goal.returns-in_err-add_term-clause-answer
-returns-in_err-add_term-clause-answer c = search rules
 
 pub returns-in_err-add_term-clause-kept : goal.returns-in_err-add_term-clause-kept
 returns-in_err-add_term-clause-kept c = search rules
@@ -27,6 +15,3 @@ returns-clause-kept c = search rules
 
 pub returns-clause-grown : goal.returns-clause-grown
 returns-clause-grown c = search rules
-
-pub slice_bounds-sort_of-end : goal.slice_bounds-sort_of-end
-slice_bounds-sort_of-end c = omega arith

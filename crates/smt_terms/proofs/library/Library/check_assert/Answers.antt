@@ -1,5 +1,4 @@
-use Rattle.std.proofs.Common.{arith, rules, map, sym, subst, ◌∙◌}
-use Rattle.std.proofs.lemmas.Grind.{common_steps}
+use Rattle.std.proofs.Common.{map, sym, subst, ◌∙◌}
 use Rattle.smt_text.specs.Tree.{sexp_of}
 use Rattle.smt_terms.specs.Contents.{Extends, contents_of}
 use Rattle.smt_terms.specs.Internal.LabelsView.{AreNew, label_entry}
@@ -28,60 +27,3 @@ returns-clause-grown c =
     subst (λ d. Extends (contents_of c.args.self.now) d)
     (sym (undone c.mark-mark.result (contents_of c.args.self.now) (contents_of c.add_assertion.new.self) (contents_of c.cut.new.self) c.mark-mark.ensures.all c.mark-mark.ensures.within c.in-Err.ensures.grown c.cut.ensures))
     (extends_itself (contents_of c.args.self.now))
-
-pub returns-in_err-sort-clause-asserted : goal.returns-in_err-sort-clause-asserted
-returns-in_err-sort-clause-asserted c = search rules
-
-pub returns-in_err-sort-clause-term : goal.returns-in_err-sort-clause-term
-returns-in_err-sort-clause-term c = search rules
-
-pub returns-in_err-sort-clause-refused : goal.returns-in_err-sort-clause-refused
-returns-in_err-sort-clause-refused c = search rules
-
-pub returns-in_err-sort-clause-unchanged : goal.returns-in_err-sort-clause-unchanged
-returns-in_err-sort-clause-unchanged c = search rules
-
-pub returns-in_err-sort-clause-grown : goal.returns-in_err-sort-clause-grown
-returns-in_err-sort-clause-grown c = search rules
-
-pub returns-then-not-are_equal-clause-asserted : goal.returns-then-not-are_equal-clause-asserted
-returns-then-not-are_equal-clause-asserted c = search rules
-
-pub returns-then-not-are_equal-clause-term : goal.returns-then-not-are_equal-clause-term
-returns-then-not-are_equal-clause-term c = search rules
-
-pub returns-then-not-are_equal-clause-refused : goal.returns-then-not-are_equal-clause-refused
-returns-then-not-are_equal-clause-refused c = search rules
-
-pub returns-then-not-are_equal-clause-unchanged : goal.returns-then-not-are_equal-clause-unchanged
-returns-then-not-are_equal-clause-unchanged c = search rules
-
-pub returns-then-not-are_equal-clause-grown : goal.returns-then-not-are_equal-clause-grown
-returns-then-not-are_equal-clause-grown c = search rules
-
-pub returns-in-Ok-clause-term : goal.returns-in-Ok-clause-term
-returns-in-Ok-clause-term c = search rules
-
-pub returns-in-Ok-clause-refused : goal.returns-in-Ok-clause-refused
-returns-in-Ok-clause-refused c = search rules
-
-pub returns-in-Ok-clause-unchanged : goal.returns-in-Ok-clause-unchanged
-returns-in-Ok-clause-unchanged c = search rules
-
-pub returns-in-Ok-clause-grown : goal.returns-in-Ok-clause-grown
-returns-in-Ok-clause-grown c = search rules
-
-pub returns-clause-asserted : goal.returns-clause-asserted
-returns-clause-asserted c = search rules
-
-pub returns-clause-term : goal.returns-clause-term
-returns-clause-term c = search rules
-
-pub returns-clause-refused : goal.returns-clause-refused
-returns-clause-refused c = search rules
-
-pub slice_bounds-sort_of-end : goal.slice_bounds-sort_of-end
-slice_bounds-sort_of-end c = omega arith
-
-pub returns-clause-unchanged : goal.returns-clause-unchanged
-returns-clause-unchanged c = grind (arith, common_steps)

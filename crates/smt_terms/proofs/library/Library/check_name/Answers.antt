@@ -16,11 +16,5 @@ returns-clause-fault c = λ s m stands items.
     name_fault_by s m.entries c.args.name.now false false (in_force c.args.self.now m c.args.name.now c.is_in_force.result false items c.is_in_force.ensures c.if-is_in_force.false)
     (sym c.if-is_unfit.false ∙ c.is_unfit.ensures s stands)
 
-pub returns-then-is_in_force-clause-absent : goal.returns-then-is_in_force-clause-absent
-returns-then-is_in_force-clause-absent c = search rules
-
-pub returns-then-is_unfit-clause-absent : goal.returns-then-is_unfit-clause-absent
-returns-then-is_unfit-clause-absent c = search rules
-
 pub returns-clause-absent : goal.returns-clause-absent
 returns-clause-absent c = search rules

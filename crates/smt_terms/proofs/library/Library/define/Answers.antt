@@ -41,44 +41,11 @@ returns-clause-refused c =
     c.in_ok-sort.ensures (ap scope_view c.as_slice.ensures.value)) (refused s stands))
     c.add_definition.ensures.refused
 
-pub returns-then-is_taken-clause-defined : goal.returns-then-is_taken-clause-defined
-returns-then-is_taken-clause-defined c = search rules
-
 pub returns-then-is_taken-clause-refused : goal.returns-then-is_taken-clause-refused
 returns-then-is_taken-clause-refused c = search rules
-
-pub returns-then-is_taken-clause-unchanged : goal.returns-then-is_taken-clause-unchanged
-returns-then-is_taken-clause-unchanged c = search rules
-
-pub returns-then-is_taken-clause-grown : goal.returns-then-is_taken-clause-grown
-returns-then-is_taken-clause-grown c = search rules
-
-pub returns-in_err-parameters-clause-defined : goal.returns-in_err-parameters-clause-defined
-returns-in_err-parameters-clause-defined c = search rules
 
 pub returns-in_err-parameters-clause-refused : goal.returns-in_err-parameters-clause-refused
 returns-in_err-parameters-clause-refused c = search rules
 
-pub returns-in_err-parameters-clause-unchanged : goal.returns-in_err-parameters-clause-unchanged
-returns-in_err-parameters-clause-unchanged c = search rules
-
-pub returns-in_err-parameters-clause-grown : goal.returns-in_err-parameters-clause-grown
-returns-in_err-parameters-clause-grown c = search rules
-
-pub returns-in_err-sort-clause-defined : goal.returns-in_err-sort-clause-defined
-returns-in_err-sort-clause-defined c = search rules
-
 pub returns-in_err-sort-clause-refused : goal.returns-in_err-sort-clause-refused
 returns-in_err-sort-clause-refused c = search rules
-
-pub returns-in_err-sort-clause-unchanged : goal.returns-in_err-sort-clause-unchanged
-returns-in_err-sort-clause-unchanged c = search rules
-
-pub returns-in_err-sort-clause-grown : goal.returns-in_err-sort-clause-grown
-returns-in_err-sort-clause-grown c = search rules
-
-pub returns-clause-unchanged : goal.returns-clause-unchanged
-returns-clause-unchanged c = search rules
-
-pub returns-clause-grown : goal.returns-clause-grown
-returns-clause-grown c = search rules

@@ -14,29 +14,11 @@ returns-clause-labels c =
     (λ p. AreGiven-push names c.args.labels.now c.push.new.self c.args.name.now c.args.sort.now (sexp_of c.args.term.now) p.0 c.push.ensures.refuses p.1 p.2 p.3 p.4
     (closed (unlabelled names) (scope_view c.args.scope.now) (sexp_of c.args.term.now) c.args.sort.now refl (sym c.in_ok-uses_variable.ensures.used ∙ c.if-branch.false) c.requires)) c.push.ensures.pushed
 
-pub returns-then-are_refused-clause-fault : goal.returns-then-are_refused-clause-fault
-returns-then-are_refused-clause-fault c = search rules
-
-pub returns-then-are_refused-clause-labels : goal.returns-then-are_refused-clause-labels
-returns-then-are_refused-clause-labels c = search rules
-
-pub returns-in_err-uses_variable-clause-fault : goal.returns-in_err-uses_variable-clause-fault
-returns-in_err-uses_variable-clause-fault c = search rules
-
-pub returns-in_err-uses_variable-clause-labels : goal.returns-in_err-uses_variable-clause-labels
-returns-in_err-uses_variable-clause-labels c = search rules
-
 pub returns-then-branch-clause-fault : goal.returns-then-branch-clause-fault
 returns-then-branch-clause-fault c = search rules
 
-pub returns-then-branch-clause-labels : goal.returns-then-branch-clause-labels
-returns-then-branch-clause-labels c = search rules
-
 pub returns-then-is_in_use-clause-fault : goal.returns-then-is_in_use-clause-fault
 returns-then-is_in_use-clause-fault c = search rules
-
-pub returns-then-is_in_use-clause-labels : goal.returns-then-is_in_use-clause-labels
-returns-then-is_in_use-clause-labels c = search rules
 
 pub returns-clause-fault : goal.returns-clause-fault
 returns-clause-fault c = search rules
