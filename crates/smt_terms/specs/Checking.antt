@@ -1,5 +1,5 @@
 -- SMT-LIB 2.6, sections 3.6 and 5.2: the sort of a term, or its first fault. That decimals and strings are not supported as terms is
--- this project's choice for now; the order of the faults is its own too.
+-- this project's choice, and so is the order of the faults.
 use Rattle.std.specs.Prelude.{ℕ, ◌*◌, List, [], ◌∷◌, ◌++◌, Bool, true, false, ◌||◌, Option, Some, None, is_some, Result, Ok, Err, length, if◌then◌else◌}
 use Rattle.std.specs.Option.{option_or}
 use Rattle.smt_text.specs.Sexp as sexp

@@ -107,11 +107,9 @@ impl Bytes {
     pub fn copy(&self, alloc: Global) -> Result<Bytes, AllocError>
         ensures { IfOk result (λ b. b ≡ self.now) }
     {
-        match &self.kept {
-            Kept::Short(length, bytes) => Ok(Bytes {
-                kept: Kept::Short(*length, *bytes),
-            }),
-            Kept::Long(bytes) => Bytes::long(alloc, Vec::from_slice(alloc, bytes.as_slice())?),
+        match self.short_copy() {
+            Some(copy) => Ok(copy),
+            None => Bytes::long(alloc, Vec::from_slice(alloc, self.as_slice())?),
         }
     }
 }
