@@ -16,7 +16,7 @@ use crate::evaluator::known_value;
 use crate::memory::Memory;
 use crate::scope::bind;
 use smt_terms::Identifier;
-use smt_theory::{CoreOp, Op, OpFault, op_of};
+use smt_theory::{Op, OpFault, op_of};
 use smt_values::{Value, apply};
 
 /// What is known of an identifier applied to arguments.
@@ -54,24 +54,9 @@ pub(crate) fn known_plain(
     }
 }
 
-/// Whether a name is that of `ite`, and not of a definition.
-pub(crate) fn is_choice(over: Definitions<'_>, name: &[u8]) -> bool
-    requires { (d : Signature) × Evaluates over d }
-    ensures { IsTrue result → (d : Signature) → Evaluates over.entry d
-        → (args : List (Option Element)) → meaning_over over.entry d (Plain name.now) args ≡ known_choice args }
-{
-    if name != b"ite".as_slice() || place_of(over, name).is_some() {
-        return false;
-    }
-    matches!(
-        op_of(over.model.theories(), name, &[]),
-        Ok(Op::Core(CoreOp::Ite))
-    )
-}
-
-// What the definition at a place gives for arguments: a constant its value, and a function that of its body.
+/// What the definition at a place gives for arguments: a constant its value, and a function that of its body.
 #[cycle(known)]
-fn known_at(
+pub(crate) fn known_at(
     over: Definitions<'_>,
     place: usize,
     args: &[Option<Value>],

@@ -35,19 +35,34 @@ pub(crate) fn place_of(over: Definitions<'_>, name: &[u8]) -> Option<usize>
     }
 }
 
-// The place of the definition of a name in the structure.
+// The place of the definition of a name in the structure: most names are the model's.
 fn place_in_structure(over: Definitions<'_>, name: &[u8]) -> Option<usize>
     requires { (d : Signature) × Evaluates over d }
     ensures { (d : Signature) → Evaluates over.entry d
         → MatchOption result (entry_named d.entries name.now ≡ None) (λ place. (e : Entry) × (slice_get d.entries place ≡ Some e) × (e.name ≡ name.now)) }
 {
+    match place_among(over.model, name) {
+        Some(place) => Some(place),
+        None => place_in_script(over, name),
+    }
+}
+
+// The place of the script's own definition of a name in the structure.
+fn place_in_script(over: Definitions<'_>, name: &[u8]) -> Option<usize>
+    requires { (d : Signature) × Evaluates over d }
+    ensures { (d : Signature) (k : Evaluates over.entry d)
+        → MatchOption result (entry_named (defined_among k.script.entries) name.now ≡ None) (λ place. (e : Entry) × (slice_get d.entries place ≡ Some e) × (e.name ≡ name.now)) }
+{
+    let scripts = over.script.definitions();
+    if scripts.is_empty() {
+        return None;
+    }
     match place_among(over.script, name) {
         Some(place) => {
-            let scripts = over.script.definitions();
             prove!(place < scripts.len());
             Some(over.model.definitions().len() + place)
         }
-        None => place_among(over.model, name),
+        None => None,
     }
 }
 

@@ -1,7 +1,7 @@
 //! Evaluation of terms.
 
 ghost use Rattle.std.specs.Prelude.{◌≡◌, [], IfOk};
-ghost use Rattle.smt_text.specs.Sexp.{Cons, Items, Reserved};
+ghost use Rattle.smt_text.specs.Sexp.{Atom, Cons, Items, Reserved, Symbol};
 ghost use Rattle.smt_text.specs.Tree.{sexp_of, sexps_of};
 ghost use Rattle.smt_text.specs.declared.reserved.Word.TheVariants.{Let};
 ghost use Rattle.smt_values.specs.KnownOperations as operations;
@@ -9,22 +9,19 @@ ghost use Rattle.smt_values.specs.Element.{known_element, known_elements};
 ghost use Rattle.smt_terms.specs.Identifier.{applied, indexed};
 ghost use Rattle.smt_terms.specs.Signature.{Signature};
 ghost use Rattle.smt_eval.specs.Internal.Evaluation.{Evaluates, known_scope, meaning_over};
-ghost use Rattle.smt_eval.specs.Known.{known_by, known_of, knowns_bound, knowns_of};
+ghost use Rattle.smt_eval.specs.Known.{known_by, known_of, known_of_op, knowns_bound, knowns_of};
 
-use crate::calls::{is_choice, known_applied, known_of_operator, known_plain};
-use crate::definitions::Definitions;
+use crate::calls::{known_applied, known_at, known_of_operator, known_plain};
+use crate::definitions::{Definitions, place_of};
 use crate::memory::Memory;
 use crate::scope::push_variable;
-use smallvec::SmallVec;
 use smt_terms::{
-    Identifier, TermFault, Variable, applied_identifier, find_variable, indexed_identifier,
-    split_let, split_named,
+    TermFault, Variable, applied_identifier, find_variable, indexed_identifier, split_let,
+    split_named,
 };
 use smt_text::{Tree, Trees, Word, split_first};
-use smt_values::{Value, bin, hex, numeral};
-
-// Of how many arguments what is known is kept without memory of its own.
-const FEW: usize = 4;
+use smt_theory::{CoreOp, Op, OpFault, op_of};
+use smt_values::{Value, apply, bin, hex, numeral};
 
 /// What is known of a term over the definitions that are seen, where the variables have these values, the innermost first.
 #[cycle(known)]
@@ -65,6 +62,7 @@ fn known_list<'a>(
     };
     match head {
         Tree::Reserved(word) => known_reserved(over, scope, *word, args),
+        Tree::Symbol(name) => known_named(over, scope, name.as_slice(), args),
         _ => known_call(over, scope, head, args),
     }
 }
@@ -143,6 +141,52 @@ fn knowns_bound_by<'a>(
     Ok(variables)
 }
 
+// What is known of what a symbol is applied to: no variable is applied.
+#[cycle(known)]
+fn known_named<'a>(
+    over: Definitions<'_>,
+    scope: &[Variable<'a, Option<Value>>],
+    name: &[u8],
+    args: &'a [Tree],
+) -> Result<Option<Value>, Memory>
+    requires { (d : Signature) × Evaluates over d }
+    ensures { (d : Signature) → Evaluates over.entry d → IfOk result (λ v. known_element v ≡ known_by (applied (Atom Symbol name.now) (sexps_of args.now))
+        (λ f. meaning_over over.entry d f (knowns_of (meaning_over over.entry d) (known_scope scope.now) (sexps_of args.now)))) }
+{
+    let Some(_) = split_first(args) else {
+        return Ok(None);
+    };
+    match place_of(over, name) {
+        Some(place) => {
+            let known = known_all(over, scope, args)?;
+            known_at(over, place, known.as_slice())
+        }
+        None => known_operation(over, scope, op_of(over.model.theories(), name, &[]), args),
+    }
+}
+
+// What is known of what an operator, if it is one, is applied to.
+#[cycle(known)]
+fn known_operation<'a>(
+    over: Definitions<'_>,
+    scope: &[Variable<'a, Option<Value>>],
+    op: Result<Op, OpFault>,
+    args: &'a [Tree],
+) -> Result<Option<Value>, Memory>
+    requires { (d : Signature) × Evaluates over d }
+    ensures { (d : Signature) → Evaluates over.entry d
+        → IfOk result (λ v. known_element v ≡ known_of_op op (knowns_of (meaning_over over.entry d) (known_scope scope.now) (sexps_of args.now))) }
+{
+    match op {
+        Ok(Op::Core(CoreOp::Ite)) => known_choice(over, scope, args),
+        Ok(op) => {
+            let known = known_all(over, scope, args)?;
+            Ok(apply(op, known.as_slice()))
+        }
+        Err(_) => Ok(None),
+    }
+}
+
 // What is known of what a head is applied to: the head is no reserved word that begins a term.
 #[cycle(known)]
 fn known_call<'a>(
@@ -156,7 +200,6 @@ fn known_call<'a>(
         (λ f. meaning_over over.entry d f (knowns_of (meaning_over over.entry d) (known_scope scope.now) (sexps_of args.now)))) }
 {
     match applied_identifier(over.model.alloc(), head, args) {
-        Ok(Identifier::Plain(name)) if is_choice(over, name) => known_choice(over, scope, args),
         Ok(identifier) => {
             let known = known_all(over, scope, args)?;
             known_applied(over, &identifier, known.as_slice())
@@ -202,12 +245,12 @@ fn known_all<'a>(
     over: Definitions<'_>,
     scope: &[Variable<'a, Option<Value>>],
     terms: &'a [Tree],
-) -> Result<SmallVec<Option<Value>, FEW>, Memory>
+) -> Result<Vec<Option<Value>>, Memory>
     requires { (d : Signature) × Evaluates over d }
     ensures { (d : Signature) → Evaluates over.entry d
         → IfOk result (λ known. known_elements known.items ≡ knowns_of (meaning_over over.entry d) (known_scope scope.now) (sexps_of terms.now)) }
 {
-    let mut known = SmallVec::new(over.model.alloc());
+    let mut known = Vec::with_capacity(over.model.alloc(), terms.len())?;
     let mut left = terms;
     while let Some((term, rest)) = split_first(left) {
         known.push(known_value(over, scope, term)?)?;

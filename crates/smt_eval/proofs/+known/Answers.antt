@@ -1,20 +1,22 @@
-use Rattle.std.proofs.Common.{◌<◌, [], None, length, map, refl, ap, sym, ◌∙◌, arith}
+use Rattle.std.proofs.Common.{◌≡◌, ◌<◌, [], None, Ok, length, map, refl, ap, sym, ◌∙◌, arith}
 use Rattle.std.proofs.lemmas.List.{get_or_default}
-use Rattle.smt_text.specs.Sexp.{Cons, Items, Reserved}
+use Rattle.smt_text.specs.Sexp.{Atom, Cons, Items, Reserved, Symbol}
 use Rattle.smt_text.specs.Tree.{sexp_of, sexps_of}
 use Rattle.smt_text.specs.declared.reserved.Word.TheVariants.{Bang}
 use Rattle.smt_theory.specs.Index.{index_view}
 use Rattle.smt_theory.specs.Operators.{op_by}
 use Rattle.smt_theory.specs.Words.{look_up}
+use Rattle.smt_theory.specs.declared.op.CoreOp.TheVariants.{Ite}
+use Rattle.smt_theory.specs.declared.op.Op.TheVariants.{Core}
 use Rattle.smt_values.specs.Element.{known_element, known_elements}
-use Rattle.smt_terms.specs.Identifier.{Plain}
+use Rattle.smt_terms.specs.Identifier.{Plain, applied}
 use Rattle.smt_terms.specs.IdentifierView.{identifier_view}
 use Rattle.smt_terms.specs.ScopeView.{scope_view}
 use Rattle.smt_terms.specs.Signature.{Defined}
 use Rattle.smt_eval.specs.Internal.DefinitionValues.{first}
 use Rattle.smt_eval.specs.Internal.Evaluation.{bodies_of, known_scope, meaning_over}
-use Rattle.smt_eval.specs.Known.{known_defined, known_in, known_of, known_of_op}
-use Rattle.smt_eval.proofs.EvaluatorLemmas.{by_origin, defined_means, empty_list, not_reserved, earlier, if_known, indexed_known, kept, let_known, lighter, list_called, no_variable, not_defined, variable_found}
+use Rattle.smt_eval.specs.Known.{known_by, known_defined, known_in, known_of, known_of_op, knowns_of}
+use Rattle.smt_eval.proofs.EvaluatorLemmas.{by_origin, defined_means, empty_list, not_reserved, earlier, if_known, indexed_known, kept, let_known, lighter, is_reserved, list_called, no_variable, not_defined, variable_found}
 use Rattle.smt_eval.proofs.PlaceLemmas.{all_counted, distinct_entries, theories_are}
 use Rattle.smt_eval.proofs.+known.Goals as goal
 
@@ -116,3 +118,47 @@ evaluator::known_let-returns t c = λ d e.
     if_known c.known_value.result _ _ (c.known_value.ensures d e)
     (sym (let_known m scope (sexps_of c.args.args.now) bindings (sexp_of c.in-Some.body.now) c.as_slice.result.now c.in_ok-variables.variables.items c.args.scope.now c.in-Some.ensures
     (c.in_ok-variables.ensures d e) (c.as_slice.ensures.value ∙ c.in_ok-extend_from_slice.ensures.items) refl))
+
+pub evaluator::known_list-returns-in-Symbol : goal.evaluator::known_list-returns-in-Symbol
+evaluator::known_list-returns-in-Symbol t c = λ d e.
+    let m = meaning_over c.args.over d in
+    let scope = known_scope c.args.scope.now in
+    let args = sexps_of c.in-Some.args.now in
+    if_known c.known_named.result _ _ (c.known_named.ensures d e)
+    (ap (λ x. known_by (applied (Atom Symbol x) args) (λ f. m f (knowns_of m scope args))) c.as_slice-in-Symbol.ensures
+    ∙ sym (ap (λ h. known_by (applied (sexp_of h) args) (λ f. m f (knowns_of m scope args))) c.in-Symbol.is)
+    ∙ sym (list_called m scope (sexp_of c.in-Some.head.now) args c.args.parts.now (sym c.as_slice.ensures ∙ c.in-Some.ensures) (ap (λ h. is_reserved (sexp_of h)) c.in-Symbol.is)))
+
+-- ---- symbols that are applied
+
+pub evaluator::known_named-returns-in_ok-known-in-Some-place_of : goal.evaluator::known_named-returns-in_ok-known-in-Some-place_of
+evaluator::known_named-returns-in_ok-known-in-Some-place_of t c = λ d e.
+    let m = meaning_over c.args.over d in
+    let name = c.args.name.now in
+    let known = knowns_of m (known_scope c.args.scope.now) (sexps_of c.args.args.now) in
+    let f = c.in-Some-place_of.ensures.found d e in
+    let place = c.in-Some-place_of.place in
+    let defined = known_defined (known_in (first place d)) f.0.origin in
+    if_known c.known_at.result _ _ (c.known_at.ensures d f.0 e f.1)
+    (ap (λ vs. defined (known_elements vs)) c.as_slice.ensures.value ∙ ap defined (c.in_ok-known-in-Some-place_of.ensures d e)
+    ∙ sym (defined_means d c.args.over.count place f.0 name known (distinct_entries c.args.over d e) f.1 c.in-Some-place_of.ensures.within f.2)
+    ∙ sym (ap (λ ts. known_by (applied (Atom Symbol name) ts) (λ f. m f known)) c.in-Some.ensures))
+
+pub evaluator::known_named-returns-in-None : goal.evaluator::known_named-returns-in-None
+evaluator::known_named-returns-in-None t c = λ d e.
+    let m = meaning_over c.args.over d in
+    let name = c.args.name.now in
+    let known = knowns_of m (known_scope c.args.scope.now) (sexps_of c.args.args.now) in
+    if_known c.known_operation.result _ _ (c.known_operation.ensures d e)
+    (ap (λ o. known_of_op o known) (c.op_of.ensures ∙ ap (λ t. op_by t name []) (c.theories.ensures e.definitions e.structure.stands ∙ theories_are c.args.over d e))
+    ∙ sym (not_defined d c.args.over.count name known (c.in-None.ensures.found d e))
+    ∙ sym (ap (λ ts. known_by (applied (Atom Symbol name) ts) (λ f. m f known)) c.in-Some.ensures))
+
+pub evaluator::known_operation-returns-in-Ok-Core-Ite : goal.evaluator::known_operation-returns-in-Ok-Core-Ite
+evaluator::known_operation-returns-in-Ok-Core-Ite t c = λ d e.
+    let a = c.in-Ok-Core-Ite.is in
+    let b = c.in-Ok-Core-Ite.field-0-is in
+    let i = c.in-Ok-Core-Ite.field-0-0-is in
+    let op : c.args.op ≡ Ok (Core Ite) = cc in
+    let known = knowns_of (meaning_over c.args.over d) (known_scope c.args.scope.now) (sexps_of c.args.args.now) in
+    if_known c.known_choice.result _ _ (c.known_choice.ensures d e) (sym (ap (λ o. known_of_op o known) op))

@@ -22,6 +22,12 @@ decreases-evaluator::known_let l = 8 * (seen_weight l.over + weight_all (sexps_o
 abbrev pub decreases-evaluator::knowns_bound_by : goal.decreases-evaluator::knowns_bound_by
 decreases-evaluator::knowns_bound_by l = 8 * (seen_weight l.over + weight_all (sexps_of l.bindings.now)) + 4
 
+abbrev pub decreases-evaluator::known_named : goal.decreases-evaluator::known_named
+decreases-evaluator::known_named l = 8 * (seen_weight l.over + weight_all (sexps_of l.args.now)) + 7
+
+abbrev pub decreases-evaluator::known_operation : goal.decreases-evaluator::known_operation
+decreases-evaluator::known_operation l = 8 * (seen_weight l.over + weight_all (sexps_of l.args.now)) + 6
+
 abbrev pub decreases-evaluator::known_call : goal.decreases-evaluator::known_call
 decreases-evaluator::known_call l = 8 * (seen_weight l.over + weight_all (sexps_of l.args.now)) + 6
 
