@@ -13,6 +13,8 @@ use Rattle.smt_text.specs.declared.tree.Tree.TheVariants as tree
 use Rattle.smt_theory.specs.Index.{IndexView}
 use Rattle.smt_theory.specs.Operators.{op_by}
 use Rattle.smt_theory.specs.Words.{look_up}
+use Rattle.smt_theory.specs.declared.op.Op.{Op}
+use Rattle.smt_theory.specs.declared.op.OpFault.{OpFault}
 use Rattle.smt_values.specs.Element.{Element, known_element, known_elements}
 use Rattle.smt_values.specs.declared.value.Value.{Value}
 use Rattle.smt_terms.specs.Bindings.{let_form}
@@ -179,6 +181,12 @@ variable_found k vs x r v is at = sym (ap (λ o. unwrap_or o (k (Plain x) [])) (
 
 pub no_variable : (k : KnownMeaning) (vs : List (Variable (Option Value))) (x : List ℕ) (r : Option (Option Value)) → r ≡ look_up (scope_view vs) x → r ≡ None → known_of k (known_scope vs) (Atom Symbol x) ≡ k (Plain x) []
 no_variable k vs x r is at = ap (λ o. unwrap_or o (k (Plain x) [])) (look_up-known vs x ∙ ap (option_map known_element) (sym is ∙ at))
+
+-- what is known of a symbol without a definition, applied to a term or more
+pub operator_applied : (d : Signature) (n : ℕ) (x : List ℕ) (known : List (Option Element)) (o : Result Op OpFault) {args rest : Sexps} {t : Sexp} → args ≡ Cons t rest
+    → entry_named (take n d.entries) x ≡ None → o ≡ op_by d.theories x [] → known_of_op o known ≡ known_by (applied (Atom Symbol x) args) (λ f. known_in (first n d) f known)
+operator_applied d n x known o split none is =
+    ap (λ r. known_of_op r known) is ∙ sym (not_defined d n x known none) ∙ sym (ap (λ ts. known_by (applied (Atom Symbol x) ts) (λ f. known_in (first n d) f known)) split)
 
 -- ---- weights
 

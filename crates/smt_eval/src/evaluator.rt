@@ -1,11 +1,14 @@
 //! Evaluation of terms.
 
-ghost use Rattle.std.specs.Prelude.{◌≡◌, [], IfOk};
+ghost use Rattle.std.specs.Prelude.{◌≡◌, [], IfOk, IsTrue};
 ghost use Rattle.smt_text.specs.Sexp.{Atom, Cons, Items, Reserved, Symbol};
 ghost use Rattle.smt_text.specs.Tree.{sexp_of, sexps_of};
 ghost use Rattle.smt_text.specs.declared.reserved.Word.TheVariants.{Let};
 ghost use Rattle.smt_values.specs.KnownOperations as operations;
+ghost use Rattle.smt_values.specs.KnownOperations.{known_step};
 ghost use Rattle.smt_values.specs.Element.{known_element, known_elements};
+ghost use Rattle.smt_theory.specs.declared.op.CoreOp.TheVariants.{Ite};
+ghost use Rattle.smt_theory.specs.declared.op.Op.TheVariants.{Core};
 ghost use Rattle.smt_terms.specs.Identifier.{applied, indexed};
 ghost use Rattle.smt_terms.specs.Signature.{Signature};
 ghost use Rattle.smt_eval.specs.Internal.Evaluation.{Evaluates, known_scope, meaning_over};
@@ -20,11 +23,12 @@ use smt_terms::{
     split_named,
 };
 use smt_text::{Tree, Trees, Word, split_first};
-use smt_theory::{CoreOp, Op, OpFault, op_of};
+use smt_theory::{CoreOp, Op, op_of};
 use smt_values::{Value, apply, bin, hex, numeral};
 
 /// What is known of a term over the definitions that are seen, where the variables have these values, the innermost first.
 #[cycle(known)]
+#[inline(always)]
 pub(crate) fn known_value<'a>(
     over: Definitions<'_>,
     scope: &[Variable<'a, Option<Value>>],
@@ -34,16 +38,46 @@ pub(crate) fn known_value<'a>(
     ensures { (d : Signature) → Evaluates over.entry d → IfOk result (λ v. known_element v ≡ known_of (meaning_over over.entry d) (known_scope scope.now) (sexp_of term.now)) }
 {
     match term {
-        Tree::Symbol(name) => match find_variable(scope, name.as_slice()) {
-            Some(value) => Ok(value),
-            None => known_plain(over, name.as_slice(), &[]),
-        },
+        Tree::Symbol(name) => known_symbol(over, scope, name.as_slice()),
+        _ => known_other(over, scope, term),
+    }
+}
+
+// The same, out of line: most terms are symbols.
+#[cycle(known)]
+fn known_other<'a>(
+    over: Definitions<'_>,
+    scope: &[Variable<'a, Option<Value>>],
+    term: &'a Tree,
+) -> Result<Option<Value>, Memory>
+    requires { (d : Signature) × Evaluates over d }
+    ensures { (d : Signature) → Evaluates over.entry d → IfOk result (λ v. known_element v ≡ known_of (meaning_over over.entry d) (known_scope scope.now) (sexp_of term.now)) }
+{
+    match term {
+        Tree::Symbol(name) => known_symbol(over, scope, name.as_slice()),
         Tree::Numeral(digits) => Ok(numeral(digits.as_slice())),
         Tree::Hex(digits) => Ok(hex(digits.as_slice())),
         Tree::Bin(digits) => Ok(bin(digits.as_slice())),
         Tree::List(parts) => known_list(over, scope, parts),
         Tree::Decimal(_) | Tree::Text(_) => Ok(None),
         Tree::Keyword(_) | Tree::Reserved(_) => Ok(None),
+    }
+}
+
+// What is known of a symbol alone: a variable, or else a name or an operator without arguments.
+#[cycle(known)]
+#[inline(always)]
+fn known_symbol(
+    over: Definitions<'_>,
+    scope: &[Variable<'_, Option<Value>>],
+    name: &[u8],
+) -> Result<Option<Value>, Memory>
+    requires { (d : Signature) × Evaluates over d }
+    ensures { (d : Signature) → Evaluates over.entry d → IfOk result (λ v. known_element v ≡ known_of (meaning_over over.entry d) (known_scope scope.now) (Atom Symbol name.now)) }
+{
+    match find_variable(scope, name) {
+        Some(value) => Ok(value),
+        None => known_plain(over, name, &[]),
     }
 }
 
@@ -161,29 +195,68 @@ fn known_named<'a>(
             let known = known_all(over, scope, args)?;
             known_at(over, place, known.as_slice())
         }
-        None => known_operation(over, scope, op_of(over.model.theories(), name, &[]), args),
+        None => match op_of(over.model.theories(), name, &[]) {
+            Ok(op) => known_operation(over, scope, op, args),
+            Err(_) => Ok(None),
+        },
     }
 }
 
-// What is known of what an operator, if it is one, is applied to.
+// What is known of what an operator is applied to.
 #[cycle(known)]
 fn known_operation<'a>(
     over: Definitions<'_>,
     scope: &[Variable<'a, Option<Value>>],
-    op: Result<Op, OpFault>,
+    op: Op,
     args: &'a [Tree],
 ) -> Result<Option<Value>, Memory>
     requires { (d : Signature) × Evaluates over d }
     ensures { (d : Signature) → Evaluates over.entry d
-        → IfOk result (λ v. known_element v ≡ known_of_op op (knowns_of (meaning_over over.entry d) (known_scope scope.now) (sexps_of args.now))) }
+        → IfOk result (λ v. known_element v ≡ known_step op (knowns_of (meaning_over over.entry d) (known_scope scope.now) (sexps_of args.now))) }
 {
-    match op {
-        Ok(Op::Core(CoreOp::Ite)) => known_choice(over, scope, args),
-        Ok(op) => {
+    if is_choice(&op) {
+        known_choice(over, scope, args)
+    } else {
+        known_operated(over, scope, op, args)
+    }
+}
+
+// Whether an operator is `ite`.
+fn is_choice(op: &Op) -> bool
+    ensures { IsTrue result → op.now ≡ Core Ite }
+{
+    matches!(op, Op::Core(CoreOp::Ite))
+}
+
+// What an operator gives for what is known of its arguments: few take no memory of their own.
+#[cycle(known)]
+fn known_operated<'a>(
+    over: Definitions<'_>,
+    scope: &[Variable<'a, Option<Value>>],
+    op: Op,
+    args: &'a [Tree],
+) -> Result<Option<Value>, Memory>
+    requires { (d : Signature) × Evaluates over d }
+    ensures { (d : Signature) → Evaluates over.entry d
+        → IfOk result (λ v. known_element v ≡ known_step op (knowns_of (meaning_over over.entry d) (known_scope scope.now) (sexps_of args.now))) }
+{
+    match args {
+        [only] => Ok(apply(op, &[known_value(over, scope, only)?])),
+        [first, second] => {
+            let first = known_value(over, scope, first)?;
+            let second = known_value(over, scope, second)?;
+            Ok(apply(op, &[first, second]))
+        }
+        [first, second, third] => {
+            let first = known_value(over, scope, first)?;
+            let second = known_value(over, scope, second)?;
+            let third = known_value(over, scope, third)?;
+            Ok(apply(op, &[first, second, third]))
+        }
+        _ => {
             let known = known_all(over, scope, args)?;
             Ok(apply(op, known.as_slice()))
         }
-        Err(_) => Ok(None),
     }
 }
 

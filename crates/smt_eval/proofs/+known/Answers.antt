@@ -1,22 +1,19 @@
-use Rattle.std.proofs.Common.{◌≡◌, ◌<◌, [], None, Ok, length, map, refl, ap, sym, ◌∙◌, arith}
+use Rattle.std.proofs.Common.{◌<◌, [], None, length, map, refl, ap, sym, ◌∙◌, arith}
 use Rattle.std.proofs.lemmas.List.{get_or_default}
 use Rattle.smt_text.specs.Sexp.{Atom, Cons, Items, Reserved, Symbol}
 use Rattle.smt_text.specs.Tree.{sexp_of, sexps_of}
 use Rattle.smt_text.specs.declared.reserved.Word.TheVariants.{Bang}
 use Rattle.smt_theory.specs.Index.{index_view}
 use Rattle.smt_theory.specs.Operators.{op_by}
-use Rattle.smt_theory.specs.Words.{look_up}
-use Rattle.smt_theory.specs.declared.op.CoreOp.TheVariants.{Ite}
-use Rattle.smt_theory.specs.declared.op.Op.TheVariants.{Core}
 use Rattle.smt_values.specs.Element.{known_element, known_elements}
-use Rattle.smt_terms.specs.Identifier.{Plain, applied}
+use Rattle.smt_values.specs.KnownOperations.{known_step}
+use Rattle.smt_terms.specs.Identifier.{applied}
 use Rattle.smt_terms.specs.IdentifierView.{identifier_view}
-use Rattle.smt_terms.specs.ScopeView.{scope_view}
 use Rattle.smt_terms.specs.Signature.{Defined}
 use Rattle.smt_eval.specs.Internal.DefinitionValues.{first}
 use Rattle.smt_eval.specs.Internal.Evaluation.{bodies_of, known_scope, meaning_over}
 use Rattle.smt_eval.specs.Known.{known_by, known_defined, known_in, known_of, known_of_op, knowns_of}
-use Rattle.smt_eval.proofs.EvaluatorLemmas.{by_origin, defined_means, empty_list, not_reserved, earlier, if_known, indexed_known, kept, let_known, lighter, is_reserved, list_called, no_variable, not_defined, variable_found}
+use Rattle.smt_eval.proofs.EvaluatorLemmas.{by_origin, defined_means, empty_list, not_reserved, earlier, if_known, indexed_known, kept, let_known, lighter, is_reserved, list_called, operator_applied, no_variable, not_defined, variable_found}
 use Rattle.smt_eval.proofs.PlaceLemmas.{all_counted, distinct_entries, theories_are}
 use Rattle.smt_eval.proofs.+known.Goals as goal
 
@@ -75,19 +72,28 @@ calls::known_at-returns t c = λ d f e at.
 
 -- ---- terms
 
-pub evaluator::known_value-returns-in-Some : goal.evaluator::known_value-returns-in-Some
-evaluator::known_value-returns-in-Some t c = λ d e.
-    let m = meaning_over c.args.over d in
-    variable_found m c.args.scope.now c.in-Symbol.name c.find_variable.result c.in-Some.value (c.find_variable.ensures ∙ ap (look_up (scope_view c.args.scope.now)) c.as_slice.ensures) c.in-Some.is
-    ∙ sym (ap (λ x. known_of m (known_scope c.args.scope.now) (sexp_of x)) c.in-Symbol.is)
+pub evaluator::known_symbol-returns-in-Some : goal.evaluator::known_symbol-returns-in-Some
+evaluator::known_symbol-returns-in-Some t c = λ d e.
+    variable_found (meaning_over c.args.over d) c.args.scope.now c.args.name.now c.find_variable.result c.in-Some.value c.find_variable.ensures c.in-Some.is
 
-pub evaluator::known_value-returns-in-None : goal.evaluator::known_value-returns-in-None
-evaluator::known_value-returns-in-None t c = λ d e.
-    let m = meaning_over c.args.over d in
+pub evaluator::known_symbol-returns-in-None : goal.evaluator::known_symbol-returns-in-None
+evaluator::known_symbol-returns-in-None t c = λ d e.
     if_known c.known_plain.result _ _ (c.known_plain.ensures d e)
-    (ap (λ x. m (Plain x) []) c.as_slice-in-None.ensures
-    ∙ sym (no_variable m c.args.scope.now c.in-Symbol.name c.find_variable.result (c.find_variable.ensures ∙ ap (look_up (scope_view c.args.scope.now)) c.as_slice.ensures) c.in-None.is)
-    ∙ sym (ap (λ x. known_of m (known_scope c.args.scope.now) (sexp_of x)) c.in-Symbol.is))
+    (sym (no_variable (meaning_over c.args.over d) c.args.scope.now c.args.name.now c.find_variable.result c.find_variable.ensures c.in-None.is))
+
+pub evaluator::known_value-returns-in-Symbol : goal.evaluator::known_value-returns-in-Symbol
+evaluator::known_value-returns-in-Symbol t c = λ d e.
+    let m = meaning_over c.args.over d in
+    let scope = known_scope c.args.scope.now in
+    if_known c.known_symbol.result _ _ (c.known_symbol.ensures d e)
+    (ap (λ x. known_of m scope (Atom Symbol x)) c.as_slice.ensures ∙ sym (ap (λ x. known_of m scope (sexp_of x)) c.in-Symbol.is))
+
+pub evaluator::known_other-returns-in-Symbol : goal.evaluator::known_other-returns-in-Symbol
+evaluator::known_other-returns-in-Symbol t c = λ d e.
+    let m = meaning_over c.args.over d in
+    let scope = known_scope c.args.scope.now in
+    if_known c.known_symbol.result _ _ (c.known_symbol.ensures d e)
+    (ap (λ x. known_of m scope (Atom Symbol x)) c.as_slice.ensures ∙ sym (ap (λ x. known_of m scope (sexp_of x)) c.in-Symbol.is))
 
 pub evaluator::known_list-returns-in-Reserved : goal.evaluator::known_list-returns-in-Reserved
 evaluator::known_list-returns-in-Reserved t c = λ d e.
@@ -144,21 +150,22 @@ evaluator::known_named-returns-in_ok-known-in-Some-place_of t c = λ d e.
     ∙ sym (defined_means d c.args.over.count place f.0 name known (distinct_entries c.args.over d e) f.1 c.in-Some-place_of.ensures.within f.2)
     ∙ sym (ap (λ ts. known_by (applied (Atom Symbol name) ts) (λ f. m f known)) c.in-Some.ensures))
 
-pub evaluator::known_named-returns-in-None : goal.evaluator::known_named-returns-in-None
-evaluator::known_named-returns-in-None t c = λ d e.
-    let m = meaning_over c.args.over d in
+pub evaluator::known_named-returns-in-Ok : goal.evaluator::known_named-returns-in-Ok
+evaluator::known_named-returns-in-Ok t c = λ d e.
     let name = c.args.name.now in
-    let known = knowns_of m (known_scope c.args.scope.now) (sexps_of c.args.args.now) in
-    if_known c.known_operation.result _ _ (c.known_operation.ensures d e)
-    (ap (λ o. known_of_op o known) (c.op_of.ensures ∙ ap (λ t. op_by t name []) (c.theories.ensures e.definitions e.structure.stands ∙ theories_are c.args.over d e))
-    ∙ sym (not_defined d c.args.over.count name known (c.in-None.ensures.found d e))
-    ∙ sym (ap (λ ts. known_by (applied (Atom Symbol name) ts) (λ f. m f known)) c.in-Some.ensures))
-
-pub evaluator::known_operation-returns-in-Ok-Core-Ite : goal.evaluator::known_operation-returns-in-Ok-Core-Ite
-evaluator::known_operation-returns-in-Ok-Core-Ite t c = λ d e.
-    let a = c.in-Ok-Core-Ite.is in
-    let b = c.in-Ok-Core-Ite.field-0-is in
-    let i = c.in-Ok-Core-Ite.field-0-0-is in
-    let op : c.args.op ≡ Ok (Core Ite) = cc in
     let known = knowns_of (meaning_over c.args.over d) (known_scope c.args.scope.now) (sexps_of c.args.args.now) in
-    if_known c.known_choice.result _ _ (c.known_choice.ensures d e) (sym (ap (λ o. known_of_op o known) op))
+    let found = c.op_of.ensures ∙ ap (λ t. op_by t name []) (c.theories.ensures e.definitions e.structure.stands ∙ theories_are c.args.over d e) in
+    if_known c.known_operation.result _ _ (c.known_operation.ensures d e)
+    (sym (ap (λ o. known_of_op o known) c.in-Ok.is) ∙ operator_applied d c.args.over.count name known _ c.in-Some.ensures (c.in-None.ensures.found d e) found)
+
+pub evaluator::known_named-returns-in-Err : goal.evaluator::known_named-returns-in-Err
+evaluator::known_named-returns-in-Err t c = λ d e.
+    let name = c.args.name.now in
+    let known = knowns_of (meaning_over c.args.over d) (known_scope c.args.scope.now) (sexps_of c.args.args.now) in
+    let found = c.op_of.ensures ∙ ap (λ t. op_by t name []) (c.theories.ensures e.definitions e.structure.stands ∙ theories_are c.args.over d e) in
+    sym (ap (λ o. known_of_op o known) c.in-Err.is) ∙ operator_applied d c.args.over.count name known _ c.in-Some.ensures (c.in-None.ensures.found d e) found
+
+pub evaluator::known_operation-returns-then-is_choice : goal.evaluator::known_operation-returns-then-is_choice
+evaluator::known_operation-returns-then-is_choice t c = λ d e.
+    let known = knowns_of (meaning_over c.args.over d) (known_scope c.args.scope.now) (sexps_of c.args.args.now) in
+    if_known c.known_choice.result _ _ (c.known_choice.ensures d e) (sym (ap (λ o. known_step o known) (c.if-is_choice.ensures refl)))

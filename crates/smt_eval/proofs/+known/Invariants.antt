@@ -8,7 +8,13 @@ use Rattle.smt_eval.specs.Known.{knowns_bound, knowns_of}
 use Rattle.smt_eval.proofs.+known.Given as goal
 
 abbrev pub decreases-evaluator::known_value : goal.decreases-evaluator::known_value
-decreases-evaluator::known_value l = 8 * (seen_weight l.over + weight (sexp_of l.term.now))
+decreases-evaluator::known_value l = 8 * (seen_weight l.over + weight (sexp_of l.term.now)) + 1
+
+abbrev pub decreases-evaluator::known_other : goal.decreases-evaluator::known_other
+decreases-evaluator::known_other l = 8 * (seen_weight l.over + weight (sexp_of l.term.now))
+
+abbrev pub decreases-evaluator::known_symbol : goal.decreases-evaluator::known_symbol
+decreases-evaluator::known_symbol l = 8 * seen_weight l.over + 4
 
 abbrev pub decreases-evaluator::known_list : goal.decreases-evaluator::known_list
 decreases-evaluator::known_list l = 8 * (seen_weight l.over + weight_all l.parts.now) + 7
@@ -28,6 +34,9 @@ decreases-evaluator::known_named l = 8 * (seen_weight l.over + weight_all (sexps
 abbrev pub decreases-evaluator::known_operation : goal.decreases-evaluator::known_operation
 decreases-evaluator::known_operation l = 8 * (seen_weight l.over + weight_all (sexps_of l.args.now)) + 6
 
+abbrev pub decreases-evaluator::known_operated : goal.decreases-evaluator::known_operated
+decreases-evaluator::known_operated l = 8 * (seen_weight l.over + weight_all (sexps_of l.args.now)) + 5
+
 abbrev pub decreases-evaluator::known_call : goal.decreases-evaluator::known_call
 decreases-evaluator::known_call l = 8 * (seen_weight l.over + weight_all (sexps_of l.args.now)) + 6
 
@@ -35,13 +44,13 @@ abbrev pub decreases-evaluator::known_all : goal.decreases-evaluator::known_all
 decreases-evaluator::known_all l = 8 * (seen_weight l.over + weight_all (sexps_of l.terms.now)) + 4
 
 abbrev pub decreases-calls::known_applied : goal.decreases-calls::known_applied
-decreases-calls::known_applied l = 8 * seen_weight l.over + 3
+decreases-calls::known_applied l = 8 * seen_weight l.over + 4
 
 abbrev pub decreases-calls::known_plain : goal.decreases-calls::known_plain
-decreases-calls::known_plain l = 8 * seen_weight l.over + 2
+decreases-calls::known_plain l = 8 * seen_weight l.over + 3
 
 abbrev pub decreases-calls::known_at : goal.decreases-calls::known_at
-decreases-calls::known_at l = 8 * seen_weight l.over + 1
+decreases-calls::known_at l = 8 * seen_weight l.over + 2
 
 abbrev pub invariant-evaluator::known_all-loop-term : goal.invariant-evaluator::known_all-loop-term
 invariant-evaluator::known_all-loop-term l = record {
