@@ -12,3 +12,4 @@ pub mod ReportExists
 pub mod ConfirmedLemmas
 pub mod ValidityLemmas
 pub mod StructureLemmas
+pub mod UnreadLemmas

@@ -13,14 +13,14 @@ use Rattle.smt_dialogue.proofs.StructureLemmas.{structure_behind}
 use Rattle.smt_dialogue.proofs.PairingUnique.{all_commands, one_pairing}
 use Rattle.smt_dialogue.proofs.ConfirmedLemmas.{Laws, asserted_formula, closed_value, confirmed_at, faultless_at, is_false_value, lines_at, lines_of_sat_at}
 use Rattle.smt_script.specs.Command.{Command, SetLogic, SetPrintSuccess, SetOption, SetInfo, DeclareConst, DeclareFun, DefineFun, DefineSort, Assert, Push, Pop, Reset, ResetAssertions, Exit, CheckSat, GetModel, Echo, Get}
-use Rattle.smt_dialogue.specs.Report.{lines_of_end}
+use Rattle.smt_dialogue.specs.Report.{IsReport, lines_of_end}
 use Rattle.smt_dialogue.specs.Validity.{IsAsserted, IsFullyPaired, IsInvalid, IsSatCheck, IsTrueModel, IsValid}
 use Rattle.smt_dialogue.specs.InForce.{AreFaultless, assertions_after, signature_after}
 use Rattle.smt_dialogue.specs.Pairing.{IsPairing}
 use Rattle.smt_dialogue.specs.Pairs.{Pair, effective_commands}
 use Rattle.smt_script.specs.Stack.{Assertion}
 use Rattle.smt_dialogue.specs.Lines.{checks_in, is_empty, line_of_judgement, lines_in, lines_of_pair, lines_of_sat, sat_lines, unchecked_answer, unchecked_line_or, unconfirmed_line}
-use Rattle.smt_report.specs.Verdict.{is_fault_line, is_refuted_line, is_undecided_line, tally_of, verdict_of}
+use Rattle.smt_report.specs.Verdict.{IsVerdictOf, is_fault_line, is_refuted_line, is_undecided_line, tally_of, verdict_of}
 use Rattle.std.specs.Option.{option_or}
 use Rattle.smt_dialogue.specs.Internal.Steps.{IsJudged}
 use Rattle.smt_dialogue.specs.Window.{Printed, models_from, structure_at, window}
@@ -366,3 +366,30 @@ valid_answer laws one (Err e) start script answers st at' sf af rs ra j = tt
 pub invalid_answer : Laws → (r : Result Report Memory) (start : Bool) (script answers : List ℕ) (st at' : Sexps) (sf af : Option TextFault) → Reads limit true script st sf → Reads limit true answers at' af → IfOk r (λ x. IsJudged start st at' sf af x.lines.items x.verdict) → IfOk r (λ x. x.verdict ≡ Invalid → IsInvalid start script answers x.lines.items)
 invalid_answer laws (Ok x) start script answers st at' sf af rs ra j = invalid_means laws start script answers st at' sf af x.lines.items x.verdict rs ra j
 invalid_answer laws (Err e) start script answers st at' sf af rs ra j = tt
+
+-- a report that was judged is one of the texts
+pub report_answer : (r : Result Report Memory) (start : Bool) (script answers : List ℕ) (st at' : Sexps) (sf af : Option TextFault) → Reads limit true script st sf → Reads limit true answers at' af → IfOk r (λ x. IsJudged start st at' sf af x.lines.items x.verdict) → IfOk r (λ x. IsReport start script answers x.lines.items)
+report_answer (Ok x) start script answers st at' sf af rs ra j = record {
+  script_trees = st;
+  script_fault = sf;
+  script_read = rs;
+  answer_trees = at';
+  answers_fault = af;
+  answers_read = ra;
+  pairs = j.pairs;
+  later = j.later;
+  rest = j.rest;
+  pairing = j.pairing;
+  faultless = j.faultless;
+  fault = j.fault;
+  ends = j.ends;
+  lines_are = j.lines_are;
+}
+report_answer (Err e) start script answers st at' sf af rs ra j = tt
+
+-- and its verdict is that of its lines
+pub verdict_answer : (r : Result Report Memory) (start : Bool) (st at' : Sexps) (sf af : Option TextFault) → IfOk r (λ x. IsJudged start st at' sf af x.lines.items x.verdict) → IfOk r (λ x. IsVerdictOf x.verdict x.lines.items)
+verdict_answer (Ok x) start st at' sf af j =
+    let ls = lines_in true [] j.pairs [] ++ lines_of_end j.fault in
+    (ls, tally_of ls, j.lines_are ∙ ap (λ (v : Verdict). ls ++ lines.Verdict v (tally_of ls) ∷ []) (sym j.verdict_is))
+verdict_answer (Err e) start st at' sf af j = tt

@@ -1,3 +1,4 @@
 pub mod ChecksState
 pub mod DialogueState
 pub mod Steps
+pub mod UnreadText

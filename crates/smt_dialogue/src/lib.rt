@@ -10,6 +10,7 @@ mod judgement;
 pub mod laws;
 mod pairing;
 mod read_text;
+mod unread_text;
 mod validation;
 mod window;
 

@@ -1,7 +1,9 @@
 //! The commands of a dialogue, each with its answer.
 
-ghost use Rattle.std.specs.Prelude.{◌≡◌, ◌<◌, ◌≤◌, ◌+◌, ◌^◌, List, [], length, Ok, Err, Some, None, true, IfOk, option_map};
+ghost use Rattle.std.specs.Prelude.{◌≡◌, ◌<◌, ◌≤◌, ◌+◌, ◌^◌, Bool, List, Option, [], length, Ok, Err, Some, None, true, IfOk, option_map};
+ghost use Rattle.smt_text.specs.Sexp.{Sexps, Nil};
 ghost use Rattle.smt_text.specs.Tree.{sexp_of, sexps_of};
+ghost use Rattle.smt_text.specs.declared.fault.TextFault.{TextFault as Fault};
 ghost use Rattle.smt_script.specs.CommandView.{command_view};
 ghost use Rattle.smt_script.specs.StackView.{last_of, start_of};
 ghost use Rattle.smt_dialogue.specs.Answers as answering;
@@ -9,36 +11,57 @@ ghost use Rattle.smt_dialogue.specs.FirstFault as first_fault;
 ghost use Rattle.smt_dialogue.specs.Pairs.{Pair, next_of, pair_of};
 ghost use Rattle.smt_dialogue.specs.Internal.ChecksState.{IsAnswered};
 ghost use Rattle.smt_dialogue.specs.Internal.DialogueState.{StandsFor, state_of};
+ghost use Rattle.smt_dialogue.specs.Internal.UnreadText.{HasLeft, IsSound};
 ghost use Rattle.smt_dialogue.specs.Internal.Steps.{IsAccepted, IsJudged, IsLeft, IsStep, taken_view};
 
 use crate::answer::{Need, Taken, need_of};
 use crate::dialogue::Dialogue;
 use crate::read_text::ReadText;
+use crate::unread_text::{Further, UnreadText};
 use smt_eval::Memory;
 use smt_report::{Line, Report, Side};
 use smt_script::{Command, CommandFault, read_command};
+use smt_text::laws::trees_are_no_more_than_bytes;
 use smt_text::{TextFault, Tree};
 
 /// Judges the commands of a script with their answers, from a dialogue without pairs on.
 pub(crate) fn judge_all(
     mut dialogue: Dialogue,
-    mut script: ReadText,
+    mut script: UnreadText<'_>,
     mut answers: ReadText,
 ) -> Result<Report, Memory>
-    requires { StandsFor (state_of dialogue) [] }
-    ensures { IfOk result (λ r. IsJudged (start_of dialogue.stack) (sexps_of script.trees.items) (sexps_of answers.trees.items) script.fault answers.fault r.lines.items r.verdict) }
+    requires stands { StandsFor (state_of dialogue) [] }
+    requires sound { IsSound script }
+    requires left { (trees : Sexps) × (fault : Option Fault) × HasLeft script trees fault }
+    ensures { (trees : Sexps) (fault : Option Fault) → HasLeft script.entry trees fault
+        → IfOk result (λ r. IsJudged (start_of dialogue.stack) trees (sexps_of answers.trees.items) fault answers.fault r.lines.items r.verdict) }
 {
-    while let Some(tree) = script.trees.pop_front() {
-        match take_step(&mut dialogue, tree, &mut answers)? {
-            Some(fault) => return dialogue.finish(Some(fault)),
-            None => {}
+    // A law: no count passes the number of the script's bytes.
+    trees_are_no_more_than_bytes();
+    loop {
+        match script.next()? {
+            Further::Tree(tree) => match take_step(&mut dialogue, tree, &mut answers)? {
+                Some(fault) => return dialogue.finish(Some(fault)),
+                None => {}
+            },
+            Further::End(fault) => {
+                let line = end_of_script(&dialogue, fault, &answers);
+                return dialogue.finish(line);
+            }
         }
     }
-    let fault = match script.fault {
+}
+
+// Behind the last command: the fault of the script, or else what ends the dialogue otherwise.
+fn end_of_script(dialogue: &Dialogue, fault: Option<TextFault>, answers: &ReadText) -> Option<Line>
+    requires { dialogue.now.answers + 1 < 2 ^ 64 }
+    ensures { (start : Bool) (pairs : List Pair) → StandsFor (state_of dialogue.now) pairs
+        → first_fault.step_after start pairs Nil fault (sexps_of answers.now.trees.items) answers.now.fault ≡ first_fault.Stop result }
+{
+    match fault {
         Some(fault) => Some(Line::of_text(Side::Script, fault)),
-        None => end_without_fault(&dialogue, &answers),
-    };
-    dialogue.finish(fault)
+        None => end_without_fault(dialogue, answers),
+    }
 }
 
 // Accepts the command that a tree is with what it takes of the answers, or answers the line of its fault.

@@ -62,8 +62,8 @@ pub(crate) fn read_whole(alloc: Global, bytes: &[u8]) -> Result<ReadText, Memory
     }
 }
 
-// A fault of the text: want of memory is none.
-fn text_fault(fault: TextFault) -> Option<TextFault>
+/// A fault of the text: want of memory is none.
+pub(crate) fn text_fault(fault: TextFault) -> Option<TextFault>
     ensures { MatchOption result (fault ≡ OutOfMemory) (λ f. (f ≡ fault) × (fault ≢ OutOfMemory)) }
 {
     match fault {

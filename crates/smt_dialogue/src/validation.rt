@@ -8,11 +8,12 @@ ghost use Rattle.smt_report.specs.Verdict.{IsVerdictOf};
 use crate::dialogue::Dialogue;
 use crate::pairing::judge_all;
 use crate::read_text::read_whole;
+use crate::unread_text::UnreadText;
 use smt_eval::Memory;
 use smt_eval::laws::{known_values_are_true, models_are_complete, models_give_structures};
 use smt_report::{Report, Verdict};
 use smt_script::laws::{assertions_in_force_stand, names_in_force_are_introduced};
-use smt_text::laws::one_forest;
+use smt_text::laws::{every_text_reads, one_forest};
 use std::alloc::Global;
 
 /// Checks a solver's dialogue: the script that it read, and the answers that it printed, in order.
@@ -25,7 +26,7 @@ pub fn validate(alloc: Global, script: &[u8], answers: &[u8], start: bool) -> Re
     ensures valid { IfOk result (λ r. r.verdict ≡ Verdict.Valid → IsValid start script.now answers.now) }
     ensures invalid { IfOk result (λ r. r.verdict ≡ Verdict.Invalid → IsInvalid start script.now answers.now r.lines.items) }
 {
-    // Laws: the texts have no other trees, models that are read are complete and give structures, the assertions in force are those of
+    // Laws: of each text something is read, the texts have no other trees, models that are read are complete and give structures, the assertions in force are those of
     // the commands that stand, and what is known of a term is its value.
     one_forest();
     models_are_complete();
@@ -33,7 +34,8 @@ pub fn validate(alloc: Global, script: &[u8], answers: &[u8], start: bool) -> Re
     assertions_in_force_stand();
     models_give_structures();
     known_values_are_true();
-    let script = read_whole(alloc, script)?;
+    every_text_reads();
     let answers = read_whole(alloc, answers)?;
+    let script = UnreadText::new(alloc, script);
     judge_all(Dialogue::new(alloc, start), script, answers)
 }

@@ -1,53 +1,87 @@
 -- No count passes the number of the script's trees, and each turn takes the dialogue on by one pair.
-use Rattle.std.proofs.Common.{length, Option, ap, ◌∙◌, subst, arith}
-use Rattle.smt_text.specs.Sexp.{Sexps}
+use Rattle.std.proofs.Common.{◌∙◌, arith}
 use Rattle.smt_text.specs.Tree.{sexp_of, sexps_of}
 use Rattle.smt_script.specs.StackView.{start_of}
-use Rattle.smt_dialogue.proofs.StepLemmas.{answers-le, checks-le, commands-push, judged-answer, so_far-push}
+use Rattle.smt_dialogue.proofs.StepLemmas.{answers-le, checks-le, commands-push, judged-answer, last-le}
+use Rattle.smt_dialogue.proofs.UnreadLemmas.{few_left, goes_on-push, in_turn, judged-last, step_of}
+use Rattle.smt_dialogue.specs.Pairs.{pair_of}
 use Rattle.smt_dialogue.specs.Internal.DialogueState.{state_of}
-use Rattle.smt_dialogue.specs.Internal.Steps.{SoFar, TakesUp, IsStep}
-use Rattle.smt_report.specs.declared.line.Line.{Line}
 use Rattle.smt_dialogue.proofs.pairing.judge_all.Goals as goal
+
+pub next-requires-clause-left : goal.next-requires-clause-left
+next-requires-clause-left c =
+    let h = c.requires.left in
+    let g = c.loop-answers.invariant.goes_on h.0 h.1 h.2 in
+    (g.later, h.1, g.left)
+
+pub take_step-requires-clause-commands : goal.take_step-requires-clause-commands
+take_step-requires-clause-commands c =
+    let h = c.requires.left in
+    let i = in_turn _ _ _ _ h.0 _ _ h.1 _ c.in-Tree.tree (c.loop-answers.invariant.goes_on h.0 h.1 h.2) c.in_ok-tree.ensures.next c.in-Tree.is in
+    omega (arith, i.counted, few_left c.trees_are_no_more_than_bytes.ensures.few c.args.script h.0 h.1 h.2, c.requires.sound.room)
 
 pub take_step-requires-clause-answers : goal.take_step-requires-clause-answers
 take_step-requires-clause-answers c =
-    let le = answers-le _ _ _ _ _ _ c.loop-tree.invariant.so_far in
-    let popped = ap length c.in-Some.ensures.items in
-    omega (arith, le, popped, c.loop-tree.invariant.counted, c.args.script.trees.ok.0, c.args.script.trees.small.0, c.args.script.trees.small.1)
+    let h = c.requires.left in
+    let g = c.loop-answers.invariant.goes_on h.0 h.1 h.2 in
+    let i = in_turn _ _ _ _ h.0 _ _ h.1 _ c.in-Tree.tree g c.in_ok-tree.ensures.next c.in-Tree.is in
+    omega (arith, i.counted, answers-le _ _ _ _ _ _ g.so_far, few_left c.trees_are_no_more_than_bytes.ensures.few c.args.script h.0 h.1 h.2, c.requires.sound.room)
 
 pub take_step-requires-clause-checks : goal.take_step-requires-clause-checks
 take_step-requires-clause-checks c =
-    let le = checks-le _ _ _ _ _ _ c.loop-tree.invariant.so_far in
-    let popped = ap length c.in-Some.ensures.items in
-    omega (arith, le, popped, c.loop-tree.invariant.counted, c.args.script.trees.ok.0, c.args.script.trees.small.0, c.args.script.trees.small.1)
+    let h = c.requires.left in
+    let g = c.loop-answers.invariant.goes_on h.0 h.1 h.2 in
+    let i = in_turn _ _ _ _ h.0 _ _ h.1 _ c.in-Tree.tree g c.in_ok-tree.ensures.next c.in-Tree.is in
+    omega (arith, i.counted, checks-le _ _ _ _ _ _ g.so_far, few_left c.trees_are_no_more_than_bytes.ensures.few c.args.script h.0 h.1 h.2, c.requires.sound.room)
+
+pub take_step-requires-clause-last : goal.take_step-requires-clause-last
+take_step-requires-clause-last c =
+    let h = c.requires.left in
+    last-le _ _ _ _ _ _ (c.loop-answers.invariant.goes_on h.0 h.1 h.2).so_far
 
 pub take_step-requires-clause-stands : goal.take_step-requires-clause-stands
-take_step-requires-clause-stands c = (c.loop-tree.invariant.so_far.pairs, c.loop-tree.invariant.so_far.stands)
+take_step-requires-clause-stands c =
+    let h = c.requires.left in
+    let g = c.loop-answers.invariant.goes_on h.0 h.1 h.2 in
+    (g.so_far.pairs, g.so_far.stands)
 
-pub end_without_fault-fault-requires : goal.end_without_fault-fault-requires
-end_without_fault-fault-requires c =
-    let le = answers-le _ _ _ _ _ _ c.loop-tree.invariant.so_far in
-    omega (arith, le, c.loop-tree.invariant.counted, c.args.script.trees.ok.0, c.args.script.trees.small.0, c.args.script.trees.small.1)
+pub end_of_script-line-requires : goal.end_of_script-line-requires
+end_of_script-line-requires c =
+    let h = c.requires.left in
+    let g = c.loop-answers.invariant.goes_on h.0 h.1 h.2 in
+    omega (arith, g.counted, answers-le _ _ _ _ _ _ g.so_far, few_left c.trees_are_no_more_than_bytes.ensures.few c.args.script h.0 h.1 h.2, c.requires.sound.room)
 
-pub loop-tree-preserved : goal.loop-tree-preserved
-loop-tree-preserved c =
-    let so_far = subst (λ (trees : Sexps). SoFar (start_of c.args.dialogue.stack) (state_of c.loop-tree.dialogue) (sexps_of c.args.script.trees.items) trees (sexps_of c.args.answers.trees.items) (sexps_of c.loop-tree.answers.trees.items)) (ap sexps_of c.in-Some.ensures.items) c.loop-tree.invariant.so_far in
-    let turned : TakesUp (start_of c.args.dialogue.stack) so_far.pairs (sexp_of c.in-Some.tree) (sexps_of c.loop-tree.answers.trees.items) (sexps_of c.take_step.new.answers.trees.items) (state_of c.take_step.new.dialogue) =
-    subst (λ (r : Option Line). IsStep (start_of c.args.dialogue.stack) r so_far.pairs (sexp_of c.in-Some.tree) (sexps_of c.loop-tree.answers.trees.items) c.loop-tree.answers.fault (sexps_of c.take_step.new.answers.trees.items) (state_of c.take_step.new.dialogue)) c.in-None.is (rw (c.loop-tree.invariant.start) at (c.in_ok-fault.ensures.step so_far.pairs so_far.stands)) in
-    let popped = ap length c.in-Some.ensures.items in
-    let commands = commands-push (state_of c.loop-tree.dialogue) (state_of c.take_step.new.dialogue) so_far.pairs _ so_far.stands turned.stands in
-    record {
-      so_far = so_far-push (start_of c.args.dialogue.stack) (state_of c.loop-tree.dialogue) (state_of c.take_step.new.dialogue) (sexps_of c.args.script.trees.items) (sexp_of c.in-Some.tree) (sexps_of c.pop_front.new.self.items) (sexps_of c.args.answers.trees.items) (sexps_of c.loop-tree.answers.trees.items) (sexps_of c.take_step.new.answers.trees.items) so_far turned;
-      start = c.in_ok-fault.ensures.start ∙ c.loop-tree.invariant.start;
-      script_fault = c.loop-tree.invariant.script_fault;
-      answers_fault = c.in_ok-fault.ensures.fault ∙ c.loop-tree.invariant.answers_fault;
-      counted = omega (arith, popped, commands, c.loop-tree.invariant.counted);
-    }
-
-pub returns-in-Some-2 : goal.returns-in-Some-2
-returns-in-Some-2 c =
+pub loop-answers-smaller : goal.loop-answers-smaller
+loop-answers-smaller c =
     let start = start_of c.args.dialogue.stack in
-    let so_far = subst (λ (trees : Sexps). SoFar start (state_of c.loop-tree.dialogue) (sexps_of c.args.script.trees.items) trees (sexps_of c.args.answers.trees.items) (sexps_of c.loop-tree.answers.trees.items)) (ap sexps_of c.in-Some.ensures.items) c.loop-tree.invariant.so_far in
-    let step = rw (c.loop-tree.invariant.start, c.loop-tree.invariant.answers_fault, c.in-Some-2.is) at (c.in_ok-fault.ensures.step so_far.pairs so_far.stands) in
-    judged-answer start c.finish.result (state_of c.loop-tree.dialogue) (state_of c.take_step.new.dialogue) (sexps_of c.args.script.trees.items) (sexp_of c.in-Some.tree) (sexps_of c.pop_front.new.self.items) (sexps_of c.args.answers.trees.items) (sexps_of c.loop-tree.answers.trees.items) c.args.script.fault c.args.answers.fault c.in-Some-2.fault
-    so_far step c.finish.ensures.lines c.finish.ensures.verdict
+    let h = c.requires.left in
+    let i = in_turn _ _ _ _ h.0 _ _ h.1 _ c.in-Tree.tree (c.loop-answers.invariant.goes_on h.0 h.1 h.2) c.in_ok-tree.ensures.next c.in-Tree.is in
+    let turned = step_of i.so_far.pairs (sexp_of c.in-Tree.tree) (sexps_of c.loop-answers.answers.trees.items) (sexps_of c.take_step.new.answers.trees.items) (state_of c.take_step.new.dialogue) c.loop-answers.invariant.start c.loop-answers.invariant.answers_fault c.in-None.is (c.in_ok-fault-in-Tree.ensures.step i.so_far.pairs i.so_far.stands) in
+    let commands = commands-push (state_of c.loop-answers.dialogue) (state_of c.take_step.new.dialogue) i.so_far.pairs (pair_of turned.command turned.answer) i.so_far.stands turned.stands in
+    omega (arith, commands, i.counted, few_left c.trees_are_no_more_than_bytes.ensures.few c.args.script h.0 h.1 h.2)
+
+pub loop-answers-preserved : goal.loop-answers-preserved
+loop-answers-preserved c = record {
+  sound = c.in_ok-tree.ensures.sound;
+  goes_on = λ trees fault first.
+      let start = start_of c.args.dialogue.stack in
+      let i = in_turn _ _ _ _ trees _ _ fault _ c.in-Tree.tree (c.loop-answers.invariant.goes_on trees fault first) c.in_ok-tree.ensures.next c.in-Tree.is in
+      let turned = step_of i.so_far.pairs (sexp_of c.in-Tree.tree) (sexps_of c.loop-answers.answers.trees.items) (sexps_of c.take_step.new.answers.trees.items) (state_of c.take_step.new.dialogue) c.loop-answers.invariant.start c.loop-answers.invariant.answers_fault c.in-None.is (c.in_ok-fault-in-Tree.ensures.step i.so_far.pairs i.so_far.stands) in
+      goes_on-push start (state_of c.loop-answers.dialogue) (state_of c.take_step.new.dialogue) c.next.new.self (sexp_of c.in-Tree.tree) trees (sexps_of c.args.answers.trees.items) (sexps_of c.loop-answers.answers.trees.items) (sexps_of c.take_step.new.answers.trees.items) fault i turned;
+  start = c.in_ok-fault-in-Tree.ensures.start ∙ c.loop-answers.invariant.start;
+  answers_fault = c.in_ok-fault-in-Tree.ensures.fault ∙ c.loop-answers.invariant.answers_fault;
+}
+
+pub returns-in-Some : goal.returns-in-Some
+returns-in-Some c = λ trees fault first.
+    let start = start_of c.args.dialogue.stack in
+    let i = in_turn _ _ _ _ trees _ _ fault _ c.in-Tree.tree (c.loop-answers.invariant.goes_on trees fault first) c.in_ok-tree.ensures.next c.in-Tree.is in
+    let step = step_of i.so_far.pairs (sexp_of c.in-Tree.tree) (sexps_of c.loop-answers.answers.trees.items) (sexps_of c.take_step.new.answers.trees.items) (state_of c.take_step.new.dialogue) c.loop-answers.invariant.start c.loop-answers.invariant.answers_fault c.in-Some.is (c.in_ok-fault-in-Tree.ensures.step i.so_far.pairs i.so_far.stands) in
+    judged-answer start c.finish.result (state_of c.loop-answers.dialogue) (state_of c.take_step.new.dialogue) trees (sexp_of c.in-Tree.tree) i.later (sexps_of c.args.answers.trees.items) (sexps_of c.loop-answers.answers.trees.items) fault c.args.answers.fault c.in-Some.fault
+    i.so_far step c.finish.ensures.lines c.finish.ensures.verdict
+
+pub returns-in-End : goal.returns-in-End
+returns-in-End c = λ trees fault first.
+    let start = start_of c.args.dialogue.stack in
+    judged-last start c.finish-in-End.result (state_of c.loop-answers.dialogue) c.loop-answers.script c.next.new.self trees (sexps_of c.args.answers.trees.items) (sexps_of c.loop-answers.answers.trees.items) fault c.args.answers.fault c.in_ok-tree.field-0 c.in-End.fault c.end_of_script-line.result
+    (c.loop-answers.invariant.goes_on trees fault first) c.in_ok-tree.ensures.next c.in-End.is (rw (c.loop-answers.invariant.answers_fault) at (c.end_of_script-line.ensures start)) c.finish-in-End.ensures.lines c.finish-in-End.ensures.verdict

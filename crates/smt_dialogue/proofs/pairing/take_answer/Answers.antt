@@ -1,6 +1,5 @@
 use Rattle.std.proofs.Common.{◌<◌, length, arith, sym}
 use Rattle.std.proofs.lemmas.Bool.Decides.{nat_tests}
-use Rattle.smt_text.specs.Tree.{sexps_of}
 use Rattle.smt_dialogue.proofs.StepLemmas.{unfit_taken}
 use Rattle.smt_dialogue.proofs.pairing.take_answer.Goals as goal
 
