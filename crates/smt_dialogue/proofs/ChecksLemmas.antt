@@ -11,7 +11,7 @@ use Rattle.smt_dialogue.proofs.InForceLemmas.{IsQuiet, check_is_quiet, echo_is_q
 use Rattle.smt_dialogue.proofs.PairLemmas.{IsIdle, quiet_is_idle, refused_is_idle}
 use Rattle.smt_dialogue.specs.Answers.{has_form, is_effective_with, is_error}
 use Rattle.smt_dialogue.specs.InForce.{assertions_after, signature_after}
-use Rattle.smt_dialogue.specs.Internal.ChecksState.{ChecksState, IsAnswered, checks_after, closing_lines, pending_lines, with_answer_of, with_line, with_models, with_window_ended}
+use Rattle.smt_dialogue.specs.Internal.ChecksState.{ChecksState, IsAnswered, checks_after, closing_lines, pending_lines, role_of, with_answer_of, with_line, with_models, with_window_ended}
 use Rattle.smt_dialogue.specs.Judgement.{judgement_of}
 use Rattle.smt_dialogue.specs.Lines.{checks_in, confirmed_line, is_check, line_of_judgement, lines_of_pair, lines_of_sat, sat_lines, unchecked_answer, unchecked_line_or, unconfirmed_line}
 use Rattle.smt_dialogue.specs.Pairs.{Pair, is_effective, pair_of}
@@ -230,8 +230,8 @@ passes s pairs c o open' other none quiet =
 some_same : {a b : Sexp} → ◌≡◌ {A = Option Sexp} (Some a) (Some b) → a ≡ b
 some_same h = cc
 
-pub goes_on : (s : ChecksState) (pairs : List Pair) (c : Command) (o : Option Sexp) → IsAnswered c o → s.count ≡ checks_in pairs
-    → GoesOn s pairs (pair_of c o) (checks_after (is_effective_with o) s (signature_after (pairs ++ pair_of c o ∷ [])) (assertions_after (pairs ++ pair_of c o ∷ [])) (length pairs + 1) c o)
+pub goes_on : (s : ChecksState) (pairs : List Pair) (c : Command) (o : Option Sexp) → IsAnswered (role_of c) o → s.count ≡ checks_in pairs
+    → GoesOn s pairs (pair_of c o) (checks_after (is_effective_with o) s (signature_after (pairs ++ pair_of c o ∷ [])) (assertions_after (pairs ++ pair_of c o ∷ [])) (length pairs + 1) (role_of c) o)
 goes_on s pairs (SetLogic name) o h count = closes_if s pairs (pair_of (SetLogic name) o) (is_effective_with o) refl refl refl
 goes_on s pairs (SetPrintSuccess on) o h count = passes s pairs (SetPrintSuccess on) o refl refl (λ m. refl) (print_success_is_quiet on)
 goes_on s pairs (SetOption keyword value) o h count = passes s pairs (SetOption keyword value) o refl refl (λ m. refl) (option_is_quiet keyword value)

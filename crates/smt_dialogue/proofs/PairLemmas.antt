@@ -9,7 +9,7 @@ use Rattle.smt_script.specs.Stack.{Numbered, assertions_in_force, signature_in_f
 use Rattle.smt_dialogue.proofs.InForceLemmas.{IsQuiet, assertions-quiet, signature-quiet}
 use Rattle.smt_dialogue.specs.Answers.{Takes, Unfit, has_form, need_of, taken}
 use Rattle.smt_dialogue.specs.InForce.{AreFaultless, assertions_after, fault_of_pair, has_exited_after, need_after, signature_after}
-use Rattle.smt_dialogue.specs.Internal.ChecksState.{IsAnswered}
+use Rattle.smt_dialogue.specs.Internal.ChecksState.{IsAnswered, role_of}
 use Rattle.smt_dialogue.specs.Lines.{checks_in, is_check, lines_in, lines_of_pair}
 use Rattle.smt_dialogue.specs.Pairing.{AllTake}
 use Rattle.smt_dialogue.specs.Pairs.{Pair, answer_count, answers_taken, answers_then, effective_commands, effective_from, is_effective, next_of, numbered_if, with_answer}
@@ -41,7 +41,7 @@ needed_takes form (Some a) answer h = by (has_form form a) refl h
     by false is e = absurd (cc)
 
 -- so a check has one of the answers of checks
-pub check_answered : (on : Bool) (c : Command) (next answer : Option Sexp) → taken (need_of on c) next ≡ Takes answer → IsAnswered c answer
+pub check_answered : (on : Bool) (c : Command) (next answer : Option Sexp) → taken (need_of on c) next ≡ Takes answer → IsAnswered (role_of c) answer
 check_answered on (SetLogic name) next answer h = tt
 check_answered on (SetPrintSuccess value) next answer h = tt
 check_answered on (SetOption keyword value) next answer h = tt

@@ -12,11 +12,11 @@ ghost use Rattle.smt_dialogue.specs.Lines.{lines_in};
 ghost use Rattle.smt_dialogue.specs.Pairs.{Pair, answer_count, numbered_if, pair_of};
 ghost use Rattle.smt_dialogue.specs.Report.{lines_of_end};
 ghost use Rattle.smt_report.specs.Verdict.{verdict_of, with_verdict};
-ghost use Rattle.smt_dialogue.specs.Internal.ChecksState.{IsAnswered};
+ghost use Rattle.smt_dialogue.specs.Internal.ChecksState.{IsAnswered, role_of};
 ghost use Rattle.smt_dialogue.specs.Internal.DialogueState.{StandsFor, fault_if, state_of};
 
 use crate::answer::is_effective;
-use crate::window::Checks;
+use crate::window::{Checks, role_of};
 use smt_eval::Memory;
 use smt_report::{Line, Report};
 use smt_script::{Command, CommandFault, Stack};
@@ -50,7 +50,7 @@ impl Dialogue {
     /// Accepts one more command with what it takes of the answers. At a fault of its effect the dialogue stays as it is.
     pub(crate) fn accept(
         &mut self,
-        command: &Command,
+        command: Command,
         answer: &Option<Tree>,
     ) -> Result<(), CommandFault>
         requires commands { self.old.commands + 1 < 2 ^ 64 }
@@ -58,23 +58,24 @@ impl Dialogue {
         requires checks { self.old.checks.count + 1 < 2 ^ 64 }
         requires last { last_of self.old.stack ≤ self.old.commands }
         requires stands { (pairs : List Pair) × StandsFor (state_of self.old) pairs }
-        requires answered { IsAnswered (command_view command.now) (option_map sexp_of answer.now) }
+        requires answered { IsAnswered (role_of (command_view command)) (option_map sexp_of answer.now) }
         ensures accepted { OnOk result ((pairs : List Pair) → StandsFor (state_of self.old) pairs
-            → (fault_of_pair pairs (pair_of (command_view command.now) (option_map sexp_of answer.now)) ≡ None)
-            × StandsFor (state_of self.new) (pairs ++ pair_of (command_view command.now) (option_map sexp_of answer.now) ∷ [])) }
+            → (fault_of_pair pairs (pair_of (command_view command) (option_map sexp_of answer.now)) ≡ None)
+            × StandsFor (state_of self.new) (pairs ++ pair_of (command_view command) (option_map sexp_of answer.now) ∷ [])) }
         ensures refused { IfErr result (λ fault. (pairs : List Pair) → StandsFor (state_of self.old) pairs
-            → (fault ≡ OutOfMemory) ⊎ ((fault_of_pair pairs (pair_of (command_view command.now) (option_map sexp_of answer.now)) ≡ Some fault)
+            → (fault ≡ OutOfMemory) ⊎ ((fault_of_pair pairs (pair_of (command_view command) (option_map sexp_of answer.now)) ≡ Some fault)
             × StandsFor (state_of self.new) pairs)) }
         ensures start { start_of self.new.stack ≡ start_of self.old.stack }
     {
         let number = self.commands + 1;
         let effective = is_effective(answer);
+        let role = role_of(&command);
         if let Err(fault) = apply_if(effective, &mut self.stack, number, command) {
             return Err(fault);
         }
         let Ok(()) = self
             .checks
-            .take(effective, number, command, answer, &self.stack)
+            .take(effective, number, role, answer, &self.stack)
         else {
             return Err(CommandFault::Memory);
         };
@@ -101,19 +102,19 @@ fn apply_if(
     effective: bool,
     stack: &mut Stack,
     number: u64,
-    command: &Command,
+    command: Command,
 ) -> Result<(), CommandFault>
     requires { last_of stack.old < number }
     ensures applied { OnOk result ((commands : List Numbered) → stacks.StandsFor stack.old commands
-        → (fault_if effective commands number (command_view command.now) ≡ None) × stacks.StandsFor stack.new (commands ++ numbered_if effective number (command_view command.now))) }
+        → (fault_if effective commands number (command_view command) ≡ None) × stacks.StandsFor stack.new (commands ++ numbered_if effective number (command_view command))) }
     ensures last { OnOk result (last_of stack.new ≤ number) }
     ensures refused { IfErr result (λ fault. (commands : List Numbered) → stacks.StandsFor stack.old commands
-        → (fault ≡ OutOfMemory) ⊎ (fault_if effective commands number (command_view command.now) ≡ Some fault)) }
+        → (fault ≡ OutOfMemory) ⊎ (fault_if effective commands number (command_view command) ≡ Some fault)) }
     ensures unchanged { OnErr result (((commands : List Numbered) → stacks.StandsFor stack.old commands → stacks.StandsFor stack.new commands) × (last_of stack.new ≡ last_of stack.old)) }
     ensures start { start_of stack.new ≡ start_of stack.old }
 {
     if effective {
-        stack.apply(number, command)
+        stack.take(number, command)
     } else {
         Ok(())
     }

@@ -9,7 +9,7 @@ ghost use Rattle.smt_script.specs.StackView.{last_of, start_of};
 ghost use Rattle.smt_dialogue.specs.Answers as answering;
 ghost use Rattle.smt_dialogue.specs.FirstFault as first_fault;
 ghost use Rattle.smt_dialogue.specs.Pairs.{Pair, next_of, pair_of};
-ghost use Rattle.smt_dialogue.specs.Internal.ChecksState.{IsAnswered};
+ghost use Rattle.smt_dialogue.specs.Internal.ChecksState.{IsAnswered, role_of};
 ghost use Rattle.smt_dialogue.specs.Internal.DialogueState.{StandsFor, state_of};
 ghost use Rattle.smt_dialogue.specs.Internal.UnreadText.{HasLeft, IsSound};
 ghost use Rattle.smt_dialogue.specs.Internal.Steps.{IsAccepted, IsJudged, IsLeft, IsStep, taken_view};
@@ -89,11 +89,16 @@ fn take_step(
         Err(fault) => return Ok(Some(refused(number, fault))),
     };
     let need = need_of(dialogue.stack.print_success(), &command);
+    // (each arm lets the command go: the proof of the borrow checker's part does not end where one arm alone does)
     match take_answer(need, answers) {
-        Taken::Takes(answer) => accept(dialogue, &command, &answer),
-        Taken::Missing => Ok(Some(want_of_answer(number, answers.fault))),
+        Taken::Takes(answer) => accept(dialogue, command, &answer),
+        Taken::Missing => {
+            drop(command);
+            Ok(Some(want_of_answer(number, answers.fault)))
+        }
         Taken::Unfit => {
             let answer = dialogue.answers + 1;
+            drop(command);
             Ok(Some(Line::UnexpectedAnswer {
                 command: number,
                 answer,
@@ -133,7 +138,7 @@ fn take_answer(need: Need, answers: &mut ReadText) -> Taken
 // Accepts a command with what it takes of the answers, or answers the line of the fault of its effect.
 fn accept(
     dialogue: &mut Dialogue,
-    command: &Command,
+    command: Command,
     answer: &Option<Tree>,
 ) -> Result<Option<Line>, Memory>
     requires commands { dialogue.old.commands + 1 < 2 ^ 64 }
@@ -141,9 +146,9 @@ fn accept(
     requires checks { dialogue.old.checks.count + 1 < 2 ^ 64 }
     requires last { last_of dialogue.old.stack ≤ dialogue.old.commands }
     requires stands { (pairs : List Pair) × StandsFor (state_of dialogue.old) pairs }
-    requires answered { IsAnswered (command_view command.now) (option_map sexp_of answer.now) }
+    requires answered { IsAnswered (role_of (command_view command)) (option_map sexp_of answer.now) }
     ensures accepted { IfOk result (λ line. (pairs : List Pair) → StandsFor (state_of dialogue.old) pairs
-        → IsAccepted line pairs (pair_of (command_view command.now) (option_map sexp_of answer.now)) (state_of dialogue.new)) }
+        → IsAccepted line pairs (pair_of (command_view command) (option_map sexp_of answer.now)) (state_of dialogue.new)) }
     ensures start { IfOk result (λ _. start_of dialogue.new.stack ≡ start_of dialogue.old.stack) }
 {
     let number = dialogue.commands + 1;

@@ -6,6 +6,7 @@ ghost use Rattle.smt_script.specs.CommandView.{command_view};
 ghost use Rattle.smt_script.specs.Stack.{Numbered, assertions_in_force, signature_in_force};
 ghost use Rattle.smt_script.specs.StackView.{StandsFor};
 ghost use Rattle.smt_dialogue.specs.Lines as check_lines;
+ghost use Rattle.smt_dialogue.specs.Internal.ChecksState as state;
 ghost use Rattle.smt_dialogue.specs.Internal.ChecksState.{IsAnswered, checks_after, checks_state, with_check, with_line, with_models, with_window_ended};
 ghost use Rattle.smt_dialogue.specs.Judgement.{judgement_of};
 
@@ -16,6 +17,19 @@ use smt_report::{CheckAnswer, Line};
 use smt_script::{Command, Stack};
 use smt_text::{Tree, Trees};
 use std::alloc::Global;
+
+/// What a command is for the window of a check.
+#[derive(Clone, Copy)]
+pub enum Role {
+    /// A check: it ends the window of an earlier one, and may begin its own.
+    Check,
+    /// It asks for a model, which is judged in a window.
+    Model,
+    /// It changes what is in force, and ends a window where it took effect.
+    Change,
+    /// It does nothing to a window.
+    Other,
+}
 
 /// A check that was answered `sat`, whose window has not ended.
 #[derive(Clone, Copy)]
@@ -48,37 +62,30 @@ impl Checks {
         }
     }
 
-    /// Takes the command of this number with its answer, which says whether it took effect, and what is in force after it.
+    /// Takes the command of this number, by what it is for the window, with its answer, which says whether it took effect, and what is
+    /// in force after it.
     pub(crate) fn take(
         &mut self,
         effective: bool,
         number: u64,
-        command: &Command,
+        role: Role,
         answer: &Option<Tree>,
         stack: &Stack,
     ) -> Result<(), Memory>
         requires count { self.old.count + 1 < 2 ^ 64 }
         requires stands { (commands : List Numbered) × StandsFor stack.now commands }
-        requires answered { IsAnswered (command_view command.now) (option_map sexp_of answer.now) }
+        requires answered { IsAnswered role (option_map sexp_of answer.now) }
         ensures { OnOk result ((commands : List Numbered) → StandsFor stack.now commands → checks_state self.new
-            ≡ checks_after effective (checks_state self.old) (signature_in_force commands) (assertions_in_force commands) number (command_view command.now) (option_map sexp_of answer.now)) }
+            ≡ checks_after effective (checks_state self.old) (signature_in_force commands) (assertions_in_force commands) number role (option_map sexp_of answer.now)) }
     {
-        match command {
-            Command::CheckSat => match answer {
+        match role {
+            Role::Check => match answer {
                 Some(answer) => self.begin_window(number, answer),
                 None => unreachable!(),
             },
-            Command::GetModel => self.judge_model_if(effective, number, answer, stack),
-            Command::SetLogic { .. } | Command::DeclareConst { .. } => self.end_window_if(
-                effective,
-            ),
-            Command::DeclareFun { .. } | Command::DefineFun { .. } => self.end_window_if(effective),
-            Command::DefineSort { .. } | Command::Assert { .. } => self.end_window_if(effective),
-            Command::Push { .. } | Command::Pop { .. } => self.end_window_if(effective),
-            Command::Reset | Command::ResetAssertions => self.end_window_if(effective),
-            Command::SetPrintSuccess { .. } | Command::SetOption { .. } => Ok(()),
-            Command::SetInfo { .. } | Command::Exit => Ok(()),
-            Command::Echo { .. } | Command::Get { .. } => Ok(()),
+            Role::Model => self.judge_model_if(effective, number, answer, stack),
+            Role::Change => self.end_window_if(effective),
+            Role::Other => Ok(()),
         }
     }
 
@@ -167,6 +174,24 @@ impl Checks {
             self.pending = None;
         }
         Ok(())
+    }
+}
+
+/// What a command is for the window of a check.
+pub(crate) fn role_of(command: &Command) -> Role
+    ensures { result ≡ state.role_of (command_view command.now) }
+{
+    match command {
+        Command::CheckSat => Role::Check,
+        Command::GetModel => Role::Model,
+        Command::SetLogic { .. } | Command::DeclareConst { .. } => Role::Change,
+        Command::DeclareFun { .. } | Command::DefineFun { .. } => Role::Change,
+        Command::DefineSort { .. } | Command::Assert { .. } => Role::Change,
+        Command::Push { .. } | Command::Pop { .. } => Role::Change,
+        Command::Reset | Command::ResetAssertions => Role::Change,
+        Command::SetPrintSuccess { .. } | Command::SetOption { .. } => Role::Other,
+        Command::SetInfo { .. } | Command::Exit => Role::Other,
+        Command::Echo { .. } | Command::Get { .. } => Role::Other,
     }
 }
 

@@ -1,5 +1,5 @@
 -- What each command does to a stack.
-use Rattle.std.proofs.Common.{◌≡◌, ◌≤◌, ◌<◌, ℕ, ◌+◌, zero, suc, List, [], ◌∷◌, ◌++◌, ◌⊎◌, inl, inr, Bool, true, false, cond, not, ◌||◌, Option, None, Some, Result, Ok, Err, length, slice_get, take, refl, ap, sym, subst, ◌∙◌, arith, is_some}
+use Rattle.std.proofs.Common.{◌≡◌, ◌≤◌, ℕ, ◌+◌, zero, suc, List, [], ◌∷◌, ◌++◌, ◌⊎◌, inl, inr, Bool, false, ◌||◌, Option, None, Some, Result, Ok, Err, length, slice_get, take, refl, ap, sym, subst, ◌∙◌, arith}
 use Rattle.std.proofs.lemmas.List.{append-nil, length-append}
 use Rattle.std.specs.Global.{Vec}
 use Rattle.smt_text.specs.Sexp.{Sexp, Sexps, Nil}
@@ -16,12 +16,11 @@ use Rattle.smt_terms.specs.SortTrees.{abbreviated_in}
 use Rattle.smt_terms.specs.declared.fault.TermFault.{TermFault}
 use Rattle.smt_terms.specs.declared.fault.TermFault.TheVariants as terms
 use Rattle.smt_terms.specs.declared.library.Library.{Library}
-use Rattle.smt_terms.specs.declared.library.TermId.{TermId}
 use Rattle.smt_terms.proofs.ContentsLemmas.{mark_kept, mark_within, term_kept}
 use Rattle.smt_script.specs.Command.{Command, Query, SetLogic, SetPrintSuccess, SetOption, SetInfo, DeclareConst, DeclareFun, DefineFun, DefineSort, Assert, Exit, CheckSat, GetModel, Echo, Get}
 use Rattle.smt_script.specs.Stack as spec
 use Rattle.smt_script.specs.Stack.{Brought, Numbered, abbreviations_by, abbreviations_of, assertions_by, assertions_in_force, assertions_of, brought_by, command_fault, depth_after, depth_in_force, entries_by, entries_of, fault_of, fault_of_effect, has_exited, history, in_force, is_exit, is_fixed_after, is_logic_fixed, is_reset, one_or_none, print_success_after, print_success_in_force, signature_in_force, signature_of, theories_after, theories_in_force, theories_or}
-use Rattle.smt_script.specs.StackView.{AreAssertions, IsLevel, IsOuter, StandsFor, to_level}
+use Rattle.smt_script.specs.StackView.{AreAssertions, IsLevel, StandsFor, to_level}
 use Rattle.smt_script.specs.Internal.Effect.{HasEffect, IsUnchanged, noted}
 use Rattle.smt_script.specs.declared.fault.CommandFault.{CommandFault}
 use Rattle.smt_script.specs.declared.fault.CommandFault.TheVariants.{Term, Memory}
@@ -390,6 +389,28 @@ logic_effect old l theories name free named fresh n = record {
       };
   start = refl;
 }
+
+-- ---- numbers
+
+-- the number of the last command is no part of what is in force
+with_last : (s : Stack) (n : ℕ) (cs : List Numbered) → StandsFor s cs → StandsFor (record s { last = n }) cs
+with_last s n cs h = record {
+  library = h.library;
+  assertions = h.assertions;
+  depth = h.depth;
+  levels = h.levels;
+  ordered = h.ordered;
+  fixed = h.fixed;
+  print_success = h.print_success;
+  exited = h.exited;
+}
+
+-- so a command that took effect and was noted stands under its number
+pub numbered_stands : (old new made : Stack) (n : ℕ) (command : Command) → HasEffect old new n command → made ≡ noted command new → (cs : List Numbered) → StandsFor old cs
+    → StandsFor (record made { last = n }) (cs ++ record { number = n; command = command } ∷ [])
+numbered_stands old new made n command effect is cs h =
+    let all = cs ++ record { number = n; command = command } ∷ [] in
+    with_last made n all (subst (λ (s : Stack). StandsFor s all) (sym is) (effect.stands cs h))
 
 -- ---- faults
 

@@ -129,7 +129,31 @@ impl Stack {
     /// - `Push`: `TooDeep` where there would be more than 10,000 levels. `Pop`: `NoLevel` where it removes more than there are
     ///   (section 4.1.4).
     ///
-    /// The others have none. `Pop` removes what came at the levels that it removes, and takes time for that alone.
+    /// The others have none. `Pop` removes what came at the levels that it removes, and takes time for that alone. The term of an
+    /// assertion is moved into the library, and not copied.
+    pub fn take(&mut self, number: u64, command: Command) -> Result<(), CommandFault>
+        requires { last_of self.old < number }
+        ensures faultless { OnOk result ((commands : List Numbered) → StandsFor self.old commands → fault_of_effect commands number (command_view command) ≡ None) }
+        ensures applied { OnOk result ((commands : List Numbered) → StandsFor self.old commands
+            → StandsFor self.new (commands ++ record { number = number; command = command_view command } ∷ [])) }
+        ensures last { OnOk result (last_of self.new ≡ number) }
+        ensures refused { IfErr result (λ fault. (commands : List Numbered) → StandsFor self.old commands
+            → (fault ≡ Memory) ⊎ (fault_of_effect commands number (command_view command) ≡ Some fault)) }
+        ensures unchanged { OnErr result (((commands : List Numbered) → StandsFor self.old commands → StandsFor self.new commands) × (last_of self.new ≡ last_of self.old)) }
+        ensures start { start_of self.new ≡ start_of self.old }
+    {
+        match command {
+            Command::Assert { term } => {
+                self.assert(number, term)?;
+                self.note_assertion();
+                self.last = number;
+                Ok(())
+            }
+            command => self.apply(number, &command),
+        }
+    }
+
+    /// As `take`, but leaves the command whole: the term of an assertion is copied.
     pub fn apply(&mut self, number: u64, command: &Command) -> Result<(), CommandFault>
         requires { last_of self.old < number }
         ensures faultless { OnOk result ((commands : List Numbered) → StandsFor self.old commands → fault_of_effect commands number (command_view command.now) ≡ None) }

@@ -220,7 +220,7 @@ impl Library {
         &self.terms.as_slice()[term.number]
     }
 
-    // Adds a term.
+    // Adds a copy of a term.
     pub(super) fn add_term(&mut self, term: &Tree) -> Result<TermId, TermFault>
         ensures term { IfOk result (λ i. IsTerm self.new i (sexp_of term.now)) }
         ensures refused { IfErr result (λ fault. fault ≡ Memory) }
@@ -230,8 +230,20 @@ impl Library {
         ensures grown { Extends (contents_of self.old) (contents_of self.new) }
     {
         let copy = term.copy(self.alloc)?;
+        self.push_term(copy)
+    }
+
+    // Adds a term.
+    fn push_term(&mut self, term: Tree) -> Result<TermId, TermFault>
+        ensures term { IfOk result (λ i. IsTerm self.new i (sexp_of term)) }
+        ensures refused { IfErr result (λ fault. fault ≡ Memory) }
+        ensures kept { (s : Signature) → StandsFor self.old s → StandsFor self.new s }
+        ensures names { names_of_library self.new ≡ names_of_library self.old }
+        ensures sorts { self.new.sorts ≡ self.old.sorts }
+        ensures grown { Extends (contents_of self.old) (contents_of self.new) }
+    {
         let number = self.terms.len();
-        self.terms.push(copy)?;
+        self.terms.push(term)?;
         Ok(TermId { number })
     }
 

@@ -107,7 +107,7 @@ impl Kept {
                 let _ = self.library.declare(1, name.as_slice(), &[], &sort);
             }
             Ok(Command::Assert { term }) => {
-                if self.library.check_assert(&term).is_ok() {
+                if self.library.assert(term).is_ok() {
                     self.terms = self.terms.wrapping_add(1);
                 }
             }

@@ -16,6 +16,8 @@ use Rattle.smt_report.specs.declared.line.Line.TheVariants as lines
 use Rattle.smt_dialogue.specs.declared.answer.AnswerForm.TheVariants.{Check}
 use Rattle.smt_dialogue.specs.declared.window.Checks.{Checks}
 use Rattle.smt_dialogue.specs.declared.window.PendingCheck.{PendingCheck}
+use Rattle.smt_dialogue.specs.declared.window.Role.{Role}
+use Rattle.smt_dialogue.specs.declared.window.Role.TheVariants as role
 
 -- how many checks there were, the one whose window has not ended, and the lines that are decided
 pub record ChecksState : Type 0 where
@@ -61,13 +63,20 @@ abbrev pub with_models : ChecksState → Option PendingCheck → Signature → L
 with_models s (Some c) names assertions n true (Some (Items parts)) = with_line s c (line_of_judgement c.check c.command n (judgement_of names assertions parts))
 with_models s pending names assertions n effective answer = s
 
--- a check has one of the answers of checks
-abbrev pub IsAnswered : Command → Option Sexp → Type 0
-IsAnswered CheckSat answer = (a : Sexp) × (answer ≡ Some a) × (has_form Check a ≡ true)
-IsAnswered command answer = Unit {0}
+-- what a command is for the window of a check
+abbrev pub role_of : Command → Role
+role_of CheckSat = role.Check
+role_of GetModel = role.Model
+role_of command = if closes_by true command then role.Change else role.Other
 
--- command n with its answer, which says whether it took effect
-abbrev pub checks_after : Bool → ChecksState → Signature → List Assertion → ℕ → Command → Option Sexp → ChecksState
-checks_after effective s names assertions n CheckSat (Some answer) = with_check s n answer
-checks_after effective s names assertions n GetModel answer = with_models s s.pending names assertions n effective answer
-checks_after effective s names assertions n command answer = if closes_by effective command then with_window_ended s else s
+-- a check has one of the answers of checks
+abbrev pub IsAnswered : Role → Option Sexp → Type 0
+IsAnswered role.Check answer = (a : Sexp) × (answer ≡ Some a) × (has_form Check a ≡ true)
+IsAnswered _ answer = Unit {0}
+
+-- command n, by what it is for the window, with its answer, which says whether it took effect
+abbrev pub checks_after : Bool → ChecksState → Signature → List Assertion → ℕ → Role → Option Sexp → ChecksState
+checks_after effective s names assertions n role.Check (Some answer) = with_check s n answer
+checks_after effective s names assertions n role.Model answer = with_models s s.pending names assertions n effective answer
+checks_after effective s names assertions n role.Change answer = if effective then with_window_ended s else s
+checks_after effective s names assertions n _ answer = s

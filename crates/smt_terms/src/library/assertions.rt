@@ -27,17 +27,17 @@ impl Library {
     /// then a name that is in use, a plain operator's, or that of an earlier label of the assertion (`NotFresh`). Then a term that is no
     /// formula (`IllSorted`). Then, and where memory is refused (`Memory`), no name is added; a term that nothing names may be.
     #[tactic(auto, using(crate::proofs::ContentsLemmas::extends_itself))]
-    pub fn check_assert(&mut self, term: &Tree) -> Result<TermId, TermFault>
+    pub fn assert(&mut self, term: Tree) -> Result<TermId, TermFault>
         ensures asserted { OnOk result ((s : Signature) → StandsFor self.old s → (labels : List signature.Entry)
-            × (asserted_in (names_of s) (sexp_of term.now) ≡ Ok labels) × StandsFor self.new (with_entries s labels)) }
-        ensures term { IfOk result (λ i. IsTerm self.new i (sexp_of term.now)) }
+            × (asserted_in (names_of s) (sexp_of term) ≡ Ok labels) × StandsFor self.new (with_entries s labels)) }
+        ensures term { IfOk result (λ i. IsTerm self.new i (sexp_of term)) }
         ensures refused { IfErr result (λ fault. (s : Signature) → StandsFor self.old s
-            → (fault ≡ Memory) ⊎ (asserted_in (names_of s) (sexp_of term.now) ≡ Err fault)) }
+            → (fault ≡ Memory) ⊎ (asserted_in (names_of s) (sexp_of term) ≡ Err fault)) }
         ensures unchanged { OnErr result ((s : Signature) → StandsFor self.old s → StandsFor self.new s) }
         ensures grown { Extends (contents_of self.old) (contents_of self.new) }
     {
         let mut labels = Labels::new(self.alloc);
-        let sort = self.sort_of(&[], &mut labels, term)?;
+        let sort = self.sort_of(&[], &mut labels, &term)?;
         if !are_equal(sort, Sort::Bool) {
             return Err(TermFault::IllSorted);
         }
@@ -51,16 +51,31 @@ impl Library {
         }
     }
 
+    /// As `assert`, but keeps a copy of the term in place of the term itself.
+    #[tactic(auto, using(crate::proofs::ContentsLemmas::extends_itself))]
+    pub fn check_assert(&mut self, term: &Tree) -> Result<TermId, TermFault>
+        ensures asserted { OnOk result ((s : Signature) → StandsFor self.old s → (labels : List signature.Entry)
+            × (asserted_in (names_of s) (sexp_of term.now) ≡ Ok labels) × StandsFor self.new (with_entries s labels)) }
+        ensures term { IfOk result (λ i. IsTerm self.new i (sexp_of term.now)) }
+        ensures refused { IfErr result (λ fault. (s : Signature) → StandsFor self.old s
+            → (fault ≡ Memory) ⊎ (asserted_in (names_of s) (sexp_of term.now) ≡ Err fault)) }
+        ensures unchanged { OnErr result ((s : Signature) → StandsFor self.old s → StandsFor self.new s) }
+        ensures grown { Extends (contents_of self.old) (contents_of self.new) }
+    {
+        let copy = term.copy(self.alloc)?;
+        self.assert(copy)
+    }
+
     // Adds the labels that an assertion gave, and its term. Only want of memory is refused; then some of them may have been added.
-    fn add_assertion(&mut self, labels: &[Label], term: &Tree) -> Result<TermId, TermFault>
+    fn add_assertion(&mut self, labels: &[Label], term: Tree) -> Result<TermId, TermFault>
         requires { AreNew (ranks_of_library self.old) labels.now }
         ensures added { OnOk result ((s : Signature) → StandsFor self.old s → StandsFor self.new (with_entries s (map label_entry labels.now))) }
-        ensures term { IfOk result (λ i. IsTerm self.new i (sexp_of term.now)) }
+        ensures term { IfOk result (λ i. IsTerm self.new i (sexp_of term)) }
         ensures refused { IfErr result (λ fault. fault ≡ Memory) }
         ensures grown { Extends (contents_of self.old) (contents_of self.new) }
     {
         self.add_labels(labels)?;
-        self.add_term(term)
+        self.push_term(term)
     }
 
     // Adds labels, each as a constant that its term defines. Only want of memory is refused; then some of them may have been added.

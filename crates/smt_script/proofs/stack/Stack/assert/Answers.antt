@@ -13,7 +13,7 @@ use Rattle.smt_script.proofs.stack.Stack.assert.Goals as goal
 pub returns-in_err-term-clause-refused : goal.returns-in_err-term-clause-refused
 returns-in_err-term-clause-refused c =
     let p = err_from_is_err_and c.from_residual.result c.from_residual.ensures.1 in
-    let term = sexp_of c.args.term.now in
+    let term = sexp_of c.args.term in
     rw p.1
     (λ cs h.
     let s = signature_in_force cs in
@@ -23,16 +23,16 @@ returns-in_err-term-clause-refused c =
 pub returns-in_err-term-clause-unchanged : goal.returns-in_err-term-clause-unchanged
 returns-in_err-term-clause-unchanged c =
     let p = err_from_is_err_and c.from_residual.result c.from_residual.ensures.1 in
-    rw p.1 (unchanged_by c.args.self.now c.check_assert.new.self c.args.self.now.assertions c.in_err-term.ensures.unchanged c.in_err-term.ensures.grown refl)
+    rw p.1 (unchanged_by c.args.self.now c.assert.new.self c.args.self.now.assertions c.in_err-term.ensures.unchanged c.in_err-term.ensures.grown refl)
 
 pub returns-in-Ok-clause-effect : goal.returns-in-Ok-clause-effect
 returns-in-Ok-clause-effect c =
-    assert_effect c.args.self.now c.check_assert.new.self c.push.new.self (record { command = c.args.number; term = c.in_ok-term.term }) (sexp_of c.args.term.now)
+    assert_effect c.args.self.now c.assert.new.self c.push.new.self (record { command = c.args.number; term = c.in_ok-term.term }) (sexp_of c.args.term)
     c.in_ok-term.ensures.asserted c.in_ok-term.ensures.term c.in_ok-term.ensures.grown c.in-Ok.ensures.items
 
 pub returns-in-Err-clause-unchanged : goal.returns-in-Err-clause-unchanged
 returns-in-Err-clause-unchanged c =
     let before = contents_of c.args.self.now.library in
-    let after = contents_of c.check_assert.new.self in
+    let after = contents_of c.assert.new.self in
     let same = c.cut.ensures ∙ mark_kept c.mark-mark.result before after c.mark-mark.ensures.within c.in_ok-term.ensures.grown ∙ c.mark-mark.ensures.all in
     unchanged_by c.args.self.now c.cut.new.self c.push.new.self (λ s stands. subst (λ (x : Contents). Holds x s) (sym same) stands) (subst (λ (x : Contents). Extends before x) (sym same) (extends_itself before)) c.in-Err.ensures.items

@@ -7,17 +7,17 @@ use Rattle.smt_terms.specs.Library.{StandsFor}
 use Rattle.smt_terms.specs.Signature.{with_entries}
 use Rattle.smt_terms.proofs.AssertionLemmas.{asserted_by, given_are_new, undone}
 use Rattle.smt_terms.proofs.ContentsLemmas.{extends_itself}
-use Rattle.smt_terms.proofs.library.Library.check_assert.Goals as goal
+use Rattle.smt_terms.proofs.library.Library.assert.Goals as goal
 
 pub add_assertion-requires : goal.add_assertion-requires
 add_assertion-requires c =
     subst (λ ls. AreNew (ranks_of_library c.args.self.now) ls) (sym c.as_slice.ensures.value)
-    (given_are_new c.args.self.now c.new-labels.result c.sort_of.new.labels (sexp_of c.args.term.now) c.in_ok-sort.sort c.new-labels.ensures.view c.new-labels.ensures.given c.in_ok-sort.ensures.sort c.in_ok-sort.ensures.labels)
+    (given_are_new c.args.self.now c.new-labels.result c.sort_of.new.labels (sexp_of c.args.term) c.in_ok-sort.sort c.new-labels.ensures.view c.new-labels.ensures.given c.in_ok-sort.ensures.sort c.in_ok-sort.ensures.labels)
 
 pub returns-in-Ok-clause-asserted : goal.returns-in-Ok-clause-asserted
 returns-in-Ok-clause-asserted c = λ s stands. (
   map label_entry c.sort_of.new.labels.given.items,
-  asserted_by c.args.self.now s c.new-labels.result c.sort_of.new.labels (sexp_of c.args.term.now) c.in_ok-sort.sort stands c.new-labels.ensures.view c.new-labels.ensures.given c.in_ok-sort.ensures.sort
+  asserted_by c.args.self.now s c.new-labels.result c.sort_of.new.labels (sexp_of c.args.term) c.in_ok-sort.sort stands c.new-labels.ensures.view c.new-labels.ensures.given c.in_ok-sort.ensures.sort
       (sym c.are_equal.ensures ∙ c.if-not-are_equal.false) c.in_ok-sort.ensures.labels,
   subst (λ ls. StandsFor c.add_assertion.new.self (with_entries s (map label_entry ls))) c.as_slice.ensures.value (c.in-Ok.ensures.added s stands),
 )
