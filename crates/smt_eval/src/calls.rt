@@ -1,6 +1,8 @@
 //! What names mean: operators, and definitions, whose bodies see their parameters and the definitions before them.
 
-ghost use Rattle.std.specs.Prelude.{◌≡◌, List, Option, IsTrue, ◌<◌, Some, length, slice_get, IfOk};
+ghost use Rattle.std.specs.Prelude.{◌≡◌, ◌<◌, Some, length, map, slice_get, IfOk};
+ghost use Rattle.std.specs.List.{zip};
+ghost use Rattle.smt_text.specs.Tree.{sexp_of};
 ghost use Rattle.smt_values.specs.Element.{Element, known_element, known_elements};
 ghost use Rattle.smt_values.specs.KnownOperations.{known_choice};
 ghost use Rattle.smt_terms.specs.Identifier.{Plain};
@@ -9,14 +11,15 @@ ghost use Rattle.smt_terms.specs.Signature.{Entry, Signature};
 ghost use Rattle.smt_eval.specs.Internal.DefinitionValues as values;
 ghost use Rattle.smt_eval.specs.Internal.DefinitionValues.{first};
 ghost use Rattle.smt_eval.specs.Internal.Evaluation.{Evaluates, bodies_of, meaning_over};
-ghost use Rattle.smt_eval.specs.Known.{known_defined, known_in, known_of_op};
+ghost use Rattle.smt_eval.specs.Known.{known_defined, known_in, known_of, known_of_op};
 
 use crate::definitions::{Definitions, definition_at, place_of};
 use crate::evaluator::known_value;
 use crate::memory::Memory;
 use crate::scope::bind;
 use smt_terms::Identifier;
-use smt_theory::{Op, OpFault, op_of};
+use smt_text::Tree;
+use smt_theory::{Op, OpFault, Sort, op_of};
 use smt_values::{Value, apply};
 
 /// What is known of an identifier applied to arguments.
@@ -40,6 +43,7 @@ pub(crate) fn known_applied(
 
 /// What is known of a symbol that is no variable, applied to arguments: what its definition gives, or what the operator does.
 #[cycle(known)]
+#[inline(always)]
 pub(crate) fn known_plain(
     over: Definitions<'_>,
     name: &[u8],
@@ -56,6 +60,7 @@ pub(crate) fn known_plain(
 
 /// What the definition at a place gives for arguments: a constant its value, and a function that of its body.
 #[cycle(known)]
+#[inline(always)]
 pub(crate) fn known_at(
     over: Definitions<'_>,
     place: usize,
@@ -68,8 +73,27 @@ pub(crate) fn known_at(
 {
     let (params, body) = definition_at(over, place);
     if params.is_empty() {
-        return Ok(over.values[place]);
+        Ok(over.values[place])
+    } else {
+        known_body(over, place, params, body, args)
     }
+}
+
+// What the body of a function at a place gives for arguments, over the definitions before it.
+#[cycle(known)]
+fn known_body(
+    over: Definitions<'_>,
+    place: usize,
+    params: &[(Vec<u8>, Sort)],
+    body: &Tree,
+    args: &[Option<Value>],
+) -> Result<Option<Value>, Memory>
+    requires over { (d : Signature) × Evaluates over d }
+    requires seen { place < over.count }
+    requires body { slice_get (bodies_of over) place ≡ Some (Some (sexp_of body.now)) }
+    ensures { (d : Signature) → Evaluates over.entry d
+        → IfOk result (λ v. known_element v ≡ known_of (known_in (first place d)) (zip (map (λ p. p.0.items) params.now) (known_elements args.now)) (sexp_of body.now)) }
+{
     let variables = bind(over.model.alloc(), params, args)?;
     let earlier = Definitions {
         script: over.script,

@@ -242,17 +242,21 @@ fn known_operated<'a>(
 {
     match args {
         [only] => Ok(apply(op, &[known_value(over, scope, only)?])),
-        [first, second] => {
-            let first = known_value(over, scope, first)?;
-            let second = known_value(over, scope, second)?;
-            Ok(apply(op, &[first, second]))
-        }
-        [first, second, third] => {
-            let first = known_value(over, scope, first)?;
-            let second = known_value(over, scope, second)?;
-            let third = known_value(over, scope, third)?;
-            Ok(apply(op, &[first, second, third]))
-        }
+        [first, second] => Ok(apply(
+            op,
+            &[
+                known_value(over, scope, first)?,
+                known_value(over, scope, second)?,
+            ],
+        )),
+        [first, second, third] => Ok(apply(
+            op,
+            &[
+                known_value(over, scope, first)?,
+                known_value(over, scope, second)?,
+                known_value(over, scope, third)?,
+            ],
+        )),
         _ => {
             let known = known_all(over, scope, args)?;
             Ok(apply(op, known.as_slice()))

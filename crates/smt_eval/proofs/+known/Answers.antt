@@ -57,18 +57,23 @@ calls::known_at-returns-then-is_empty t c = λ d f e at.
     ap known_element (get_or_default c.args.over.values.now c.args.place c.index-over-place.result None within)
     ∙ kept d c.args.over.values.now c.args.place f (sexp_of c.definition_at.result.1.now) (known_elements c.args.args.now) e.valued at within origin
 
-pub calls::known_at-known_value-requires : goal.calls::known_at-known_value-requires
-calls::known_at-known_value-requires t c =
-    let w = lighter (bodies_of c.args.over) c.args.place c.args.over.count (sexp_of c.definition_at.result.1.now) c.definition_at.ensures.body c.requires.seen in
-    (omega (arith, w, c.decreases), (c.requires.over.0, earlier c.args.over c.requires.over.0 c.args.place c.requires.over.1 c.requires.seen))
-
-pub calls::known_at-returns : goal.calls::known_at-returns
-calls::known_at-returns t c = λ d f e at.
+pub calls::known_at-returns-else-is_empty : goal.calls::known_at-returns-else-is_empty
+calls::known_at-returns-else-is_empty t c = λ d f e at.
     let g = c.definition_at.ensures.defined d e in
     let m = known_in (first c.args.place d) in
-    let body = sexp_of c.definition_at.result.1.now in
+    if_known c.known_body.result _ _ (c.known_body.ensures d e)
+    (sym (ap (λ o. known_defined m o (known_elements c.args.args.now)) (by_origin d.entries c.args.place f g.0 at g.1 g.2)))
+
+pub calls::known_body-known_value-requires : goal.calls::known_body-known_value-requires
+calls::known_body-known_value-requires t c =
+    let w = lighter (bodies_of c.args.over) c.args.place c.args.over.count (sexp_of c.args.body.now) c.requires.body c.requires.seen in
+    (omega (arith, w, c.decreases), (c.requires.over.0, earlier c.args.over c.requires.over.0 c.args.place c.requires.over.1 c.requires.seen))
+
+pub calls::known_body-returns : goal.calls::known_body-returns
+calls::known_body-returns t c = λ d e.
+    let m = known_in (first c.args.place d) in
     if_known c.known_value.result _ _ (c.known_value.ensures d (earlier c.args.over d c.args.place e c.requires.seen))
-    (ap (λ r. known_of m r body) (ap known_scope c.as_slice.ensures.value ∙ c.in_ok-variables.ensures) ∙ sym (ap (λ o. known_defined m o (known_elements c.args.args.now)) (by_origin d.entries c.args.place f g.0 at g.1 g.2)))
+    (ap (λ r. known_of m r (sexp_of c.args.body.now)) (ap known_scope c.as_slice.ensures.value ∙ c.in_ok-variables.ensures))
 
 -- ---- terms
 

@@ -14,7 +14,7 @@ abbrev pub decreases-evaluator::known_other : goal.decreases-evaluator::known_ot
 decreases-evaluator::known_other l = 8 * (seen_weight l.over + weight (sexp_of l.term.now))
 
 abbrev pub decreases-evaluator::known_symbol : goal.decreases-evaluator::known_symbol
-decreases-evaluator::known_symbol l = 8 * seen_weight l.over + 4
+decreases-evaluator::known_symbol l = 8 * seen_weight l.over + 6
 
 abbrev pub decreases-evaluator::known_list : goal.decreases-evaluator::known_list
 decreases-evaluator::known_list l = 8 * (seen_weight l.over + weight_all l.parts.now) + 7
@@ -44,13 +44,16 @@ abbrev pub decreases-evaluator::known_all : goal.decreases-evaluator::known_all
 decreases-evaluator::known_all l = 8 * (seen_weight l.over + weight_all (sexps_of l.terms.now)) + 4
 
 abbrev pub decreases-calls::known_applied : goal.decreases-calls::known_applied
-decreases-calls::known_applied l = 8 * seen_weight l.over + 4
+decreases-calls::known_applied l = 8 * seen_weight l.over + 5
 
 abbrev pub decreases-calls::known_plain : goal.decreases-calls::known_plain
-decreases-calls::known_plain l = 8 * seen_weight l.over + 3
+decreases-calls::known_plain l = 8 * seen_weight l.over + 4
 
 abbrev pub decreases-calls::known_at : goal.decreases-calls::known_at
-decreases-calls::known_at l = 8 * seen_weight l.over + 2
+decreases-calls::known_at l = 8 * seen_weight l.over + 3
+
+abbrev pub decreases-calls::known_body : goal.decreases-calls::known_body
+decreases-calls::known_body l = 8 * seen_weight l.over + 2
 
 abbrev pub invariant-evaluator::known_all-loop-term : goal.invariant-evaluator::known_all-loop-term
 invariant-evaluator::known_all-loop-term l = record {
