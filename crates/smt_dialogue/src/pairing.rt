@@ -1,6 +1,6 @@
 //! The commands of a dialogue, each with its answer.
 
-ghost use Rattle.std.specs.Prelude.{◌≡◌, ◌<◌, ◌≤◌, ◌+◌, ◌^◌, Bool, List, Option, [], length, Ok, Err, Some, None, true, IfOk, option_map};
+ghost use Rattle.std.specs.Prelude.{◌≡◌, ◌<◌, ◌≤◌, ◌+◌, ◌^◌, Bool, List, Option, [], Ok, Err, Some, None, IfOk, option_map};
 ghost use Rattle.smt_text.specs.Sexp.{Sexps, Nil};
 ghost use Rattle.smt_text.specs.Tree.{sexp_of, sexps_of};
 ghost use Rattle.smt_text.specs.declared.fault.TextFault.{TextFault as Fault};

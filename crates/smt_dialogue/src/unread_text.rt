@@ -1,6 +1,6 @@
 //! Texts that are read as their trees are taken.
 
-ghost use Rattle.std.specs.Prelude.{◌≡◌, ◌<◌, List, ℕ, true, false, Option, IfOk};
+ghost use Rattle.std.specs.Prelude.{◌≡◌, ◌<◌, true, false, Option, IfOk};
 ghost use Rattle.smt_text.specs.Grammar.{limit};
 ghost use Rattle.smt_text.specs.Reading.{Reads};
 ghost use Rattle.smt_text.specs.Sexp.{Sexps};

@@ -3,8 +3,7 @@
 ghost use Rattle.std.specs.Prelude.{◌≡◌, ◌<◌, Some, length, map, slice_get, IfOk};
 ghost use Rattle.std.specs.List.{zip};
 ghost use Rattle.smt_text.specs.Tree.{sexp_of};
-ghost use Rattle.smt_values.specs.Element.{Element, known_element, known_elements};
-ghost use Rattle.smt_values.specs.KnownOperations.{known_choice};
+ghost use Rattle.smt_values.specs.Element.{known_element, known_elements};
 ghost use Rattle.smt_terms.specs.Identifier.{Plain};
 ghost use Rattle.smt_terms.specs.IdentifierView.{identifier_view};
 ghost use Rattle.smt_terms.specs.Signature.{Entry, Signature};

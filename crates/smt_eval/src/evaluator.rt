@@ -12,7 +12,7 @@ ghost use Rattle.smt_theory.specs.declared.op.Op.TheVariants.{Core};
 ghost use Rattle.smt_terms.specs.Identifier.{applied, indexed};
 ghost use Rattle.smt_terms.specs.Signature.{Signature};
 ghost use Rattle.smt_eval.specs.Internal.Evaluation.{Evaluates, known_scope, meaning_over};
-ghost use Rattle.smt_eval.specs.Known.{known_by, known_of, known_of_op, knowns_bound, knowns_of};
+ghost use Rattle.smt_eval.specs.Known.{known_by, known_of, knowns_bound, knowns_of};
 
 use crate::calls::{known_applied, known_at, known_of_operator, known_plain};
 use crate::definitions::{Definitions, place_of};
