@@ -43,9 +43,9 @@ ints_name (Comparison AtLeast) = codes ">="
 ints_name (Comparison Greater) = codes ">"
 ints_name (Divisible n) = codes "divisible"
 
--- the plain operators, that is those without indexes; of Core those that are met most often come first
+-- the plain operators, that is those without indexes
 abbrev pub core_plain : List CoreOp
-core_plain = And ∷ Or ∷ Not ∷ Equal ∷ Implies ∷ Ite ∷ Distinct ∷ Xor ∷ True ∷ False ∷ []
+core_plain = True ∷ False ∷ Not ∷ Implies ∷ And ∷ Or ∷ Xor ∷ Equal ∷ Distinct ∷ Ite ∷ []
 
 abbrev pub ints_plain : List IntsOp
 ints_plain =

@@ -68,26 +68,26 @@ fn divisible(indexes: &[Index]) -> Option<Op>
 fn core_op(symbol: &[u8]) -> Option<CoreOp>
     ensures { result ≡ core_named symbol.now }
 {
-    if is_named(symbol, b"and") {
-        Some(CoreOp::And)
-    } else if is_named(symbol, b"or") {
-        Some(CoreOp::Or)
-    } else if is_named(symbol, b"not") {
-        Some(CoreOp::Not)
-    } else if is_named(symbol, b"=") {
-        Some(CoreOp::Equal)
-    } else if is_named(symbol, b"=>") {
-        Some(CoreOp::Implies)
-    } else if is_named(symbol, b"ite") {
-        Some(CoreOp::Ite)
-    } else if is_named(symbol, b"distinct") {
-        Some(CoreOp::Distinct)
-    } else if is_named(symbol, b"xor") {
-        Some(CoreOp::Xor)
-    } else if is_named(symbol, b"true") {
+    if is_named(symbol, b"true") {
         Some(CoreOp::True)
     } else if is_named(symbol, b"false") {
         Some(CoreOp::False)
+    } else if is_named(symbol, b"not") {
+        Some(CoreOp::Not)
+    } else if is_named(symbol, b"=>") {
+        Some(CoreOp::Implies)
+    } else if is_named(symbol, b"and") {
+        Some(CoreOp::And)
+    } else if is_named(symbol, b"or") {
+        Some(CoreOp::Or)
+    } else if is_named(symbol, b"xor") {
+        Some(CoreOp::Xor)
+    } else if is_named(symbol, b"=") {
+        Some(CoreOp::Equal)
+    } else if is_named(symbol, b"distinct") {
+        Some(CoreOp::Distinct)
+    } else if is_named(symbol, b"ite") {
+        Some(CoreOp::Ite)
     } else {
         None
     }
