@@ -1,5 +1,5 @@
 -- What the map of a library says of its names.
-use Rattle.std.proofs.Common.{◌≡◌, ℕ, Bool, true, false, cond, List, [], ◌∷◌, ◌++◌, map, slice_get, Option, Some, None, option_map, option_copied, refl, ap, sym, ◌∙◌, Bor}
+use Rattle.std.proofs.Common.{◌≡◌, ◌≤◌, ◌+◌, ℕ, zero, suc, Bool, true, false, cond, List, [], ◌∷◌, ◌++◌, length, drop, map, slice_get, Option, Some, None, option_map, option_copied, refl, ap, sym, ◌∙◌, arith, add-one, Bor}
 use Rattle.std.specs.Global.{Vec}
 use Rattle.std.proofs.lemmas.Option.{slice_get-map}
 use Rattle.std.proofs.lemmas.Map.Made.{lookup_key_passes}
@@ -67,3 +67,25 @@ inserted view (p ∷ es) k v h =
 pub goes_last : {V A B : Type 0} (rank : V → B) (view : V → A) (es new : Pairs V) (k : Vec ℕ) (x : List ℕ) (v : V) → look_up (viewed rank es) x ≡ None → k.items ≡ x → new ≡ insert_entry same_key es k v → viewed view new ≡ viewed view es ++ (x, view v) ∷ []
 goes_last rank view es new k x v absent same is =
     ap (viewed view) is ∙ inserted view es k v (ap (look_up (viewed view es)) same ∙ absent_too rank view es x absent) ∙ ap (λ n. viewed view es ++ (n, view v) ∷ []) same
+
+-- among the entries from a place on, a name is that of the one there, or stands behind it
+look_from : {V : Type 0} (es : Pairs V) (x : List ℕ) (n : ℕ) (p : Vec ℕ × V) → slice_get es n ≡ Some p
+    → look_up (viewed (λ v. v) (drop n es)) x ≡ cond (bytes_eq x p.0.items) (Some p.1) (look_up (viewed (λ v. v) (drop (suc n) es)) x)
+look_from [] x n p at = cc
+look_from {V = V} (e ∷ es) x zero p at = let is : e ≡ p = cc in ap (λ (q : Vec ℕ × V). cond (bytes_eq x q.0.items) (Some q.1) (look_up (viewed (λ v. v) es) x)) is
+look_from (e ∷ es) x (suc n) p at = look_from es x n p at
+
+pub look_on : {V : Type 0} (es : Pairs V) (x : List ℕ) (n : ℕ) (p : Vec ℕ × V) → slice_get es n ≡ Some p
+    → look_up (viewed (λ v. v) (drop n es)) x ≡ cond (bytes_eq x p.0.items) (Some p.1) (look_up (viewed (λ v. v) (drop (n + 1) es)) x)
+look_on es x n p at = rw add-one (look_from es x n p at)
+
+-- behind all entries there is none
+pub look_past : {V : Type 0} (es : Pairs V) (x : List ℕ) (n : ℕ) → length es ≤ n → look_up (viewed (λ v. v) (drop n es)) x ≡ None
+look_past [] x zero h = refl
+look_past [] x (suc n) h = refl
+look_past (e ∷ es) x zero h = absurd (omega (arith, h))
+look_past (e ∷ es) x (suc n) h = look_past es x n (omega (arith, h))
+
+-- what was found one by one is what the name stands for
+pub found_few : {V A : Type 0} (view : V → A) (es : Pairs V) (x : List ℕ) (r : Option (Bor V)) → option_copied r ≡ look_up (viewed (λ v. v) es) x → option_map (λ e. view e.now) r ≡ look_up (viewed view es) x
+found_few view es x r h = found_by view es x r (h ∙ sym (found_itself es x))

@@ -25,6 +25,9 @@ use smt_text::Tree;
 use smt_theory::{Sort, Theories, op_of};
 use std::alloc::Global;
 
+// Among how many names a name is compared with each.
+const FEW: usize = 8;
+
 /// What a name stands for: a function of a rank.
 #[derive(Drop)]
 struct Entry {
@@ -87,7 +90,7 @@ pub struct Library {
 }
 
 impl Library {
-    ghost use Rattle.std.specs.Prelude.{◌≡◌, ◌<◌, ◌∷◌, ◌++◌, ◌⊎◌, ◌||◌, List, [], map, is_some, length, slice_get, option_map, Some, None, Ok, Err, MatchOption, MatchResult, OnOk, OnErr, IfOk, IfErr};
+    ghost use Rattle.std.specs.Prelude.{◌≡◌, ◌<◌, ◌∷◌, ◌++◌, ◌⊎◌, ◌||◌, List, [], map, is_some, length, slice_get, option_copied, option_map, Some, None, Ok, Err, MatchOption, MatchResult, OnOk, OnErr, IfOk, IfErr};
     ghost use Rattle.smt_text.specs.Sexp.{Sexp};
     ghost use Rattle.smt_text.specs.Tree.{sexp_of, sexps_of};
     ghost use Rattle.smt_theory.specs.Operators.{is_plain_operator};
@@ -252,7 +255,24 @@ impl Library {
         ensures ranked { option_map (λ e. rank_of e.now) result ≡ look_up (names_of_library self.now).ranks name.now }
         ensures placed { option_map (λ e. e.now.place) result ≡ look_up (places_of_library self.now) name.now }
     {
-        self.names.get(name)
+        if self.names.len() > FEW {
+            self.names.get(name)
+        } else {
+            self.get_among_few(name)
+        }
+    }
+
+    // The same, by comparing one name after another: for few that takes less than a hash.
+    fn get_among_few(&self, name: &[u8]) -> Option<&Entry>
+        ensures { option_copied result ≡ look_up (map (λ p. (p.0.items, p.1)) self.now.names.entries) name.now }
+    {
+        for place in 0..self.names.len() {
+            let (key, entry) = self.names.get_index(place).unwrap();
+            if name == key.as_slice() {
+                return Some(entry);
+            }
+        }
+        None
     }
 
     // Where a name stands.
