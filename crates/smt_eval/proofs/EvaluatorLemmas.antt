@@ -5,7 +5,7 @@ use Rattle.std.proofs.lemmas.List.{map-append}
 use Rattle.std.specs.Bool.{◌==◌}
 use Rattle.std.specs.Prelude.{bytes_eq, ok_or, option_map, unwrap_or}
 use Rattle.smt_text.specs.Sexp.{Sexp, Sexps, Atom, Reserved, Items, Nil, Cons, Symbol, weight}
-use Rattle.smt_text.specs.Tree.{sexp_of}
+use Rattle.smt_text.specs.Tree.{sexp_of, sexps_of}
 use Rattle.smt_text.specs.declared.reserved.Word.{Word}
 use Rattle.smt_text.specs.declared.reserved.Word.TheVariants.{Let}
 use Rattle.smt_text.specs.declared.tree.Tree.{Tree}
@@ -187,6 +187,22 @@ pub operator_applied : (d : Signature) (n : ℕ) (x : List ℕ) (known : List (O
     → entry_named (take n d.entries) x ≡ None → o ≡ op_by d.theories x [] → known_of_op o known ≡ known_by (applied (Atom Symbol x) args) (λ f. known_in (first n d) f known)
 operator_applied d n x known o split none is =
     ap (λ r. known_of_op r known) is ∙ sym (not_defined d n x known none) ∙ sym (ap (λ ts. known_by (applied (Atom Symbol x) ts) (λ f. known_in (first n d) f known)) split)
+
+-- lists of one tree, of two and of three
+pub one_of : (ts : List Tree) (a : Tree) → 1 ≤ length ts → length ts < 2 → a ≡ get_or ts 0 a → sexps_of ts ≡ Cons (sexp_of a) Nil
+one_of [] a h k is = absurd (omega (arith, h))
+one_of (t ∷ []) a h k is = ap (λ (x : Tree). Cons (sexp_of x) Nil) (sym is)
+one_of (t ∷ u ∷ ts) a h k is = absurd (omega (arith, k))
+
+pub two_of : (ts : List Tree) (a b : Tree) → 2 ≤ length ts → length ts < 3 → a ≡ get_or ts 0 a → b ≡ get_or ts 1 b → sexps_of ts ≡ Cons (sexp_of a) (Cons (sexp_of b) Nil)
+two_of [] a b h k is then = absurd (omega (arith, h))
+two_of (t ∷ ts) a b h k is then = ap (λ (x : Tree). Cons (sexp_of x) (sexps_of ts)) (sym is) ∙ ap (Cons (sexp_of a)) (one_of ts b (omega (arith, h)) (omega (arith, k)) then)
+
+pub three_of : (ts : List Tree) (a b c : Tree) → 3 ≤ length ts → length ts < 4 → a ≡ get_or ts 0 a → b ≡ get_or ts 1 b → c ≡ get_or ts 2 c
+    → sexps_of ts ≡ Cons (sexp_of a) (Cons (sexp_of b) (Cons (sexp_of c) Nil))
+three_of [] a b c h k is then last = absurd (omega (arith, h))
+three_of (t ∷ ts) a b c h k is then last =
+    ap (λ (x : Tree). Cons (sexp_of x) (sexps_of ts)) (sym is) ∙ ap (Cons (sexp_of a)) (two_of ts b c (omega (arith, h)) (omega (arith, k)) then last)
 
 -- ---- weights
 

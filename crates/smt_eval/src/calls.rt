@@ -80,6 +80,7 @@ pub(crate) fn known_at(
 
 // What the body of a function at a place gives for arguments, over the definitions before it.
 #[cycle(known)]
+#[inline(never)]
 fn known_body(
     over: Definitions<'_>,
     place: usize,

@@ -1,7 +1,7 @@
 //! Evaluation of terms.
 
 ghost use Rattle.std.specs.Prelude.{◌≡◌, [], IfOk, IsTrue};
-ghost use Rattle.smt_text.specs.Sexp.{Atom, Cons, Items, Reserved, Symbol};
+ghost use Rattle.smt_text.specs.Sexp.{Atom, Cons, Items, Nil, Reserved, Symbol};
 ghost use Rattle.smt_text.specs.Tree.{sexp_of, sexps_of};
 ghost use Rattle.smt_text.specs.declared.reserved.Word.TheVariants.{Let};
 ghost use Rattle.smt_values.specs.KnownOperations as operations;
@@ -103,6 +103,7 @@ fn known_list<'a>(
 
 // What is known of a list that begins with a reserved word, by what stands behind it.
 #[cycle(known)]
+#[inline(never)]
 fn known_reserved<'a>(
     over: Definitions<'_>,
     scope: &[Variable<'a, Option<Value>>],
@@ -241,22 +242,9 @@ fn known_operated<'a>(
         → IfOk result (λ v. known_element v ≡ known_step op (knowns_of (meaning_over over.entry d) (known_scope scope.now) (sexps_of args.now))) }
 {
     match args {
-        [only] => Ok(apply(op, &[known_value(over, scope, only)?])),
-        [first, second] => Ok(apply(
-            op,
-            &[
-                known_value(over, scope, first)?,
-                known_value(over, scope, second)?,
-            ],
-        )),
-        [first, second, third] => Ok(apply(
-            op,
-            &[
-                known_value(over, scope, first)?,
-                known_value(over, scope, second)?,
-                known_value(over, scope, third)?,
-            ],
-        )),
+        [only] => known_of_one(over, scope, op, only),
+        [first, second] => known_of_two(over, scope, op, first, second),
+        [first, second, third] => known_of_three(over, scope, op, first, second, third),
         _ => {
             let known = known_all(over, scope, args)?;
             Ok(apply(op, known.as_slice()))
@@ -264,8 +252,72 @@ fn known_operated<'a>(
     }
 }
 
+// The same of one argument, of two and of three: each out of line, since the room for all would be cleared at each call.
+#[cycle(known)]
+#[inline(never)]
+fn known_of_one<'a>(
+    over: Definitions<'_>,
+    scope: &[Variable<'a, Option<Value>>],
+    op: Op,
+    only: &'a Tree,
+) -> Result<Option<Value>, Memory>
+    requires { (d : Signature) × Evaluates over d }
+    ensures { (d : Signature) → Evaluates over.entry d
+        → IfOk result (λ v. known_element v ≡ known_step op (knowns_of (meaning_over over.entry d) (known_scope scope.now) (Cons (sexp_of only.now) Nil))) }
+{
+    Ok(apply(op, &[known_value(over, scope, only)?]))
+}
+
+#[cycle(known)]
+#[inline(never)]
+fn known_of_two<'a>(
+    over: Definitions<'_>,
+    scope: &[Variable<'a, Option<Value>>],
+    op: Op,
+    first: &'a Tree,
+    second: &'a Tree,
+) -> Result<Option<Value>, Memory>
+    requires { (d : Signature) × Evaluates over d }
+    ensures { (d : Signature) → Evaluates over.entry d
+        → IfOk result (λ v. known_element v ≡ known_step op (knowns_of (meaning_over over.entry d) (known_scope scope.now) (Cons (sexp_of first.now) (Cons (sexp_of second.now) Nil)))) }
+{
+    Ok(apply(
+        op,
+        &[
+            known_value(over, scope, first)?,
+            known_value(over, scope, second)?,
+        ],
+    ))
+}
+
+#[cycle(known)]
+#[inline(never)]
+fn known_of_three<'a>(
+    over: Definitions<'_>,
+    scope: &[Variable<'a, Option<Value>>],
+    op: Op,
+    first: &'a Tree,
+    second: &'a Tree,
+    third: &'a Tree,
+) -> Result<Option<Value>, Memory>
+    requires { (d : Signature) × Evaluates over d }
+    ensures { (d : Signature) → Evaluates over.entry d
+        → IfOk result (λ v. known_element v
+        ≡ known_step op (knowns_of (meaning_over over.entry d) (known_scope scope.now) (Cons (sexp_of first.now) (Cons (sexp_of second.now) (Cons (sexp_of third.now) Nil))))) }
+{
+    Ok(apply(
+        op,
+        &[
+            known_value(over, scope, first)?,
+            known_value(over, scope, second)?,
+            known_value(over, scope, third)?,
+        ],
+    ))
+}
+
 // What is known of what a head is applied to: the head is no reserved word that begins a term.
 #[cycle(known)]
+#[inline(never)]
 fn known_call<'a>(
     over: Definitions<'_>,
     scope: &[Variable<'a, Option<Value>>],
@@ -288,6 +340,7 @@ fn known_call<'a>(
 
 // What is known of the choice that `ite` makes between terms: the other branch is not evaluated.
 #[cycle(known)]
+#[inline(never)]
 fn known_choice<'a>(
     over: Definitions<'_>,
     scope: &[Variable<'a, Option<Value>>],
@@ -318,6 +371,7 @@ fn known_choice<'a>(
 
 // What is known of terms, in order.
 #[cycle(known)]
+#[inline(never)]
 fn known_all<'a>(
     over: Definitions<'_>,
     scope: &[Variable<'a, Option<Value>>],

@@ -13,7 +13,7 @@ use Rattle.smt_terms.specs.Signature.{Defined}
 use Rattle.smt_eval.specs.Internal.DefinitionValues.{first}
 use Rattle.smt_eval.specs.Internal.Evaluation.{bodies_of, known_scope, meaning_over}
 use Rattle.smt_eval.specs.Known.{known_by, known_defined, known_in, known_of, known_of_op, knowns_of}
-use Rattle.smt_eval.proofs.EvaluatorLemmas.{by_origin, defined_means, empty_list, not_reserved, earlier, if_known, indexed_known, kept, let_known, lighter, is_reserved, list_called, operator_applied, no_variable, not_defined, variable_found}
+use Rattle.smt_eval.proofs.EvaluatorLemmas.{by_origin, defined_means, empty_list, not_reserved, earlier, if_known, indexed_known, kept, let_known, lighter, is_reserved, list_called, one_of, operator_applied, no_variable, not_defined, three_of, two_of, variable_found}
 use Rattle.smt_eval.proofs.PlaceLemmas.{all_counted, distinct_entries, theories_are}
 use Rattle.smt_eval.proofs.+known.Goals as goal
 
@@ -174,3 +174,20 @@ pub evaluator::known_operation-returns-then-is_choice : goal.evaluator::known_op
 evaluator::known_operation-returns-then-is_choice t c = λ d e.
     let known = knowns_of (meaning_over c.args.over d) (known_scope c.args.scope.now) (sexps_of c.args.args.now) in
     if_known c.known_choice.result _ _ (c.known_choice.ensures d e) (sym (ap (λ o. known_step o known) (c.if-is_choice.ensures refl)))
+
+-- ---- few arguments
+
+pub evaluator::known_operated-returns-in-len1 : goal.evaluator::known_operated-returns-in-len1
+evaluator::known_operated-returns-in-len1 t c = λ d e.
+    let parts = one_of c.args.args.now c.only-item.result c.in-len1.len_at_least c.in-len1.len_below c.only-item.is in
+    if_known c.known_of_one.result _ _ (c.known_of_one.ensures d e) (sym (ap (λ ts. known_step c.args.op (knowns_of (meaning_over c.args.over d) (known_scope c.args.scope.now) ts)) parts))
+
+pub evaluator::known_operated-returns-in-len2 : goal.evaluator::known_operated-returns-in-len2
+evaluator::known_operated-returns-in-len2 t c = λ d e.
+    let parts = two_of c.args.args.now c.first-item.result c.second-item.result c.in-len2.len_at_least c.in-len2.len_below c.first-item.is c.second-item.is in
+    if_known c.known_of_two.result _ _ (c.known_of_two.ensures d e) (sym (ap (λ ts. known_step c.args.op (knowns_of (meaning_over c.args.over d) (known_scope c.args.scope.now) ts)) parts))
+
+pub evaluator::known_operated-returns-in-len3 : goal.evaluator::known_operated-returns-in-len3
+evaluator::known_operated-returns-in-len3 t c = λ d e.
+    let parts = three_of c.args.args.now c.first-item-then-args-lt4.result c.second-item-then-args-lt4.result c.third-item.result c.in-len3.len_at_least c.in-len3.len_below c.first-item-then-args-lt4.is c.second-item-then-args-lt4.is c.third-item.is in
+    if_known c.known_of_three.result _ _ (c.known_of_three.ensures d e) (sym (ap (λ ts. known_step c.args.op (knowns_of (meaning_over c.args.over d) (known_scope c.args.scope.now) ts)) parts))

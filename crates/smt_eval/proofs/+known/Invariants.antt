@@ -37,6 +37,15 @@ decreases-evaluator::known_operation l = 8 * (seen_weight l.over + weight_all (s
 abbrev pub decreases-evaluator::known_operated : goal.decreases-evaluator::known_operated
 decreases-evaluator::known_operated l = 8 * (seen_weight l.over + weight_all (sexps_of l.args.now)) + 5
 
+abbrev pub decreases-evaluator::known_of_one : goal.decreases-evaluator::known_of_one
+decreases-evaluator::known_of_one l = 8 * (seen_weight l.over + weight (sexp_of l.only.now)) + 4
+
+abbrev pub decreases-evaluator::known_of_two : goal.decreases-evaluator::known_of_two
+decreases-evaluator::known_of_two l = 8 * (seen_weight l.over + weight (sexp_of l.first.now) + weight (sexp_of l.second.now)) + 4
+
+abbrev pub decreases-evaluator::known_of_three : goal.decreases-evaluator::known_of_three
+decreases-evaluator::known_of_three l = 8 * (seen_weight l.over + weight (sexp_of l.first.now) + weight (sexp_of l.second.now) + weight (sexp_of l.third.now)) + 4
+
 abbrev pub decreases-evaluator::known_call : goal.decreases-evaluator::known_call
 decreases-evaluator::known_call l = 8 * (seen_weight l.over + weight_all (sexps_of l.args.now)) + 6
 
