@@ -1,6 +1,6 @@
 //! Evaluation of terms.
 
-ghost use Rattle.std.specs.Prelude.{◌≡◌, ◌<◌, [], Some, slice_get, IfOk, IsTrue};
+ghost use Rattle.std.specs.Prelude.{◌≡◌, [], IfOk, IsTrue};
 ghost use Rattle.smt_text.specs.Sexp.{Atom, Cons, Items, Nil, Reserved, Symbol};
 ghost use Rattle.smt_text.specs.Tree.{sexp_of, sexps_of};
 ghost use Rattle.smt_text.specs.declared.reserved.Word.TheVariants.{Let};
@@ -10,11 +10,9 @@ ghost use Rattle.smt_values.specs.Element.{known_element, known_elements};
 ghost use Rattle.smt_theory.specs.declared.op.CoreOp.TheVariants.{Ite};
 ghost use Rattle.smt_theory.specs.declared.op.Op.TheVariants.{Core};
 ghost use Rattle.smt_terms.specs.Identifier.{applied, indexed};
-ghost use Rattle.smt_terms.specs.Signature.{Entry, Signature};
+ghost use Rattle.smt_terms.specs.Signature.{Signature};
 ghost use Rattle.smt_eval.specs.Internal.Evaluation.{Evaluates, known_scope, meaning_over};
-ghost use Rattle.smt_eval.specs.Internal.DefinitionValues.{first};
-ghost use Rattle.smt_eval.specs.Known as definitions;
-ghost use Rattle.smt_eval.specs.Known.{known_by, known_in, known_of, knowns_bound, knowns_of};
+ghost use Rattle.smt_eval.specs.Known.{known_by, known_of, knowns_bound, knowns_of};
 
 use crate::calls::{known_applied, known_at, known_of_operator, known_plain};
 use crate::definitions::{Definitions, place_of};
@@ -194,30 +192,15 @@ fn known_named<'a>(
         return Ok(None);
     };
     match place_of(over, name) {
-        Some(place) => known_defined(over, scope, place, args),
+        Some(place) => {
+            let known = known_all(over, scope, args)?;
+            known_at(over, place, known.as_slice())
+        }
         None => match op_of(over.model.theories(), name, &[]) {
             Ok(op) => known_operation(over, scope, op, args),
             Err(_) => Ok(None),
         },
     }
-}
-
-// What the definition at a place gives for what is known of the arguments.
-#[cycle(known)]
-#[inline(never)]
-fn known_defined<'a>(
-    over: Definitions<'_>,
-    scope: &[Variable<'a, Option<Value>>],
-    place: usize,
-    args: &'a [Tree],
-) -> Result<Option<Value>, Memory>
-    requires over { (d : Signature) × Evaluates over d }
-    requires seen { place < over.count }
-    ensures { (d : Signature) (e : Entry) → Evaluates over.entry d → slice_get d.entries place ≡ Some e
-        → IfOk result (λ v. known_element v ≡ definitions.known_defined (known_in (first place d)) e.origin (knowns_of (meaning_over over.entry d) (known_scope scope.now) (sexps_of args.now))) }
-{
-    let known = known_all(over, scope, args)?;
-    known_at(over, place, known.as_slice())
 }
 
 // What is known of what an operator is applied to.

@@ -99,7 +99,6 @@ fn alone(command: Command, parts: Parts) -> Option<Command>
 }
 
 // The setting of an option: `:print-success` has to be a truth value, and `:global-declarations` has to be `false`.
-#[inline(never)]
 fn option(parts: Parts) -> Option<Command>
     ensures { option_map command_view result ≡ commands.command_with Word.SetOption (parts_view parts) }
 {
@@ -120,7 +119,6 @@ fn is_print_success(keyword: &Bytes) -> bool
     keyword.as_slice() == b"print-success".as_slice()
 }
 
-#[inline(never)]
 fn info(parts: Parts) -> Option<Command>
     ensures { option_map command_view result ≡ commands.command_with Word.SetInfo (parts_view parts) }
 {
@@ -128,7 +126,6 @@ fn info(parts: Parts) -> Option<Command>
     Some(Command::SetInfo { keyword, value })
 }
 
-#[inline(never)]
 fn constant(parts: Parts) -> Option<Command>
     ensures { option_map command_view result ≡ commands.command_with Word.DeclareConst (parts_view parts) }
 {
@@ -136,7 +133,6 @@ fn constant(parts: Parts) -> Option<Command>
     Some(Command::DeclareConst { name, sort })
 }
 
-#[inline(never)]
 fn function(parts: Parts) -> Option<Command>
     ensures { option_map command_view result ≡ commands.command_with Word.DeclareFun (parts_view parts) }
 {
@@ -144,7 +140,6 @@ fn function(parts: Parts) -> Option<Command>
     Some(Command::DeclareFun { name, params, sort })
 }
 
-#[inline(never)]
 fn definition(parts: Parts) -> Option<Command>
     ensures { option_map command_view result ≡ commands.command_with Word.DefineFun (parts_view parts) }
 {
@@ -157,7 +152,6 @@ fn definition(parts: Parts) -> Option<Command>
     })
 }
 
-#[inline(never)]
 fn abbreviation(parts: Parts) -> Option<Command>
     ensures { option_map command_view result ≡ commands.command_with Word.DefineSort (parts_view parts) }
 {
@@ -172,7 +166,6 @@ fn query(query: Query, parts: Parts) -> Option<Command>
     alone(Command::Get { query }, parts)
 }
 
-#[inline(never)]
 fn asked_values(parts: Parts) -> Option<Command>
     ensures { option_map command_view result ≡ commands.command_with Word.GetValue (parts_view parts) }
 {
@@ -181,7 +174,6 @@ fn asked_values(parts: Parts) -> Option<Command>
     Some(Command::Get { query })
 }
 
-#[inline(never)]
 fn asked_setting(parts: Parts) -> Option<Command>
     ensures { option_map command_view result ≡ commands.command_with Word.GetOption (parts_view parts) }
 {
@@ -190,7 +182,6 @@ fn asked_setting(parts: Parts) -> Option<Command>
     Some(Command::Get { query })
 }
 
-#[inline(never)]
 fn asked_info(parts: Parts) -> Option<Command>
     ensures { option_map command_view result ≡ commands.command_with Word.GetInfo (parts_view parts) }
 {

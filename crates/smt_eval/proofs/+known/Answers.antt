@@ -142,20 +142,18 @@ evaluator::known_list-returns-in-Symbol t c = λ d e.
 
 -- ---- symbols that are applied
 
-pub evaluator::known_named-returns-in-Some-place_of : goal.evaluator::known_named-returns-in-Some-place_of
-evaluator::known_named-returns-in-Some-place_of t c = λ d e.
+pub evaluator::known_named-returns-in_ok-known-in-Some-place_of : goal.evaluator::known_named-returns-in_ok-known-in-Some-place_of
+evaluator::known_named-returns-in_ok-known-in-Some-place_of t c = λ d e.
     let m = meaning_over c.args.over d in
     let name = c.args.name.now in
     let known = knowns_of m (known_scope c.args.scope.now) (sexps_of c.args.args.now) in
     let f = c.in-Some-place_of.ensures.found d e in
-    if_known c.known_defined.result _ _ (c.known_defined.ensures d f.0 e f.1)
-    (sym (defined_means d c.args.over.count c.in-Some-place_of.place f.0 name known (distinct_entries c.args.over d e) f.1 c.in-Some-place_of.ensures.within f.2)
+    let place = c.in-Some-place_of.place in
+    let defined = known_defined (known_in (first place d)) f.0.origin in
+    if_known c.known_at.result _ _ (c.known_at.ensures d f.0 e f.1)
+    (ap (λ vs. defined (known_elements vs)) c.as_slice.ensures.value ∙ ap defined (c.in_ok-known-in-Some-place_of.ensures d e)
+    ∙ sym (defined_means d c.args.over.count place f.0 name known (distinct_entries c.args.over d e) f.1 c.in-Some-place_of.ensures.within f.2)
     ∙ sym (ap (λ ts. known_by (applied (Atom Symbol name) ts) (λ f. m f known)) c.in-Some.ensures))
-
-pub evaluator::known_defined-returns : goal.evaluator::known_defined-returns
-evaluator::known_defined-returns t c = λ d f e at.
-    let defined = known_defined (known_in (first c.args.place d)) f.origin in
-    if_known c.known_at.result _ _ (c.known_at.ensures d f e at) (ap (λ vs. defined (known_elements vs)) c.as_slice.ensures.value ∙ ap defined (c.in_ok-known.ensures d e))
 
 pub evaluator::known_named-returns-in-Ok : goal.evaluator::known_named-returns-in-Ok
 evaluator::known_named-returns-in-Ok t c = λ d e.

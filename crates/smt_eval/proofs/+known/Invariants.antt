@@ -46,9 +46,6 @@ decreases-evaluator::known_of_two l = 8 * (seen_weight l.over + weight (sexp_of 
 abbrev pub decreases-evaluator::known_of_three : goal.decreases-evaluator::known_of_three
 decreases-evaluator::known_of_three l = 8 * (seen_weight l.over + weight (sexp_of l.first.now) + weight (sexp_of l.second.now) + weight (sexp_of l.third.now)) + 4
 
-abbrev pub decreases-evaluator::known_defined : goal.decreases-evaluator::known_defined
-decreases-evaluator::known_defined l = 8 * (seen_weight l.over + weight_all (sexps_of l.args.now)) + 5
-
 abbrev pub decreases-evaluator::known_call : goal.decreases-evaluator::known_call
 decreases-evaluator::known_call l = 8 * (seen_weight l.over + weight_all (sexps_of l.args.now)) + 6
 
