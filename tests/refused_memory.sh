@@ -1,5 +1,5 @@
 #!/bin/sh
-# Runs the reader and the program with each of their requests for memory refused in turn, until a run meets none. Each
+# Runs the reader, which text_rows calls, and the program with each of their requests for memory refused in turn, until a run meets none. Each
 # run has to give the right answer, or to say that memory was refused. Needs what `rt ci` has built, and a C compiler. Says nothing
 # where all is well.
 set -e
@@ -30,12 +30,19 @@ each_request() {
     [ "$number" -gt 10 ] || fail "$what" "only so many were met"
 }
 
-# A test says by its status whether its answer was right or want of memory.
+# What is read of a text is right, or status 2 says that memory was refused.
 judge() {
-    [ "$status" = 0 ] || fail "$what" "status $status"
+    if [ "$status" = 0 ]; then
+        [ "$(cat "$work/output")" = '1 texts, 0 wrong' ] || fail "$what" "$(cat "$work/output")"
+    elif [ "$status" != 2 ] || [ "$met" = no ] || [ -s "$work/output" ]; then
+        fail "$what" "status $status, $(cat "$work/output")"
+    fi
 }
 
-each_request 'the reader' "$top/crates/smt_text/out/smt_text_tests" reader::tests::right_or_out_of_memory
+mkdir "$work/rows"
+echo '((1)x)abcdefghijklmnopqrstuvw ==> ( ( n:1 ) s:x ) s:abcdefghijklmnopqrstuvw .' >"$work/rows/rows.txt"
+cd "$work/rows"
+each_request 'the reader' "$top/crates/text_rows/out/text_rows"
 
 # The program has status 4, no report and a line that says why, or the status and the report that it has without a refusal.
 judge() {

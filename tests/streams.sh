@@ -31,3 +31,27 @@ expect 4 'smtcheck: answers' "$data/script.smt2" "$work"
 expect 5 'error: invalid UTF-8 was detected in one or more arguments' "$(printf '\377')" "$data/answers.txt"
 expect 5 'error: the following required arguments were not provided:' "$data/script.smt2"
 [ ! -s "$output" ] || { echo 'streams: a report of a refused command line'; exit 1; }
+
+# What is missing or no file, and which of two is told.
+: >"$work/there"
+expect 0 '' "$work/there" "$work/there"
+expect 4 'smtcheck: script' "$work/none" "$work/there"
+expect 4 'smtcheck: answers' "$work/there" "$work/none"
+expect 4 'smtcheck: script' "$work/none" "$work"
+expect 4 'smtcheck: answers' "$work" "$work/none"
+expect 4 'smtcheck: script' "$work" "$work/there"
+expect 4 'smtcheck: answers' "$work/there" "$work"
+
+# status STATUS SCRIPT ANSWERS: the status for files that hold these texts.
+status() {
+    printf "$2" >"$work/script"
+    printf "$3" >"$work/answers"
+    expect "$1" '' "$work/script" "$work/answers"
+}
+
+script='(declare-const p Bool)(assert p)(check-sat)(get-model)'
+status 0 "$script" 'success success sat ((define-fun p () Bool true))'
+status 1 "$script" 'success success sat ((define-fun p () Bool false))'
+status 2 "$script" 'success success sat ()'
+status 3 "$script" 'success'
+status 3 '\177\000\001' '\000'

@@ -1,9 +1,8 @@
 //! The lines that are printed.
 
-use crate::compare::{Operator, is_agreed};
-use crate::{arguments, indexes};
+use crate::arguments::Widths;
+use crate::compare::{Indexes, Operator, is_agreed};
 use anyhow::Result;
-use std::alloc::Global;
 use std::io::Write;
 
 /// How many cases were computed, and in how many the two answers differ.
@@ -15,40 +14,44 @@ pub(crate) struct Tally {
 
 // The widths of the arguments that operators are given.
 
-const ONE: &[&[u64]] = &[&[1], &[2], &[3]];
+const ONE: &[Widths] = &[Widths::One(1), Widths::One(2), Widths::One(3)];
 
-const TWO: &[&[u64]] = &[&[1, 1], &[2, 2], &[3, 3]];
+const TWO: &[Widths] = &[Widths::Two(1, 1), Widths::Two(2, 2), Widths::Two(3, 3)];
 
-const THREE: &[&[u64]] = &[&[1, 1, 1], &[2, 2, 2]];
+const THREE: &[Widths] = &[Widths::Three(1, 1, 1), Widths::Three(2, 2, 2)];
 
-const ANY_TWO: &[&[u64]] = &[
-    &[1, 1],
-    &[1, 2],
-    &[1, 3],
-    &[2, 1],
-    &[2, 2],
-    &[2, 3],
-    &[3, 1],
-    &[3, 2],
-    &[3, 3],
+const ANY_TWO: &[Widths] = &[
+    Widths::Two(1, 1),
+    Widths::Two(1, 2),
+    Widths::Two(1, 3),
+    Widths::Two(2, 1),
+    Widths::Two(2, 2),
+    Widths::Two(2, 3),
+    Widths::Two(3, 1),
+    Widths::Two(3, 2),
+    Widths::Two(3, 3),
 ];
 
-// The operators, by what they are given.
+/// Operators that are given the same, and how their names are printed.
+struct Group {
+    before: &'static str,
+    names: &'static [&'static str],
+    behind: &'static str,
+    widths: &'static [Widths],
+}
 
-const UNARY: [&str; 2] = ["bvnot", "bvneg"];
+const FOLDED: &[&str] = &["bvand", "bvor", "bvxor", "bvadd", "bvmul"];
 
-const FOLDED: [&str; 5] = ["bvand", "bvor", "bvxor", "bvadd", "bvmul"];
-
-const BINARY: [&str; 13] = [
+const BINARY: &[&str] = &[
     "bvnand", "bvnor", "bvxnor", "bvsub", "bvudiv", "bvurem", "bvsdiv", "bvsrem", "bvsmod",
     "bvshl", "bvlshr", "bvashr", "bvcomp",
 ];
 
-const RELATIONS: [&str; 10] = [
+const RELATIONS: &[&str] = &[
     "bvult", "bvule", "bvugt", "bvuge", "bvslt", "bvsle", "bvsgt", "bvsge", "=", "distinct",
 ];
 
-const INDEXED: [&str; 5] = [
+const INDEXED: &[&str] = &[
     "repeat",
     "zero_extend",
     "sign_extend",
@@ -56,53 +59,86 @@ const INDEXED: [&str; 5] = [
     "rotate_right",
 ];
 
+const GROUPS: &[Group] = &[
+    Group {
+        before: "",
+        names: &["bvnot", "bvneg"],
+        behind: "",
+        widths: ONE,
+    },
+    Group {
+        before: "",
+        names: FOLDED,
+        behind: "",
+        widths: TWO,
+    },
+    Group {
+        before: "",
+        names: FOLDED,
+        behind: " of three",
+        widths: THREE,
+    },
+    Group {
+        before: "",
+        names: BINARY,
+        behind: "",
+        widths: TWO,
+    },
+    Group {
+        before: "",
+        names: RELATIONS,
+        behind: "",
+        widths: TWO,
+    },
+    Group {
+        before: "",
+        names: &["concat"],
+        behind: "",
+        widths: ANY_TWO,
+    },
+    Group {
+        before: "(_ ",
+        names: &["extract"],
+        behind: " i j)",
+        widths: ONE,
+    },
+    Group {
+        before: "(_ ",
+        names: INDEXED,
+        behind: " i)",
+        widths: ONE,
+    },
+];
+
 /// Prints a line for each operator, and a last one with the sums, which it answers.
-pub(crate) fn print<W: Write>(alloc: Global, out: &mut W) -> Result<Tally> {
+pub(crate) fn print<W: Write>(out: &mut W) -> Result<Tally> {
     let mut sum = Tally::default();
-    for name in UNARY {
-        write!(out, "{name}")?;
-        print_counts(alloc, out, &mut sum, name, ONE)?;
-    }
-    for name in FOLDED {
-        write!(out, "{name}")?;
-        print_counts(alloc, out, &mut sum, name, TWO)?;
-    }
-    for name in FOLDED {
-        write!(out, "{name} of three")?;
-        print_counts(alloc, out, &mut sum, name, THREE)?;
-    }
-    for name in BINARY {
-        write!(out, "{name}")?;
-        print_counts(alloc, out, &mut sum, name, TWO)?;
-    }
-    for name in RELATIONS {
-        write!(out, "{name}")?;
-        print_counts(alloc, out, &mut sum, name, TWO)?;
-    }
-    write!(out, "concat")?;
-    print_counts(alloc, out, &mut sum, "concat", ANY_TWO)?;
-    write!(out, "(_ extract i j)")?;
-    print_counts(alloc, out, &mut sum, "extract", ONE)?;
-    for name in INDEXED {
-        write!(out, "(_ {name} i)")?;
-        print_counts(alloc, out, &mut sum, name, ONE)?;
+    for group in GROUPS {
+        print_group(out, &mut sum, group)?;
     }
     write!(out, "sum")?;
     print_tally(out, sum)?;
     Ok(sum)
 }
 
+fn print_group<W: Write>(out: &mut W, sum: &mut Tally, group: &Group) -> Result<()> {
+    for name in group.names {
+        write!(out, "{}{name}{}", group.before, group.behind)?;
+        print_counts(out, sum, name, group.widths)?;
+    }
+    Ok(())
+}
+
 // Prints the counts of one operator, and adds them to the sums.
 fn print_counts<W: Write>(
-    alloc: Global,
     out: &mut W,
     sum: &mut Tally,
     name: &str,
-    all_widths: &[&[u64]],
+    all_widths: &[Widths],
 ) -> Result<()> {
     let mut tally = Tally::default();
     for widths in all_widths {
-        count(alloc, &mut tally, name, widths)?;
+        count(&mut tally, name, *widths);
     }
     sum.cases = sum.cases.wrapping_add(tally.cases);
     sum.differences = sum.differences.wrapping_add(tally.differences);
@@ -117,18 +153,34 @@ fn print_tally<W: Write>(out: &mut W, tally: Tally) -> Result<()> {
 }
 
 // Computes an operator with all its indexes for all arguments of these widths.
-fn count(alloc: Global, tally: &mut Tally, name: &str, widths: &[u64]) -> Result<()> {
-    for indexes in &indexes::lists(alloc, name, widths)? {
-        let operator = Operator {
-            name,
-            indexes: indexes.as_slice(),
-        };
-        for args in &arguments::all(alloc, widths)? {
-            tally.cases = tally.cases.wrapping_add(1);
-            if !is_agreed(alloc, operator, args.as_slice())? {
-                tally.differences = tally.differences.wrapping_add(1);
+fn count(tally: &mut Tally, name: &str, widths: Widths) {
+    match name {
+        "extract" => {
+            for i in 0..widths.first() {
+                for j in 0..=i {
+                    count_cases(tally, name, Indexes::Two(i, j), widths);
+                }
             }
         }
+        "repeat" => count_indexed(tally, name, 1, 3, widths),
+        "zero_extend" | "sign_extend" => count_indexed(tally, name, 0, 3, widths),
+        "rotate_left" | "rotate_right" => count_indexed(tally, name, 0, 7, widths),
+        _ => count_cases(tally, name, Indexes::None, widths),
     }
-    Ok(())
+}
+
+fn count_indexed(tally: &mut Tally, name: &str, first: u64, last: u64, widths: Widths) {
+    for i in first..=last {
+        count_cases(tally, name, Indexes::One(i), widths);
+    }
+}
+
+fn count_cases(tally: &mut Tally, name: &str, indexes: Indexes, widths: Widths) {
+    let operator = Operator { name, indexes };
+    for n in 0..widths.count() {
+        tally.cases = tally.cases.wrapping_add(1);
+        if !is_agreed(operator, widths.spelled(n)) {
+            tally.differences = tally.differences.wrapping_add(1);
+        }
+    }
 }

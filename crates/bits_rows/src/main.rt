@@ -5,10 +5,9 @@
 #![tactic(auto)]
 
 mod arguments;
+mod bit_list;
 mod compare;
-mod indexes;
 mod lines;
-mod lists;
 mod plain;
 
 use anyhow::{Result, ensure};
@@ -17,7 +16,7 @@ use std::io::{BufWriter, Write};
 
 fn main(rt: HostRuntime) -> Result<()> {
     let mut out = BufWriter::new(rt.alloc(), io::writer(&rt))?;
-    let outcome = lines::print(rt.alloc(), &mut out);
+    let outcome = lines::print(&mut out);
     out.flush()?;
     ensure!(outcome?.differences == 0, "the two readings differ");
     Ok(())

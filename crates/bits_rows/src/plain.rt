@@ -8,72 +8,64 @@ mod parts;
 mod shifts;
 mod signed;
 
-use crate::compare::Operator;
-use anyhow::{Result, bail};
-use std::alloc::Global;
+use crate::arguments::Arguments;
+use crate::bit_list::BitList;
+use crate::compare::{Indexes, Operator};
 
 /// What an operator gives.
-#[derive(Drop)]
+#[derive(Clone, Copy)]
 pub(crate) enum Answer {
     Truth(bool),
-    Bits(Vec<bool>),
+    Bits(BitList),
 }
 
-/// What the operator gives for one, two or three arguments. What it would give for others is of no interest.
-pub(crate) fn read(alloc: Global, operator: Operator, args: &[Vec<bool>]) -> Result<Answer> {
+/// What the operator gives for these arguments; `None` where this reading has no such operator.
+pub(crate) fn read(operator: Operator, args: Arguments) -> Option<Answer> {
     match args {
-        [s] => {
-            let bits = of_one(alloc, operator, s.as_slice())?;
-            Ok(Answer::Bits(bits))
+        Arguments::One(s) => Some(Answer::Bits(of_one(operator, s)?)),
+        Arguments::Two(s, t) => of_two(operator.name, s, t),
+        Arguments::Three(s, t, u) => {
+            let first = binary(operator.name, s, t)?;
+            Some(Answer::Bits(binary(operator.name, first, u)?))
         }
-        [s, t] => of_two(alloc, operator.name, s.as_slice(), t.as_slice()),
-        [s, t, u] => {
-            let first = binary(alloc, operator.name, s.as_slice(), t.as_slice())?;
-            let bits = binary(alloc, operator.name, first.as_slice(), u.as_slice())?;
-            Ok(Answer::Bits(bits))
-        }
-        _ => bail!("{} is read of one to three arguments", operator.name),
     }
 }
 
-fn of_one(alloc: Global, operator: Operator, s: &[bool]) -> Result<Vec<bool>> {
+fn of_one(operator: Operator, s: BitList) -> Option<BitList> {
     match operator.indexes {
-        [] => unary(alloc, operator.name, s),
-        [i] => indexed(alloc, operator.name, *i, s),
-        [i, j] => Ok(parts::extract(alloc, *i, *j, s)?),
-        _ => bail!("{} is read with two indexes at most", operator.name),
+        Indexes::None => unary(operator.name, s),
+        Indexes::One(i) => indexed(operator.name, i, s),
+        Indexes::Two(i, j) => Some(parts::extract(i, j, s)),
     }
 }
 
-fn unary(alloc: Global, name: &str, s: &[bool]) -> Result<Vec<bool>> {
+fn unary(name: &str, s: BitList) -> Option<BitList> {
     match name {
-        "bvnot" => Ok(bitwise::bvnot(alloc, s)?),
-        "bvneg" => Ok(arithmetic::bvneg(alloc, s)?),
-        _ => bail!("{name} is not read of one argument"),
+        "bvnot" => Some(bitwise::bvnot(s)),
+        "bvneg" => Some(arithmetic::bvneg(s)),
+        _ => None,
     }
 }
 
-fn indexed(alloc: Global, name: &str, i: u64, s: &[bool]) -> Result<Vec<bool>> {
-    let bits = match name {
-        "repeat" => parts::repeat(alloc, i, s)?,
-        "zero_extend" => parts::extended(alloc, i, s, false)?,
-        "sign_extend" => parts::sign_extend(alloc, i, s)?,
-        "rotate_left" => parts::rotate_left(alloc, i, s)?,
-        "rotate_right" => parts::rotate_right(alloc, i, s)?,
-        _ => bail!("{name} is not read with an index"),
-    };
-    Ok(bits)
-}
-
-fn of_two(alloc: Global, name: &str, s: &[bool], t: &[bool]) -> Result<Answer> {
-    if let Some(truth) = relation(name, s, t) {
-        return Ok(Answer::Truth(truth));
+fn indexed(name: &str, i: u64, s: BitList) -> Option<BitList> {
+    match name {
+        "repeat" => Some(parts::repeat(i, s)),
+        "zero_extend" => Some(parts::extended(i, s, false)),
+        "sign_extend" => Some(parts::extended(i, s, s.highest())),
+        "rotate_left" => Some(parts::rotate_left(i, s)),
+        "rotate_right" => Some(parts::rotate_right(i, s)),
+        _ => None,
     }
-    let bits = binary(alloc, name, s, t)?;
-    Ok(Answer::Bits(bits))
 }
 
-fn relation(name: &str, s: &[bool], t: &[bool]) -> Option<bool> {
+fn of_two(name: &str, s: BitList, t: BitList) -> Option<Answer> {
+    match relation(name, s, t) {
+        Some(truth) => Some(Answer::Truth(truth)),
+        None => Some(Answer::Bits(binary(name, s, t)?)),
+    }
+}
+
+fn relation(name: &str, s: BitList, t: BitList) -> Option<bool> {
     match name {
         "=" => Some(order::is_equal(s, t)),
         "distinct" => Some(!order::is_equal(s, t)),
@@ -89,28 +81,33 @@ fn relation(name: &str, s: &[bool], t: &[bool]) -> Option<bool> {
     }
 }
 
-fn binary(alloc: Global, name: &str, s: &[bool], t: &[bool]) -> Result<Vec<bool>> {
-    let bits = match name {
-        "bvand" => bitwise::bvand(alloc, s, t)?,
-        "bvor" => bitwise::bvor(alloc, s, t)?,
-        "bvxor" => bitwise::bvxor(alloc, s, t)?,
-        "bvnand" => bitwise::bvnand(alloc, s, t)?,
-        "bvnor" => bitwise::bvnor(alloc, s, t)?,
-        "bvxnor" => bitwise::bvxnor(alloc, s, t)?,
-        "bvcomp" => bitwise::bvcomp(alloc, s, t)?,
-        "bvadd" => arithmetic::bvadd(alloc, s, t)?,
-        "bvsub" => arithmetic::bvsub(alloc, s, t)?,
-        "bvmul" => arithmetic::bvmul(alloc, s, t)?,
-        "bvudiv" => arithmetic::bvudiv(alloc, s, t)?,
-        "bvurem" => arithmetic::bvurem(alloc, s, t)?,
-        "bvsdiv" => signed::bvsdiv(alloc, s, t)?,
-        "bvsrem" => signed::bvsrem(alloc, s, t)?,
-        "bvsmod" => signed::bvsmod(alloc, s, t)?,
-        "bvshl" => shifts::bvshl(alloc, s, t)?,
-        "bvlshr" => shifts::bvlshr(alloc, s, t)?,
-        "bvashr" => shifts::bvashr(alloc, s, t)?,
-        "concat" => parts::concat(alloc, s, t)?,
-        _ => bail!("{name} is not read of two arguments"),
-    };
-    Ok(bits)
+fn binary(name: &str, s: BitList, t: BitList) -> Option<BitList> {
+    match name {
+        "bvand" => Some(bitwise::bvand(s, t)),
+        "bvor" => Some(bitwise::bvor(s, t)),
+        "bvxor" => Some(bitwise::bvxor(s, t)),
+        "bvnand" => Some(bitwise::bvnand(s, t)),
+        "bvnor" => Some(bitwise::bvnor(s, t)),
+        "bvxnor" => Some(bitwise::bvxnor(s, t)),
+        "bvcomp" => Some(bitwise::bvcomp(s, t)),
+        "concat" => Some(t.followed_by(s)),
+        _ => arithmetic_of(name, s, t),
+    }
+}
+
+fn arithmetic_of(name: &str, s: BitList, t: BitList) -> Option<BitList> {
+    match name {
+        "bvadd" => Some(arithmetic::bvadd(s, t)),
+        "bvsub" => Some(arithmetic::bvsub(s, t)),
+        "bvmul" => Some(arithmetic::bvmul(s, t)),
+        "bvudiv" => Some(arithmetic::bvudiv(s, t)),
+        "bvurem" => Some(arithmetic::bvurem(s, t)),
+        "bvsdiv" => Some(signed::bvsdiv(s, t)),
+        "bvsrem" => Some(signed::bvsrem(s, t)),
+        "bvsmod" => Some(signed::bvsmod(s, t)),
+        "bvshl" => Some(shifts::bvshl(s, t)),
+        "bvlshr" => Some(shifts::bvlshr(s, t)),
+        "bvashr" => Some(shifts::bvashr(s, t)),
+        _ => None,
+    }
 }

@@ -4,9 +4,9 @@ ghost use Rattle.std.specs.Prelude.{◌<◌, ◌≤◌};
 ghost use Rattle.smt_script.specs.StackView.{last_of};
 
 use crate::names::print_counts;
-use crate::rows::Field;
 use crate::trees::{refuse, tree_of};
 use anyhow::{Result, bail};
+use row_texts::Field;
 use smt_script::{CommandFault, Stack, read_command};
 use smt_text::Tree;
 use std::alloc::Global;
@@ -17,21 +17,43 @@ use std::io::Write;
 pub(crate) fn print<W: Write>(alloc: Global, out: &mut W, fields: &[Field]) -> Result<()> {
     let (start, fields) = split_start(fields)?;
     let mut stack = Stack::new(alloc, start);
-    let mut left = fields;
-    for number in 1..u64::MAX {
-        let Some((field, rest)) = left.split_first() else {
-            break;
-        };
-        if field.key != "command" {
-            return refuse(field);
-        }
-        match take(&mut stack, number, tree_of(alloc, field)?) {
-            Ok(()) => writeln!(out, "{number} {} => done", field.text)?,
-            Err(fault) => writeln!(out, "{number} {} => {fault}", field.text)?,
-        }
-        left = rest;
-    }
+    print_commands(alloc, out, &mut stack, fields)?;
     print_stack(out, &stack)
+}
+
+// Prints what is answered to the first commands of a stack.
+fn print_commands<W: Write>(
+    alloc: Global,
+    out: &mut W,
+    stack: &mut Stack,
+    fields: &[Field],
+) -> Result<()>
+    requires { last_of stack.old < 1 }
+{
+    for (place, field) in fields.iter().enumerate() {
+        print_command(alloc, out, stack, place as u64 + 1, field)?;
+    }
+    Ok(())
+}
+
+fn print_command<W: Write>(
+    alloc: Global,
+    out: &mut W,
+    stack: &mut Stack,
+    number: u64,
+    field: &Field,
+) -> Result<()>
+    requires { last_of stack.old < number }
+    ensures { last_of stack.new ≤ number }
+{
+    if field.key != "command" {
+        return refuse(field);
+    }
+    match take(stack, number, tree_of(alloc, field)?) {
+        Ok(()) => writeln!(out, "{number} {} => done", field.text)?,
+        Err(fault) => writeln!(out, "{number} {} => {fault}", field.text)?,
+    }
+    Ok(())
 }
 
 // Whether the solver prints `success` at the start, as the first field says, and the fields behind it. Where none says so, it does.
@@ -46,13 +68,13 @@ fn split_start<'a, 'b>(fields: &'b [Field<'a>]) -> Result<(bool, &'b [Field<'a>]
     }
 }
 
-// Reads a command, and applies it.
+// Reads a command, and has the stack take it.
 fn take(stack: &mut Stack, number: u64, tree: Tree) -> Result<(), CommandFault>
     requires { last_of stack.old < number }
     ensures { last_of stack.new ≤ number }
 {
     let command = read_command(tree)?;
-    stack.apply(number, &command)
+    stack.take(number, command)
 }
 
 // Prints what is in force: names, the numbers of the commands of the assertions, levels, and what the solver was told.

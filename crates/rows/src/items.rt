@@ -1,9 +1,11 @@
 //! Rows of items: each item of a model that a library takes, or its fault.
 
+ghost use Rattle.smt_terms.specs.Library.{HasTheoriesOf};
+
 use crate::names::{print_counts, write_found};
-use crate::rows::Field;
 use crate::trees::{declare, print_answer, refuse, split_logic, tree_of};
 use anyhow::{Result, bail};
+use row_texts::Field;
 use smt_terms::Library;
 use std::alloc::Global;
 use std::io::Write;
@@ -13,17 +15,24 @@ use std::io::Write;
 pub(crate) fn print<W: Write>(alloc: Global, out: &mut W, fields: &[Field]) -> Result<()> {
     let (theories, fields) = split_logic(alloc, fields)?;
     let mut script = Library::new(alloc, theories);
-    let mut left = fields;
-    for command in 1..u64::MAX {
-        match left.split_first() {
-            Some((field, rest)) if field.key == "declare" => {
-                declare(alloc, out, &mut script, command, field)?;
-                left = rest;
-            }
-            _ => break,
+    let items = declare_all(alloc, out, &mut script, fields)?;
+    print_items(alloc, out, &script, items)
+}
+
+// Declares what the first fields say, and answers the fields behind the declarations.
+fn declare_all<'a, 'b, W: Write>(
+    alloc: Global,
+    out: &mut W,
+    script: &mut Library,
+    fields: &'b [Field<'a>],
+) -> Result<&'b [Field<'a>]> {
+    for (place, field) in fields.iter().enumerate() {
+        if field.key != "declare" {
+            return Ok(&fields[place..]);
         }
+        declare(alloc, out, script, place as u64 + 1, field)?;
     }
-    print_items(alloc, out, &script, left)
+    Ok(&[])
 }
 
 fn print_items<W: Write>(
@@ -35,26 +44,46 @@ fn print_items<W: Write>(
     let Ok(mut model) = script.for_model() else {
         bail!("out of memory");
     };
+    print_fields(alloc, out, script, &mut model, fields)
+}
+
+fn print_fields<W: Write>(
+    alloc: Global,
+    out: &mut W,
+    script: &Library,
+    model: &mut Library,
+    fields: &[Field],
+) -> Result<()>
+    requires { HasTheoriesOf model.old script.now }
+{
     for field in fields {
         match field.key {
-            "item" => {
-                let item = tree_of(alloc, field)?;
-                print_answer(
-                    out,
-                    field,
-                    "defined",
-                    model.define_item(script, &item).err(),
-                )?;
-            }
-            "find" => find(alloc, out, script, &model, field)?,
+            "item" => define(alloc, out, script, model, field)?,
+            "find" => find(alloc, out, script, model, field)?,
             "names" => {
                 print_counts(out, "script", script)?;
-                print_counts(out, "model", &model)?;
+                print_counts(out, "model", model)?;
             }
             _ => return refuse(field),
         }
     }
     Ok(())
+}
+
+// Defines the item that a field holds, and prints the answer.
+fn define<W: Write>(
+    alloc: Global,
+    out: &mut W,
+    script: &Library,
+    model: &mut Library,
+    field: &Field,
+) -> Result<()>
+    requires { HasTheoriesOf model.old script.now }
+    ensures { HasTheoriesOf model.new script.now }
+{
+    let item = tree_of(alloc, field)?;
+    let answer = model.define_item(script, &item);
+    print_answer(out, field, "defined", answer.err())
 }
 
 // Prints where the name that a field is stands among the declared names and among the items.

@@ -2,18 +2,15 @@
 #![tactic(auto)]
 
 mod commands;
-mod dialogues;
-mod escapes;
 mod items;
 mod models;
 mod names;
-mod rows;
 mod terms;
 mod trees;
 mod values;
 
 use anyhow::{Context, Result, bail};
-use rows::Field;
+use row_texts::Field;
 use std::alloc::Global;
 use std::io::{BufWriter, Write};
 use std::rt::{Env, Files};
@@ -35,7 +32,7 @@ fn print_files<R: Files + Env + AllocGlobal, W: Write>(rt: &R, out: &mut W) -> R
 }
 
 fn print_rows<W: Write>(alloc: Global, out: &mut W, text: &str) -> Result<()> {
-    for row in &rows::read(alloc, text)? {
+    for row in &row_texts::read(alloc, text)? {
         if let Some((title, fields)) = row.split_first() {
             print_row(alloc, out, title, fields)?;
         }
@@ -47,7 +44,6 @@ fn print_rows<W: Write>(alloc: Global, out: &mut W, text: &str) -> Result<()> {
 fn print_row<W: Write>(alloc: Global, out: &mut W, title: &Field, fields: &[Field]) -> Result<()> {
     writeln!(out, "{}", title.text)?;
     match title.key {
-        "dialogue" => dialogues::print(alloc, out, title, fields)?,
         "terms" => terms::print(alloc, out, fields)?,
         "values" => values::print(alloc, out, title, fields)?,
         "models" => models::print(alloc, out, fields)?,

@@ -5,9 +5,9 @@ ghost use Rattle.smt_eval.specs.Interpretation.{Fits};
 ghost use Rattle.smt_terms.specs.Library.{StandsFor};
 ghost use Rattle.smt_terms.specs.Signature.{Signature};
 
-use crate::rows::Field;
 use crate::trees::{declare, parts_of, refuse, split_logic};
 use anyhow::{Result, bail};
+use row_texts::Field;
 use smt_eval::{Interpretation, ModelFault};
 use smt_terms::Library;
 use smt_text::Trees;
@@ -18,15 +18,36 @@ use std::io::Write;
 pub(crate) fn print<W: Write>(alloc: Global, out: &mut W, fields: &[Field]) -> Result<()> {
     let (theories, fields) = split_logic(alloc, fields)?;
     let mut library = Library::new(alloc, theories);
+    print_fields(alloc, out, &mut library, fields)
+}
+
+fn print_fields<W: Write>(
+    alloc: Global,
+    out: &mut W,
+    library: &mut Library,
+    fields: &[Field],
+) -> Result<()>
+    requires { (s : Signature) × StandsFor library.old s }
+{
     for (command, field) in (1..u64::MAX).zip(fields) {
         match field.key {
-            "declare" => declare(alloc, out, &mut library, command, field)?,
-            "model" => {
-                let _ = print_model(alloc, out, &library, field)?;
-            }
+            "declare" => declare(alloc, out, library, command, field)?,
+            "model" => print_if_defined(alloc, out, library, field)?,
             _ => return refuse(field),
         }
     }
+    Ok(())
+}
+
+fn print_if_defined<W: Write>(
+    alloc: Global,
+    out: &mut W,
+    declared: &Library,
+    field: &Field,
+) -> Result<()>
+    requires { (s : Signature) × StandsFor declared.now s }
+{
+    let _ = print_model(alloc, out, declared, field)?;
     Ok(())
 }
 

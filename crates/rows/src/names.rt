@@ -1,7 +1,7 @@
 //! What a library says of its names.
 
-use crate::rows::Field;
 use anyhow::{Result, bail};
+use row_texts::Field;
 use smt_terms::{Declared, Definition, Found, Library};
 use smt_theory::Sort;
 use std::alloc::Global;

@@ -1,9 +1,9 @@
 //! Rows of terms: each with its sort, or the first fault that is told of it; and of definitions, assertions and names.
 
 use crate::names::{print_counts, print_name, write_sort};
-use crate::rows::Field;
 use crate::trees::{declare, print_answer, refuse, split_logic, tree_of, trees_of};
 use anyhow::{Result, bail};
+use row_texts::Field;
 use smt_terms::{Library, are_named, params_of};
 use smt_text::Tree;
 use std::alloc::Global;
@@ -13,14 +13,23 @@ use std::io::Write;
 pub(crate) fn print<W: Write>(alloc: Global, out: &mut W, fields: &[Field]) -> Result<()> {
     let (theories, fields) = split_logic(alloc, fields)?;
     let mut library = Library::new(alloc, theories);
+    print_fields(alloc, out, &mut library, fields)
+}
+
+fn print_fields<W: Write>(
+    alloc: Global,
+    out: &mut W,
+    library: &mut Library,
+    fields: &[Field],
+) -> Result<()> {
     for (command, field) in (1..u64::MAX).zip(fields) {
         match field.key {
-            "declare" => declare(alloc, out, &mut library, command, field)?,
-            "define" => define(alloc, out, &mut library, field)?,
-            "assert" => assert(alloc, out, &mut library, field)?,
-            "term" => print_term(alloc, out, &mut library, field)?,
-            "find" => print_name(alloc, out, &library, field)?,
-            "names" => print_counts(out, "names", &library)?,
+            "declare" => declare(alloc, out, library, command, field)?,
+            "define" => define(alloc, out, library, field)?,
+            "assert" => assert(alloc, out, library, field)?,
+            "term" => print_term(alloc, out, library, field)?,
+            "find" => print_name(alloc, out, library, field)?,
+            "names" => print_counts(out, "names", library)?,
             _ => return refuse(field),
         }
     }

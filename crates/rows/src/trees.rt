@@ -3,8 +3,8 @@
 ghost use Rattle.smt_terms.specs.Library.{StandsFor};
 ghost use Rattle.smt_terms.specs.Signature.{Signature};
 
-use crate::rows::Field;
 use anyhow::{Result, bail};
+use row_texts::Field;
 use smt_script::all_theories;
 use smt_terms::{Library, TermFault};
 use smt_text::{Tree, Trees};

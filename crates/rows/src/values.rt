@@ -1,11 +1,13 @@
 //! Rows of values: terms over the definitions of a model, each with its known value.
 
 ghost use Rattle.smt_eval.specs.Interpretation.{Fits};
+ghost use Rattle.smt_terms.specs.Library.{StandsFor};
+ghost use Rattle.smt_terms.specs.Signature.{Signature};
 
 use crate::models::print_model;
-use crate::rows::Field;
 use crate::trees::{refuse, split_logic, tree_of};
 use anyhow::{Result, bail};
+use row_texts::Field;
 use smt_eval::plain::Closed;
 use smt_eval::{Checked, Interpretation};
 use smt_terms::Library;
@@ -24,16 +26,40 @@ pub(crate) fn print<W: Write>(
     let Some((first, terms)) = fields.split_first() else {
         bail!("line {}: a row of values has a model", title.line);
     };
+    let declared = Library::new(alloc, theories);
+    print_values(alloc, out, &declared, first, terms)
+}
+
+fn print_values<W: Write>(
+    alloc: Global,
+    out: &mut W,
+    declared: &Library,
+    first: &Field,
+    terms: &[Field],
+) -> Result<()>
+    requires { (s : Signature) × StandsFor declared.now s }
+{
     if first.key != "model" {
         return refuse(first);
     }
-    let declared = Library::new(alloc, theories);
-    let Some(model) = print_model(alloc, out, &declared, first)? else {
+    let Some(model) = print_model(alloc, out, declared, first)? else {
         bail!("line {}: the model has a fault", first.line);
     };
-    for field in terms {
+    print_terms(alloc, out, declared, &model, terms)
+}
+
+fn print_terms<W: Write>(
+    alloc: Global,
+    out: &mut W,
+    library: &Library,
+    interpretation: &Interpretation,
+    fields: &[Field],
+) -> Result<()>
+    requires { Fits interpretation.now library.now }
+{
+    for field in fields {
         match field.key {
-            "term" => print_value(alloc, out, &declared, &model, field)?,
+            "term" => print_value(alloc, out, library, interpretation, field)?,
             _ => return refuse(field),
         }
     }

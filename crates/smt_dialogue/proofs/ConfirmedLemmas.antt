@@ -36,8 +36,8 @@ use Rattle.smt_dialogue.specs.declared.judgement.Judgement.TheVariants as judgem
 use Rattle.smt_eval.specs.declared.interpretation.ModelFault.{ModelFault}
 use Rattle.smt_eval.specs.declared.interpretation.ModelFault.TheVariants as faults
 use Rattle.smt_report.specs.declared.line.Line.{Line}
-use Rattle.smt_terms.specs.declared.fault.TermFault.{TermFault}
-use Rattle.smt_terms.specs.declared.fault.TermFault.TheVariants.{IllSorted}
+use Rattle.smt_faults.specs.declared.term_fault.TermFault.{TermFault}
+use Rattle.smt_faults.specs.declared.term_fault.TermFault.TheVariants.{IllSorted}
 use Rattle.smt_theory.specs.Sort.{is_same_sort}
 use Rattle.smt_theory.specs.Words.{result_and_then}
 use Rattle.smt_theory.specs.declared.sort.Sort.{Sort}

@@ -5,8 +5,8 @@ use Rattle.smt_text.specs.Sexp.{Sexp}
 use Rattle.smt_script.specs.Command.{Command}
 use Rattle.smt_script.specs.Stack.{Numbered, assertions_in_force, signature_in_force}
 use Rattle.smt_script.specs.StackView as stacks
-use Rattle.smt_script.specs.declared.fault.CommandFault.{CommandFault}
-use Rattle.smt_script.specs.declared.fault.CommandFault.TheVariants.{Memory as OutOfMemory}
+use Rattle.smt_faults.specs.declared.command_fault.CommandFault.{CommandFault}
+use Rattle.smt_faults.specs.declared.command_fault.CommandFault.TheVariants.{Memory as OutOfMemory}
 use Rattle.smt_script.specs.StackView.{last_of}
 use Rattle.smt_dialogue.proofs.ChecksLemmas.{GoesOn, goes_on, pending-end}
 use Rattle.smt_dialogue.proofs.PairLemmas.{answers_taken-append, checks_in-append, effective_commands-push, lines_in-append}

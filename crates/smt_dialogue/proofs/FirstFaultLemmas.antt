@@ -5,7 +5,7 @@ use Rattle.smt_text.specs.Sexp.{Sexps, Nil, Cons}
 use Rattle.smt_text.specs.declared.fault.TextFault.{TextFault}
 use Rattle.smt_text.specs.declared.fault.TextFault.TheVariants as texts
 use Rattle.smt_script.specs.Command.{Command, command_of}
-use Rattle.smt_script.specs.declared.fault.CommandFault.TheVariants.{AfterExit}
+use Rattle.smt_faults.specs.declared.command_fault.CommandFault.TheVariants.{AfterExit}
 use Rattle.smt_dialogue.specs.Answers.{Missing, Taken, Takes, Unfit, taken}
 use Rattle.smt_dialogue.specs.FirstFault.{Stop, step_after, step_of_command, step_of_fault, step_of_taken}
 use Rattle.smt_dialogue.specs.InForce.{fault_of_pair, has_exited_after, need_after}
@@ -18,7 +18,7 @@ use Rattle.smt_report.specs.declared.line.Line.TheVariants as lines
 use Rattle.smt_report.specs.declared.line.Side.{Side}
 use Rattle.smt_report.specs.declared.line.Side.TheVariants.{Script, Answers}
 use Rattle.smt_report.specs.declared.verdict.Verdict.TheVariants as verdicts
-use Rattle.smt_script.specs.declared.fault.CommandFault.{CommandFault}
+use Rattle.smt_faults.specs.declared.command_fault.CommandFault.{CommandFault}
 
 -- ## Verdicts
 

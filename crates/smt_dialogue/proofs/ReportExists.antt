@@ -5,7 +5,7 @@ use Rattle.smt_text.specs.Reading.{Reads}
 use Rattle.smt_text.specs.Sexp.{Sexp, Sexps, Nil, Cons}
 use Rattle.smt_text.specs.declared.fault.TextFault.{TextFault}
 use Rattle.smt_script.specs.Command.{Command, command_of}
-use Rattle.smt_script.specs.declared.fault.CommandFault.TheVariants.{AfterExit}
+use Rattle.smt_faults.specs.declared.command_fault.CommandFault.TheVariants.{AfterExit}
 use Rattle.smt_dialogue.proofs.PairingUnique.{takes_same}
 use Rattle.smt_dialogue.proofs.StepLemmas.{step_by}
 use Rattle.smt_dialogue.specs.Answers.{Missing, Taken, Takes, Unfit, has_form, taken}
@@ -23,7 +23,7 @@ use Rattle.smt_report.specs.Verdict.{with_verdict}
 use Rattle.smt_report.specs.declared.line.Line.{Line}
 use Rattle.smt_report.specs.declared.line.Line.TheVariants as lines
 use Rattle.smt_report.specs.declared.line.Side.TheVariants.{Script}
-use Rattle.smt_script.specs.declared.fault.CommandFault.{CommandFault}
+use Rattle.smt_faults.specs.declared.command_fault.CommandFault.{CommandFault}
 
 -- the pairs from some on, to the dialogue's end
 pub record Way (start : Bool) (before : List Pair) (trees answers : Sexps) (sf af : Option TextFault) : Type 0 where

@@ -10,8 +10,8 @@ use Rattle.smt_dialogue.proofs.PairLemmas.{AllTake-append, AreFaultless-append, 
 use Rattle.std.specs.Result.{IfOk}
 use Rattle.smt_eval.specs.declared.memory.Memory.{Memory}
 use Rattle.smt_script.specs.Command.{Command, command_of}
-use Rattle.smt_script.specs.declared.fault.CommandFault.{CommandFault}
-use Rattle.smt_script.specs.declared.fault.CommandFault.TheVariants.{AfterExit}
+use Rattle.smt_faults.specs.declared.command_fault.CommandFault.{CommandFault}
+use Rattle.smt_faults.specs.declared.command_fault.CommandFault.TheVariants.{AfterExit}
 use Rattle.smt_dialogue.specs.Answers.{Taken, Takes, Unfit, taken}
 use Rattle.smt_script.specs.StackView.{last_of}
 use Rattle.smt_dialogue.specs.FirstFault.{Stop, end_without_fault, step_after, step_of_command, step_of_taken}

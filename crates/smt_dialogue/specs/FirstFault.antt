@@ -3,8 +3,8 @@ use Rattle.std.specs.Prelude.{ℕ, ◌+◌, List, length, Bool, Option, Some, No
 use Rattle.smt_text.specs.Sexp.{Sexps, Nil, Cons}
 use Rattle.smt_text.specs.declared.fault.TextFault.{TextFault}
 use Rattle.smt_script.specs.Command.{Command, command_of}
-use Rattle.smt_script.specs.declared.fault.CommandFault.{CommandFault}
-use Rattle.smt_script.specs.declared.fault.CommandFault.TheVariants.{AfterExit}
+use Rattle.smt_faults.specs.declared.command_fault.CommandFault.{CommandFault}
+use Rattle.smt_faults.specs.declared.command_fault.CommandFault.TheVariants.{AfterExit}
 use Rattle.smt_dialogue.specs.Answers.{Taken, Takes, Missing, Unfit, taken}
 use Rattle.smt_dialogue.specs.InForce.{fault_of_pair, has_exited_after, need_after}
 use Rattle.smt_dialogue.specs.Pairs.{Pair, answers_taken, next_of, pair_of}

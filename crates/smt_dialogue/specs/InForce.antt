@@ -4,7 +4,7 @@ use Rattle.std.specs.Prelude.{◌≡◌, ◌≤◌, ℕ, ◌+◌, List, [], ◌�
 use Rattle.smt_terms.specs.Signature.{Signature}
 use Rattle.smt_script.specs.Command.{Command}
 use Rattle.smt_script.specs.Stack.{Assertion, assertions_in_force, depth_in_force, fault_of_effect, has_exited, is_reset, print_success_in_force, signature_in_force}
-use Rattle.smt_script.specs.declared.fault.CommandFault.{CommandFault}
+use Rattle.smt_faults.specs.declared.command_fault.CommandFault.{CommandFault}
 use Rattle.smt_dialogue.specs.Answers.{need_of}
 use Rattle.smt_dialogue.specs.Pairs.{Pair, effective_commands, is_effective}
 use Rattle.smt_dialogue.specs.declared.answer.Need.{Need}

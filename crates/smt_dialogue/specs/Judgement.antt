@@ -3,7 +3,7 @@ use Rattle.std.specs.Prelude.{ℕ, List, [], ◌∷◌, Bool, true, false, not, 
 use Rattle.smt_text.specs.Sexp.{Sexp, Sexps}
 use Rattle.smt_values.specs.KnownOperations.{is_known}
 use Rattle.smt_terms.specs.Signature.{Signature}
-use Rattle.smt_terms.specs.declared.fault.TermFault.TheVariants as terms
+use Rattle.smt_faults.specs.declared.term_fault.TermFault.TheVariants as terms
 use Rattle.smt_eval.specs.Known.{known_over}
 use Rattle.smt_eval.specs.Model.{model_in}
 use Rattle.smt_eval.specs.Structure.{structure_of}

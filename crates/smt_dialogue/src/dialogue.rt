@@ -6,7 +6,7 @@ ghost use Rattle.smt_script.specs.CommandView.{command_view};
 ghost use Rattle.smt_script.specs.Stack.{Numbered};
 ghost use Rattle.smt_script.specs.StackView as stacks;
 ghost use Rattle.smt_script.specs.StackView.{last_of, start_of};
-ghost use Rattle.smt_script.specs.declared.fault.CommandFault.TheVariants.{Memory as OutOfMemory};
+ghost use Rattle.smt_faults.specs.declared.command_fault.CommandFault.TheVariants.{Memory as OutOfMemory};
 ghost use Rattle.smt_dialogue.specs.InForce.{fault_of_pair};
 ghost use Rattle.smt_dialogue.specs.Lines.{lines_in};
 ghost use Rattle.smt_dialogue.specs.Pairs.{Pair, answer_count, numbered_if, pair_of};

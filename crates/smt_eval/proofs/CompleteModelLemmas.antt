@@ -8,7 +8,7 @@ use Rattle.smt_theory.specs.declared.theories.Theories.{Theories}
 use Rattle.smt_terms.specs.Items.{declared_named, if_declared, item_in, items_before}
 use Rattle.smt_terms.specs.Signature.{AreDistinct, Entry, Origin, Declared, Defined, IsDeclared, KeepsRank, Signature, entry_named, is_taken, names_of}
 use Rattle.smt_terms.specs.WellSorted.{AreWellSorted, IsWellSorted}
-use Rattle.smt_terms.specs.declared.fault.TermFault.{TermFault}
+use Rattle.smt_faults.specs.declared.term_fault.TermFault.{TermFault}
 use Rattle.smt_terms.proofs.EntryLemmas.{entry_named-skip}
 use Rattle.smt_terms.proofs.NameLemmas.{same_name, same_flip, none_step}
 use Rattle.smt_eval.specs.CompleteModel.{IsModelOf}

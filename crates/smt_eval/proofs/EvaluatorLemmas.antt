@@ -21,7 +21,7 @@ use Rattle.smt_terms.specs.Bindings.{let_form}
 use Rattle.smt_terms.specs.Identifier.{Identifier, Plain, Indexed, all_indexes, applied, indexed, operator_of}
 use Rattle.smt_terms.specs.ScopeView.{scope_view}
 use Rattle.smt_terms.specs.Signature.{AreDistinct, Entry, Origin, Defined, Signature, entry_named}
-use Rattle.smt_terms.specs.declared.fault.TermFault.TheVariants.{Form}
+use Rattle.smt_faults.specs.declared.term_fault.TermFault.TheVariants.{Form}
 use Rattle.smt_terms.specs.declared.scope.Variable.{Variable}
 use Rattle.smt_terms.proofs.EntryLemmas.{entry_named-take}
 use Rattle.smt_terms.proofs.NameLemmas.{none_step, same_self}

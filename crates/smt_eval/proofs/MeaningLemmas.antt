@@ -18,7 +18,7 @@ use Rattle.smt_values.specs.Operations.{DivisionByZero, operate}
 use Rattle.smt_terms.specs.Checking.{is_underscore_tree}
 use Rattle.smt_terms.specs.Identifier.{Identifier, Plain, Indexed, applied, indexed, operator_of}
 use Rattle.smt_terms.specs.Signature.{Entry, Origin, Declared, Defined, Signature}
-use Rattle.smt_terms.specs.declared.fault.TermFault.{TermFault}
+use Rattle.smt_faults.specs.declared.term_fault.TermFault.{TermFault}
 use Rattle.smt_eval.specs.Agreement.{AgreeBoth, AgreesWith}
 use Rattle.smt_eval.specs.Known.{KnownMeaning, known_by, known_of, knowns_bound, knowns_of, known_of_op, known_operators, known_defined, with_known, known_after, known_in}
 use Rattle.smt_eval.specs.Meaning.{Meaning, element_by, value_of, values_bound, values_of, meaning_of_op, operators, defined_value, with_definition, meaning_after, meaning_in}

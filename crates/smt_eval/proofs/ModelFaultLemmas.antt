@@ -5,7 +5,7 @@ use Rattle.smt_text.specs.Sexp.{Sexps, Nil, Cons}
 use Rattle.smt_theory.specs.Words.{result_and_then}
 use Rattle.smt_terms.specs.Items.{item_in, items_before}
 use Rattle.smt_terms.specs.Signature.{Entry, Origin, Declared, Defined, IsDeclared, Signature, entry_named}
-use Rattle.smt_terms.specs.declared.fault.TermFault.{TermFault}
+use Rattle.smt_faults.specs.declared.term_fault.TermFault.{TermFault}
 use Rattle.smt_eval.specs.Model.{AreDefined, AreItems, HasFirstFault, IsFirstLacking, command_of_origin, complete_or, first_lacking, items_from, items_of, lacking_at, model_in, or_item}
 use Rattle.smt_eval.specs.declared.interpretation.ModelFault.{ModelFault}
 use Rattle.smt_eval.specs.declared.interpretation.ModelFault.TheVariants.{Item, Lacks}

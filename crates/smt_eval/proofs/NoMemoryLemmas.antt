@@ -4,8 +4,8 @@ use Rattle.smt_text.specs.Sexp.{Sexp, Sexps, Nil, Cons}
 use Rattle.smt_theory.specs.Words.{result_and_then}
 use Rattle.smt_terms.specs.Items.{item_in, items_before}
 use Rattle.smt_terms.specs.Signature.{Entry, Signature}
-use Rattle.smt_terms.specs.declared.fault.TermFault.{TermFault}
-use Rattle.smt_terms.specs.declared.fault.TermFault.TheVariants.{Memory}
+use Rattle.smt_faults.specs.declared.term_fault.TermFault.{TermFault}
+use Rattle.smt_faults.specs.declared.term_fault.TermFault.TheVariants.{Memory}
 use Rattle.smt_eval.specs.Model.{complete_or, first_lacking, items_from, items_of, model_in, or_item}
 use Rattle.smt_eval.specs.declared.interpretation.ModelFault.{ModelFault}
 use Rattle.smt_eval.specs.declared.interpretation.ModelFault.TheVariants.{Item, Memory as OutOfMemory}

@@ -9,8 +9,8 @@ use Rattle.smt_values.specs.Element.{Element, known_elements}
 use Rattle.smt_values.specs.declared.value.Value.{Value}
 use Rattle.smt_terms.specs.Items.{item_in, items_before}
 use Rattle.smt_terms.specs.Signature.{Entry, Signature}
-use Rattle.smt_terms.specs.declared.fault.TermFault.{TermFault}
-use Rattle.smt_terms.specs.declared.fault.TermFault.TheVariants.{Memory}
+use Rattle.smt_faults.specs.declared.term_fault.TermFault.{TermFault}
+use Rattle.smt_faults.specs.declared.term_fault.TermFault.TheVariants.{Memory}
 use Rattle.smt_eval.specs.Internal.DefinitionValues.{definition_values, values_after}
 use Rattle.smt_eval.specs.Internal.ItemFault.{fault_of_item}
 use Rattle.smt_eval.specs.Known.{KnownMeaning, with_known}

@@ -27,8 +27,8 @@ use Rattle.smt_terms.specs.Checking.{bound_in, fault_of_labels, is_underscore_tr
 use Rattle.smt_terms.specs.Identifier.{Identifier, Plain, Indexed, applied, indexed, operator_of}
 use Rattle.smt_terms.specs.Signature.{AreDistinct, Entry, Origin, Declared, Defined, Names, Rank, Signature, entry_named, names_of, rank_of_entry, ranks_of, unlabelled, unlabelled_over}
 use Rattle.smt_terms.specs.WellSorted.{AreWellSorted, IsWellSorted, IsWellSortedFrom}
-use Rattle.smt_terms.specs.declared.fault.TermFault.{TermFault}
-use Rattle.smt_terms.specs.declared.fault.TermFault.TheVariants.{BoundTwice, Form, IllSorted, Unknown, Index}
+use Rattle.smt_faults.specs.declared.term_fault.TermFault.{TermFault}
+use Rattle.smt_faults.specs.declared.term_fault.TermFault.TheVariants.{BoundTwice, Form, IllSorted, Unknown, Index}
 use Rattle.smt_terms.proofs.NameLemmas.{same_name, same_self, none_step}
 use Rattle.smt_eval.specs.Agreement.{FitsScope, IsOfSorts}
 use Rattle.smt_eval.specs.Meaning.{Meaning, element_by, value_of, values_bound, values_of, meaning_of_op, operators, defined_value, with_definition, meaning_after, meaning_in}

@@ -13,7 +13,7 @@ use Rattle.smt_values.specs.KnownOperations.{known_step}
 use Rattle.smt_values.specs.Literals.{bin_element, hex_element, numeral_element}
 use Rattle.smt_terms.specs.Identifier.{Identifier, Plain, Indexed, applied, indexed, operator_of}
 use Rattle.smt_terms.specs.Signature.{Entry, Origin, Declared, Defined, Signature}
-use Rattle.smt_terms.specs.declared.fault.TermFault.{TermFault}
+use Rattle.smt_faults.specs.declared.term_fault.TermFault.{TermFault}
 
 -- what identifiers are known to mean: for each, what is known of the element that it gives for arguments
 abbrev pub KnownMeaning : Type 0

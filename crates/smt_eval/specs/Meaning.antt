@@ -13,7 +13,7 @@ use Rattle.smt_values.specs.Element.{Element, Truth, Integer, Vector}
 use Rattle.smt_values.specs.Operations.{DivisionByZero, operate}
 use Rattle.smt_terms.specs.Identifier.{Identifier, Plain, Indexed, applied, indexed, operator_of}
 use Rattle.smt_terms.specs.Signature.{Entry, Origin, Declared, Defined, Signature}
-use Rattle.smt_terms.specs.declared.fault.TermFault.{TermFault}
+use Rattle.smt_faults.specs.declared.term_fault.TermFault.{TermFault}
 
 -- what identifiers mean: for each, the element that it gives for arguments
 abbrev pub Meaning : Type 0

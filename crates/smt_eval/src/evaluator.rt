@@ -203,7 +203,7 @@ fn known_named<'a>(
     }
 }
 
-// What is known of what an operator is applied to.
+// What is known of what an operator is applied to: few arguments take no memory of their own.
 #[cycle(known)]
 fn known_operation<'a>(
     over: Definitions<'_>,
@@ -216,31 +216,8 @@ fn known_operation<'a>(
         → IfOk result (λ v. known_element v ≡ known_step op (knowns_of (meaning_over over.entry d) (known_scope scope.now) (sexps_of args.now))) }
 {
     if is_choice(&op) {
-        known_choice(over, scope, args)
-    } else {
-        known_operated(over, scope, op, args)
+        return known_choice(over, scope, args);
     }
-}
-
-// Whether an operator is `ite`.
-fn is_choice(op: &Op) -> bool
-    ensures { IsTrue result → op.now ≡ Core Ite }
-{
-    matches!(op, Op::Core(CoreOp::Ite))
-}
-
-// What an operator gives for what is known of its arguments: few take no memory of their own.
-#[cycle(known)]
-fn known_operated<'a>(
-    over: Definitions<'_>,
-    scope: &[Variable<'a, Option<Value>>],
-    op: Op,
-    args: &'a [Tree],
-) -> Result<Option<Value>, Memory>
-    requires { (d : Signature) × Evaluates over d }
-    ensures { (d : Signature) → Evaluates over.entry d
-        → IfOk result (λ v. known_element v ≡ known_step op (knowns_of (meaning_over over.entry d) (known_scope scope.now) (sexps_of args.now))) }
-{
     match args {
         [only] => known_of_one(over, scope, op, only),
         [first, second] => known_of_two(over, scope, op, first, second),
@@ -250,6 +227,13 @@ fn known_operated<'a>(
             Ok(apply(op, known.as_slice()))
         }
     }
+}
+
+// Whether an operator is `ite`.
+fn is_choice(op: &Op) -> bool
+    ensures { IsTrue result → op.now ≡ Core Ite }
+{
+    matches!(op, Op::Core(CoreOp::Ite))
 }
 
 // The same of one argument, of two and of three: each out of line, since the room for all would be cleared at each call.

@@ -12,8 +12,8 @@ use Rattle.smt_report.specs.declared.line.TextFaultKind.{TextFaultKind}
 use Rattle.smt_report.specs.declared.line.TextFaultKind.TheVariants.{Byte, Deep, End}
 use Rattle.smt_report.specs.declared.verdict.Verdict.{Verdict}
 use Rattle.smt_report.specs.declared.verdict.Verdict.TheVariants as verdicts
-use Rattle.smt_script.specs.FaultText.{text_of_command_fault}
-use Rattle.smt_terms.specs.FaultText.{text_of_term_fault}
+use Rattle.smt_faults.specs.FaultText.{text_of_command_fault}
+use Rattle.smt_faults.specs.FaultText.{text_of_term_fault}
 
 abbrev pub text_of_answer : CheckAnswer → List ℕ
 text_of_answer Unsat = codes "unsat"

@@ -13,17 +13,18 @@ use Rattle.smt_terms.specs.Library as library
 use Rattle.smt_terms.specs.Library.{Holds, IsTermOf}
 use Rattle.smt_terms.specs.Signature.{Entry, Signature, declared_in, names_of, no_names, sort_names_of, with_abbreviation, with_entries, with_entry}
 use Rattle.smt_terms.specs.SortTrees.{abbreviated_in}
-use Rattle.smt_terms.specs.declared.fault.TermFault.{TermFault}
-use Rattle.smt_terms.specs.declared.fault.TermFault.TheVariants as terms
+use Rattle.smt_faults.specs.Faults.{command_fault}
+use Rattle.smt_faults.specs.declared.term_fault.TermFault.{TermFault}
+use Rattle.smt_faults.specs.declared.term_fault.TermFault.TheVariants as terms
 use Rattle.smt_terms.specs.declared.library.Library.{Library}
 use Rattle.smt_terms.proofs.ContentsLemmas.{mark_kept, mark_within, term_kept}
 use Rattle.smt_script.specs.Command.{Command, Query, SetLogic, SetPrintSuccess, SetOption, SetInfo, DeclareConst, DeclareFun, DefineFun, DefineSort, Assert, Exit, CheckSat, GetModel, Echo, Get}
 use Rattle.smt_script.specs.Stack as spec
-use Rattle.smt_script.specs.Stack.{Brought, Numbered, abbreviations_by, abbreviations_of, assertions_by, assertions_in_force, assertions_of, brought_by, command_fault, depth_after, depth_in_force, entries_by, entries_of, fault_of, fault_of_effect, has_exited, history, in_force, is_exit, is_fixed_after, is_logic_fixed, is_reset, one_or_none, print_success_after, print_success_in_force, signature_in_force, signature_of, theories_after, theories_in_force, theories_or}
+use Rattle.smt_script.specs.Stack.{Brought, Numbered, abbreviations_by, abbreviations_of, assertions_by, assertions_in_force, assertions_of, brought_by, depth_after, depth_in_force, entries_by, entries_of, fault_of, fault_of_effect, has_exited, history, in_force, is_exit, is_fixed_after, is_logic_fixed, is_reset, one_or_none, print_success_after, print_success_in_force, signature_in_force, signature_of, theories_after, theories_in_force, theories_or}
 use Rattle.smt_script.specs.StackView.{AreAssertions, IsLevel, StandsFor, to_level}
 use Rattle.smt_script.specs.Internal.Effect.{HasEffect, IsUnchanged, noted}
-use Rattle.smt_script.specs.declared.fault.CommandFault.{CommandFault}
-use Rattle.smt_script.specs.declared.fault.CommandFault.TheVariants.{Term, Memory}
+use Rattle.smt_faults.specs.declared.command_fault.CommandFault.{CommandFault}
+use Rattle.smt_faults.specs.declared.command_fault.CommandFault.TheVariants.{Term, Memory}
 use Rattle.smt_script.specs.declared.stack.Assertion.{Assertion}
 use Rattle.smt_script.specs.declared.stack.levels.Level.{Level}
 use Rattle.smt_script.specs.declared.stack.Stack.{Stack}

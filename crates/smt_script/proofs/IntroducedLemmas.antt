@@ -13,8 +13,8 @@ use Rattle.smt_terms.specs.Assertions.{asserted_in}
 use Rattle.smt_terms.specs.Definitions.{defined_in}
 use Rattle.smt_terms.specs.Signature.{Entry, Names, Origin, Declared, Defined, Rank, Signature, declaration, declared_in, entry_named, is_taken, names_of, no_names, rank_named, rank_of_entry, ranks_of, sort_names_of, unlabelled_over}
 use Rattle.smt_terms.specs.WellSorted.{AreIntroduced, IsIntroduced, IsSortedIfDefined, IsWellSorted, IsWellSortedFrom}
-use Rattle.smt_terms.specs.declared.fault.TermFault.{TermFault}
-use Rattle.smt_terms.specs.declared.fault.TermFault.TheVariants as terms
+use Rattle.smt_faults.specs.declared.term_fault.TermFault.{TermFault}
+use Rattle.smt_faults.specs.declared.term_fault.TermFault.TheVariants as terms
 use Rattle.smt_script.specs.Command.{Command, SetLogic, SetPrintSuccess, SetOption, SetInfo, DeclareConst, DeclareFun, DefineFun, DefineSort, Assert, Push, Pop, Reset, ResetAssertions, Exit, CheckSat, GetModel, Echo, Get}
 use Rattle.smt_script.specs.Stack.{Brought, HaveNoFault, Numbered, all_or_none, brought_by, depth_after, depth_in_force, entries_by, entries_of, fault_of, fault_of_effect, fault_of_logic, history, in_force, is_logic_fixed, is_reset, one_or_none, signature_in_force, signature_of, theories_after, theories_in_force}
 use Rattle.smt_script.specs.StackView.{to_level}

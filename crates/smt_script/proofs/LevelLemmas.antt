@@ -17,7 +17,7 @@ use Rattle.smt_script.specs.Stack as spec
 use Rattle.smt_script.specs.Stack.{Brought, Numbered, abbreviations_by, abbreviations_of, all_theories, assertions_by, assertions_in_force, assertions_of, brought_by, depth_after, depth_in_force, entries_by, entries_of, fault_of_effect, has_exited, history, in_force, is_exit, is_fixed_after, is_logic_fixed, is_reset, limit, print_success_after, print_success_in_force, signature_in_force, signature_of, theories_after, theories_in_force}
 use Rattle.smt_script.specs.StackView.{AreAssertions, IsLevel, IsOuter, StandsFor, to_level}
 use Rattle.smt_script.specs.Internal.Effect.{HasEffect, IsCut, IsEmpty, IsUnchanged, NotesAll, copies, noted}
-use Rattle.smt_script.specs.declared.fault.CommandFault.TheVariants.{TooDeep, NoLevel}
+use Rattle.smt_faults.specs.declared.command_fault.CommandFault.TheVariants.{TooDeep, NoLevel}
 use Rattle.smt_script.specs.declared.stack.Assertion.{Assertion}
 use Rattle.smt_script.specs.declared.stack.levels.Level.{Level}
 use Rattle.smt_script.specs.declared.stack.Stack.{Stack}

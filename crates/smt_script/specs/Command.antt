@@ -4,8 +4,8 @@ use Rattle.smt_text.specs.Sexp.{Sexp, Sexps, Atom, Reserved, Items, Nil, Cons, S
 use Rattle.smt_text.specs.declared.reserved.Word.{Word}
 use Rattle.smt_text.specs.declared.reserved.Word.TheVariants as words
 use Rattle.smt_script.specs.Parts.{is_none, keyword_and_value, list_and_tree, name_and_abbreviated, name_and_definition, name_and_rank, name_and_sort, one_keyword, one_list, one_numeral, one_symbol, one_text, one_tree, truth_of_value}
-use Rattle.smt_script.specs.declared.fault.CommandFault.{CommandFault}
-use Rattle.smt_script.specs.declared.fault.CommandFault.TheVariants.{Form, Unsupported}
+use Rattle.smt_faults.specs.declared.command_fault.CommandFault.{CommandFault}
+use Rattle.smt_faults.specs.declared.command_fault.CommandFault.TheVariants.{Form, Unsupported}
 
 -- what a solver is asked for, beside models
 pub data Query : Type 0 where

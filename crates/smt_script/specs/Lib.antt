@@ -3,5 +3,4 @@ pub mod Command
 pub mod CommandView
 pub mod Stack
 pub mod StackView
-pub mod FaultText
 pub mod Internal

@@ -11,11 +11,10 @@ use Rattle.smt_terms.specs.Assertions.{asserted_in}
 use Rattle.smt_terms.specs.Definitions.{defined_in}
 use Rattle.smt_terms.specs.Signature.{Entry, Signature, declared_in, names_of, sort_names_of}
 use Rattle.smt_terms.specs.SortTrees.{abbreviated_in}
-use Rattle.smt_terms.specs.declared.fault.TermFault.{TermFault}
-use Rattle.smt_terms.specs.declared.fault.TermFault.TheVariants as terms
+use Rattle.smt_faults.specs.declared.term_fault.TermFault.{TermFault}
 use Rattle.smt_script.specs.Command.{Command, SetLogic, SetPrintSuccess, DeclareConst, DeclareFun, DefineFun, DefineSort, Assert, Push, Pop, Reset, ResetAssertions, Exit, CheckSat}
-use Rattle.smt_script.specs.declared.fault.CommandFault.{CommandFault}
-use Rattle.smt_script.specs.declared.fault.CommandFault.TheVariants.{TooDeep, NoLevel, Logic, Term, Memory}
+use Rattle.smt_faults.specs.declared.command_fault.CommandFault.{CommandFault}
+use Rattle.smt_faults.specs.declared.command_fault.CommandFault.TheVariants.{TooDeep, NoLevel, Logic, Term}
 
 -- a command that took effect, and its number
 pub record Numbered : Type 0 where
@@ -245,15 +244,3 @@ fault_of_effect before n _ = None
 abbrev pub HaveNoFault : List Numbered → List Numbered → Type 0
 HaveNoFault before [] = Unit {0}
 HaveNoFault before (c ∷ commands) = (fault_of_effect before c.number c.command ≡ None) × HaveNoFault (before ++ c ∷ []) commands
-
--- the fault of a command that a fault of a term makes
-abbrev pub command_fault : TermFault → CommandFault
-command_fault terms.Memory = Memory
-command_fault terms.Form = Term terms.Form
-command_fault terms.Unsupported = Term terms.Unsupported
-command_fault terms.Unknown = Term terms.Unknown
-command_fault terms.IllSorted = Term terms.IllSorted
-command_fault terms.Index = Term terms.Index
-command_fault terms.BoundTwice = Term terms.BoundTwice
-command_fault terms.NotFresh = Term terms.NotFresh
-command_fault terms.Label = Term terms.Label

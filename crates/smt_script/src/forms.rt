@@ -10,13 +10,13 @@ mod parts;
 mod shapes;
 
 use crate::command::{Command, Query};
-use crate::fault::CommandFault;
 use crate::forms::parts::Parts;
 use crate::forms::shapes::{
     is_abbreviation, is_global_declarations, keyword_and_value, makes_global, name_and_abbreviated,
     name_and_definition, name_and_rank, name_and_sort, one_keyword, one_list, one_numeral,
     one_symbol, one_text, one_tree, truth_of_value,
 };
+use smt_faults::CommandFault;
 use smt_text::{Bytes, Tree, Word, split_first};
 
 /// The command that a tree is (SMT-LIB 2.6, section 4.2). A tree that is none is refused: as `Unsupported` where it is a list that
@@ -91,11 +91,7 @@ fn command_with(word: Word, parts: Parts) -> Option<Command>
 fn alone(command: Command, parts: Parts) -> Option<Command>
     ensures { option_map command_view result ≡ commands.alone (command_view command) (parts_view parts) }
 {
-    if parts.is_empty() {
-        Some(command)
-    } else {
-        None
-    }
+    parts.is_empty().then_some(command)
 }
 
 // The setting of an option: `:print-success` has to be a truth value, and `:global-declarations` has to be `false`.

@@ -10,12 +10,11 @@
 #![tactic(auto)]
 
 mod command;
-mod fault;
 mod forms;
 pub mod laws;
 mod stack;
 
 pub use command::{Command, Query};
-pub use fault::CommandFault;
 pub use forms::read_command;
+pub use smt_faults::CommandFault;
 pub use stack::{Assertion, Level, Stack, all_theories};

@@ -7,14 +7,14 @@ ghost use Rattle.smt_script.specs.CommandView.{command_view};
 ghost use Rattle.smt_script.specs.Stack.{Numbered, assertions_in_force, depth_in_force, fault_of_effect, has_exited, print_success_in_force, signature_in_force};
 ghost use Rattle.smt_script.specs.Stack as stack;
 ghost use Rattle.smt_script.specs.StackView.{AreAssertions, StandsFor, last_of, library_of, start_of};
-ghost use Rattle.smt_script.specs.declared.fault.CommandFault.TheVariants.{Memory};
+ghost use Rattle.smt_faults.specs.declared.command_fault.CommandFault.TheVariants.{Memory};
 
 mod effects;
 mod levels;
 
 use crate::command::Command;
-use crate::fault::CommandFault;
 pub use levels::Level;
+use smt_faults::CommandFault;
 use smt_terms::{Library, TermId};
 use smt_theory::Theories;
 use std::alloc::Global;
@@ -149,7 +149,12 @@ impl Stack {
                 self.last = number;
                 Ok(())
             }
-            command => self.apply(number, &command),
+            // dropped by name: what the prover has to say of a drop at the end, variant by variant, takes it long
+            command => {
+                let outcome = self.apply(number, &command);
+                drop(command);
+                outcome
+            }
         }
     }
 

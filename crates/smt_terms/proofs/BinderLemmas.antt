@@ -8,8 +8,8 @@ use Rattle.smt_terms.specs.Bindings.{are_attributes, are_bindings}
 use Rattle.smt_terms.specs.Checking.{bound_in, fault_of_labels, sort_in, unless}
 use Rattle.smt_terms.specs.Labels.{labels_among, labels_in, labels_in_bindings}
 use Rattle.smt_terms.specs.Signature.{Names, behind}
-use Rattle.smt_terms.specs.declared.fault.TermFault.{TermFault}
-use Rattle.smt_terms.specs.declared.fault.TermFault.TheVariants.{BoundTwice, Form, Memory}
+use Rattle.smt_faults.specs.declared.term_fault.TermFault.{TermFault}
+use Rattle.smt_faults.specs.declared.term_fault.TermFault.TheVariants.{BoundTwice, Form, Memory}
 use Rattle.smt_terms.proofs.CheckerLemmas.{Scope}
 
 -- ## Bindings

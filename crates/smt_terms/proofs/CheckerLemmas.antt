@@ -11,8 +11,8 @@ use Rattle.smt_terms.specs.Identifier.{Identifier, Plain, Indexed, applied, inde
 use Rattle.smt_terms.specs.Internal.Heads.{is_bang_tree, is_let_tree, names_variable}
 use Rattle.smt_terms.specs.Labels.{labels_in}
 use Rattle.smt_terms.specs.Signature.{Names, behind}
-use Rattle.smt_terms.specs.declared.fault.TermFault.{TermFault}
-use Rattle.smt_terms.specs.declared.fault.TermFault.TheVariants.{IllSorted, Memory}
+use Rattle.smt_faults.specs.declared.term_fault.TermFault.{TermFault}
+use Rattle.smt_faults.specs.declared.term_fault.TermFault.TheVariants.{IllSorted, Memory}
 
 -- variables with their sorts
 abbrev pub Scope : Type 0

@@ -12,8 +12,8 @@ use Rattle.smt_terms.specs.Checking.{bound_in, fault_of_labels, sort_applied, so
 use Rattle.smt_terms.specs.Identifier.{Identifier, Plain, Indexed, applied}
 use Rattle.smt_terms.specs.Labels.{Unread, any_uses_outer, bindings_use_outer, is_among, labels_among, labels_in, labels_in_bindings, uses_outer}
 use Rattle.smt_terms.specs.Signature.{Names, behind}
-use Rattle.smt_terms.specs.declared.fault.TermFault.{TermFault}
-use Rattle.smt_terms.specs.declared.fault.TermFault.TheVariants.{BoundTwice, Form}
+use Rattle.smt_faults.specs.declared.term_fault.TermFault.{TermFault}
+use Rattle.smt_faults.specs.declared.term_fault.TermFault.TheVariants.{BoundTwice, Form}
 use Rattle.smt_terms.proofs.CheckerLemmas.{Scope}
 use Rattle.smt_terms.proofs.KeptLemmas.{Unread-behind, answered, kept-else, kept-steps, kept-then, unless-none, unread_faults}
 

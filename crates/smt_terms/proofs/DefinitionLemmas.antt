@@ -10,8 +10,8 @@ use Rattle.smt_terms.specs.Internal.LibraryView.{names_of_library, sort_names}
 use Rattle.smt_terms.specs.Library.{StandsFor}
 use Rattle.smt_terms.specs.Signature.{Names, Signature, is_taken, names_of, sort_names_of}
 use Rattle.smt_terms.specs.SortTrees.{sort_named}
-use Rattle.smt_terms.specs.declared.fault.TermFault.{TermFault}
-use Rattle.smt_terms.specs.declared.fault.TermFault.TheVariants.{IllSorted, Memory, NotFresh}
+use Rattle.smt_faults.specs.declared.term_fault.TermFault.{TermFault}
+use Rattle.smt_faults.specs.declared.term_fault.TermFault.TheVariants.{IllSorted, Memory, NotFresh}
 use Rattle.smt_terms.specs.declared.library.Library.{Library}
 use Rattle.smt_terms.proofs.ItemLemmas.{Params, names_as, sorts_as}
 

@@ -15,8 +15,8 @@ use Rattle.smt_terms.specs.Labels.{Refused}
 use Rattle.smt_terms.specs.Signature.{Entry, Names, Signature, is_taken, names_of, ranks_of, sort_names_of, unlabelled_over}
 use Rattle.smt_terms.specs.SortTrees.{SortNames, sort_named}
 use Rattle.smt_terms.specs.WellSorted.{AreDifferent, IsWellSorted}
-use Rattle.smt_terms.specs.declared.fault.TermFault.{TermFault}
-use Rattle.smt_terms.specs.declared.fault.TermFault.TheVariants.{BoundTwice, IllSorted, NotFresh}
+use Rattle.smt_faults.specs.declared.term_fault.TermFault.{TermFault}
+use Rattle.smt_faults.specs.declared.term_fault.TermFault.TheVariants.{BoundTwice, IllSorted, NotFresh}
 use Rattle.smt_terms.proofs.ItemLemmas.{Params}
 use Rattle.smt_terms.proofs.KeptLemmas.{Keeps-unlabelled, kept-sort}
 use Rattle.smt_terms.proofs.NameLemmas.{none_step, same_flip}

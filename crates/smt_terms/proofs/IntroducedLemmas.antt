@@ -17,9 +17,9 @@ use Rattle.smt_terms.specs.Identifier.{applied}
 use Rattle.smt_terms.specs.Labels.{Labels, Refused, Given, Unread, is_among, labels_among, labels_in, labels_in_all, labels_in_bindings, uses_variable, with_labels}
 use Rattle.smt_terms.specs.Signature.{Entry, Names, Rank, Signature, behind, entry_named, in_assertion, is_taken, names_of, rank_of_entry, ranks_of, unlabelled, unlabelled_over}
 use Rattle.smt_terms.specs.WellSorted.{AreIntroduced, Keeps}
-use Rattle.smt_terms.specs.declared.fault.TermFault.{TermFault}
-use Rattle.smt_terms.specs.declared.fault.TermFault.TheVariants.{BoundTwice, Form, IllSorted, NotFresh}
-use Rattle.smt_terms.specs.declared.fault.TermFault.TheVariants.{Label as IsLabel}
+use Rattle.smt_faults.specs.declared.term_fault.TermFault.{TermFault}
+use Rattle.smt_faults.specs.declared.term_fault.TermFault.TheVariants.{BoundTwice, Form, IllSorted, NotFresh}
+use Rattle.smt_faults.specs.declared.term_fault.TermFault.TheVariants.{Label as IsLabel}
 use Rattle.smt_terms.proofs.CheckerLemmas.{Scope}
 use Rattle.smt_terms.proofs.EntryLemmas.{look_up-ranks}
 use Rattle.smt_terms.proofs.ClosedLemmas.{closed, neither, of_ok}

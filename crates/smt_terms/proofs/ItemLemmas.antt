@@ -16,8 +16,8 @@ use Rattle.smt_terms.specs.Library.{HasTheoriesOf, StandsFor, is_declared, place
 use Rattle.smt_terms.specs.Signature as signature
 use Rattle.smt_terms.specs.Signature.{Entry, Names, Origin, Rank, Signature, entry_named, is_taken, names_of, rank_of_entry, ranks_of, sort_names_of}
 use Rattle.smt_terms.specs.SortTrees.{sort_named}
-use Rattle.smt_terms.specs.declared.fault.TermFault.{TermFault}
-use Rattle.smt_terms.specs.declared.fault.TermFault.TheVariants.{BoundTwice, IllSorted, NotFresh}
+use Rattle.smt_faults.specs.declared.term_fault.TermFault.{TermFault}
+use Rattle.smt_faults.specs.declared.term_fault.TermFault.TheVariants.{BoundTwice, IllSorted, NotFresh}
 use Rattle.smt_terms.specs.declared.library.Found.{Found}
 use Rattle.smt_terms.specs.declared.library.Library.{Library}
 use Rattle.smt_terms.proofs.EntryLemmas.{look_up-ranks}

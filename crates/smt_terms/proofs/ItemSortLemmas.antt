@@ -13,8 +13,8 @@ use Rattle.smt_terms.specs.Items.{ItemForm, declared_named, defined_as, form_in,
 use Rattle.smt_terms.specs.Signature.{Entry, KeepsRank, Signature, entry_named, is_taken, names_of, sort_names_of}
 use Rattle.smt_terms.specs.SortTrees.{sort_named}
 use Rattle.smt_terms.specs.WellSorted.{AreDifferent, IsWellSorted}
-use Rattle.smt_terms.specs.declared.fault.TermFault.{TermFault}
-use Rattle.smt_terms.specs.declared.fault.TermFault.TheVariants.{BoundTwice, IllSorted, NotFresh}
+use Rattle.smt_faults.specs.declared.term_fault.TermFault.{TermFault}
+use Rattle.smt_faults.specs.declared.term_fault.TermFault.TheVariants.{BoundTwice, IllSorted, NotFresh}
 use Rattle.smt_terms.proofs.DefinitionSortLemmas.{different, well_sorted}
 
 -- whether no new thing may have the name, and it is not declared

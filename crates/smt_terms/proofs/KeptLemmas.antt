@@ -17,8 +17,8 @@ use Rattle.smt_terms.specs.Labels.{Labels, Unread, labels_among, labels_in, labe
 use Rattle.smt_terms.specs.Signature.{Names, Rank, behind, unlabelled}
 use Rattle.smt_terms.specs.SortTrees.{bit_vectors, integers}
 use Rattle.smt_terms.specs.WellSorted.{Keeps}
-use Rattle.smt_terms.specs.declared.fault.TermFault.{TermFault}
-use Rattle.smt_terms.specs.declared.fault.TermFault.TheVariants.{BoundTwice, Form}
+use Rattle.smt_faults.specs.declared.term_fault.TermFault.{TermFault}
+use Rattle.smt_faults.specs.declared.term_fault.TermFault.TheVariants.{BoundTwice, Form}
 use Rattle.smt_terms.proofs.CheckerLemmas.{Scope}
 
 -- ## Answers

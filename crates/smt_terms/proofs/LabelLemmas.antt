@@ -16,8 +16,8 @@ use Rattle.smt_terms.specs.Internal.LibraryView.{names_for, names_of_library}
 use Rattle.smt_terms.specs.Labels as spec
 use Rattle.smt_terms.specs.Labels.{is_among, labels_among, labels_in, labels_in_all, uses_variable, with_labels}
 use Rattle.smt_terms.specs.Signature.{Names, Rank, behind, is_taken, unlabelled}
-use Rattle.smt_terms.specs.declared.fault.TermFault.{TermFault}
-use Rattle.smt_terms.specs.declared.fault.TermFault.TheVariants.{Label as IsLabel, Memory, NotFresh}
+use Rattle.smt_faults.specs.declared.term_fault.TermFault.{TermFault}
+use Rattle.smt_faults.specs.declared.term_fault.TermFault.TheVariants.{Label as IsLabel, Memory, NotFresh}
 use Rattle.smt_terms.proofs.CheckerLemmas.{Scope}
 use Rattle.smt_terms.specs.declared.labels.Label.{Label}
 use Rattle.smt_terms.specs.declared.labels.Labels.{Labels}

@@ -28,8 +28,8 @@ use Rattle.smt_terms.specs.Labels.{Labels, Refused, Given, Unread, is_among, lab
 use Rattle.smt_terms.specs.Signature.{Entry, Names, Rank, Signature, behind, declaration, declared_in, entry_named, in_assertion, is_taken, names_of, rank_named, sort_names_of}
 use Rattle.smt_terms.specs.SortTrees.{SortNames, abbreviated_in, bit_vector_sort, bit_vectors, indexed_sort, integers, is_some_tree, is_sort_taken, sort_named, sort_of_list, sort_of_word, sorts_named}
 use Rattle.smt_terms.specs.SortTrees as sorts
-use Rattle.smt_terms.specs.declared.fault.TermFault.{TermFault}
-use Rattle.smt_terms.specs.declared.fault.TermFault.TheVariants.{Form, Unsupported, Unknown, IllSorted, Index, BoundTwice, NotFresh, Label, Memory}
+use Rattle.smt_faults.specs.declared.term_fault.TermFault.{TermFault}
+use Rattle.smt_faults.specs.declared.term_fault.TermFault.TheVariants.{Form, Unsupported, Unknown, IllSorted, Index, BoundTwice, NotFresh, Label, Memory}
 
 -- an answer that is not want of memory
 abbrev pub IsOther : {A : Type 0} → Result A TermFault → Type 0

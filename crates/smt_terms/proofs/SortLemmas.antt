@@ -5,7 +5,7 @@ use Rattle.smt_text.specs.Sexp.{Sexps}
 use Rattle.smt_theory.specs.Words.{look_up, result_and_then}
 use Rattle.smt_theory.specs.declared.sort.Sort.{Sort}
 use Rattle.smt_terms.specs.SortTrees.{SortNames, is_sort_taken, sorts_named}
-use Rattle.smt_terms.specs.declared.fault.TermFault.{TermFault}
+use Rattle.smt_faults.specs.declared.term_fault.TermFault.{TermFault}
 
 -- the sorts that trees name behind earlier ones
 abbrev pub named_behind : SortNames → List Sort → Sexps → Result (List Sort) TermFault

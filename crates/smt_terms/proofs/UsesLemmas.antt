@@ -6,7 +6,7 @@ use Rattle.smt_terms.specs.Bindings.{first_named, let_form, named_trees}
 use Rattle.smt_terms.specs.Checking.{is_underscore_tree}
 use Rattle.smt_terms.specs.Internal.Heads.{is_bang_tree, is_let_tree}
 use Rattle.smt_terms.specs.Labels.{any_uses_outer, bindings_use_outer, uses_outer}
-use Rattle.smt_terms.specs.declared.fault.TermFault.{TermFault}
+use Rattle.smt_faults.specs.declared.term_fault.TermFault.{TermFault}
 use Rattle.smt_terms.proofs.CheckerLemmas.{Scope}
 
 -- what an answer says of another that it is

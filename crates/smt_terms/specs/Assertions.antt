@@ -10,8 +10,8 @@ use Rattle.smt_terms.specs.Checking.{sort_in}
 use Rattle.smt_terms.specs.Definitions.{definition}
 use Rattle.smt_terms.specs.Labels.{labels_in}
 use Rattle.smt_terms.specs.Signature.{Entry, Names, in_assertion, unlabelled}
-use Rattle.smt_terms.specs.declared.fault.TermFault.{TermFault}
-use Rattle.smt_terms.specs.declared.fault.TermFault.TheVariants.{IllSorted}
+use Rattle.smt_faults.specs.declared.term_fault.TermFault.{TermFault}
+use Rattle.smt_faults.specs.declared.term_fault.TermFault.TheVariants.{IllSorted}
 
 -- a label of a term of this sort: a constant that the term defines
 abbrev pub label_or_none : List ℕ × Sexp → Result Sort TermFault → List Entry

@@ -18,8 +18,8 @@ use Rattle.smt_terms.specs.Identifier.{Identifier, Plain, Indexed, applied, inde
 use Rattle.smt_terms.specs.Labels.{Labels, Refused, Given, Unread, is_among, labels_among, labels_in, labels_in_bindings, uses_variable}
 use Rattle.smt_terms.specs.Signature.{Names, Rank, behind, is_taken}
 use Rattle.smt_terms.specs.SortTrees.{bit_vectors, integers}
-use Rattle.smt_terms.specs.declared.fault.TermFault.{TermFault}
-use Rattle.smt_terms.specs.declared.fault.TermFault.TheVariants.{Form, Unsupported, Unknown, IllSorted, Index, BoundTwice, NotFresh, Label}
+use Rattle.smt_faults.specs.declared.term_fault.TermFault.{TermFault}
+use Rattle.smt_faults.specs.declared.term_fault.TermFault.TheVariants.{Form, Unsupported, Unknown, IllSorted, Index, BoundTwice, NotFresh, Label}
 
 -- the sort of a rank that fits
 abbrev pub sort_of_rank : Option Sort → Result Sort TermFault

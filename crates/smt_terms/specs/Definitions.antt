@@ -7,8 +7,8 @@ use Rattle.smt_theory.specs.declared.sort.Sort.{Sort}
 use Rattle.smt_terms.specs.Checking.{sort_in}
 use Rattle.smt_terms.specs.Signature.{Entry, Defined, Names, Signature, is_taken, names_of, sort_names_of}
 use Rattle.smt_terms.specs.SortTrees.{SortNames, sort_named}
-use Rattle.smt_terms.specs.declared.fault.TermFault.{TermFault}
-use Rattle.smt_terms.specs.declared.fault.TermFault.TheVariants.{IllSorted, BoundTwice, NotFresh}
+use Rattle.smt_faults.specs.declared.term_fault.TermFault.{TermFault}
+use Rattle.smt_faults.specs.declared.term_fault.TermFault.TheVariants.{IllSorted, BoundTwice, NotFresh}
 
 -- the parameters that names with the trees of their sorts make behind earlier ones; no two have one name
 abbrev pub parameters_named : SortNames → List (List ℕ × Sort) → List (List ℕ × Sexp) → Result (List (List ℕ × Sort)) TermFault

@@ -11,8 +11,8 @@ use Rattle.smt_terms.specs.Checking.{unless}
 use Rattle.smt_terms.specs.Definitions.{definition_in, parameters_named}
 use Rattle.smt_terms.specs.Signature.{Entry, Origin, Declared, Defined, Signature, entry_named, is_taken, names_of, no_names, sort_names_of}
 use Rattle.smt_terms.specs.SortTrees.{sort_named}
-use Rattle.smt_terms.specs.declared.fault.TermFault.{TermFault}
-use Rattle.smt_terms.specs.declared.fault.TermFault.TheVariants.{Form, Unsupported, IllSorted, BoundTwice, NotFresh}
+use Rattle.smt_faults.specs.declared.term_fault.TermFault.{TermFault}
+use Rattle.smt_faults.specs.declared.term_fault.TermFault.TheVariants.{Form, Unsupported, IllSorted, BoundTwice, NotFresh}
 
 -- the parts of an item: a name, parameters, a sort and a body
 pub record ItemForm : Type 0 where

@@ -13,5 +13,4 @@ pub mod Items
 pub mod WellSorted
 pub mod Contents
 pub mod Library
-pub mod FaultText
 pub mod Internal

@@ -8,8 +8,8 @@ use Rattle.smt_theory.specs.declared.sort.Sort.{Sort}
 use Rattle.smt_theory.specs.declared.theories.Theories.{Theories}
 use Rattle.smt_terms.specs.Labels.{Labels, Refused, Given, Unread, with_labels}
 use Rattle.smt_terms.specs.SortTrees.{SortNames, sort_named, sorts_named}
-use Rattle.smt_terms.specs.declared.fault.TermFault.{TermFault}
-use Rattle.smt_terms.specs.declared.fault.TermFault.TheVariants.{NotFresh}
+use Rattle.smt_faults.specs.declared.term_fault.TermFault.{TermFault}
+use Rattle.smt_faults.specs.declared.term_fault.TermFault.TheVariants.{NotFresh}
 
 -- where a name comes from: from the command that declared it, or from a definition with parameters and a body
 pub data Origin : Type 0 where

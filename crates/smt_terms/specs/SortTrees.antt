@@ -10,8 +10,8 @@ use Rattle.smt_theory.specs.declared.theories.Theories.{Theories}
 use Rattle.smt_theory.specs.Width.{width_of}
 use Rattle.smt_theory.specs.Words.{look_up, result_and_then}
 use Rattle.smt_terms.specs.Identifier.{all_indexes}
-use Rattle.smt_terms.specs.declared.fault.TermFault.{TermFault}
-use Rattle.smt_terms.specs.declared.fault.TermFault.TheVariants.{Form, Unsupported, Unknown, Index, NotFresh}
+use Rattle.smt_faults.specs.declared.term_fault.TermFault.{TermFault}
+use Rattle.smt_faults.specs.declared.term_fault.TermFault.TheVariants.{Form, Unsupported, Unknown, Index, NotFresh}
 
 abbrev pub integers : Theories → Result Sort TermFault
 integers theories = if theories.ints then Ok Int else Err Unknown

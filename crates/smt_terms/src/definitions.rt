@@ -7,12 +7,12 @@ ghost use Rattle.smt_terms.specs.Definitions.{parameters_named};
 ghost use Rattle.smt_terms.specs.Internal.LibraryView.{sort_names};
 ghost use Rattle.smt_terms.specs.ParamView.{param_view};
 ghost use Rattle.smt_terms.specs.ScopeView.{scope_view};
-ghost use Rattle.smt_terms.specs.declared.fault.TermFault.TheVariants.{Memory};
+ghost use Rattle.smt_faults.specs.declared.term_fault.TermFault.TheVariants.{Memory};
 
 use crate::bindings::split_named;
-use crate::fault::TermFault;
 use crate::scope::{Variable, find_variable, push_variable};
 use crate::sorts::SortNames;
+use smt_faults::TermFault;
 use smt_text::Tree;
 use smt_theory::Sort;
 use std::alloc::Global;

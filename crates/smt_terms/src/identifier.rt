@@ -7,9 +7,9 @@ ghost use Rattle.smt_theory.specs.Index.{index_view};
 ghost use Rattle.smt_terms.specs.Identifier as identifiers;
 ghost use Rattle.smt_terms.specs.Identifier.{all_indexes, applied, index_of_numeral, index_of_tree, indexed, operator_of};
 ghost use Rattle.smt_terms.specs.IdentifierView.{identifier_view};
-ghost use Rattle.smt_terms.specs.declared.fault.TermFault.TheVariants.{Form, Memory};
+ghost use Rattle.smt_faults.specs.declared.term_fault.TermFault.TheVariants.{Form, Memory};
 
-use crate::fault::TermFault;
+use smt_faults::TermFault;
 use smt_text::{Tree, Trees, Word, split_first};
 use smt_theory::{Index, Op, OpFault, Theories, number, op_of};
 use std::alloc::Global;

@@ -6,10 +6,10 @@ ghost use Rattle.smt_text.specs.Tree.{sexp_of, sexps_of};
 ghost use Rattle.smt_text.specs.declared.reserved.Word.TheVariants.{DefineFun};
 ghost use Rattle.smt_terms.specs.Internal.ItemView.{form_of};
 ghost use Rattle.smt_terms.specs.Items as items;
-ghost use Rattle.smt_terms.specs.declared.fault.TermFault.TheVariants.{Form};
+ghost use Rattle.smt_faults.specs.declared.term_fault.TermFault.TheVariants.{Form};
 
 use crate::bindings::are_named;
-use crate::fault::TermFault;
+use smt_faults::TermFault;
 use smt_text::{Tree, Word, split_first};
 
 // The parts of an item.

@@ -5,9 +5,9 @@ ghost use Rattle.smt_text.specs.Tree.{sexp_of};
 ghost use Rattle.smt_terms.specs.Internal.LabelsView.{given_names, given_terms, labels_view};
 ghost use Rattle.smt_terms.specs.Labels as spec;
 ghost use Rattle.smt_terms.specs.Labels.{is_among};
-ghost use Rattle.smt_terms.specs.declared.fault.TermFault.TheVariants.{Memory};
+ghost use Rattle.smt_faults.specs.declared.term_fault.TermFault.TheVariants.{Memory};
 
-use crate::fault::TermFault;
+use smt_faults::TermFault;
 use smt_text::Tree;
 use smt_theory::Sort;
 use std::alloc::Global;

@@ -14,7 +14,7 @@ ghost use Rattle.smt_terms.specs.SortTrees.{SortNames, abbreviated_in};
 ghost use Rattle.smt_terms.specs.WellSorted.{AreIntroduced, IsWellSorted, Keeps};
 ghost use Rattle.smt_terms.specs.declared.library.TermId.{TermId};
 ghost use Rattle.smt_terms.specs.declared.library.marks.Mark.{Mark};
-ghost use Rattle.smt_terms.specs.declared.fault.TermFault.TheVariants.{Memory};
+ghost use Rattle.smt_faults.specs.declared.term_fault.TermFault.TheVariants.{Memory};
 
 /// No definition answers that memory was refused.
 pub fn faults_are_no_memory()

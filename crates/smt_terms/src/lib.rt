@@ -11,7 +11,6 @@
 mod attributes;
 mod bindings;
 mod definitions;
-mod fault;
 mod heads;
 mod identifier;
 mod item_form;
@@ -24,7 +23,7 @@ mod variables;
 
 pub use bindings::{are_named, split_let, split_named};
 pub use definitions::{Param, params_of};
-pub use fault::TermFault;
 pub use identifier::{Identifier, applied_identifier, indexed_identifier};
 pub use library::{Declared, Definition, Found, Library, Mark, TermId};
 pub use scope::{Variable, find_variable};
+pub use smt_faults::TermFault;

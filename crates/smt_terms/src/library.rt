@@ -17,10 +17,10 @@ mod marks;
 ghost use Rattle.std.specs.Prelude.{◌≡◌};
 ghost use Rattle.smt_theory.specs.Operators.{is_plain_operator};
 
-use crate::fault::TermFault;
 use crate::labels::Labels;
 use crate::sorts::SortNames;
 use indexmap::IndexMap;
+use smt_faults::TermFault;
 use smt_text::Tree;
 use smt_theory::{Sort, Theories, op_of};
 use std::alloc::Global;
@@ -103,7 +103,7 @@ impl Library {
     ghost use Rattle.smt_terms.specs.Signature.{Rank, Signature, declaration, declared_in, entry_named, is_taken, names_of, no_names, rank_named, sort_names_of, with_abbreviation, with_entry};
     ghost use Rattle.smt_terms.specs.SortTrees.{abbreviated_in};
     ghost use Rattle.smt_theory.specs.declared.sort.Sort.{Sort};
-    ghost use Rattle.smt_terms.specs.declared.fault.TermFault.TheVariants.{Memory};
+    ghost use Rattle.smt_faults.specs.declared.term_fault.TermFault.TheVariants.{Memory};
     ghost use Rattle.smt_terms.specs.declared.library.TermId as id;
 
     /// A library of these theories without names.

@@ -9,12 +9,12 @@ ghost use Rattle.std.proofs.Props.{props};
 ghost use Rattle.indexmap.specs.IndexMap.{keys};
 ghost use Rattle.smt_theory.specs.Words.{look_up};
 ghost use Rattle.smt_terms.specs.SortTrees.{abbreviated_in, is_sort_taken, sort_named, sorts_named};
-ghost use Rattle.smt_terms.specs.declared.fault.TermFault.TheVariants.{Memory};
+ghost use Rattle.smt_faults.specs.declared.term_fault.TermFault.TheVariants.{Memory};
 ghost use Rattle.smt_terms.specs.SortTrees as sorts;
 
-use crate::fault::TermFault;
 use crate::identifier::are_indexes;
 use indexmap::IndexMap;
+use smt_faults::TermFault;
 use smt_text::{Tree, Word, split_first};
 use smt_theory::{Sort, Theories, Width, number};
 use std::alloc::Global;

@@ -8,12 +8,12 @@ ghost use Rattle.smt_theory.specs.Words.{look_up};
 ghost use Rattle.smt_terms.specs.Bindings.{named_trees};
 ghost use Rattle.smt_terms.specs.Labels as labels;
 ghost use Rattle.smt_terms.specs.ScopeView.{scope_view};
-ghost use Rattle.smt_terms.specs.declared.fault.TermFault.TheVariants.{Memory};
+ghost use Rattle.smt_faults.specs.declared.term_fault.TermFault.TheVariants.{Memory};
 
 use crate::bindings::{split_let, split_named};
-use crate::fault::TermFault;
 use crate::heads::{is_bang, is_let, is_underscore};
 use crate::scope::{Variable, find_variable};
+use smt_faults::TermFault;
 use smt_text::{Tree, Trees, split_first};
 use smt_theory::Sort;
 use std::alloc::Global;

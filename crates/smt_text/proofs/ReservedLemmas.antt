@@ -1,6 +1,6 @@
 -- The reserved words and their spellings.
-use Rattle.std.proofs.Common.{◌≡◌, ◌≢◌, ℕ, List, [], ◌∷◌, Option, Some, None, Bool, true, false, ◌+◌, ◌<◌, length, drop, get_or, refl, sym, ap, ◌∙◌}
-use Rattle.std.proofs.lemmas.List.{drop_more}
+use Rattle.std.proofs.Common.{◌≡◌, ◌≢◌, ℕ, List, [], ◌∷◌, Option, Some, None, Bool, true, false, ◌+◌, ◌<◌, ◌≤◌, length, drop, get_or, refl, sym, ap, ◌∙◌}
+use Rattle.std.proofs.lemmas.List.{drop_all, drop_more}
 use Rattle.std.specs.List.{slice_get}
 use Rattle.std.specs.Str.{bytes_eq}
 use Rattle.std.proofs.lemmas.Slice.Eq.{bytes_eq-Decides}
@@ -83,6 +83,10 @@ find_word-more bytes words i d written within is h =
     let other : bytes_eq (spelling_of w) bytes ≡ false = ap (λ x. bytes_eq x bytes) (sym is) ∙ h in
     let next : find_word bytes (w ∷ drop (i + 1) words) ≡ find_word bytes (drop (i + 1) words) = rw other refl in
     sym next ∙ ap (find_word bytes) (sym (drop_more words i d within))
+
+-- none is found behind the last
+pub find_word-end : (bytes : List ℕ) (words : List Word) (i : ℕ) → length words ≤ i → None ≡ find_word bytes (drop i words)
+find_word-end bytes words i h = sym (ap (find_word bytes) (drop_all i words h))
 
 -- each reserved word is among those like it
 abbrev pub first_of : List ℕ → ℕ

@@ -360,6 +360,3 @@ impl Trees {
         }
     }
 }
-
-#[cfg(test)]
-mod tests;

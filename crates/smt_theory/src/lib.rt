@@ -24,8 +24,6 @@ mod numbers;
 mod op;
 mod ranks;
 mod sort;
-#[cfg(test)]
-mod tests;
 mod theories;
 mod width;
 

@@ -20,8 +20,6 @@
 pub mod laws;
 mod literals;
 mod operations;
-#[cfg(test)]
-mod tests;
 mod value;
 
 pub use literals::{bin, hex, numeral};

@@ -106,6 +106,3 @@ pub fn settings<'a>(alloc: Global, words: &'a [&'a str]) -> Result<Settings<'a>,
         start: matches.get_str("print-success").unwrap() == "on",
     })
 }
-
-#[cfg(test)]
-mod tests;

@@ -1,8 +1,5 @@
 //! The program: from the words of the command line to the exit status.
 
-#[cfg(test)]
-mod tests;
-
 use crate::command_line;
 use crate::files::{RunFault, run};
 use crate::settings::LineFault;

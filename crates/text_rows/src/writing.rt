@@ -28,7 +28,7 @@ pub(crate) fn write_trees(out: &mut Vec<u8>, trees: &[Tree]) -> Result<(), Alloc
     write_trees(out, rest)
 }
 
-/// Writes the fault with its place, or that there is none.
+/// Writes the fault with its place, or that there is none. Want of memory is a failure of this call.
 pub(crate) fn write_end(
     alloc: Global,
     out: &mut Vec<u8>,
@@ -39,7 +39,7 @@ pub(crate) fn write_end(
         Some(TextFault::Byte { place }) => format!(in alloc; "byte {place}")?,
         Some(TextFault::Deep { place }) => format!(in alloc; "deep {place}")?,
         Some(TextFault::End { place }) => format!(in alloc; "end {place}")?,
-        Some(TextFault::Memory) => format!(in alloc; "memory")?,
+        Some(TextFault::Memory) => return Err(AllocError),
     };
     out.extend_from_slice(end.as_bytes())?;
     Ok(())

@@ -1,49 +1,47 @@
 //! Shifts, one place at a time.
 
-use crate::lists::{copy, highest, number};
-use std::alloc::{AllocError, Global};
+use crate::bit_list::BitList;
 
-pub(crate) fn bvshl(alloc: Global, s: &[bool], t: &[bool]) -> Result<Vec<bool>, AllocError> {
-    let mut bits = copy(alloc, s)?;
-    for _times in 0..number(t) {
-        bits = moved_up(alloc, bits.as_slice(), false)?;
+pub(crate) fn bvshl(s: BitList, t: BitList) -> BitList {
+    let mut bits = s;
+    for _times in 0..t.number() {
+        bits = moved_up(bits, false);
     }
-    Ok(bits)
+    bits
 }
 
-pub(crate) fn bvlshr(alloc: Global, s: &[bool], t: &[bool]) -> Result<Vec<bool>, AllocError> {
-    let mut bits = copy(alloc, s)?;
-    for _times in 0..number(t) {
-        bits = moved_down(alloc, bits.as_slice(), false)?;
+pub(crate) fn bvlshr(s: BitList, t: BitList) -> BitList {
+    let mut bits = s;
+    for _times in 0..t.number() {
+        bits = moved_down(bits, false);
     }
-    Ok(bits)
+    bits
 }
 
-pub(crate) fn bvashr(alloc: Global, s: &[bool], t: &[bool]) -> Result<Vec<bool>, AllocError> {
-    let mut bits = copy(alloc, s)?;
-    for _times in 0..number(t) {
-        bits = moved_down(alloc, bits.as_slice(), highest(s))?;
+pub(crate) fn bvashr(s: BitList, t: BitList) -> BitList {
+    let mut bits = s;
+    for _times in 0..t.number() {
+        bits = moved_down(bits, s.highest());
     }
-    Ok(bits)
+    bits
 }
 
 /// Each bit one place up: the highest is lost, and this bit is the lowest.
-pub(crate) fn moved_up(alloc: Global, s: &[bool], first: bool) -> Result<Vec<bool>, AllocError> {
-    let mut bits = Vec::new(alloc);
+pub(crate) fn moved_up(s: BitList, first: bool) -> BitList {
+    let mut bits = BitList::new();
     let mut below = first;
-    for bit in s {
-        bits.push(below)?;
-        below = *bit;
+    for place in 0..s.len() {
+        bits = bits.with(below);
+        below = s.at(place);
     }
-    Ok(bits)
+    bits
 }
 
 /// Each bit one place down: the lowest is lost, and this bit is the highest.
-pub(crate) fn moved_down(alloc: Global, s: &[bool], last: bool) -> Result<Vec<bool>, AllocError> {
-    let mut bits = Vec::new(alloc);
-    for bit in s.iter().skip(1) {
-        bits.push(*bit)?;
+pub(crate) fn moved_down(s: BitList, last: bool) -> BitList {
+    let mut bits = BitList::new();
+    for place in 1..s.len() {
+        bits = bits.with(s.at(place));
     }
-    bits.push(last)?;
-    Ok(bits)
+    bits.with(last)
 }

@@ -1,55 +1,41 @@
 //! Signed division, by cases on the highest bits.
 
-use crate::lists::{copy, highest, is_zero};
+use crate::bit_list::BitList;
 use crate::plain::arithmetic::{bvadd, bvneg, bvudiv, bvurem};
-use std::alloc::{AllocError, Global};
 
-pub(crate) fn bvsdiv(alloc: Global, s: &[bool], t: &[bool]) -> Result<Vec<bool>, AllocError> {
-    let minus_s = bvneg(alloc, s)?;
-    let minus_t = bvneg(alloc, t)?;
-    match (highest(s), highest(t)) {
-        (false, false) => bvudiv(alloc, s, t),
-        (true, false) => bvneg(alloc, bvudiv(alloc, minus_s.as_slice(), t)?.as_slice()),
-        (false, true) => bvneg(alloc, bvudiv(alloc, s, minus_t.as_slice())?.as_slice()),
-        (true, true) => bvudiv(alloc, minus_s.as_slice(), minus_t.as_slice()),
+pub(crate) fn bvsdiv(s: BitList, t: BitList) -> BitList {
+    match (s.highest(), t.highest()) {
+        (false, false) => bvudiv(s, t),
+        (true, false) => bvneg(bvudiv(bvneg(s), t)),
+        (false, true) => bvneg(bvudiv(s, bvneg(t))),
+        (true, true) => bvudiv(bvneg(s), bvneg(t)),
     }
 }
 
 /// The remainder with the sign of s.
-pub(crate) fn bvsrem(alloc: Global, s: &[bool], t: &[bool]) -> Result<Vec<bool>, AllocError> {
-    let minus_s = bvneg(alloc, s)?;
-    let minus_t = bvneg(alloc, t)?;
-    match (highest(s), highest(t)) {
-        (false, false) => bvurem(alloc, s, t),
-        (true, false) => bvneg(alloc, bvurem(alloc, minus_s.as_slice(), t)?.as_slice()),
-        (false, true) => bvurem(alloc, s, minus_t.as_slice()),
-        (true, true) => {
-            let rest = bvurem(alloc, minus_s.as_slice(), minus_t.as_slice())?;
-            bvneg(alloc, rest.as_slice())
-        }
+pub(crate) fn bvsrem(s: BitList, t: BitList) -> BitList {
+    match (s.highest(), t.highest()) {
+        (false, false) => bvurem(s, t),
+        (true, false) => bvneg(bvurem(bvneg(s), t)),
+        (false, true) => bvurem(s, bvneg(t)),
+        (true, true) => bvneg(bvurem(bvneg(s), bvneg(t))),
     }
 }
 
 /// The remainder with the sign of t.
-pub(crate) fn bvsmod(alloc: Global, s: &[bool], t: &[bool]) -> Result<Vec<bool>, AllocError> {
-    let abs_s = absolute(alloc, s)?;
-    let abs_t = absolute(alloc, t)?;
-    let u = bvurem(alloc, abs_s.as_slice(), abs_t.as_slice())?;
-    if is_zero(u.as_slice()) {
-        return Ok(u);
+pub(crate) fn bvsmod(s: BitList, t: BitList) -> BitList {
+    let u = bvurem(absolute(s), absolute(t));
+    if u.is_zero() {
+        return u;
     }
-    match (highest(s), highest(t)) {
-        (false, false) => Ok(u),
-        (true, false) => bvadd(alloc, bvneg(alloc, u.as_slice())?.as_slice(), t),
-        (false, true) => bvadd(alloc, u.as_slice(), t),
-        (true, true) => bvneg(alloc, u.as_slice()),
+    match (s.highest(), t.highest()) {
+        (false, false) => u,
+        (true, false) => bvadd(bvneg(u), t),
+        (false, true) => bvadd(u, t),
+        (true, true) => bvneg(u),
     }
 }
 
-fn absolute(alloc: Global, s: &[bool]) -> Result<Vec<bool>, AllocError> {
-    if highest(s) {
-        bvneg(alloc, s)
-    } else {
-        copy(alloc, s)
-    }
+fn absolute(s: BitList) -> BitList {
+    if s.highest() { bvneg(s) } else { s }
 }

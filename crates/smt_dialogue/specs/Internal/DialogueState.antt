@@ -4,7 +4,7 @@ use Rattle.smt_script.specs.Command.{Command}
 use Rattle.smt_script.specs.Stack.{Numbered, fault_of_effect}
 use Rattle.smt_script.specs.StackView as stacks
 use Rattle.smt_script.specs.StackView.{last_of}
-use Rattle.smt_script.specs.declared.fault.CommandFault.{CommandFault}
+use Rattle.smt_faults.specs.declared.command_fault.CommandFault.{CommandFault}
 use Rattle.smt_script.specs.declared.stack.Stack.{Stack}
 use Rattle.smt_dialogue.specs.InForce.{assertions_after, signature_after}
 use Rattle.smt_dialogue.specs.Lines.{checks_in, lines_in}

@@ -177,17 +177,17 @@ evaluator::known_operation-returns-then-is_choice t c = λ d e.
 
 -- ---- few arguments
 
-pub evaluator::known_operated-returns-in-len1 : goal.evaluator::known_operated-returns-in-len1
-evaluator::known_operated-returns-in-len1 t c = λ d e.
+pub evaluator::known_operation-returns-in-len1 : goal.evaluator::known_operation-returns-in-len1
+evaluator::known_operation-returns-in-len1 t c = λ d e.
     let parts = one_of c.args.args.now c.only-item.result c.in-len1.len_at_least c.in-len1.len_below c.only-item.is in
     if_known c.known_of_one.result _ _ (c.known_of_one.ensures d e) (sym (ap (λ ts. known_step c.args.op (knowns_of (meaning_over c.args.over d) (known_scope c.args.scope.now) ts)) parts))
 
-pub evaluator::known_operated-returns-in-len2 : goal.evaluator::known_operated-returns-in-len2
-evaluator::known_operated-returns-in-len2 t c = λ d e.
+pub evaluator::known_operation-returns-in-len2 : goal.evaluator::known_operation-returns-in-len2
+evaluator::known_operation-returns-in-len2 t c = λ d e.
     let parts = two_of c.args.args.now c.first-item.result c.second-item.result c.in-len2.len_at_least c.in-len2.len_below c.first-item.is c.second-item.is in
     if_known c.known_of_two.result _ _ (c.known_of_two.ensures d e) (sym (ap (λ ts. known_step c.args.op (knowns_of (meaning_over c.args.over d) (known_scope c.args.scope.now) ts)) parts))
 
-pub evaluator::known_operated-returns-in-len3 : goal.evaluator::known_operated-returns-in-len3
-evaluator::known_operated-returns-in-len3 t c = λ d e.
+pub evaluator::known_operation-returns-in-len3 : goal.evaluator::known_operation-returns-in-len3
+evaluator::known_operation-returns-in-len3 t c = λ d e.
     let parts = three_of c.args.args.now c.first-item-then-args-lt4.result c.second-item-then-args-lt4.result c.third-item.result c.in-len3.len_at_least c.in-len3.len_below c.first-item-then-args-lt4.is c.second-item-then-args-lt4.is c.third-item.is in
     if_known c.known_of_three.result _ _ (c.known_of_three.ensures d e) (sym (ap (λ ts. known_step c.args.op (knowns_of (meaning_over c.args.over d) (known_scope c.args.scope.now) ts)) parts))

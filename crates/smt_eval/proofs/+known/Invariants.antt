@@ -34,9 +34,6 @@ decreases-evaluator::known_named l = 8 * (seen_weight l.over + weight_all (sexps
 abbrev pub decreases-evaluator::known_operation : goal.decreases-evaluator::known_operation
 decreases-evaluator::known_operation l = 8 * (seen_weight l.over + weight_all (sexps_of l.args.now)) + 6
 
-abbrev pub decreases-evaluator::known_operated : goal.decreases-evaluator::known_operated
-decreases-evaluator::known_operated l = 8 * (seen_weight l.over + weight_all (sexps_of l.args.now)) + 5
-
 abbrev pub decreases-evaluator::known_of_one : goal.decreases-evaluator::known_of_one
 decreases-evaluator::known_of_one l = 8 * (seen_weight l.over + weight (sexp_of l.only.now)) + 4
 

@@ -13,8 +13,8 @@ ghost use Rattle.smt_script.specs.StackView.{last_of, start_of};
 ghost use Rattle.smt_script.specs.Internal.Effect.{HasEffect, IsRefused, IsUnchanged, noted};
 
 use crate::command::Command;
-use crate::fault::CommandFault;
 use crate::stack::{Assertion, Stack, all_theories};
+use smt_faults::CommandFault;
 use smt_terms::laws::faults_are_no_memory;
 use smt_terms::{Library, params_of};
 use smt_text::Tree;

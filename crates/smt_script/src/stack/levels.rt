@@ -3,10 +3,10 @@
 ghost use Rattle.std.specs.Prelude.{◌≡◌, ◌≤◌, ◌++◌, IfErr, MatchOption, OnErr, OnOk};
 ghost use Rattle.std.specs.Str.Parse.{digits_value};
 ghost use Rattle.smt_script.specs.Internal.Effect.{copies};
-ghost use Rattle.smt_script.specs.declared.fault.CommandFault.TheVariants.{Memory};
+ghost use Rattle.smt_faults.specs.declared.command_fault.CommandFault.TheVariants.{Memory};
 
-use crate::fault::CommandFault;
 use crate::stack::{Stack, all_theories};
+use smt_faults::CommandFault;
 use smt_terms::{Library, Mark};
 use smt_theory::number;
 

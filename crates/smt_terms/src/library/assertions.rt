@@ -10,12 +10,12 @@ ghost use Rattle.smt_terms.specs.Internal.LibraryView.{ranks_of_library};
 ghost use Rattle.smt_terms.specs.Library.{IsTerm, StandsFor};
 ghost use Rattle.smt_terms.specs.Signature as signature;
 ghost use Rattle.smt_terms.specs.Signature.{Signature, names_of, rank_of_entry, with_entries, with_entry};
-ghost use Rattle.smt_terms.specs.declared.fault.TermFault.TheVariants.{Memory};
+ghost use Rattle.smt_faults.specs.declared.term_fault.TermFault.TheVariants.{Memory};
 
-use crate::fault::TermFault;
 use crate::labels::{Label, Labels};
 use crate::library::items::are_equal;
 use crate::library::{Library, TermId};
+use smt_faults::TermFault;
 use smt_text::Tree;
 use smt_theory::Sort;
 

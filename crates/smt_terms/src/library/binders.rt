@@ -12,15 +12,15 @@ ghost use Rattle.smt_terms.specs.Internal.LibraryView.{names_for, names_of_libra
 ghost use Rattle.smt_terms.specs.Labels.{is_among, labels_among, labels_in, labels_in_bindings};
 ghost use Rattle.smt_terms.specs.Signature.{is_taken, unlabelled};
 ghost use Rattle.smt_terms.specs.ScopeView.{scope_view};
-ghost use Rattle.smt_terms.specs.declared.fault.TermFault.TheVariants.{Memory};
+ghost use Rattle.smt_faults.specs.declared.term_fault.TermFault.TheVariants.{Memory};
 
 use crate::attributes::{are_attributes, label_at};
 use crate::bindings::{are_bindings, split_let, split_named};
-use crate::fault::TermFault;
 use crate::labels::Labels;
 use crate::library::Library;
 use crate::scope::{Variable, find_variable, push_variable};
 use crate::variables::uses_variable;
+use smt_faults::TermFault;
 use smt_text::{Tree, split_first};
 use smt_theory::Sort;
 

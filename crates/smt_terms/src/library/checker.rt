@@ -16,9 +16,8 @@ ghost use Rattle.smt_terms.specs.Internal.LabelsView.{AreGiven, labels_view};
 ghost use Rattle.smt_terms.specs.Internal.LibraryView.{names_for, names_of_library};
 ghost use Rattle.smt_terms.specs.Labels.{labels_in, labels_in_all};
 ghost use Rattle.smt_terms.specs.SortTrees.{bit_vectors, integers};
-ghost use Rattle.smt_terms.specs.declared.fault.TermFault.TheVariants.{Memory};
+ghost use Rattle.smt_faults.specs.declared.term_fault.TermFault.TheVariants.{Memory};
 
-use crate::fault::TermFault;
 use crate::heads::{is_bang, is_let, is_underscore};
 use crate::identifier::{Identifier, applied_identifier, indexed_identifier};
 use crate::labels::Labels;
@@ -26,6 +25,7 @@ use crate::library::{Entry, Library};
 use crate::scope::{Variable, find_variable};
 use crate::sorts;
 use smallvec::SmallVec;
+use smt_faults::TermFault;
 use smt_text::{Tree, Trees, split_first};
 use smt_theory::{Op, OpFault, Sort, Width, op_of, rank};
 

@@ -12,14 +12,14 @@ ghost use Rattle.smt_terms.specs.ParamView.{param_view};
 ghost use Rattle.smt_terms.specs.ScopeView.{scope_view};
 ghost use Rattle.smt_terms.specs.Signature as signature;
 ghost use Rattle.smt_terms.specs.Signature.{Signature, names_of, with_entry};
-ghost use Rattle.smt_terms.specs.declared.fault.TermFault.TheVariants.{Memory};
+ghost use Rattle.smt_faults.specs.declared.term_fault.TermFault.TheVariants.{Memory};
 
 use crate::definitions::{Param, named_parameters, sorted_params, sorts_of_variables};
-use crate::fault::TermFault;
 use crate::labels::Labels;
 use crate::library::items::are_equal;
 use crate::library::{Definition, Entry, Found, Library, TermId};
 use crate::scope::Variable;
+use smt_faults::TermFault;
 use smt_text::Tree;
 use smt_theory::Sort;
 

@@ -14,14 +14,14 @@ ghost use Rattle.smt_terms.specs.ScopeView.{scope_view};
 ghost use Rattle.smt_terms.specs.Signature as signature;
 ghost use Rattle.smt_terms.specs.Signature.{Signature, is_taken, names_of, no_names, rank_of_entry, with_entry};
 ghost use Rattle.smt_terms.specs.SortTrees.{sort_named};
-ghost use Rattle.smt_terms.specs.declared.fault.TermFault.TheVariants.{Memory};
+ghost use Rattle.smt_faults.specs.declared.term_fault.TermFault.TheVariants.{Memory};
 
 use crate::definitions::{sorted_params_of, sorts_of_variables};
-use crate::fault::TermFault;
 use crate::item_form::item_form;
 use crate::library::checker::are_same;
 use crate::library::{Entry, Found, Library};
 use crate::scope::Variable;
+use smt_faults::TermFault;
 use smt_text::Tree;
 use smt_theory::Sort;
 

@@ -5,7 +5,7 @@ use Rattle.smt_text.specs.Tree.{sexp_of, sexps_of}
 use Rattle.smt_terms.specs.Bindings.{named_trees}
 use Rattle.smt_terms.specs.Definitions.{defined_in}
 use Rattle.smt_terms.specs.ParamView.{param_view}
-use Rattle.smt_terms.specs.declared.fault.TermFault.TheVariants.{Memory}
+use Rattle.smt_faults.specs.declared.term_fault.TermFault.TheVariants.{Memory}
 use Rattle.smt_script.specs.Stack.{signature_in_force}
 use Rattle.smt_script.proofs.EffectLemmas.{DefinesIn, define_effect, refused_by, unchanged_by}
 use Rattle.smt_script.proofs.stack.Stack.define.Goals as goal

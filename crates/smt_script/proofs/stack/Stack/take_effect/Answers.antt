@@ -5,7 +5,7 @@ use Rattle.smt_terms.specs.Bindings.{named_trees}
 use Rattle.smt_script.specs.Command.{Command, DefineFun, DefineSort, Pop, Push, Reset, ResetAssertions, SetLogic}
 use Rattle.smt_script.specs.CommandView.{command_view}
 use Rattle.smt_script.specs.Internal.Effect.{HasEffect, IsRefused}
-use Rattle.smt_script.specs.declared.fault.CommandFault.{CommandFault}
+use Rattle.smt_faults.specs.declared.command_fault.CommandFault.{CommandFault}
 use Rattle.smt_script.specs.declared.stack.Stack.{Stack}
 use Rattle.smt_script.proofs.EffectLemmas.{check_idle, echo_idle, exit_idle, get_idle, idle_effect, info_idle, model_idle, option_idle, print_idle}
 use Rattle.smt_script.proofs.stack.Stack.take_effect.Goals as goal

@@ -1,0 +1,18 @@
+//! The form of the files of rows that the test programs read: rows of fields, and the escapes of their texts.
+//!
+//! No claim rests on this crate, which is no part of the program: its calls are proved safe, and what they answer is seen in what the
+//! test programs print.
+//!
+//! A call, of a file that holds `terms: over p` and, on the next line, `term: (not \x70)`:
+//!
+//! ```text
+//! let rows = read(alloc, text)?;                  // one row of two fields
+//! rows[0][1].key                                  // "term"
+//! rows[0][1].bytes(alloc)?                        // the bytes of (not p)
+//! ```
+#![tactic(auto)]
+
+mod escapes;
+mod rows;
+
+pub use rows::{Field, read};

@@ -1,0 +1,155 @@
+#!/bin/sh
+# Runs the program on command lines: which files and which start they name, or how they are refused, to the byte. Needs what `rt ci`
+# has built. Says nothing where all is well.
+set -e
+cd "$(dirname "$0")/.."
+program=$PWD/crates/smtcheck/out/smtcheck
+work=$(mktemp -d)
+trap 'rm -rf "$work"' EXIT
+cd "$work"
+
+fail() {
+    echo "command line: $1: status $status, $(cat output errors)"
+    exit 1
+}
+
+# Runs the program with the words of a line.
+run() {
+    status=0
+    # (the words stand between spaces)
+    "$program" $1 >output 2>errors || status=$?
+}
+
+# named LINE SCRIPT ANSWERS START: the line names these two files and this start. A line that named others, or another start, would
+# have another status.
+named() {
+    rm -f ./*
+    echo '(set-logic QF_UF)' >"./$2"
+    if [ "$4" = on ]; then echo success; fi >"./$3"
+    run "$1"
+    [ "$status" = 0 ] || fail "$1"
+    if [ "$4" = on ]; then :; else echo success; fi >"./$3"
+    run "$1"
+    [ "$status" = 3 ] || fail "$1"
+}
+
+named 'in.smt2 out.txt' in.smt2 out.txt on
+named 'in.smt2 -' in.smt2 - on
+named '-- -a --help' -a --help on
+named 'a -- -b' a -b on
+named '--print-success on a b' a b on
+named '--print-success off a b' a b off
+named '--print-success=off a b' a b off
+named 'a --print-success off b' a b off
+named 'a b --print-success=on' a b on
+named '--print-success off -- -a -b' -a -b off
+named '-- --print-success=off b' --print-success=off b on
+rm -f ./*
+
+# refused LINE: the line is refused by the text on standard input, whole, with no report.
+refused() {
+    cat >wanted
+    run "$1"
+    [ "$status" = 5 ] && [ ! -s output ] && cmp -s errors wanted || fail "$1"
+}
+
+refused '' <<'END'
+error: the following required arguments were not provided:
+  <SCRIPT>
+  <ANSWERS>
+
+Usage: smtcheck <SCRIPT> <ANSWERS>
+
+For more information, try '--help'.
+END
+for line in in.smt2 '--print-success off a'; do
+    run "$line"
+    [ "$status" = 5 ] && [ "$(head -n 1 errors)" = 'error: the following required arguments were not provided:' ] || fail "$line"
+done
+for line in 'a b --nonsense' '--nonsense'; do
+    run "$line"
+    [ "$status" = 5 ] && [ "$(head -n 1 errors)" = "error: unexpected argument '--nonsense' found" ] || fail "$line"
+done
+refused 'a b --nonsense' <<'END'
+error: unexpected argument '--nonsense' found
+
+  tip: to pass '--nonsense' as a value, use '-- --nonsense'
+
+Usage: smtcheck <SCRIPT> <ANSWERS>
+
+For more information, try '--help'.
+END
+refused 'a b c' <<'END'
+error: unexpected argument 'c' found
+
+Usage: smtcheck [OPTIONS] <SCRIPT> <ANSWERS>
+
+For more information, try '--help'.
+END
+for value in yes OFF a; do
+    refused "--print-success $value b" <<END
+error: invalid value '$value' for '--print-success <on|off>'
+  [possible values: on, off]
+
+For more information, try '--help'.
+END
+done
+for line in 'a b --print-success' '--print-success= a b'; do
+    refused "$line" <<'END'
+error: a value is required for '--print-success <on|off>' but none was supplied
+  [possible values: on, off]
+
+For more information, try '--help'.
+END
+done
+for last in on off; do
+    refused "--print-success on --print-success $last a b" <<'END'
+error: the argument '--print-success <on|off>' cannot be used multiple times
+
+Usage: smtcheck [OPTIONS] <SCRIPT> <ANSWERS>
+
+For more information, try '--help'.
+END
+done
+
+# helped LINE: the line asks for help, which is printed with status 5.
+cat >wanted <<'END'
+Checks the models that an SMT solver printed.
+
+SCRIPT is the SMT-LIB 2.6 script that the solver read, and ANSWERS the text that it printed for it. Each answer is paired with its command, and every `sat` is checked by evaluating the printed model in each assertion that was in force.
+
+Usage: smtcheck [OPTIONS] <SCRIPT> <ANSWERS>
+
+Arguments:
+  <SCRIPT>
+          the script that the solver read
+
+  <ANSWERS>
+          what the solver printed
+
+Options:
+      --print-success <on|off>
+          Whether the solver prints `success`, from the start, for each command that has no answer of its own.
+          
+          off: for z3, cvc5 and cvc4, which print it only once the script says (set-option :print-success true)
+          on:  for SMTInterpol and others that keep to the default of SMT-LIB, and for a run that was told to print it, such as `z3 smtlib2_compliant=true` or `cvc5 --print-success`
+          
+          A script's own (set-option :print-success ..) is followed from there on.
+          
+          [default: on]
+
+  -h, --help
+          Print help (see a summary with '-h')
+
+The last line of the report is the verdict, and the exit status says the same:
+  0  valid: every `sat` is confirmed by the models printed for it
+  1  invalid: some model makes an assertion false
+  2  not decided: no model refutes a `sat`, and some `sat` is not confirmed
+  3  refused: the script or the answers have a fault
+  4  a file could not be opened, read or written, or memory was refused
+  5  the command line was refused, or help was asked for
+END
+run --help
+[ "$status" = 5 ] && [ ! -s errors ] && cmp -s wanted output || fail --help
+run 'a b -h'
+[ "$status" = 5 ] && [ ! -s errors ] && grep -q '^Usage: smtcheck' output || fail 'a b -h'
