@@ -24,7 +24,7 @@ pub(crate) enum Indexes {
 
 /// Whether `apply` and the plain reading answer the same for these arguments.
 pub(crate) fn is_agreed(operator: Operator, args: Arguments) -> bool {
-    is_same(applied(operator, args), plain::read(operator, args))
+    is_same(&applied(operator, args), plain::read(operator, args))
 }
 
 // What `apply` gives; `None` also where no operator has this name with these indexes.
@@ -59,9 +59,9 @@ fn value(bits: BitList) -> Option<Value> {
     }
 }
 
-fn is_same(known: Option<Value>, answer: Option<Answer>) -> bool {
+fn is_same(known: &Option<Value>, answer: Option<Answer>) -> bool {
     match (known, answer) {
-        (Some(Value::Bool(known)), Some(Answer::Truth(truth))) => known == truth,
+        (Some(Value::Bool(known)), Some(Answer::Truth(truth))) => *known == truth,
         (Some(Value::Bits(known)), Some(Answer::Bits(bits))) => {
             known.width().bits() == bits.len() as u64 && bits.spells(known.number())
         }
