@@ -8,7 +8,7 @@ use crate::trees::{refuse, tree_of};
 use anyhow::{Result, bail};
 use row_texts::Field;
 use smt_script::{CommandFault, Stack, read_command};
-use smt_text::Tree;
+use smt_trees::Tree;
 use std::alloc::Global;
 use std::io::Write;
 

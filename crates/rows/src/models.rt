@@ -10,7 +10,7 @@ use anyhow::{Result, bail};
 use row_texts::Field;
 use smt_eval::{Interpretation, ModelFault};
 use smt_terms::Library;
-use smt_text::Trees;
+use smt_trees::Trees;
 use std::alloc::Global;
 use std::io::Write;
 

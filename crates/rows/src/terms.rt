@@ -5,7 +5,7 @@ use crate::trees::{declare, print_answer, refuse, split_logic, tree_of, trees_of
 use anyhow::{Result, bail};
 use row_texts::Field;
 use smt_terms::{Library, are_named, params_of};
-use smt_text::Tree;
+use smt_trees::Tree;
 use std::alloc::Global;
 use std::io::Write;
 

@@ -7,15 +7,16 @@ use anyhow::{Result, bail};
 use row_texts::Field;
 use smt_script::all_theories;
 use smt_terms::{Library, TermFault};
-use smt_text::{Tree, Trees};
+use smt_text::read_trees;
 use smt_theory::{Theories, theories_of};
+use smt_trees::{Tree, Trees};
 use std::alloc::Global;
 use std::io::Write;
 
 /// The trees of a field.
 pub(crate) fn trees_of(alloc: Global, field: &Field) -> Result<Trees> {
     let bytes = field.bytes(alloc)?;
-    match Trees::read(alloc, bytes.as_slice()) {
+    match read_trees(alloc, bytes.as_slice()) {
         Ok(trees) => Ok(trees),
         Err(_) => bail!("line {}: this is no text of the language", field.line),
     }

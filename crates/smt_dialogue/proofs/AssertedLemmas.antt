@@ -1,7 +1,7 @@
 -- Which pairs the assertions in force come from.
 use Rattle.std.proofs.Common.{◌≡◌, ◌≤◌, ◌+◌, ℕ, Bool, true, false, ◌&&◌, ◌||◌, List, [], ◌∷◌, ◌++◌, length, cond, refl, ap, sym, ◌∙◌, subst, arith, append-nil, length-append}
 use Rattle.std.specs.List.{list_any}
-use Rattle.smt_text.specs.Sexp.{Sexp}
+use Rattle.smt_trees.specs.Sexp.{Sexp}
 use Rattle.smt_script.specs.Command.{Command, Assert}
 use Rattle.smt_script.specs.Stack as stacks
 use Rattle.smt_script.specs.Stack.{Assertion, Numbered, Stands, assertions_in_force, depth_in_force, is_reset}

@@ -1,9 +1,9 @@
 -- What the end of a dialogue without a fault says, and that there is one pairing.
 use Rattle.std.proofs.Common.{◌≡◌, ◌+◌, ℕ, Bool, true, false, ◌||◌, List, [], ◌∷◌, ◌++◌, length, Option, Some, None, Result, Ok, Err, cond, refl, ap, sym, ◌∙◌}
 use Rattle.std.specs.List.{list_any}
-use Rattle.smt_text.specs.Sexp.{Sexps, Nil, Cons}
-use Rattle.smt_text.specs.declared.fault.TextFault.{TextFault}
-use Rattle.smt_text.specs.declared.fault.TextFault.TheVariants as texts
+use Rattle.smt_trees.specs.Sexp.{Sexps, Nil, Cons}
+use Rattle.smt_faults.specs.declared.text_fault.TextFault.{TextFault}
+use Rattle.smt_faults.specs.declared.text_fault.TextFault.TheVariants as texts
 use Rattle.smt_script.specs.Command.{Command, command_of}
 use Rattle.smt_faults.specs.declared.command_fault.CommandFault.TheVariants.{AfterExit}
 use Rattle.smt_dialogue.specs.Answers.{Missing, Taken, Takes, Unfit, taken}

@@ -8,7 +8,7 @@ use Rattle.std.proofs.lemmas.List.Sums.{fold-append}
 use Rattle.smt_theory.specs.declared.sort.Sort.{Sort}
 use Rattle.smt_theory.specs.declared.theories.Theories.{Theories}
 use Rattle.smt_terms.specs.Signature.{Entry, Signature}
-use Rattle.smt_text.specs.Sexp.{Sexp}
+use Rattle.smt_trees.specs.Sexp.{Sexp}
 use Rattle.smt_script.specs.Command.{Command, Query, SetPrintSuccess, SetOption, SetInfo, Exit, CheckSat, GetModel, Echo, Get}
 use Rattle.smt_script.specs.Stack.{Brought, Numbered, abbreviations_by, abbreviations_of, all_theories, assertions_by, assertions_in_force, assertions_of, brought_by, brought_from, depth_after, depth_in_force, entries_by, entries_of, history, in_force, is_reset, signature_in_force, signature_of, stands_after, theories_after, theories_in_force}
 

@@ -1,6 +1,6 @@
 -- Judging a model assertion by assertion.
 use Rattle.std.proofs.Common.{◌≡◌, ℕ, true, false, not, List, [], ◌∷◌, Option, Some, None, is_some, refl, ap, sym, subst, ◌∙◌}
-use Rattle.smt_text.specs.Sexp.{Sexp}
+use Rattle.smt_trees.specs.Sexp.{Sexp}
 use Rattle.smt_script.specs.Stack.{Assertion}
 use Rattle.smt_script.specs.StackView.{AreAssertions}
 use Rattle.smt_terms.specs.Contents.{Contents}

@@ -1,6 +1,6 @@
 -- There is one pairing.
 use Rattle.std.proofs.Common.{◌≡◌, suc, Bool, List, [], ◌∷◌, ◌++◌, length, Option, Some, None, Result, Ok, refl, ap, sym, ◌∙◌, subst, arith}
-use Rattle.smt_text.specs.Sexp.{Sexp, Sexps, Nil, Cons, count}
+use Rattle.smt_trees.specs.Sexp.{Sexp, Sexps, Nil, Cons, count}
 use Rattle.smt_script.specs.Command.{Command}
 use Rattle.smt_faults.specs.declared.command_fault.CommandFault.{CommandFault}
 use Rattle.smt_dialogue.specs.Answers.{Takes, taken}

@@ -2,8 +2,8 @@
 use Rattle.std.proofs.Common.{◌≡◌, ℕ, ◌+◌, Bool, true, false, cond, List, [], ◌∷◌, ◌++◌, length, Option, Some, None, Result, Ok, Err, refl, ap, sym, ◌∙◌, append_assoc}
 use Rattle.std.proofs.lemmas.List.{append-nil}
 use Rattle.smt_text.specs.Reading.{Reads}
-use Rattle.smt_text.specs.Sexp.{Sexp, Sexps, Nil, Cons}
-use Rattle.smt_text.specs.declared.fault.TextFault.{TextFault}
+use Rattle.smt_trees.specs.Sexp.{Sexp, Sexps, Nil, Cons}
+use Rattle.smt_faults.specs.declared.text_fault.TextFault.{TextFault}
 use Rattle.smt_script.specs.Command.{Command, command_of}
 use Rattle.smt_faults.specs.declared.command_fault.CommandFault.TheVariants.{AfterExit}
 use Rattle.smt_dialogue.proofs.PairingUnique.{takes_same}

@@ -2,8 +2,8 @@
 use Rattle.std.proofs.Common.{◌≡◌, ℕ, Bool, true, false, List, [], ◌∷◌, ◌++◌, Option, None, Ok, refl, ap, sym, ◌∙◌, subst, append_assoc}
 use Rattle.std.proofs.lemmas.List.{append-nil}
 use Rattle.smt_text.specs.Reading.{Reads}
-use Rattle.smt_text.specs.Sexp.{Sexp, Sexps, Nil, Cons}
-use Rattle.smt_text.specs.declared.fault.TextFault.{TextFault}
+use Rattle.smt_trees.specs.Sexp.{Sexp, Sexps, Nil, Cons}
+use Rattle.smt_faults.specs.declared.text_fault.TextFault.{TextFault}
 use Rattle.smt_dialogue.proofs.PairingUnique.{alike, ok_same}
 use Rattle.smt_script.specs.Command.{command_of}
 use Rattle.smt_dialogue.proofs.StepLemmas.{step_by}

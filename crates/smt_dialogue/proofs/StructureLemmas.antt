@@ -1,6 +1,6 @@
 -- Behind pairs without a fault a model gives a structure.
 use Rattle.std.proofs.Common.{◌≡◌, ℕ, ◌+◌, Bool, true, false, cond, List, [], ◌∷◌, ◌++◌, length, None, Ok, refl, ap, ◌∙◌, subst, append-nil, arith, length-append}
-use Rattle.smt_text.specs.Sexp.{Sexps}
+use Rattle.smt_trees.specs.Sexp.{Sexps}
 use Rattle.smt_terms.specs.Signature.{Signature}
 use Rattle.smt_terms.specs.WellSorted.{AreIntroduced}
 use Rattle.smt_eval.specs.Model.{model_in}

@@ -1,19 +1,19 @@
 -- What comes next of a text, by what is read of all of it.
 use Rattle.std.proofs.Common.{◌≡◌, ◌≤◌, ◌+◌, ℕ, List, [], ◌++◌, length, take, drop, Option, Some, Result, Ok, Err, Bool, true, false, refl, sym, ap, ◌∙◌, arith, subst, ◌≢◌}
 use Rattle.std.proofs.lemmas.List.{append-nil, length-append, take-append-drop}
-use Rattle.smt_text.proofs.SexpLemmas.{append_assoc, append_nil, count-append}
+use Rattle.smt_trees.proofs.SexpLemmas.{append_assoc, append_nil, count-append}
 use Rattle.smt_text.specs.Grammar.{limit}
 use Rattle.smt_text.specs.Reader.{Answers, bytes_fed, is_finished}
 use Rattle.smt_text.specs.Reader as readers
 use Rattle.smt_text.specs.Reading.{Reads}
-use Rattle.smt_text.specs.Sexp.{Sexp, Sexps, Nil, Cons, append, count}
-use Rattle.smt_text.specs.declared.fault.TextFault.{TextFault}
-use Rattle.smt_text.specs.declared.fault.TextFault.TheVariants.{Byte, Deep, End, Memory}
+use Rattle.smt_trees.specs.Sexp.{Sexp, Sexps, Nil, Cons, append, count}
+use Rattle.smt_faults.specs.declared.text_fault.TextFault.{TextFault}
+use Rattle.smt_faults.specs.declared.text_fault.TextFault.TheVariants.{Byte, Deep, End, Memory}
 use Rattle.smt_text.specs.declared.reader.Next.TheVariants.{Fault}
 use Rattle.std.specs.Result.{IfOk}
 use Rattle.smt_eval.specs.declared.memory.Memory.{Memory as OutOfMemory}
-use Rattle.smt_text.specs.Tree.{sexp_of}
-use Rattle.smt_text.specs.declared.tree.Tree.{Tree}
+use Rattle.smt_trees.specs.Tree.{sexp_of}
+use Rattle.smt_trees.specs.declared.tree.Tree.{Tree}
 use Rattle.smt_dialogue.proofs.StepLemmas.{commands-push, judged-end, so_far-push, so_far-start}
 use Rattle.smt_dialogue.specs.FirstFault.{Stop, step_after}
 use Rattle.smt_dialogue.specs.Lines.{lines_in}

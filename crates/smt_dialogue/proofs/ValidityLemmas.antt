@@ -5,8 +5,8 @@ use Rattle.std.specs.List.{AllByRecursion, list_any}
 use Rattle.std.specs.Result.{IfOk}
 use Rattle.smt_text.specs.Grammar.{Forest, limit}
 use Rattle.smt_text.specs.Reading.{Reads}
-use Rattle.smt_text.specs.Sexp.{Sexp, Sexps, Nil, is_symbol}
-use Rattle.smt_text.specs.declared.fault.TextFault.{TextFault}
+use Rattle.smt_trees.specs.Sexp.{Sexp, Sexps, Nil, is_symbol}
+use Rattle.smt_faults.specs.declared.text_fault.TextFault.{TextFault}
 use Rattle.smt_dialogue.proofs.FirstFaultLemmas.{any-append, ends_clean, invalid_lines, none_of, valid_lines}
 use Rattle.smt_dialogue.proofs.AssertedLemmas.{comes_from}
 use Rattle.smt_dialogue.proofs.StructureLemmas.{structure_behind}

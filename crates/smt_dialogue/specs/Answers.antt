@@ -1,7 +1,7 @@
 -- SMT-LIB 2.6, sections 3.9.1, 4.1.7 and 4.2: which answers a command takes, and which answers say that a command took no effect. Which
 -- commands take an answer only where it fits is this project's rule, for what solvers print.
 use Rattle.std.specs.Prelude.{Bool, true, false, not, ◌||◌, Option, Some, None, codes, if◌then◌else◌}
-use Rattle.smt_text.specs.Sexp.{Sexp, Atom, Items, Nil, Cons, Text, is_symbol}
+use Rattle.smt_trees.specs.Sexp.{Sexp, Atom, Items, Nil, Cons, Text, is_symbol}
 use Rattle.smt_script.specs.Command.{Command, SetPrintSuccess, SetOption, SetInfo, Exit, CheckSat, GetModel, Echo, Get}
 use Rattle.smt_dialogue.specs.declared.answer.AnswerForm.{AnswerForm}
 use Rattle.smt_dialogue.specs.declared.answer.AnswerForm.TheVariants as forms

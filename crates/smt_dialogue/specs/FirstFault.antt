@@ -1,7 +1,7 @@
 -- Which fault ends a dialogue. The order in which faults are told is this project's rule.
 use Rattle.std.specs.Prelude.{ℕ, ◌+◌, List, length, Bool, Option, Some, None, Result, Ok, Err, if◌then◌else◌}
-use Rattle.smt_text.specs.Sexp.{Sexps, Nil, Cons}
-use Rattle.smt_text.specs.declared.fault.TextFault.{TextFault}
+use Rattle.smt_trees.specs.Sexp.{Sexps, Nil, Cons}
+use Rattle.smt_faults.specs.declared.text_fault.TextFault.{TextFault}
 use Rattle.smt_script.specs.Command.{Command, command_of}
 use Rattle.smt_faults.specs.declared.command_fault.CommandFault.{CommandFault}
 use Rattle.smt_faults.specs.declared.command_fault.CommandFault.TheVariants.{AfterExit}

@@ -1,6 +1,6 @@
 -- What is found of a model. These are this project's rules.
 use Rattle.std.specs.Prelude.{ℕ, List, [], ◌∷◌, Bool, true, false, not, Option, Some, None, Result, Ok, Err, if◌then◌else◌}
-use Rattle.smt_text.specs.Sexp.{Sexp, Sexps}
+use Rattle.smt_trees.specs.Sexp.{Sexp, Sexps}
 use Rattle.smt_values.specs.KnownOperations.{is_known}
 use Rattle.smt_terms.specs.Signature.{Signature}
 use Rattle.smt_faults.specs.declared.term_fault.TermFault.TheVariants as terms

@@ -2,7 +2,7 @@
 use Rattle.std.specs.Prelude.{ℕ, ◌+◌, List, [], ◌∷◌, ◌++◌, length, Bool, true, false, not, ◌||◌, Option, Some, None, codes, if◌then◌else◌}
 use Rattle.std.specs.List.{list_any}
 use Rattle.std.specs.Option.{option_or}
-use Rattle.smt_text.specs.Sexp.{Sexp, is_symbol}
+use Rattle.smt_trees.specs.Sexp.{Sexp, is_symbol}
 use Rattle.smt_script.specs.Command.{Command, CheckSat}
 use Rattle.smt_script.specs.Stack.{Assertion}
 use Rattle.smt_dialogue.specs.InForce.{signature_after, assertions_after}

@@ -1,7 +1,7 @@
 -- SMT-LIB 2.6, section 4.1: which pairs are a pairing of a script's commands with the answers. That each answer is taken once and in order,
 -- and that a command which may go without an answer takes the next one exactly where it fits, is this project's rule.
 use Rattle.std.specs.Prelude.{◌≡◌, List, [], ◌∷◌, ◌++◌, Bool, Ok}
-use Rattle.smt_text.specs.Sexp.{Sexps, Nil, Cons}
+use Rattle.smt_trees.specs.Sexp.{Sexps, Nil, Cons}
 use Rattle.smt_script.specs.Command.{command_of}
 use Rattle.smt_dialogue.specs.Answers.{Takes, taken}
 use Rattle.smt_dialogue.specs.InForce.{need_after}

@@ -1,6 +1,6 @@
 -- SMT-LIB 2.6, section 4.1: pairs of a command with the answer that it took. Commands count from 1.
 use Rattle.std.specs.Prelude.{ℕ, ◌+◌, List, [], ◌∷◌, ◌++◌, Bool, Option, Some, None, if◌then◌else◌}
-use Rattle.smt_text.specs.Sexp.{Sexp, Sexps, Nil, Cons}
+use Rattle.smt_trees.specs.Sexp.{Sexp, Sexps, Nil, Cons}
 use Rattle.smt_script.specs.Command.{Command}
 use Rattle.smt_script.specs.Stack.{Numbered}
 use Rattle.smt_dialogue.specs.Answers.{is_effective_with}

@@ -2,8 +2,8 @@
 use Rattle.std.specs.Prelude.{◌≡◌, ℕ, List, [], ◌∷◌, ◌++◌, Bool, true, Option, Some, None}
 use Rattle.smt_text.specs.Grammar.{limit}
 use Rattle.smt_text.specs.Reading.{Reads}
-use Rattle.smt_text.specs.Sexp.{Sexps}
-use Rattle.smt_text.specs.declared.fault.TextFault.{TextFault}
+use Rattle.smt_trees.specs.Sexp.{Sexps}
+use Rattle.smt_faults.specs.declared.text_fault.TextFault.{TextFault}
 use Rattle.smt_dialogue.specs.FirstFault.{Stop, step_after}
 use Rattle.smt_dialogue.specs.InForce.{AreFaultless}
 use Rattle.smt_dialogue.specs.Lines.{lines_in}

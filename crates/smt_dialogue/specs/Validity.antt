@@ -2,7 +2,7 @@
 use Rattle.std.specs.Prelude.{◌≡◌, ℕ, ◌+◌, List, [], ◌∷◌, ◌++◌, length, Bool, true, false, Some, Ok, codes}
 use Rattle.std.specs.List.{AllByRecursion, list_any}
 use Rattle.smt_text.specs.Grammar.{Forest, limit}
-use Rattle.smt_text.specs.Sexp.{Sexp, Sexps, Nil, is_symbol}
+use Rattle.smt_trees.specs.Sexp.{Sexp, Sexps, Nil, is_symbol}
 use Rattle.smt_theory.specs.declared.sort.Sort.TheVariants.{Bool as Boolean}
 use Rattle.smt_values.specs.Element.{Truth}
 use Rattle.smt_values.specs.Operations.{DivisionByZero}

@@ -1,6 +1,6 @@
 -- The window of a check, and the models printed in it. These are this project's rules.
 use Rattle.std.specs.Prelude.{ℕ, ◌+◌, List, [], ◌∷◌, ◌++◌, Bool, true, false, Option, Some, if◌then◌else◌}
-use Rattle.smt_text.specs.Sexp.{Sexp, Sexps, Items}
+use Rattle.smt_trees.specs.Sexp.{Sexp, Sexps, Items}
 use Rattle.smt_terms.specs.Signature.{Signature}
 use Rattle.smt_eval.specs.Structure.{structure_of}
 use Rattle.smt_script.specs.Command.{Command, SetLogic, DeclareConst, DeclareFun, DefineFun, DefineSort, Assert, Push, Pop, Reset, ResetAssertions, CheckSat, GetModel}

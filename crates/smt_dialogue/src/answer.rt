@@ -1,12 +1,12 @@
 //! Which answers a command takes.
 
 ghost use Rattle.std.specs.Prelude.{◌≡◌, if◌then◌else◌, option_map};
-ghost use Rattle.smt_text.specs.Tree.{sexp_of};
+ghost use Rattle.smt_trees.specs.Tree.{sexp_of};
 ghost use Rattle.smt_script.specs.CommandView.{command_view};
 ghost use Rattle.smt_dialogue.specs.Answers as answers;
 
 use smt_script::Command;
-use smt_text::{Tree, split_first};
+use smt_trees::{Tree, split_first};
 
 /// Which answers a command takes (SMT-LIB 2.6, section 3.9.1).
 #[derive(Clone, Copy, Debug, PartialEq, Eq)]

@@ -1,7 +1,7 @@
 //! The dialogue so far: what is in force, the checks, and the lines of the report.
 
 ghost use Rattle.std.specs.Prelude.{◌≡◌, ◌≤◌, ◌<◌, ◌+◌, ◌^◌, ◌++◌, ◌∷◌, ◌⊎◌, List, [], None, Some, true, IfOk, IfErr, OnErr, OnOk, option_map};
-ghost use Rattle.smt_text.specs.Tree.{sexp_of};
+ghost use Rattle.smt_trees.specs.Tree.{sexp_of};
 ghost use Rattle.smt_script.specs.CommandView.{command_view};
 ghost use Rattle.smt_script.specs.Stack.{Numbered};
 ghost use Rattle.smt_script.specs.StackView as stacks;
@@ -20,7 +20,7 @@ use crate::window::{Checks, role_of};
 use smt_eval::Memory;
 use smt_report::{Line, Report};
 use smt_script::{Command, CommandFault, Stack};
-use smt_text::Tree;
+use smt_trees::Tree;
 use std::alloc::Global;
 
 /// The dialogue so far, for the pairs of a command and an answer that it accepted.

@@ -16,7 +16,7 @@ ghost use Rattle.smt_dialogue.specs.Judgement.{judged_over, judgement_of};
 use smt_eval::{Interpretation, Memory, ModelFault, eval};
 use smt_script::{Assertion, Stack};
 use smt_terms::{Library, TermFault};
-use smt_text::Trees;
+use smt_trees::Trees;
 use smt_values::Value;
 
 /// What is found of a model. Commands, and items of a model, count from 1.

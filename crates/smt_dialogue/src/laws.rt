@@ -1,7 +1,7 @@
 //! What holds of the definitions of a dialogue. Nothing here does anything: each contract is a law, and each call is of a law that it rests on.
 
 ghost use Rattle.std.specs.Prelude.{◌≡◌, ℕ, ◌+◌, List, [], ◌∷◌, ◌++◌, length, Bool, false};
-ghost use Rattle.smt_text.specs.Sexp.{Sexp, Sexps};
+ghost use Rattle.smt_trees.specs.Sexp.{Sexp, Sexps};
 ghost use Rattle.smt_values.specs.Element.{Truth};
 ghost use Rattle.smt_values.specs.Operations.{DivisionByZero};
 ghost use Rattle.smt_terms.specs.Signature.{Signature};

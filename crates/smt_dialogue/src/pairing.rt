@@ -1,9 +1,9 @@
 //! The commands of a dialogue, each with its answer.
 
 ghost use Rattle.std.specs.Prelude.{◌≡◌, ◌<◌, ◌≤◌, ◌+◌, ◌^◌, Bool, List, Option, [], Ok, Err, Some, None, IfOk, option_map};
-ghost use Rattle.smt_text.specs.Sexp.{Sexps, Nil};
-ghost use Rattle.smt_text.specs.Tree.{sexp_of, sexps_of};
-ghost use Rattle.smt_text.specs.declared.fault.TextFault.{TextFault as Fault};
+ghost use Rattle.smt_trees.specs.Sexp.{Sexps, Nil};
+ghost use Rattle.smt_trees.specs.Tree.{sexp_of, sexps_of};
+ghost use Rattle.smt_faults.specs.declared.text_fault.TextFault.{TextFault as Fault};
 ghost use Rattle.smt_script.specs.CommandView.{command_view};
 ghost use Rattle.smt_script.specs.StackView.{last_of, start_of};
 ghost use Rattle.smt_dialogue.specs.Answers as answering;
@@ -19,10 +19,11 @@ use crate::dialogue::Dialogue;
 use crate::read_text::ReadText;
 use crate::unread_text::{Further, UnreadText};
 use smt_eval::Memory;
+use smt_faults::TextFault;
 use smt_report::{Line, Report, Side};
 use smt_script::{Command, CommandFault, read_command};
 use smt_text::laws::trees_are_no_more_than_bytes;
-use smt_text::{TextFault, Tree};
+use smt_trees::Tree;
 
 /// Judges the commands of a script with their answers, from a dialogue without pairs on.
 pub(crate) fn judge_all(

@@ -2,16 +2,18 @@
 
 ghost use Rattle.std.specs.Prelude.{◌≡◌, ◌≢◌, true, false, Some, None, IfOk, MatchOption};
 ghost use Rattle.smt_text.specs.Reading.{Reads};
-ghost use Rattle.smt_text.specs.Sexp.{Cons};
-ghost use Rattle.smt_text.specs.Tree.{sexp_of, sexps_of};
-ghost use Rattle.smt_text.specs.declared.fault.TextFault.TheVariants.{Memory as OutOfMemory};
+ghost use Rattle.smt_trees.specs.Sexp.{Cons};
+ghost use Rattle.smt_trees.specs.Tree.{sexp_of, sexps_of};
+ghost use Rattle.smt_faults.specs.declared.text_fault.TextFault.TheVariants.{Memory as OutOfMemory};
 ghost use Rattle.smt_text.specs.Grammar.{limit};
 ghost use Rattle.smt_dialogue.specs.Answers as answers;
 ghost use Rattle.smt_dialogue.specs.Internal.Steps.{IsUnfit};
 
 use crate::answer::{AnswerForm, has_form};
 use smt_eval::Memory;
-use smt_text::{Next, Reader, TextFault, Tree};
+use smt_faults::TextFault;
+use smt_text::{Next, Reader};
+use smt_trees::Tree;
 use std::alloc::Global;
 use std::collections::VecDeque;
 

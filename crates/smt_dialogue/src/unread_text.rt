@@ -3,14 +3,16 @@
 ghost use Rattle.std.specs.Prelude.{◌≡◌, ◌<◌, true, false, Option, IfOk};
 ghost use Rattle.smt_text.specs.Grammar.{limit};
 ghost use Rattle.smt_text.specs.Reading.{Reads};
-ghost use Rattle.smt_text.specs.Sexp.{Sexps};
-ghost use Rattle.smt_text.specs.declared.fault.TextFault.{TextFault as Fault};
+ghost use Rattle.smt_trees.specs.Sexp.{Sexps};
+ghost use Rattle.smt_faults.specs.declared.text_fault.TextFault.{TextFault as Fault};
 ghost use Rattle.smt_dialogue.specs.Internal.UnreadText.{ComesNext, HasLeft, IsSound, size_of};
 
 use crate::read_text::text_fault;
 use smt_eval::Memory;
+use smt_faults::TextFault;
 use smt_text::laws::{one_reading, read_trees_stay};
-use smt_text::{Next, Reader, TextFault, Tree};
+use smt_text::{Next, Reader};
+use smt_trees::Tree;
 use std::alloc::Global;
 
 // How many bytes are read at a time: their trees are taken while they are in the processor's cache.

@@ -1,7 +1,7 @@
 //! The window of a check: the models printed behind it, and its line.
 
 ghost use Rattle.std.specs.Prelude.{◌≡◌, ◌<◌, ◌+◌, ◌^◌, List, [], None, OnOk, if◌then◌else◌, option_map};
-ghost use Rattle.smt_text.specs.Tree.{sexp_of};
+ghost use Rattle.smt_trees.specs.Tree.{sexp_of};
 ghost use Rattle.smt_script.specs.CommandView.{command_view};
 ghost use Rattle.smt_script.specs.Stack.{Numbered, assertions_in_force, signature_in_force};
 ghost use Rattle.smt_script.specs.StackView.{StandsFor};
@@ -15,7 +15,7 @@ use crate::judgement::{Judgement, judge};
 use smt_eval::Memory;
 use smt_report::{CheckAnswer, Line};
 use smt_script::{Command, Stack};
-use smt_text::{Tree, Trees};
+use smt_trees::{Tree, Trees};
 use std::alloc::Global;
 
 /// What a command is for the window of a check.

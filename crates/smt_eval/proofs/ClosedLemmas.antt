@@ -1,7 +1,7 @@
 -- Terms that are kept as their trees.
 use Rattle.std.proofs.Common.{◌≡◌, ℕ, [], List, length, Option, Result, Ok, Err, IfOk, ap, sym, ◌∙◌, arith}
-use Rattle.smt_text.specs.Sexp.{Sexp}
-use Rattle.smt_text.specs.Tree.{sexp_of}
+use Rattle.smt_trees.specs.Sexp.{Sexp}
+use Rattle.smt_trees.specs.Tree.{sexp_of}
 use Rattle.smt_values.specs.Element.{known_element, known_elements}
 use Rattle.smt_values.specs.declared.value.Value.{Value}
 use Rattle.smt_terms.specs.Signature.{Signature}

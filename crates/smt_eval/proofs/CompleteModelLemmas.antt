@@ -2,7 +2,7 @@
 use Rattle.std.proofs.Common.{◌≡◌, ◌↔◌, ℕ, zero, suc, ◌+◌, Bool, true, false, cond, List, [], ◌∷◌, ◌++◌, Option, Some, None, is_some, slice_get, Result, Ok, Err, refl, ap, sym, ◌∙◌, subst, append_assoc, append-nil}
 use Rattle.std.specs.Prelude.{bytes_eq, option_and_then}
 use Rattle.std.specs.Option.{option_or}
-use Rattle.smt_text.specs.Sexp.{Sexp, Sexps, Nil, Cons}
+use Rattle.smt_trees.specs.Sexp.{Sexp, Sexps, Nil, Cons}
 use Rattle.smt_theory.specs.Words.{result_and_then}
 use Rattle.smt_theory.specs.declared.theories.Theories.{Theories}
 use Rattle.smt_terms.specs.Items.{declared_named, if_declared, item_in, items_before}

@@ -1,7 +1,7 @@
 -- The declarations of a library, one at a time.
 use Rattle.std.proofs.Common.{◌≡◌, ◌≤◌, ℕ, zero, suc, ◌+◌, Bool, true, false, cond, List, [], ◌∷◌, ◌++◌, length, slice_get, Option, Some, None, is_some, refl, ap, sym, ◌∙◌, arith}
 use Rattle.std.specs.Option.{option_or}
-use Rattle.smt_text.specs.Sexp.{Sexp}
+use Rattle.smt_trees.specs.Sexp.{Sexp}
 use Rattle.smt_terms.specs.Contents.{Declaration}
 use Rattle.smt_terms.specs.Library.{declaration_at, declarations_from}
 use Rattle.smt_terms.specs.Signature.{Entry, Origin, Declared, Defined, entry_named}

@@ -7,8 +7,8 @@ use Rattle.std.specs.Option.{option_or}
 use Rattle.std.specs.Prelude.{unwrap_or, bytes_eq, is_some, ok_or, option_map}
 use Rattle.std.specs.Str.Parse.{digits_value}
 use Rattle.smt_bits.specs.Literals.{constant}
-use Rattle.smt_text.specs.Sexp.{Sexp, Sexps, Atom, Reserved, Items, Nil, Cons, Symbol, Numeral, Decimal, Hexadecimal, Binary, Text, Keyword}
-use Rattle.smt_text.specs.declared.reserved.Word.TheVariants.{Bang, Let, Underscore}
+use Rattle.smt_trees.specs.Sexp.{Sexp, Sexps, Atom, Reserved, Items, Nil, Cons, Symbol, Numeral, Decimal, Hexadecimal, Binary, Text, Keyword}
+use Rattle.smt_trees.specs.declared.reserved.Word.TheVariants.{Bang, Let, Underscore}
 use Rattle.smt_theory.specs.Ranks.{are_exactly, rank_of}
 use Rattle.smt_theory.specs.Sort.{is_same_sort}
 use Rattle.smt_theory.specs.Width.{width_of}

@@ -1,6 +1,6 @@
 -- SMT-LIB 2.6, sections 4.2.6 and 5.2: a printed model of names in force.
 use Rattle.std.specs.Prelude.{◌≡◌, ℕ, List, [], Some, Ok}
-use Rattle.smt_text.specs.Sexp.{Sexps}
+use Rattle.smt_trees.specs.Sexp.{Sexps}
 use Rattle.smt_terms.specs.Signature.{AreDistinct, Entry, IsDeclared, KeepsRank, Signature, entry_named}
 use Rattle.smt_terms.specs.WellSorted.{AreWellSorted}
 use Rattle.smt_eval.specs.Model.{model_in}

@@ -2,7 +2,7 @@
 -- with the symbol `model`, are this project's rules.
 use Rattle.std.specs.Prelude.{◌≡◌, ℕ, zero, suc, ◌+◌, List, [], ◌∷◌, ◌++◌, true, slice_get, take, Option, Some, None, is_some, Result, Ok, Err, codes, if◌then◌else◌}
 use Rattle.std.specs.Option.{option_or}
-use Rattle.smt_text.specs.Sexp.{Sexps, Nil, Cons, is_symbol}
+use Rattle.smt_trees.specs.Sexp.{Sexps, Nil, Cons, is_symbol}
 use Rattle.smt_theory.specs.Words.{result_and_then}
 use Rattle.smt_terms.specs.Items.{item_in, items_before}
 use Rattle.smt_terms.specs.Signature.{Entry, Origin, Declared, Defined, IsDeclared, Signature, entry_named}

@@ -2,7 +2,7 @@
 
 ghost use Rattle.std.specs.Prelude.{◌≡◌, ◌<◌, Some, length, map, slice_get, IfOk};
 ghost use Rattle.std.specs.List.{zip};
-ghost use Rattle.smt_text.specs.Tree.{sexp_of};
+ghost use Rattle.smt_trees.specs.Tree.{sexp_of};
 ghost use Rattle.smt_values.specs.Element.{known_element, known_elements};
 ghost use Rattle.smt_terms.specs.Identifier.{Plain};
 ghost use Rattle.smt_terms.specs.IdentifierView.{identifier_view};
@@ -17,8 +17,8 @@ use crate::evaluator::known_value;
 use crate::memory::Memory;
 use crate::scope::bind;
 use smt_terms::Identifier;
-use smt_text::Tree;
 use smt_theory::{Op, OpFault, Sort, op_of};
+use smt_trees::Tree;
 use smt_values::{Value, apply};
 
 /// What is known of an identifier applied to arguments.

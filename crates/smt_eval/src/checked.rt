@@ -6,7 +6,7 @@ use smt_values::Value;
 /// A closed term, with the structure that it stands over.
 pub trait Checked {
     ghost use Rattle.std.specs.Prelude.{◌≡◌, IfOk};
-    ghost use Rattle.smt_text.specs.Sexp.{Sexp};
+    ghost use Rattle.smt_trees.specs.Sexp.{Sexp};
     ghost use Rattle.smt_values.specs.Element.{known_element};
     ghost use Rattle.smt_terms.specs.Signature.{Signature};
     ghost use Rattle.smt_eval.specs.Known.{known_over};

@@ -1,14 +1,14 @@
 //! The definitions that a term is evaluated over.
 
 ghost use Rattle.std.specs.Prelude.{◌≡◌, ◌<◌, Some, None, length, map, take, slice_get, MatchOption};
-ghost use Rattle.smt_text.specs.Tree.{sexp_of};
+ghost use Rattle.smt_trees.specs.Tree.{sexp_of};
 ghost use Rattle.smt_terms.specs.Library.{StandsFor, defined_among, definitions_of};
 ghost use Rattle.smt_terms.specs.Signature.{Entry, Defined, Signature, entry_named};
 ghost use Rattle.smt_eval.specs.Internal.Evaluation.{Evaluates, bodies_in, bodies_of};
 
 use smt_terms::{Found, Library};
-use smt_text::Tree;
 use smt_theory::Sort;
+use smt_trees::Tree;
 use smt_values::Value;
 
 /// The definitions of a structure: a model's, and behind them the script's own. Of them the first `count` are seen. `values` has what is

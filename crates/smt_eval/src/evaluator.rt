@@ -1,9 +1,9 @@
 //! Evaluation of terms.
 
 ghost use Rattle.std.specs.Prelude.{◌≡◌, [], IfOk, IsTrue};
-ghost use Rattle.smt_text.specs.Sexp.{Atom, Cons, Items, Nil, Reserved, Symbol};
-ghost use Rattle.smt_text.specs.Tree.{sexp_of, sexps_of};
-ghost use Rattle.smt_text.specs.declared.reserved.Word.TheVariants.{Let};
+ghost use Rattle.smt_trees.specs.Sexp.{Atom, Cons, Items, Nil, Reserved, Symbol};
+ghost use Rattle.smt_trees.specs.Tree.{sexp_of, sexps_of};
+ghost use Rattle.smt_trees.specs.declared.reserved.Word.TheVariants.{Let};
 ghost use Rattle.smt_values.specs.KnownOperations as operations;
 ghost use Rattle.smt_values.specs.KnownOperations.{known_step};
 ghost use Rattle.smt_values.specs.Element.{known_element, known_elements};
@@ -22,8 +22,8 @@ use smt_terms::{
     TermFault, Variable, applied_identifier, find_variable, indexed_identifier, split_let,
     split_named,
 };
-use smt_text::{Tree, Trees, Word, split_first};
 use smt_theory::{CoreOp, Op, op_of};
+use smt_trees::{Tree, Trees, Word, split_first};
 use smt_values::{Value, apply, bin, hex, numeral};
 
 /// What is known of a term over the definitions that are seen, where the variables have these values, the innermost first.

@@ -1,7 +1,7 @@
 //! Models, as solvers print them.
 
 ghost use Rattle.std.specs.Prelude.{◌≡◌, ◌⊎◌, List, [], Ok, Err, MatchResult, IfOk};
-ghost use Rattle.smt_text.specs.Tree.{sexps_of};
+ghost use Rattle.smt_trees.specs.Tree.{sexps_of};
 ghost use Rattle.smt_values.specs.Element.{known_elements};
 ghost use Rattle.smt_terms.specs.Items.{items_before};
 ghost use Rattle.smt_terms.specs.Library.{StandsFor};
@@ -21,7 +21,7 @@ use crate::laws::{models_are_complete, structures_are_distinct};
 use crate::memory::Memory;
 use smt_terms::laws::faults_are_no_memory;
 use smt_terms::{Library, TermFault};
-use smt_text::{Tree, Trees, split_first};
+use smt_trees::{Tree, Trees, split_first};
 use smt_values::Value;
 
 /// Why a model can't be used.

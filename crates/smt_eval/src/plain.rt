@@ -1,7 +1,7 @@
 //! Terms that are kept as their trees.
 
 ghost use Rattle.std.specs.Prelude.{◌≡◌, IfOk};
-ghost use Rattle.smt_text.specs.Sexp.{Sexp};
+ghost use Rattle.smt_trees.specs.Sexp.{Sexp};
 ghost use Rattle.smt_values.specs.Element.{known_element};
 ghost use Rattle.smt_terms.specs.Library.{IsTerm, StandsFor};
 ghost use Rattle.smt_terms.specs.Signature.{Signature};
@@ -15,7 +15,7 @@ use crate::evaluator::known_value;
 use crate::interpretation::Interpretation;
 use crate::memory::Memory;
 use smt_terms::{Library, TermId};
-use smt_text::Tree;
+use smt_trees::Tree;
 use smt_values::Value;
 
 /// A term over the definitions of an interpretation, and behind them those of the script.

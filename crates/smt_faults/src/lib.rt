@@ -7,6 +7,8 @@
 
 mod command_fault;
 mod term_fault;
+mod text_fault;
 
 pub use command_fault::CommandFault;
 pub use term_fault::TermFault;
+pub use text_fault::TextFault;

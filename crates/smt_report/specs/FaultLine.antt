@@ -1,6 +1,6 @@
 -- The line on the fault of a text.
-use Rattle.smt_text.specs.declared.fault.TextFault.{TextFault}
-use Rattle.smt_text.specs.declared.fault.TextFault.TheVariants as texts
+use Rattle.smt_faults.specs.declared.text_fault.TextFault.{TextFault}
+use Rattle.smt_faults.specs.declared.text_fault.TextFault.TheVariants as texts
 use Rattle.smt_report.specs.declared.line.Line.{Line}
 use Rattle.smt_report.specs.declared.line.Line.TheVariants as lines
 use Rattle.smt_report.specs.declared.line.Side.{Side}

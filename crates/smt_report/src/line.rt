@@ -5,8 +5,7 @@ ghost use Rattle.smt_report.specs.FaultLine.{text_line};
 ghost use Rattle.smt_report.specs.Verdict as verdicts;
 
 use crate::verdict::{Tally, Verdict};
-use smt_faults::{CommandFault, TermFault};
-use smt_text::TextFault;
+use smt_faults::{CommandFault, TermFault, TextFault};
 use std::fmt;
 
 /// What a check was answered where it was not `sat`.

@@ -1,7 +1,7 @@
 -- What stands behind the word of a command, in the shapes that commands have.
 use Rattle.std.specs.Prelude.{ℕ, List, Bool, true, false, Option, Some, None, codes, if◌then◌else◌}
 use Rattle.std.specs.Str.Parse.{digits_value}
-use Rattle.smt_text.specs.Sexp.{Sexp, Sexps, Atom, Items, Nil, Cons, Keyword, Numeral, Symbol, Text, is_symbol}
+use Rattle.smt_trees.specs.Sexp.{Sexp, Sexps, Atom, Items, Nil, Cons, Keyword, Numeral, Symbol, Text, is_symbol}
 use Rattle.smt_terms.specs.Bindings.{are_named_trees, named_trees}
 
 abbrev pub is_none : Sexps → Bool

@@ -1,6 +1,6 @@
 //! Commands.
 
-use smt_text::{Bytes, Tree, Trees};
+use smt_trees::{Bytes, Tree, Trees};
 
 /// A command (SMT-LIB 2.6, section 4.2). Names are without bars, and keywords without their colon.
 #[derive(Drop)]

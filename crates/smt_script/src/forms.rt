@@ -1,7 +1,7 @@
 //! The trees that are commands.
 
 ghost use Rattle.std.specs.Prelude.{◌≡◌, Ok, Err, MatchResult, option_map, bytes_eq, if◌then◌else◌};
-ghost use Rattle.smt_text.specs.Tree.{sexp_of, sexps_of};
+ghost use Rattle.smt_trees.specs.Tree.{sexp_of, sexps_of};
 ghost use Rattle.smt_script.specs.Command as commands;
 ghost use Rattle.smt_script.specs.CommandView.{command_view, query_view};
 ghost use Rattle.smt_script.specs.Internal.PartsView.{parts_view};
@@ -17,7 +17,7 @@ use crate::forms::shapes::{
     one_symbol, one_text, one_tree, truth_of_value,
 };
 use smt_faults::CommandFault;
-use smt_text::{Bytes, Tree, Word, split_first};
+use smt_trees::{Bytes, Tree, Word, split_first};
 
 /// The command that a tree is (SMT-LIB 2.6, section 4.2). A tree that is none is refused: as `Unsupported` where it is a list that
 /// begins with the name of a command that is not supported, whatever follows, a `define-sort` with parameters, or makes declarations

@@ -1,7 +1,7 @@
 //! What holds of the definitions that the contracts name. Nothing here does anything: each contract is a law.
 
 ghost use Rattle.std.specs.Prelude.{◌≡◌, List, [], ◌∷◌, ◌++◌};
-ghost use Rattle.smt_text.specs.Sexp.{Sexp};
+ghost use Rattle.smt_trees.specs.Sexp.{Sexp};
 ghost use Rattle.smt_terms.specs.WellSorted.{AreIntroduced};
 ghost use Rattle.smt_script.specs.Command.{Assert};
 ghost use Rattle.smt_script.specs.Stack.{Assertion, HaveNoFault, Numbered, Stands, assertions_in_force, signature_in_force};

@@ -1,9 +1,9 @@
 -- Sorts of lists, one step at a time.
 use Rattle.std.proofs.Common.{◌≡◌, ◌⊎◌, ℕ, true, false, List, [], ◌∷◌, ◌++◌, Option, Some, None, is_some, Result, Ok, Err, refl, sym, ap, ◌∙◌, append_assoc, inl, inr, length, arith, MatchResult}
-use Rattle.smt_text.specs.Sexp.{Sexp, Sexps, Reserved, Items, Cons, count}
-use Rattle.smt_text.specs.Tree.{sexps_of}
-use Rattle.smt_text.specs.declared.tree.Tree.{Tree}
-use Rattle.smt_text.specs.declared.reserved.Word.TheVariants.{Bang, Let, Underscore}
+use Rattle.smt_trees.specs.Sexp.{Sexp, Sexps, Reserved, Items, Cons, count}
+use Rattle.smt_trees.specs.Tree.{sexps_of}
+use Rattle.smt_trees.specs.declared.tree.Tree.{Tree}
+use Rattle.smt_trees.specs.declared.reserved.Word.TheVariants.{Bang, Let, Underscore}
 use Rattle.smt_theory.specs.Words.{look_up, result_and_then}
 use Rattle.smt_theory.specs.declared.sort.Sort.{Sort}
 use Rattle.smt_terms.specs.Checking.{is_underscore_tree, sort_in, sorts_in, sort_applied, sort_of_call, sort_unless_variable}

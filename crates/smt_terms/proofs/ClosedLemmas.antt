@@ -2,9 +2,9 @@
 use Rattle.std.proofs.Common.{◌≡◌, ℕ, Bool, true, false, cond, not, ◌&&◌, ◌||◌, List, [], ◌∷◌, ◌++◌, map, Option, Some, None, is_some, Result, Ok, Err, refl, ap, sym, ◌∙◌, append_assoc, append-nil}
 use Rattle.std.proofs.lemmas.List.{map-append}
 use Rattle.std.specs.Str.{bytes_eq}
-use Rattle.smt_text.specs.Sexp as sexp
-use Rattle.smt_text.specs.Sexp.{Sexp, Sexps, Atom, Reserved, Items, Nil, Cons, Symbol, Keyword, Numeral, Hexadecimal, Binary}
-use Rattle.smt_text.specs.declared.reserved.Word.TheVariants.{Bang, Let, Underscore}
+use Rattle.smt_trees.specs.Sexp as sexp
+use Rattle.smt_trees.specs.Sexp.{Sexp, Sexps, Atom, Reserved, Items, Nil, Cons, Symbol, Keyword, Numeral, Hexadecimal, Binary}
+use Rattle.smt_trees.specs.declared.reserved.Word.TheVariants.{Bang, Let, Underscore}
 use Rattle.smt_theory.specs.Words.{look_up, result_and_then}
 use Rattle.smt_theory.specs.declared.sort.Sort.{Sort}
 use Rattle.smt_terms.specs.Bindings.{are_attributes, are_bindings, named_trees}

@@ -1,6 +1,6 @@
 -- Indexes, one at a time.
 use Rattle.std.proofs.Common.{◌≡◌, List, [], ◌∷◌, ◌++◌, Option, Some, None, is_some, option_map, refl, ap, sym, ◌∙◌, append_assoc}
-use Rattle.smt_text.specs.Sexp.{Sexp, Sexps, Cons}
+use Rattle.smt_trees.specs.Sexp.{Sexp, Sexps, Cons}
 use Rattle.smt_theory.specs.Index.{IndexView}
 use Rattle.smt_terms.specs.Identifier.{all_indexes, index_of_tree}
 

@@ -1,7 +1,7 @@
 -- The sorts that trees name, one more at a time.
 use Rattle.std.proofs.Common.{◌≡◌, ℕ, Bool, true, false, ◌||◌, List, ◌++◌, Option, Some, None, is_some, refl, Result, Ok}
 use Rattle.std.specs.Prelude.{bytes_eq, codes}
-use Rattle.smt_text.specs.Sexp.{Sexps}
+use Rattle.smt_trees.specs.Sexp.{Sexps}
 use Rattle.smt_theory.specs.Words.{look_up, result_and_then}
 use Rattle.smt_theory.specs.declared.sort.Sort.{Sort}
 use Rattle.smt_terms.specs.SortTrees.{SortNames, is_sort_taken, sorts_named}

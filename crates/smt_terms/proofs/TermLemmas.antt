@@ -1,9 +1,9 @@
 -- Terms by their numbers.
 use Rattle.std.proofs.Common.{◌≡◌, ℕ, zero, suc, List, [], ◌∷◌, ◌++◌, length, map, slice_get, Some, refl, ap, sym, ◌∙◌}
 use Rattle.std.proofs.lemmas.List.{length-map, map-append}
-use Rattle.smt_text.specs.Sexp.{Sexp}
-use Rattle.smt_text.specs.Tree.{sexp_of}
-use Rattle.smt_text.specs.declared.tree.Tree.{Tree}
+use Rattle.smt_trees.specs.Sexp.{Sexp}
+use Rattle.smt_trees.specs.Tree.{sexp_of}
+use Rattle.smt_trees.specs.declared.tree.Tree.{Tree}
 
 pub stays : {A : Type 0} (xs ys : List A) (i : ℕ) (x : A) → slice_get xs i ≡ Some x → slice_get (xs ++ ys) i ≡ Some x
 stays [] ys i x h = cc

@@ -1,7 +1,7 @@
 -- SMT-LIB 2.6, section 3.6: trees with a name each, as the bindings of a `let` and the parameters of a definition are, and the
 -- attributes of an annotated term. That the value of an attribute may be any tree but a keyword is this project's choice.
 use Rattle.std.specs.Prelude.{ℕ, List, [], ◌∷◌, Bool, true, false, not, ◌&&◌, ◌||◌, Option, Some, None, bytes_eq, codes}
-use Rattle.smt_text.specs.Sexp.{Sexp, Sexps, Atom, Items, Nil, Cons, Keyword, Symbol}
+use Rattle.smt_trees.specs.Sexp.{Sexp, Sexps, Atom, Items, Nil, Cons, Keyword, Symbol}
 
 -- whether each is a list of a symbol and one more tree
 abbrev pub are_named_trees : Sexps → Bool

@@ -1,6 +1,6 @@
 -- SMT-LIB 2.6, section 4.2.3: definitions by a name, parameters, a sort and a body. The order of the faults is this project's rule.
 use Rattle.std.specs.Prelude.{ℕ, List, [], ◌∷◌, ◌++◌, is_some, Result, Ok, Err, map, if◌then◌else◌}
-use Rattle.smt_text.specs.Sexp.{Sexp}
+use Rattle.smt_trees.specs.Sexp.{Sexp}
 use Rattle.smt_theory.specs.Sort.{is_same_sort}
 use Rattle.smt_theory.specs.Words.{look_up, result_and_then}
 use Rattle.smt_theory.specs.declared.sort.Sort.{Sort}

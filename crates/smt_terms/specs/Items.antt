@@ -1,7 +1,7 @@
 -- SMT-LIB 2.6, section 4.2.6: the items of a printed model, which are definitions. The order of the faults is this project's rule.
 use Rattle.std.specs.Prelude.{ℕ, List, [], Bool, true, not, ◌&&◌, Option, Some, None, is_some, option_and_then, Result, Ok, Err, map, if◌then◌else◌}
-use Rattle.smt_text.specs.Sexp.{Sexp, Atom, Reserved, Items, Nil, Cons, Symbol}
-use Rattle.smt_text.specs.declared.reserved.Word.TheVariants.{DefineFun, DefineFunRec, DefineFunsRec}
+use Rattle.smt_trees.specs.Sexp.{Sexp, Atom, Reserved, Items, Nil, Cons, Symbol}
+use Rattle.smt_trees.specs.declared.reserved.Word.TheVariants.{DefineFun, DefineFunRec, DefineFunsRec}
 use Rattle.smt_theory.specs.Ranks.{are_exactly}
 use Rattle.smt_theory.specs.Sort.{is_same_sort}
 use Rattle.smt_theory.specs.Words.{result_and_then}

@@ -1,7 +1,7 @@
 -- What a library stands for: a signature, with its declarations and definitions, and terms by their numbers.
 use Rattle.std.specs.Prelude.{◌≡◌, ℕ, ◌+◌, List, [], ◌∷◌, ◌++◌, Bool, true, false, not, Option, Some, length, map, slice_get}
 use Rattle.std.specs.List.{filter}
-use Rattle.smt_text.specs.Sexp.{Sexp}
+use Rattle.smt_trees.specs.Sexp.{Sexp}
 use Rattle.smt_terms.specs.Contents.{Contents, Declaration, contents_of}
 use Rattle.smt_terms.specs.Internal.LibraryView.{ranks_of_library}
 use Rattle.smt_terms.specs.Signature as signature

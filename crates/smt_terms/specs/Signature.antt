@@ -1,7 +1,7 @@
 -- SMT-LIB 2.6, sections 4.2.3 and 5.1: a signature: the theories, the abbreviations of sorts in force, and the names in force, with what
 -- they stand for, in the order in which they came.
 use Rattle.std.specs.Prelude.{◌≡◌, ℕ, List, [], ◌∷◌, ◌++◌, Bool, Option, Some, None, Result, Ok, Err, is_some, ◌||◌, map, bytes_eq, if◌then◌else◌}
-use Rattle.smt_text.specs.Sexp.{Sexp, Sexps}
+use Rattle.smt_trees.specs.Sexp.{Sexp, Sexps}
 use Rattle.smt_theory.specs.Operators.{is_plain_operator}
 use Rattle.smt_theory.specs.Words.{look_up, result_and_then}
 use Rattle.smt_theory.specs.declared.sort.Sort.{Sort}

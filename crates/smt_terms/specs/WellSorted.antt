@@ -1,7 +1,7 @@
 -- SMT-LIB 2.6, section 5.2: definitions that are well sorted, and names that keep the sorts of terms.
 use Rattle.std.specs.Prelude.{◌≡◌, ℕ, List, [], ◌∷◌, ◌++◌, false, length, Some, None, bytes_eq, Ok}
 use Rattle.std.specs.List.{list_any, zip}
-use Rattle.smt_text.specs.Sexp.{Sexp}
+use Rattle.smt_trees.specs.Sexp.{Sexp}
 use Rattle.smt_theory.specs.Operators.{is_plain_operator}
 use Rattle.smt_theory.specs.Words.{look_up}
 use Rattle.smt_theory.specs.declared.sort.Sort.{Sort}

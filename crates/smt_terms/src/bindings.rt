@@ -1,12 +1,12 @@
 //! Lists of a symbol and a tree, as bindings and parameters are, and the parts of a `let`.
 
 ghost use Rattle.std.specs.Prelude.{◌≡◌, None, MatchOption};
-ghost use Rattle.smt_text.specs.Sexp.{Atom, Cons, Items, Nil, Symbol};
-ghost use Rattle.smt_text.specs.Tree.{sexp_of, sexps_of};
+ghost use Rattle.smt_trees.specs.Sexp.{Atom, Cons, Items, Nil, Symbol};
+ghost use Rattle.smt_trees.specs.Tree.{sexp_of, sexps_of};
 ghost use Rattle.smt_terms.specs.Bindings as bindings;
 ghost use Rattle.smt_terms.specs.Bindings.{first_named, let_form};
 
-use smt_text::{Tree, split_first};
+use smt_trees::{Tree, split_first};
 
 /// The first of these trees as a symbol, which is without bars, with a tree: a binding with its term, or a parameter with the tree of
 /// its sort; and the trees behind it. `None` where the first is no list of those two, or there is none.

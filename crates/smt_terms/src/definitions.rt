@@ -1,7 +1,7 @@
 //! The parameters of definitions.
 
 ghost use Rattle.std.specs.Prelude.{◌≡◌, ◌⊎◌, [], Ok, Err, map, IfErr, IfOk, MatchResult};
-ghost use Rattle.smt_text.specs.Tree.{sexps_of};
+ghost use Rattle.smt_trees.specs.Tree.{sexps_of};
 ghost use Rattle.smt_terms.specs.Bindings.{named_trees};
 ghost use Rattle.smt_terms.specs.Definitions.{parameters_named};
 ghost use Rattle.smt_terms.specs.Internal.LibraryView.{sort_names};
@@ -13,8 +13,8 @@ use crate::bindings::split_named;
 use crate::scope::{Variable, find_variable, push_variable};
 use crate::sorts::SortNames;
 use smt_faults::TermFault;
-use smt_text::Tree;
 use smt_theory::Sort;
+use smt_trees::Tree;
 use std::alloc::Global;
 
 /// A parameter of a definition (SMT-LIB 2.6, section 4.2.3): its name, without bars, and the tree of its sort. It borrows both.

@@ -1,8 +1,8 @@
 //! Identifiers: plain symbols, and symbols with indexes.
 
 ghost use Rattle.std.specs.Prelude.{◌≡◌, ◌⊎◌, Some, None, Ok, Err, map, is_some, MatchOption, MatchResult};
-ghost use Rattle.smt_text.specs.Sexp.{Items};
-ghost use Rattle.smt_text.specs.Tree.{sexp_of, sexps_of};
+ghost use Rattle.smt_trees.specs.Sexp.{Items};
+ghost use Rattle.smt_trees.specs.Tree.{sexp_of, sexps_of};
 ghost use Rattle.smt_theory.specs.Index.{index_view};
 ghost use Rattle.smt_terms.specs.Identifier as identifiers;
 ghost use Rattle.smt_terms.specs.Identifier.{all_indexes, applied, index_of_numeral, index_of_tree, indexed, operator_of};
@@ -10,8 +10,8 @@ ghost use Rattle.smt_terms.specs.IdentifierView.{identifier_view};
 ghost use Rattle.smt_faults.specs.declared.term_fault.TermFault.TheVariants.{Form, Memory};
 
 use smt_faults::TermFault;
-use smt_text::{Tree, Trees, Word, split_first};
 use smt_theory::{Index, Op, OpFault, Theories, number, op_of};
+use smt_trees::{Tree, Trees, Word, split_first};
 use std::alloc::Global;
 
 /// An identifier (SMT-LIB 2.6, section 3.3), which borrows its names.

@@ -1,16 +1,16 @@
 //! The parts of an item of a model.
 
 ghost use Rattle.std.specs.Prelude.{◌≡◌, MatchOption, MatchResult};
-ghost use Rattle.smt_text.specs.Sexp.{Cons, Items, Nil, Reserved};
-ghost use Rattle.smt_text.specs.Tree.{sexp_of, sexps_of};
-ghost use Rattle.smt_text.specs.declared.reserved.Word.TheVariants.{DefineFun};
+ghost use Rattle.smt_trees.specs.Sexp.{Cons, Items, Nil, Reserved};
+ghost use Rattle.smt_trees.specs.Tree.{sexp_of, sexps_of};
+ghost use Rattle.smt_trees.specs.declared.reserved.Word.TheVariants.{DefineFun};
 ghost use Rattle.smt_terms.specs.Internal.ItemView.{form_of};
 ghost use Rattle.smt_terms.specs.Items as items;
 ghost use Rattle.smt_faults.specs.declared.term_fault.TermFault.TheVariants.{Form};
 
 use crate::bindings::are_named;
 use smt_faults::TermFault;
-use smt_text::{Tree, Word, split_first};
+use smt_trees::{Tree, Word, split_first};
 
 // The parts of an item.
 #[derive(Clone, Copy)]

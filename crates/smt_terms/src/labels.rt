@@ -1,15 +1,15 @@
 //! The labels that the terms of an assertion gave so far.
 
 ghost use Rattle.std.specs.Prelude.{◌≡◌, ◌++◌, ◌∷◌, [], map, bytes_eq, IfErr, OnOk};
-ghost use Rattle.smt_text.specs.Tree.{sexp_of};
+ghost use Rattle.smt_trees.specs.Tree.{sexp_of};
 ghost use Rattle.smt_terms.specs.Internal.LabelsView.{given_names, given_terms, labels_view};
 ghost use Rattle.smt_terms.specs.Labels as spec;
 ghost use Rattle.smt_terms.specs.Labels.{is_among};
 ghost use Rattle.smt_faults.specs.declared.term_fault.TermFault.TheVariants.{Memory};
 
 use smt_faults::TermFault;
-use smt_text::Tree;
 use smt_theory::Sort;
+use smt_trees::Tree;
 use std::alloc::Global;
 
 /// A label: its name, without bars, and the term that it names, with its sort.

@@ -1,7 +1,7 @@
 //! What holds of the definitions that the contracts name. Nothing here does anything: each contract is a law.
 
 ghost use Rattle.std.specs.Prelude.{◌≡◌, ℕ, List, Some, None, false, Ok, Err};
-ghost use Rattle.smt_text.specs.Sexp.{Sexp, Sexps};
+ghost use Rattle.smt_trees.specs.Sexp.{Sexp, Sexps};
 ghost use Rattle.smt_theory.specs.declared.sort.Sort.{Sort};
 ghost use Rattle.smt_terms.specs.Checking.{sort_in};
 ghost use Rattle.smt_terms.specs.Assertions.{asserted_in};

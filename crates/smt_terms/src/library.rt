@@ -21,8 +21,8 @@ use crate::labels::Labels;
 use crate::sorts::SortNames;
 use indexmap::IndexMap;
 use smt_faults::TermFault;
-use smt_text::Tree;
 use smt_theory::{Sort, Theories, op_of};
+use smt_trees::Tree;
 use std::alloc::Global;
 
 // Among how many names a name is compared with each.
@@ -91,8 +91,8 @@ pub struct Library {
 
 impl Library {
     ghost use Rattle.std.specs.Prelude.{◌≡◌, ◌<◌, ◌∷◌, ◌++◌, ◌⊎◌, ◌||◌, List, [], map, is_some, length, slice_get, option_copied, option_map, Some, None, Ok, Err, MatchOption, MatchResult, OnOk, OnErr, IfOk, IfErr};
-    ghost use Rattle.smt_text.specs.Sexp.{Sexp};
-    ghost use Rattle.smt_text.specs.Tree.{sexp_of, sexps_of};
+    ghost use Rattle.smt_trees.specs.Sexp.{Sexp};
+    ghost use Rattle.smt_trees.specs.Tree.{sexp_of, sexps_of};
     ghost use Rattle.smt_theory.specs.Operators.{is_plain_operator};
     ghost use Rattle.smt_theory.specs.Words.{look_up};
     ghost use Rattle.smt_terms.specs.Checking.{sort_in};

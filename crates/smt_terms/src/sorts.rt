@@ -2,7 +2,7 @@
 
 ghost use Rattle.std.specs.Prelude.{◌≡◌, ◌⊎◌, ◌++◌, ◌∷◌, [], bytes_eq, Ok, Err, IfErr, MatchResult, OnErr, OnOk};
 ghost use Rattle.std.specs.Str.Parse.{digits_value};
-ghost use Rattle.smt_text.specs.Tree.{sexp_of, sexps_of};
+ghost use Rattle.smt_trees.specs.Tree.{sexp_of, sexps_of};
 ghost use Rattle.smt_theory.specs.Width.{width_of};
 ghost use Rattle.std.specs.List.{IsDistinct};
 ghost use Rattle.std.proofs.Props.{props};
@@ -15,8 +15,8 @@ ghost use Rattle.smt_terms.specs.SortTrees as sorts;
 use crate::identifier::are_indexes;
 use indexmap::IndexMap;
 use smt_faults::TermFault;
-use smt_text::{Tree, Word, split_first};
 use smt_theory::{Sort, Theories, Width, number};
+use smt_trees::{Tree, Word, split_first};
 use std::alloc::Global;
 
 /// What names sorts: theories, and abbreviations of sorts (SMT-LIB 2.6, sections 3.5 and 4.2.3), in the order in which they came. No

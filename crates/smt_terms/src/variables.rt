@@ -1,9 +1,9 @@
 //! The variables that a term uses.
 
 ghost use Rattle.std.specs.Prelude.{◌≡◌, ◌∷◌, ◌++◌, ◌&&◌, [], not, map, is_some, bytes_eq, IfErr, IfOk, OnOk};
-ghost use Rattle.smt_text.specs.Sexp.{Cons, Items, Reserved};
-ghost use Rattle.smt_text.specs.Tree.{sexp_of, sexps_of};
-ghost use Rattle.smt_text.specs.declared.reserved.Word.TheVariants.{Bang, Let};
+ghost use Rattle.smt_trees.specs.Sexp.{Cons, Items, Reserved};
+ghost use Rattle.smt_trees.specs.Tree.{sexp_of, sexps_of};
+ghost use Rattle.smt_trees.specs.declared.reserved.Word.TheVariants.{Bang, Let};
 ghost use Rattle.smt_theory.specs.Words.{look_up};
 ghost use Rattle.smt_terms.specs.Bindings.{named_trees};
 ghost use Rattle.smt_terms.specs.Labels as labels;
@@ -14,8 +14,8 @@ use crate::bindings::{split_let, split_named};
 use crate::heads::{is_bang, is_let, is_underscore};
 use crate::scope::{Variable, find_variable};
 use smt_faults::TermFault;
-use smt_text::{Tree, Trees, split_first};
 use smt_theory::Sort;
+use smt_trees::{Tree, Trees, split_first};
 use std::alloc::Global;
 
 /// Whether a term that is well sorted uses one of these variables, which are bound outside it. Only want of memory is refused.

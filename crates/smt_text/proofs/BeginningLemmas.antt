@@ -4,14 +4,14 @@ use Rattle.std.proofs.lemmas.List.{append_assoc, length-append}
 use Rattle.smt_text.proofs.PrefixLemmas.{runs_if_begins}
 use Rattle.smt_text.proofs.ReaderCompleteness.{reads-forest}
 use Rattle.smt_text.proofs.ReadingLemmas.{one_complete}
-use Rattle.smt_text.proofs.SexpLemmas.{append_nil, count-append}
-use Rattle.smt_text.proofs.SexpLemmas as sexps
+use Rattle.smt_trees.proofs.SexpLemmas.{append_nil, count-append}
+use Rattle.smt_trees.proofs.SexpLemmas as sexps
 use Rattle.smt_text.proofs.WholeTreeLemmas.{complete_run, settled_more}
 use Rattle.smt_text.specs.Grammar.{OpenParenthesis, CloseParenthesis}
 use Rattle.smt_text.specs.Internal.Machine.{Levels, On, State, At, start, flush, act, add, add_if, atom_of, settle, lex, move, token_in, step, go_on, run, complete_of, top_of}
 use Rattle.smt_text.specs.Reading.{Begins, AreComplete, AreSettled, Reads}
-use Rattle.smt_text.specs.Sexp.{Sexp, Sexps, Nil, Cons, Items, append, count}
-use Rattle.smt_text.specs.declared.fault.TextFault.{TextFault}
+use Rattle.smt_trees.specs.Sexp.{Sexp, Sexps, Nil, Cons, Items, append, count}
+use Rattle.smt_faults.specs.declared.text_fault.TextFault.{TextFault}
 use Rattle.smt_text.specs.declared.lexer.AtomState.{AtomState}
 use Rattle.smt_text.specs.declared.lexer.AtomState.TheVariants.{Nothing}
 use Rattle.smt_text.specs.declared.lexer.LexerStep.{LexerStep}

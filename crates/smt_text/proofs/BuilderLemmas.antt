@@ -4,14 +4,14 @@ use Rattle.std.proofs.lemmas.Bool.{false≢true, lt-ltb, le-ltb}
 use Rattle.std.proofs.lemmas.List.{take_all, take_more, take_more_set, length-set}
 use Rattle.std.specs.declared.alloc.Global.{Global}
 use Rattle.std.specs.declared.vec.Vec.{Vec}
-use Rattle.smt_text.specs.TreeJoins.{sexps_of-append}
+use Rattle.smt_trees.specs.TreeJoins.{sexps_of-append}
 use Rattle.smt_text.specs.Grammar.{OpenParenthesis, CloseParenthesis}
 use Rattle.smt_text.specs.Internal.Machine.{Levels, On, State, At, add, add_if, atom_of, flush, begun, ended, depth_of, depth_in, act, settle}
 use Rattle.smt_text.specs.Internal.ReaderState.{lists_of}
-use Rattle.smt_text.specs.Sexp.{Sexp, Sexps, Items}
-use Rattle.smt_text.specs.Tree.{sexp_of, sexps_of}
+use Rattle.smt_trees.specs.Sexp.{Sexp, Sexps, Items}
+use Rattle.smt_trees.specs.Tree.{sexp_of, sexps_of}
 use Rattle.smt_text.specs.declared.lexer.AtomState.TheVariants.{Nothing}
-use Rattle.smt_text.specs.declared.tree.Tree.{Tree}
+use Rattle.smt_trees.specs.declared.tree.Tree.{Tree}
 
 pub length-lists_of : (lists : List (Vec Tree Global)) (around : List Sexps) → length (lists_of lists around) ≡ length lists + length around
 length-lists_of [] around = omega arith

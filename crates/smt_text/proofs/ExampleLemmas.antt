@@ -5,9 +5,9 @@ use Rattle.smt_text.proofs.ReaderCompleteness.{run-cons, run-append}
 use Rattle.smt_text.proofs.ReadingLemmas.{leaves_reads, stuck_reads, ends_outside, ends_inside, inside_list, inside_token}
 use Rattle.smt_text.specs.Internal.Machine.{Levels, On, State, start, flush, lex, may_end, token_in, step, run, complete_of, Leaves, blame}
 use Rattle.smt_text.specs.Reading.{Reads}
-use Rattle.smt_text.specs.Sexp.{Sexps}
-use Rattle.smt_text.specs.declared.fault.TextFault.{TextFault}
-use Rattle.smt_text.specs.declared.fault.TextFault.TheVariants.{End}
+use Rattle.smt_trees.specs.Sexp.{Sexps}
+use Rattle.smt_faults.specs.declared.text_fault.TextFault.{TextFault}
+use Rattle.smt_faults.specs.declared.text_fault.TextFault.TheVariants.{End}
 
 -- the state that is left, and the fault if there is one
 record Left : Type 0 where

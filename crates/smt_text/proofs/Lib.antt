@@ -1,5 +1,4 @@
 mod BeginningLemmas
-pub mod SexpLemmas
 pub mod ReservedLemmas
 pub mod ByteLemmas
 pub mod ReaderCompleteness
@@ -12,5 +11,4 @@ pub mod ReaderLemmas
 pub mod RunLemmas
 pub mod NestingLemmas
 pub mod ExampleLemmas
-pub mod BytesLemmas
 mod KindLemmas

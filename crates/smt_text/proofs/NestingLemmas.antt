@@ -6,8 +6,8 @@ use Rattle.smt_text.proofs.ReadingLemmas.{stuck_reads, ends_inside, inside_list}
 use Rattle.smt_text.proofs.ReaderCompleteness.{run-cons, run-append}
 use Rattle.smt_text.specs.Internal.Machine.{On, At, start, settle, step, run}
 use Rattle.smt_text.specs.Reading.{Reads}
-use Rattle.smt_text.specs.Sexp.{Sexps, Nil}
-use Rattle.smt_text.specs.declared.fault.TextFault.TheVariants.{Byte, Deep, End}
+use Rattle.smt_trees.specs.Sexp.{Sexps, Nil}
+use Rattle.smt_faults.specs.declared.text_fault.TextFault.TheVariants.{Byte, Deep, End}
 use Rattle.smt_text.specs.declared.lexer.AtomState.TheVariants.{Nothing, HexMark}
 
 one_more : (n : ℕ) (lists : List Sexps) → replicate n Nil ++ (Nil ∷ lists) ≡ Nil ∷ (replicate n Nil ++ lists)

@@ -2,14 +2,14 @@
 use Rattle.std.proofs.Common.{◌≡◌, ◌⊎◌, ◌<◌, ◌≤◌, ℕ, suc, zero, List, [], ◌∷◌, ◌++◌, length, Option, Some, None, Bool, true, false, ltb, cond, refl, sym, ap, ◌∙◌, inl, inr, arith, subst}
 use Rattle.std.proofs.lemmas.Bool.{cases_lt}
 use Rattle.std.proofs.lemmas.List.{append-nil, length-append}
-use Rattle.smt_text.proofs.SexpLemmas.{append_nil, append_assoc as sexps_assoc}
+use Rattle.smt_trees.proofs.SexpLemmas.{append_nil, append_assoc as sexps_assoc}
 use Rattle.smt_text.proofs.ReaderSoundness.{forest-read}
 use Rattle.smt_text.proofs.ReaderCompleteness.{step-at, run-cons, run-append, reads-forest, depth_of-add, may_be_ended_ends}
 use Rattle.smt_text.proofs.ByteLemmas.{MayBeEnded, lex_ended}
 use Rattle.smt_text.specs.Grammar.{OpenParenthesis, CloseParenthesis}
 use Rattle.smt_text.specs.Internal.Machine.{Levels, On, State, At, start, add, atom_of, add_if, flush, act, settle, lex, move, may_end, token_in, step, go_on, run, depth_of, top_of, complete_of}
 use Rattle.smt_text.specs.Reading.{Begins, LongestPrefix}
-use Rattle.smt_text.specs.Sexp.{Sexp, Sexps, Items, Nil, Cons, append}
+use Rattle.smt_trees.specs.Sexp.{Sexp, Sexps, Items, Nil, Cons, append}
 use Rattle.smt_text.specs.declared.lexer.AtomState.{AtomState}
 use Rattle.smt_text.specs.declared.lexer.AtomState.TheVariants.{Nothing, Zero, Digits, Point, Fraction, Hash, HexMark, HexDigits, BinMark, BinDigits, Name, Colon, KeywordName, InText, TextQuote, InBars, AfterBar, InComment}
 use Rattle.smt_text.specs.declared.lexer.LexerStep.{LexerStep}

@@ -5,20 +5,20 @@ use Rattle.std.proofs.lemmas.List.{append-nil, append_assoc}
 use Rattle.std.specs.List.{AllByRecursion, list_all}
 use Rattle.std.specs.Prelude.{if◌then◌else◌}
 use Rattle.smt_text.proofs.ByteLemmas.{MayBeEnded, lex_ended, white_ends, white_separates, push_digit, push_first_fraction, push_fraction, push_first_hex, push_hex, push_first_bin, push_bin, push_name, push_first_keyword, push_keyword, push_quoted, push_text, skip_comment, end_comment, letter_begins, digit_begins, letter_no_ender, digit_no_ender}
-use Rattle.smt_text.proofs.SexpLemmas.{append_nil, append_assoc as sexps_assoc}
+use Rattle.smt_trees.proofs.SexpLemmas.{append_nil, append_assoc as sexps_assoc}
 use Rattle.smt_text.proofs.ReservedLemmas.{word_named-spelling, find_word-some}
 use Rattle.smt_text.specs.Grammar.{Token, OpenParenthesis, CloseParenthesis, AtomToken, WordToken, ZeroOrMore, OneOrMore, IsNumeral, IsDecimal, IsSimpleSymbol, IsSpelling, IsComment, IsSeparator, IsGap, IsTextThen, IsTextEnd, EndsToken, IsApart, joined, doubled, barred, tokens_of, tokens_of_all, Forest}
 use Rattle.smt_text.specs.Lexical.{quote, bar, semicolon, point, zero_digit, is_white, is_digit, is_hexadecimal_digit, is_binary_digit, is_letter, is_symbol_byte, is_text_byte, is_quoted_byte, is_comment_byte, ends_token}
 use Rattle.smt_text.specs.Internal.Machine.{Levels, On, State, At, start, add, word_named, name_or_word, flush, act, settle, separated, lex, move, may_end, token_in, step, go_on, run, depth_of}
-use Rattle.smt_text.specs.Reserved.{spelling_of, all_words}
-use Rattle.smt_text.specs.Sexp as sexp
-use Rattle.smt_text.specs.Sexp.{Sexp, Sexps, Atom, Reserved, Items, Nil, Cons, append, depth, depth_all}
+use Rattle.smt_trees.specs.Reserved.{spelling_of, all_words}
+use Rattle.smt_trees.specs.Sexp as sexp
+use Rattle.smt_trees.specs.Sexp.{Sexp, Sexps, Atom, Reserved, Items, Nil, Cons, append, depth, depth_all}
 use Rattle.smt_text.specs.declared.lexer.AtomState.{AtomState}
 use Rattle.smt_text.specs.declared.lexer.AtomState.TheVariants.{Nothing, Zero, Digits, Point, Fraction, Hash, HexMark, HexDigits, BinMark, BinDigits, Name, Colon, KeywordName, InText, TextQuote, InBars, AfterBar, InComment}
 use Rattle.smt_text.specs.declared.lexer.LexerStep.{LexerStep}
 use Rattle.smt_text.specs.declared.lexer.LexerStep.TheVariants.{Push, Skip, Finish, Stuck}
-use Rattle.smt_text.specs.declared.reserved.Word.{Word}
-use Rattle.smt_text.specs.declared.reserved.Word.TheVariants as words
+use Rattle.smt_trees.specs.declared.reserved.Word.{Word}
+use Rattle.smt_trees.specs.declared.reserved.Word.TheVariants as words
 
 -- a step of a token that is known
 pub step-at : (limit : ℕ) (s : State) (b : ℕ) (what : LexerStep) → lex (token_in s) b ≡ what → step limit s b ≡ move limit what s b

@@ -2,7 +2,7 @@
 use Rattle.std.proofs.Common.{◌≡◌, ◌≢◌, ◌⊎◌, ◌<◌, ◌+◌, ℕ, List, [], ◌∷◌, ◌++◌, length, drop, take, get_or, Option, Some, None, Result, Ok, Err, is_some, Bool, true, false, cond, ltb, refl, sym, ap, ◌∙◌, inl, inr, arith, subst}
 use Rattle.std.specs.Result.{result_err}
 use Rattle.std.proofs.lemmas.List.{append_assoc, length-append, length-take-le, take-append-drop, drop_more}
-use Rattle.smt_text.proofs.SexpLemmas.{append_nil, append_assoc as sexps_assoc}
+use Rattle.smt_trees.proofs.SexpLemmas.{append_nil, append_assoc as sexps_assoc}
 use Rattle.smt_text.proofs.ReadingLemmas.{stuck_reads, leaves_reads, ends_outside, ends_inside}
 use Rattle.smt_text.proofs.BuilderLemmas.{depth_of-flush}
 use Rattle.smt_text.proofs.ReaderCompleteness.{run-append}
@@ -11,17 +11,17 @@ use Rattle.smt_text.specs.Reader.{is_finished, bytes_fed, fault_of, trees_ready,
 use Rattle.smt_text.specs.Internal.Machine.{Levels, On, State, At, start, add, atom_of, add_if, flush, act, settle, lex, move, may_end, token_in, step, go_on, run, depth_of, depth_in, top_of, complete_of, IsStuck, Leaves, blame}
 use Rattle.smt_text.specs.Reading.{Reads}
 use Rattle.smt_text.specs.Internal.ReaderState.{lists_of, state_of, under, after_taken, GoesThrough, Ends}
-use Rattle.smt_text.specs.Sexp.{Sexp, Sexps, Items, Nil, Cons, append}
-use Rattle.smt_text.specs.Tree.{sexp_of, sexps_of}
-use Rattle.smt_text.specs.declared.fault.TextFault.{TextFault}
-use Rattle.smt_text.specs.declared.fault.TextFault.TheVariants.{Byte, Deep, End, Memory}
+use Rattle.smt_trees.specs.Sexp.{Sexp, Sexps, Items, Nil, Cons, append}
+use Rattle.smt_trees.specs.Tree.{sexp_of, sexps_of}
+use Rattle.smt_faults.specs.declared.text_fault.TextFault.{TextFault}
+use Rattle.smt_faults.specs.declared.text_fault.TextFault.TheVariants.{Byte, Deep, End, Memory}
 use Rattle.smt_text.specs.declared.lexer.AtomState.TheVariants.{Nothing}
 use Rattle.smt_text.specs.declared.lexer.LexerStep.{LexerStep}
 use Rattle.smt_text.specs.declared.lexer.LexerStep.TheVariants.{Push, Skip, Finish, Open, Close, Stuck}
 use Rattle.smt_text.specs.declared.reader.Next.TheVariants.{Fault}
 use Rattle.smt_text.specs.declared.reader.Reader.{Reader}
 use Rattle.smt_text.specs.declared.reader.TheConstants.{MAX_DEPTH}
-use Rattle.smt_text.specs.declared.tree.Tree.{Tree}
+use Rattle.smt_trees.specs.declared.tree.Tree.{Tree}
 
 pub none_if : (o : Option TextFault) → is_some o ≡ false → o ≡ None
 none_if None e = refl

@@ -10,14 +10,14 @@ use Rattle.smt_text.specs.Grammar.{Token, OpenParenthesis, CloseParenthesis, Ato
 use Rattle.smt_text.specs.Lexical.{quote, bar, point, zero_digit, is_white, is_line_end, is_digit, is_nonzero_digit, is_hexadecimal_digit, is_binary_digit, is_symbol_byte, is_text_byte, is_quoted_byte, is_comment_byte, ends_token}
 use Rattle.smt_text.specs.Internal.Machine.{Levels, On, State, At, start, add, word_named, name_or_word, flush, act, settle, separated, lex, move, may_end, token_in, step, go_on, run}
 use Rattle.smt_text.specs.Reading.{IsClosed, EndsClosed}
-use Rattle.smt_text.specs.Reserved.{all_words}
-use Rattle.smt_text.specs.Sexp as sexp
-use Rattle.smt_text.specs.Sexp.{Sexp, Sexps, Atom, Reserved, Items, Nil, Cons, append, depth, depth_all}
+use Rattle.smt_trees.specs.Reserved.{all_words}
+use Rattle.smt_trees.specs.Sexp as sexp
+use Rattle.smt_trees.specs.Sexp.{Sexp, Sexps, Atom, Reserved, Items, Nil, Cons, append, depth, depth_all}
 use Rattle.smt_text.specs.declared.lexer.AtomState.{AtomState}
 use Rattle.smt_text.specs.declared.lexer.AtomState.TheVariants.{Nothing, Zero, Digits, Point, Fraction, Hash, HexMark, HexDigits, BinMark, BinDigits, Name, Colon, KeywordName, InText, TextQuote, InBars, AfterBar, InComment}
 use Rattle.smt_text.specs.declared.lexer.LexerStep.{LexerStep}
 use Rattle.smt_text.specs.declared.lexer.LexerStep.TheVariants.{Push, Skip, Finish, Open, Close, Stuck}
-use Rattle.smt_text.specs.declared.reserved.Word.{Word}
+use Rattle.smt_trees.specs.declared.reserved.Word.{Word}
 
 -- a numeral that does not begin with `0`
 abbrev pub IsLong : List ℕ → Type 0

@@ -2,7 +2,7 @@
 use Rattle.std.proofs.Common.{◌≡◌, ◌⊎◌, ◌≤◌, ◌+◌, ℕ, suc, List, [], ◌∷◌, ◌++◌, length, Option, Some, None, Bool, true, false, ltb, cond, refl, sym, ap, ◌∙◌, inl, inr, arith, subst}
 use Rattle.std.proofs.lemmas.Bool.{ltb-true, lt-ltb}
 use Rattle.std.proofs.lemmas.List.{append-nil, append_assoc, length-append}
-use Rattle.smt_text.proofs.SexpLemmas.{append_nil, count-append, nil_if_none}
+use Rattle.smt_trees.proofs.SexpLemmas.{append_nil, count-append, nil_if_none}
 use Rattle.smt_text.proofs.PrefixLemmas.{runs_if_begins, begins_if_runs, stuck_prefix, complete_prefix}
 use Rattle.smt_text.proofs.ReaderSoundness.{forest-read}
 use Rattle.smt_text.proofs.WholeTreeLemmas.{complete_run, settled_more}
@@ -10,9 +10,9 @@ use Rattle.smt_text.proofs.ReaderCompleteness.{step-at, run-cons, run-append, re
 use Rattle.smt_text.specs.Grammar.{OpenParenthesis, CloseParenthesis, Forest}
 use Rattle.smt_text.specs.Internal.Machine.{Levels, On, State, At, start, flush, act, settle, lex, move, may_end, token_in, step, go_on, run, complete_of, IsStuck, Leaves, blame}
 use Rattle.smt_text.specs.Reading.{Begins, IsForest, LongestPrefix, AreComplete, HasFault, IsTold, Reads}
-use Rattle.smt_text.specs.Sexp.{Sexps, Nil, append, count}
-use Rattle.smt_text.specs.declared.fault.TextFault.{TextFault}
-use Rattle.smt_text.specs.declared.fault.TextFault.TheVariants.{Byte, Deep, End, Memory}
+use Rattle.smt_trees.specs.Sexp.{Sexps, Nil, append, count}
+use Rattle.smt_faults.specs.declared.text_fault.TextFault.{TextFault}
+use Rattle.smt_faults.specs.declared.text_fault.TextFault.TheVariants.{Byte, Deep, End, Memory}
 use Rattle.smt_text.specs.declared.lexer.AtomState.TheVariants.{Nothing}
 use Rattle.smt_text.specs.declared.lexer.LexerStep.{LexerStep}
 use Rattle.smt_text.specs.declared.lexer.LexerStep.TheVariants.{Push, Skip, Finish, Open, Close, Stuck}

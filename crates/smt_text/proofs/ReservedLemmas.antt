@@ -5,9 +5,9 @@ use Rattle.std.specs.List.{slice_get}
 use Rattle.std.specs.Str.{bytes_eq}
 use Rattle.std.proofs.lemmas.Slice.Eq.{bytes_eq-Decides}
 use Rattle.smt_text.specs.Internal.Machine.{find_word, word_named, words_like}
-use Rattle.smt_text.specs.Reserved.{all_words, spelling_of}
-use Rattle.smt_text.specs.declared.reserved.Word.{Word}
-use Rattle.smt_text.specs.declared.reserved.Word.TheVariants.{Bang, Underscore, As, Binary, Decimal, Exists, Hexadecimal, Forall, Let, Match, Numeral, Par, String, Assert, CheckSat, CheckSatAssuming, DeclareConst, DeclareDatatype, DeclareDatatypes, DeclareFun, DeclareSort, DefineFun, DefineFunRec, DefineFunsRec, DefineSort, Echo, Exit, GetAssertions, GetAssignment, GetInfo, GetModel, GetOption, GetProof, GetUnsatAssumptions, GetUnsatCore, GetValue, Pop, Push, Reset, ResetAssertions, SetInfo, SetLogic, SetOption}
+use Rattle.smt_trees.specs.Reserved.{all_words, spelling_of}
+use Rattle.smt_trees.specs.declared.reserved.Word.{Word}
+use Rattle.smt_trees.specs.declared.reserved.Word.TheVariants.{Bang, Underscore, As, Binary, Decimal, Exists, Hexadecimal, Forall, Let, Match, Numeral, Par, String, Assert, CheckSat, CheckSatAssuming, DeclareConst, DeclareDatatype, DeclareDatatypes, DeclareFun, DeclareSort, DefineFun, DefineFunRec, DefineFunsRec, DefineSort, Echo, Exit, GetAssertions, GetAssignment, GetInfo, GetModel, GetOption, GetProof, GetUnsatAssumptions, GetUnsatCore, GetValue, Pop, Push, Reset, ResetAssertions, SetInfo, SetLogic, SetOption}
 
 -- no two reserved words are written alike
 pub word_named-spelling : (word : Word) → word_named (spelling_of word) ≡ Some word

@@ -9,8 +9,8 @@ use Rattle.smt_text.specs.Grammar.{Token, OpenParenthesis, CloseParenthesis, Ato
 use Rattle.smt_text.specs.Lexical.{bar, is_letter, is_quoted_byte, is_white, ends_token}
 use Rattle.smt_text.specs.Internal.Machine.{Levels, On, State, At, start, add, atom_of, add_if, flush, act, settle, separated, move, may_end, token_in, step, go_on, run, top_of, complete_of}
 use Rattle.smt_text.specs.Reading.{IsClosed, EndsClosed, IsFollowed, AreSettled, AreComplete}
-use Rattle.smt_text.specs.Sexp as sexp
-use Rattle.smt_text.specs.Sexp.{Sexp, Sexps, Atom, Items, Nil, Cons, append, depth_all}
+use Rattle.smt_trees.specs.Sexp as sexp
+use Rattle.smt_trees.specs.Sexp.{Sexp, Sexps, Atom, Items, Nil, Cons, append, depth_all}
 use Rattle.smt_text.specs.declared.lexer.AtomState.{AtomState}
 use Rattle.smt_text.specs.declared.lexer.AtomState.TheVariants.{Nothing, InBars, AfterBar, InComment}
 use Rattle.smt_text.specs.declared.lexer.LexerStep.TheVariants.{Push, Skip, Finish, Open, Close, Stuck}

@@ -4,10 +4,10 @@
 use Rattle.std.specs.Prelude.{◌≡◌, ◌≢◌, ◌⊎◌, ◌≤◌, ℕ, Bool, true, List, [], ◌∷◌, ◌++◌, codes, ◌==◌, if◌then◌else◌}
 use Rattle.std.specs.List.{AllByRecursion}
 use Rattle.smt_text.specs.Lexical.{quote, bar, semicolon, point, zero_digit, is_white, is_line_end, is_digit, is_nonzero_digit, is_hexadecimal_digit, is_binary_digit, is_letter, is_symbol_byte, is_text_byte, is_quoted_byte, is_comment_byte, ends_token}
-use Rattle.smt_text.specs.Reserved.{spelling_of}
-use Rattle.smt_text.specs.Sexp.{AtomKind, Numeral, Decimal, Hexadecimal, Binary, Text, Symbol, Keyword, Sexp, Sexps, Atom, Reserved, Items, Nil, Cons, depth_all}
+use Rattle.smt_trees.specs.Reserved.{spelling_of}
+use Rattle.smt_trees.specs.Sexp.{AtomKind, Numeral, Decimal, Hexadecimal, Binary, Text, Symbol, Keyword, Sexp, Sexps, Atom, Reserved, Items, Nil, Cons, depth_all}
 use Rattle.smt_text.specs.declared.reader.TheConstants.{MAX_DEPTH}
-use Rattle.smt_text.specs.declared.reserved.Word.{Word}
+use Rattle.smt_trees.specs.declared.reserved.Word.{Word}
 
 -- how deep lists may nest, a list at the top being at depth 1
 abbrev pub limit : ℕ

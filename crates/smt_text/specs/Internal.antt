@@ -1,7 +1,4 @@
--- What no claim names: the machine that private contracts and proofs go by, and what the prover asks of a type.
-pub mod BytesView
+-- What no claim names: the machine that private contracts and proofs go by.
 pub mod ByteKinds
-pub mod SexpCode
-pub mod TreeWeight
 pub mod Machine
 pub mod ReaderState

@@ -1,7 +1,3 @@
-pub mod Reserved
-pub mod Sexp
-pub mod Tree
-pub mod TreeJoins
 pub mod Lexical
 pub mod Grammar
 pub mod Reading

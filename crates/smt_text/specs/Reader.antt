@@ -3,10 +3,10 @@ use Rattle.std.specs.Prelude.{◌≡◌, ◌⊎◌, ℕ, List, ◌+◌, length, 
 use Rattle.smt_text.specs.Internal.Machine.{Leaves}
 use Rattle.smt_text.specs.Reading.{Reads}
 use Rattle.smt_text.specs.Internal.ReaderState.{state_of, after_taken}
-use Rattle.smt_text.specs.Sexp.{Sexps, Nil, Cons, append}
-use Rattle.smt_text.specs.Tree.{sexp_of, sexps_of}
-use Rattle.smt_text.specs.declared.fault.TextFault.{TextFault}
-use Rattle.smt_text.specs.declared.fault.TextFault.TheVariants.{Byte, Deep, End as EndFault, Memory}
+use Rattle.smt_trees.specs.Sexp.{Sexps, Nil, Cons, append}
+use Rattle.smt_trees.specs.Tree.{sexp_of, sexps_of}
+use Rattle.smt_faults.specs.declared.text_fault.TextFault.{TextFault}
+use Rattle.smt_faults.specs.declared.text_fault.TextFault.TheVariants.{Byte, Deep, End as EndFault, Memory}
 use Rattle.smt_text.specs.declared.reader.Next.{Next}
 use Rattle.smt_text.specs.declared.reader.Next.TheVariants.{Tree, Wait, End, Fault}
 use Rattle.smt_text.specs.declared.reader.Reader.{Reader}

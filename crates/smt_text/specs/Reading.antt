@@ -2,9 +2,9 @@
 use Rattle.std.specs.Prelude.{◌≡◌, ◌⊎◌, ◌≤◌, ℕ, List, [], ◌∷◌, ◌++◌, length, Bool, true, false, Option, Some, None}
 use Rattle.smt_text.specs.Grammar.{Forest, Token, CloseParenthesis, AtomToken, IsSpelling, IsTextThen, barred, tokens_of_all}
 use Rattle.smt_text.specs.Lexical.{ends_token}
-use Rattle.smt_text.specs.Sexp.{Sexps, append, Symbol}
-use Rattle.smt_text.specs.declared.fault.TextFault.{TextFault}
-use Rattle.smt_text.specs.declared.fault.TextFault.TheVariants.{Byte, Deep, End, Memory}
+use Rattle.smt_trees.specs.Sexp.{Sexps, append, Symbol}
+use Rattle.smt_faults.specs.declared.text_fault.TextFault.{TextFault}
+use Rattle.smt_faults.specs.declared.text_fault.TextFault.TheVariants.{Byte, Deep, End, Memory}
 
 -- some text of trees begins so
 abbrev pub Begins : ℕ → List ℕ → Type 0

@@ -3,12 +3,12 @@
 ghost use Rattle.std.specs.Prelude.{◌≡◌, ◌<◌, [], ◌∷◌, MatchOption, MatchResult};
 ghost use Rattle.smt_text.specs.Internal.Machine.{On, add, begun, ended, depth_of};
 ghost use Rattle.smt_text.specs.Internal.ReaderState.{levels_of};
-ghost use Rattle.smt_text.specs.Sexp.{Nil};
-ghost use Rattle.smt_text.specs.declared.fault.Refusal.TheVariants.{NoMemory};
-ghost use Rattle.smt_text.specs.Tree.{sexp_of};
+ghost use Rattle.smt_trees.specs.Sexp.{Nil};
+ghost use Rattle.smt_text.specs.declared.refusal.Refusal.TheVariants.{NoMemory};
+ghost use Rattle.smt_trees.specs.Tree.{sexp_of};
 
-use crate::fault::Refusal;
-use crate::tree::{Tree, Trees};
+use crate::refusal::Refusal;
+use smt_trees::{Tree, Trees};
 use std::alloc::Global;
 use std::collections::VecDeque;
 

@@ -5,8 +5,8 @@ pub mod examples;
 ghost use Rattle.std.specs.Prelude.{◌≡◌, ◌≤◌, ℕ, List, ◌++◌, Bool, false, true, length, Option};
 ghost use Rattle.smt_text.specs.Grammar.{Forest};
 ghost use Rattle.smt_text.specs.Reading.{Begins, AreComplete, Reads};
-ghost use Rattle.smt_text.specs.Sexp.{Sexps, append, count};
-ghost use Rattle.smt_text.specs.declared.fault.TextFault.{TextFault as Fault};
+ghost use Rattle.smt_trees.specs.Sexp.{Sexps, append, count};
+ghost use Rattle.smt_faults.specs.declared.text_fault.TextFault.{TextFault as Fault};
 
 /// A text has at most one forest, whatever the limits on the depth of lists.
 pub fn one_forest()

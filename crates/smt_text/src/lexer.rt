@@ -3,7 +3,7 @@
 ghost use Rattle.std.specs.Prelude.{◌≡◌, ◌<◌, ◌≤◌, ℕ, [], true, length, slice_index, take, IfOk};
 ghost use Rattle.std.specs.Option.{option_map};
 ghost use Rattle.smt_text.specs.Internal.Machine as machine;
-ghost use Rattle.smt_text.specs.Tree.{sexp_of};
+ghost use Rattle.smt_trees.specs.Tree.{sexp_of};
 ghost use Rattle.smt_text.specs.declared.lexer.AtomState.TheVariants.{Zero, Digits, Hash, InText, InBars, InComment};
 ghost use Rattle.smt_text.specs.declared.lexer.LexerStep.TheVariants.{Push, Skip};
 
@@ -11,10 +11,9 @@ use crate::byte_class::{
     is_binary_digit, is_comment_byte, is_digit, is_hexadecimal_digit, is_letter, is_nonzero_digit,
     is_quoted_byte, is_symbol_byte, is_text_byte, is_white,
 };
-use crate::bytes::Bytes;
 use crate::reserved::word_of;
-use crate::tree::Tree;
 use memchr::memchr2;
+use smt_trees::{Bytes, Tree};
 use std::alloc::{AllocError, Global};
 
 /// Where in a token (SMT-LIB 2.6, section 3.1) or in a comment a text is.

@@ -2,7 +2,7 @@
 //!
 //! A [`Reader`] is fed a text in pieces of any size. It hands out the trees of the text in order, each as soon as nothing
 //! that may still come can change it, and then the fault of the text, if it has one, with its place in bytes from 0.
-//! [`Trees::read`] does the same for a text that is at hand as a whole.
+//! [`read_trees`] does the same for a text that is at hand as a whole.
 //!
 //! The contract that the layer above uses is `Reader::next`'s: the trees that were handed out are the first ones of what is
 //! read of the bytes that were fed (`Reads` in `specs/Reading.antt`), and the answer is the next one, the fault behind them,
@@ -24,16 +24,12 @@
 
 mod builder;
 mod byte_class;
-mod bytes;
-mod fault;
 pub mod laws;
 mod lexer;
 mod reader;
+mod refusal;
 mod reserved;
-mod tree;
 
-pub use bytes::Bytes;
-pub use fault::TextFault;
-pub use reader::{MAX_DEPTH, Next, Reader};
-pub use reserved::{Word, spelling};
-pub use tree::{Tree, Trees, split_first};
+pub use reader::{MAX_DEPTH, Next, Reader, read_trees};
+pub use smt_faults::TextFault;
+pub use smt_trees::{Bytes, Tree, Trees, Word, spelling, split_first};

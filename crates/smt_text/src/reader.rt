@@ -6,18 +6,19 @@ ghost use Rattle.smt_text.specs.Reader.{is_finished, bytes_fed, fault_of, trees_
 ghost use Rattle.smt_text.specs.Internal.Machine.{act, add, finished, flush, lex, name_or_word, refusal_of, settle, step, word_named};
 ghost use Rattle.smt_text.specs.Internal.ReaderState.{levels_of, state_of, Ends, Goes, GoesOver, GoesThrough, IsBeside};
 ghost use Rattle.smt_text.specs.Reading.{Reads};
-ghost use Rattle.smt_text.specs.Sexp.{Sexps, Nil};
-ghost use Rattle.smt_text.specs.declared.fault.TextFault.{TextFault as Fault};
-ghost use Rattle.smt_text.specs.declared.fault.TextFault.TheVariants.{Memory};
-ghost use Rattle.smt_text.specs.declared.fault.Refusal.TheVariants.{NoMemory, TooDeep, Unfit};
+ghost use Rattle.smt_trees.specs.Sexp.{Sexps, Nil};
+ghost use Rattle.smt_faults.specs.declared.text_fault.TextFault.{TextFault as Fault};
+ghost use Rattle.smt_faults.specs.declared.text_fault.TextFault.TheVariants.{Memory};
+ghost use Rattle.smt_text.specs.declared.refusal.Refusal.TheVariants.{NoMemory, TooDeep, Unfit};
 ghost use Rattle.smt_text.specs.declared.lexer.AtomState.TheVariants.{InComment, Nothing};
 ghost use Rattle.smt_text.specs.Lexical.{is_letter};
 
 use crate::builder::Builder;
 use crate::byte_class::{is_letter, is_white};
-use crate::fault::{Refusal, TextFault};
 use crate::lexer::{AtomState, LexerStep, atom_of, comment_length, name_at};
-use crate::tree::{Tree, Trees};
+use crate::refusal::Refusal;
+use smt_faults::TextFault;
+use smt_trees::{Tree, Trees};
 use std::alloc::Global;
 use std::mem;
 
@@ -340,23 +341,21 @@ impl Reader {
     }
 }
 
-impl Trees {
-    /// The trees of a whole text, or its fault.
-    pub fn read(alloc: Global, text: &[u8]) -> Result<Trees, TextFault>
-        ensures { MatchResult result (λ trees. Reads limit true text.now trees None)
-            (λ fault. (fault ≡ Memory) ⊎ ((trees : Sexps) × Reads limit true text.now trees (Some fault))) }
-    {
-        let mut reader = Reader::new(alloc);
-        reader.feed(text);
-        reader.finish();
-        let mut trees = Vec::new(alloc);
-        loop {
-            match reader.next() {
-                Next::Tree(tree) => trees.push(tree)?,
-                Next::End => return Ok(Trees::new(trees)),
-                Next::Fault(fault) => return Err(fault),
-                Next::Wait => unreachable!(),
-            }
+/// The trees of a whole text, or its fault.
+pub fn read_trees(alloc: Global, text: &[u8]) -> Result<Trees, TextFault>
+    ensures { MatchResult result (λ trees. Reads limit true text.now trees None)
+        (λ fault. (fault ≡ Memory) ⊎ ((trees : Sexps) × Reads limit true text.now trees (Some fault))) }
+{
+    let mut reader = Reader::new(alloc);
+    reader.feed(text);
+    reader.finish();
+    let mut trees = Vec::new(alloc);
+    loop {
+        match reader.next() {
+            Next::Tree(tree) => trees.push(tree)?,
+            Next::End => return Ok(Trees::new(trees)),
+            Next::Fault(fault) => return Err(fault),
+            Next::Wait => unreachable!(),
         }
     }
 }

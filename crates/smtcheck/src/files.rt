@@ -1,7 +1,7 @@
 //! The program's work on files.
 
-use crate::settings::Settings;
 use smt_dialogue::{Report, validate};
+use smtcheck_command_line::Settings;
 use smtcheck_status::status_of;
 use std::alloc::Global;
 use std::io::{BufWriter, Read, Write};

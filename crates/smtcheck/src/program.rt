@@ -1,8 +1,7 @@
 //! The program: from the words of the command line to the exit status.
 
-use crate::command_line;
 use crate::files::{RunFault, run};
-use crate::settings::LineFault;
+use smtcheck_command_line::{LineFault, settings};
 use std::alloc::{AllocError, Global};
 use std::rt::{Env, Files};
 use std::{env, io};
@@ -32,7 +31,7 @@ pub fn start<R: Files + Env + AllocGlobal + Print + Eprint>(rt: &R) -> u8 {
 
 /// The same for these words, the program's name first.
 pub fn run_words<R: Files + AllocGlobal + Print + Eprint>(rt: &R, words: &[&str]) -> u8 {
-    match command_line::settings(rt.alloc(), words) {
+    match settings(rt.alloc(), words) {
         Ok(settings) => match run(rt, settings) {
             Ok(status) => status,
             Err(fault) => no_report(rt, fault),

@@ -1,6 +1,6 @@
 -- The parts of trees weigh less than the trees.
 use Rattle.std.proofs.Common.{◌≡◌, ◌<◌, ap, arith}
-use Rattle.smt_text.specs.Sexp.{Sexp, Sexps, Atom, Reserved, Items, Cons, weight, weight_all}
+use Rattle.smt_trees.specs.Sexp.{Sexp, Sexps, Atom, Reserved, Items, Cons, weight, weight_all}
 
 weight_some : (x : Sexp) → 0 < weight x
 weight_some (Atom kind bytes) = omega arith

@@ -4,13 +4,15 @@ ghost use Rattle.std.specs.Prelude.{◌≡◌, ◌+◌, ◌<◌, ◌^◌, length
 ghost use Rattle.smt_text.specs.Reader.{is_finished, bytes_fed};
 
 use crate::writing;
-use smt_text::{Next, Reader, TextFault, Tree, Trees};
+use smt_faults::TextFault;
+use smt_text::{Next, Reader, read_trees};
+use smt_trees::{Tree, Trees};
 use std::alloc::{AllocError, Global};
 
 /// What is read of a whole text by one call.
 pub(crate) fn read_whole(alloc: Global, text: &[u8]) -> Result<Vec<u8>, AllocError> {
     let mut out = Vec::new(alloc);
-    match Trees::read(alloc, text) {
+    match read_trees(alloc, text) {
         Ok(trees) => {
             writing::write_trees(&mut out, trees.as_slice())?;
             writing::write_end(alloc, &mut out, None)?;

@@ -2,7 +2,8 @@
 
 ghost use Rattle.std.specs.Prelude.{◌<◌};
 
-use smt_text::{Bytes, TextFault, Tree, Word, spelling, split_first};
+use smt_faults::TextFault;
+use smt_trees::{Bytes, Tree, Word, spelling, split_first};
 use std::alloc::{AllocError, Global};
 
 /// Writes trees, with a space behind each.

@@ -6,9 +6,11 @@
 ghost use Rattle.std.specs.Prelude.{◌≡◌};
 ghost use Rattle.smt_text.specs.Reader.{is_finished, bytes_fed};
 
+use smt_faults::TextFault;
 use smt_script::{Command, all_theories, read_command};
 use smt_terms::Library;
-use smt_text::{Next, Reader, TextFault, Tree};
+use smt_text::{Next, Reader};
+use smt_trees::Tree;
 use std::alloc::{AllocError, Global};
 use std::io::Read;
 use std::process::ExitCode;

@@ -1,7 +1,7 @@
 -- What is kept of the checks so far, and how it goes on with one more pair.
 use Rattle.std.specs.Prelude.{◌≡◌, ℕ, ◌+◌, List, [], ◌∷◌, ◌++◌, Bool, false, true, not, ◌||◌, Option, Some, None, if◌then◌else◌}
 use Rattle.std.specs.List.{list_any}
-use Rattle.smt_text.specs.Sexp.{Sexp, Items}
+use Rattle.smt_trees.specs.Sexp.{Sexp, Items}
 use Rattle.smt_terms.specs.Signature.{Signature}
 use Rattle.smt_script.specs.Command.{Command, CheckSat, GetModel}
 use Rattle.smt_script.specs.Stack.{Assertion}

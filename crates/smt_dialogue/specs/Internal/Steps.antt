@@ -1,8 +1,8 @@
 -- What one step, and all steps, of a dialogue come to: the words of the code between the texts and the report.
 use Rattle.std.specs.Prelude.{◌≡◌, List, [], ◌∷◌, ◌++◌, ◌+◌, length, Bool, true, false, option_map, Option, Some, None, Ok}
-use Rattle.smt_text.specs.Sexp.{Sexp, Sexps, Nil, Cons}
-use Rattle.smt_text.specs.Tree.{sexp_of}
-use Rattle.smt_text.specs.declared.fault.TextFault.{TextFault}
+use Rattle.smt_trees.specs.Sexp.{Sexp, Sexps, Nil, Cons}
+use Rattle.smt_trees.specs.Tree.{sexp_of}
+use Rattle.smt_faults.specs.declared.text_fault.TextFault.{TextFault}
 use Rattle.smt_script.specs.Command.{Command, command_of}
 use Rattle.smt_dialogue.specs.Answers as answers
 use Rattle.smt_dialogue.specs.Answers.{Takes, has_form, taken}

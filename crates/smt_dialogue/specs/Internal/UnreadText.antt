@@ -3,9 +3,9 @@ use Rattle.std.specs.Prelude.{◌≡◌, ◌<◌, ◌+◌, ◌^◌, ℕ, List, [
 use Rattle.smt_text.specs.Grammar.{limit}
 use Rattle.smt_text.specs.Reader.{StandsFor, bytes_fed, is_finished}
 use Rattle.smt_text.specs.Reading.{Reads}
-use Rattle.smt_text.specs.Sexp.{Sexps, Nil, Cons, append}
-use Rattle.smt_text.specs.Tree.{sexp_of}
-use Rattle.smt_text.specs.declared.fault.TextFault.{TextFault}
+use Rattle.smt_trees.specs.Sexp.{Sexps, Nil, Cons, append}
+use Rattle.smt_trees.specs.Tree.{sexp_of}
+use Rattle.smt_faults.specs.declared.text_fault.TextFault.{TextFault}
 use Rattle.smt_dialogue.specs.declared.unread_text.Further.{Further}
 use Rattle.smt_dialogue.specs.declared.unread_text.Further.TheVariants.{Tree, End}
 use Rattle.smt_dialogue.specs.declared.unread_text.UnreadText.{UnreadText}

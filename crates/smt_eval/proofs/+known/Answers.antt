@@ -1,8 +1,8 @@
 use Rattle.std.proofs.Common.{◌<◌, [], None, length, map, refl, ap, sym, ◌∙◌, arith}
 use Rattle.std.proofs.lemmas.List.{get_or_default}
-use Rattle.smt_text.specs.Sexp.{Atom, Cons, Items, Reserved, Symbol}
-use Rattle.smt_text.specs.Tree.{sexp_of, sexps_of}
-use Rattle.smt_text.specs.declared.reserved.Word.TheVariants.{Bang}
+use Rattle.smt_trees.specs.Sexp.{Atom, Cons, Items, Reserved, Symbol}
+use Rattle.smt_trees.specs.Tree.{sexp_of, sexps_of}
+use Rattle.smt_trees.specs.declared.reserved.Word.TheVariants.{Bang}
 use Rattle.smt_theory.specs.Index.{index_view}
 use Rattle.smt_theory.specs.Operators.{op_by}
 use Rattle.smt_values.specs.Element.{known_element, known_elements}

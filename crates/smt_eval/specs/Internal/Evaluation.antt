@@ -1,6 +1,6 @@
 -- What a term is evaluated over: the definitions of a structure, of which the first so many are seen.
 use Rattle.std.specs.Prelude.{◌≡◌, ◌≤◌, ℕ, ◌+◌, List, [], ◌∷◌, ◌++◌, Option, Some, None, length, map, take}
-use Rattle.smt_text.specs.Sexp.{Sexp, weight}
+use Rattle.smt_trees.specs.Sexp.{Sexp, weight}
 use Rattle.smt_values.specs.Element.{Element, known_element, known_elements}
 use Rattle.smt_values.specs.declared.value.Value.{Value}
 use Rattle.smt_terms.specs.Library.{StandsFor, definitions_of, term_at}

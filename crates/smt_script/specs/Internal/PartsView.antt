@@ -1,8 +1,8 @@
 -- What the trees are that stand behind the word of a command.
 use Rattle.std.specs.Vec.Iter.{into_iter_items}
 use Rattle.std.specs.Prelude.{Option, Some, None}
-use Rattle.smt_text.specs.Sexp.{Sexp, Sexps, Nil, Cons}
-use Rattle.smt_text.specs.Tree.{sexps_of}
+use Rattle.smt_trees.specs.Sexp.{Sexp, Sexps, Nil, Cons}
+use Rattle.smt_trees.specs.Tree.{sexps_of}
 use Rattle.smt_script.specs.declared.forms.parts.Parts.{Parts}
 
 abbrev pub parts_view : Parts → Sexps

@@ -1,10 +1,10 @@
 //! The trees behind the word of a command.
 
 ghost use Rattle.std.specs.Prelude.{◌≡◌, MatchOption};
-ghost use Rattle.smt_text.specs.Sexp.{Nil, Cons, Sexp};
-ghost use Rattle.smt_text.specs.Tree.{sexp_of};
+ghost use Rattle.smt_trees.specs.Sexp.{Nil, Cons, Sexp};
+ghost use Rattle.smt_trees.specs.Tree.{sexp_of};
 
-use smt_text::{Tree, Trees};
+use smt_trees::{Tree, Trees};
 use std::vec::IntoIter;
 
 /// Trees that are taken one by one.

@@ -2,8 +2,8 @@
 
 ghost use Rattle.std.specs.Prelude.{◌≡◌, ◌∷◌, ℕ, List, [], IfErr, OnOk, OnErr};
 ghost use Rattle.std.specs.Str.Parse.{digits_value};
-ghost use Rattle.smt_text.specs.Sexp.{Sexp};
-ghost use Rattle.smt_text.specs.Tree.{sexp_of, sexps_of};
+ghost use Rattle.smt_trees.specs.Sexp.{Sexp};
+ghost use Rattle.smt_trees.specs.Tree.{sexp_of, sexps_of};
 ghost use Rattle.smt_terms.specs.Bindings.{named_trees};
 ghost use Rattle.smt_script.specs.Command as commands;
 ghost use Rattle.smt_script.specs.Command.{SetLogic, DeclareConst, DeclareFun, DefineFun, DefineSort, Assert, Push, Pop};
@@ -17,8 +17,8 @@ use crate::stack::{Assertion, Stack, all_theories};
 use smt_faults::CommandFault;
 use smt_terms::laws::faults_are_no_memory;
 use smt_terms::{Library, params_of};
-use smt_text::Tree;
 use smt_theory::theories_of;
+use smt_trees::Tree;
 
 impl Stack {
     // What a command does, but for what is noted of it.

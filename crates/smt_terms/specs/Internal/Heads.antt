@@ -1,7 +1,7 @@
 -- What a list is, by its head.
 use Rattle.std.specs.Prelude.{ℕ, List, Bool, true, false, is_some}
-use Rattle.smt_text.specs.Sexp.{Sexp, Reserved}
-use Rattle.smt_text.specs.declared.reserved.Word.TheVariants.{Bang, Let}
+use Rattle.smt_trees.specs.Sexp.{Sexp, Reserved}
+use Rattle.smt_trees.specs.declared.reserved.Word.TheVariants.{Bang, Let}
 use Rattle.smt_theory.specs.Words.{look_up}
 use Rattle.smt_theory.specs.declared.sort.Sort.{Sort}
 use Rattle.smt_terms.specs.Identifier.{Identifier, Plain, Indexed}

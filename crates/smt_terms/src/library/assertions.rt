@@ -1,7 +1,7 @@
 //! Assertions.
 
 ghost use Rattle.std.specs.Prelude.{◌≡◌, ◌⊎◌, ◌∷◌, ◌++◌, List, [], None, Ok, Err, map, IfErr, IfOk, OnErr, OnOk};
-ghost use Rattle.smt_text.specs.Tree.{sexp_of};
+ghost use Rattle.smt_trees.specs.Tree.{sexp_of};
 ghost use Rattle.smt_theory.specs.Words.{look_up};
 ghost use Rattle.smt_terms.specs.Assertions.{asserted_in};
 ghost use Rattle.smt_terms.specs.Contents.{Extends, contents_of};
@@ -16,8 +16,8 @@ use crate::labels::{Label, Labels};
 use crate::library::items::are_equal;
 use crate::library::{Library, TermId};
 use smt_faults::TermFault;
-use smt_text::Tree;
 use smt_theory::Sort;
+use smt_trees::Tree;
 
 impl Library {
     /// Checks a term that is asserted, and adds the labels in it, which stand for their terms from then on (SMT-LIB 2.6, sections 3.6.5
@@ -66,7 +66,7 @@ impl Library {
         self.assert(copy)
     }
 
-    // Adds the labels that an assertion gave, and its term. Only want of memory is refused; then some of them may have been added.
+    // Adds the term of an assertion, and the labels that it gave. Only want of memory is refused; then some of them may have been added.
     fn add_assertion(&mut self, labels: &[Label], term: Tree) -> Result<TermId, TermFault>
         requires { AreNew (ranks_of_library self.old) labels.now }
         ensures added { OnOk result ((s : Signature) → StandsFor self.old s → StandsFor self.new (with_entries s (map label_entry labels.now))) }
@@ -74,8 +74,9 @@ impl Library {
         ensures refused { IfErr result (λ fault. fault ≡ Memory) }
         ensures grown { Extends (contents_of self.old) (contents_of self.new) }
     {
+        let number = self.push_term(term)?;
         self.add_labels(labels)?;
-        self.push_term(term)
+        Ok(number)
     }
 
     // Adds labels, each as a constant that its term defines. Only want of memory is refused; then some of them may have been added.

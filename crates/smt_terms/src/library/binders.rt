@@ -1,9 +1,9 @@
 //! The sorts of terms that bind variables, and of annotated ones, whose labels are kept.
 
 ghost use Rattle.std.specs.Prelude.{◌≡◌, ◌⊎◌, ◌∷◌, ◌||◌, [], true, None, Some, Ok, Err, map, MatchResult, OnOk};
-ghost use Rattle.smt_text.specs.Sexp.{Cons, Items, Reserved};
-ghost use Rattle.smt_text.specs.Tree.{sexp_of, sexps_of};
-ghost use Rattle.smt_text.specs.declared.reserved.Word.TheVariants.{Bang, Let};
+ghost use Rattle.smt_trees.specs.Sexp.{Cons, Items, Reserved};
+ghost use Rattle.smt_trees.specs.Tree.{sexp_of, sexps_of};
+ghost use Rattle.smt_trees.specs.declared.reserved.Word.TheVariants.{Bang, Let};
 ghost use Rattle.smt_terms.specs.Bindings.{are_named_trees};
 ghost use Rattle.smt_terms.specs.Checking.{bound_in, fault_of_label, fault_of_labels, sort_in};
 ghost use Rattle.smt_terms.specs.Internal.Attributes.{label_of_tree};
@@ -21,8 +21,8 @@ use crate::library::Library;
 use crate::scope::{Variable, find_variable, push_variable};
 use crate::variables::uses_variable;
 use smt_faults::TermFault;
-use smt_text::{Tree, split_first};
 use smt_theory::Sort;
+use smt_trees::{Tree, split_first};
 
 impl Library {
     // The sort of a `let` (SMT-LIB 2.6, section 3.6.1), by what stands behind its word. Its variables come before those around it.

@@ -1,8 +1,8 @@
 //! The sort checker.
 
 ghost use Rattle.std.specs.Prelude.{◌≡◌, ◌⊎◌, ◌*◌, [], MatchResult, OnOk, length};
-ghost use Rattle.smt_text.specs.Sexp.{Items};
-ghost use Rattle.smt_text.specs.Tree.{sexp_of, sexps_of};
+ghost use Rattle.smt_trees.specs.Sexp.{Items};
+ghost use Rattle.smt_trees.specs.Tree.{sexp_of, sexps_of};
 ghost use Rattle.smt_theory.specs.Ranks.{are_exactly};
 ghost use Rattle.smt_theory.specs.Width.{width_of};
 ghost use Rattle.smt_theory.specs.Words.{look_up};
@@ -26,8 +26,8 @@ use crate::scope::{Variable, find_variable};
 use crate::sorts;
 use smallvec::SmallVec;
 use smt_faults::TermFault;
-use smt_text::{Tree, Trees, split_first};
 use smt_theory::{Op, OpFault, Sort, Width, op_of, rank};
+use smt_trees::{Tree, Trees, split_first};
 
 // How many arguments' sorts are kept without memory of their own.
 const FEW: usize = 4;

@@ -1,8 +1,8 @@
 //! Definitions of names.
 
 ghost use Rattle.std.specs.Prelude.{◌≡◌, ◌⊎◌, ◌∷◌, ◌++◌, [], None, Ok, Err, map, OnOk, OnErr, IfErr};
-ghost use Rattle.smt_text.specs.Sexp.{Sexp};
-ghost use Rattle.smt_text.specs.Tree.{sexp_of};
+ghost use Rattle.smt_trees.specs.Sexp.{Sexp};
+ghost use Rattle.smt_trees.specs.Tree.{sexp_of};
 ghost use Rattle.smt_theory.specs.Words.{look_up};
 ghost use Rattle.smt_terms.specs.Contents.{Extends, contents_of};
 ghost use Rattle.smt_terms.specs.Definitions.{defined_in, definition, definition_in};
@@ -20,8 +20,8 @@ use crate::library::items::are_equal;
 use crate::library::{Definition, Entry, Found, Library, TermId};
 use crate::scope::Variable;
 use smt_faults::TermFault;
-use smt_text::Tree;
 use smt_theory::Sort;
+use smt_trees::Tree;
 
 impl Library {
     /// Defines a name (SMT-LIB 2.6, section 4.2.3) by its parameters, the tree of its sort, and its body, which sees the earlier names

@@ -1,8 +1,8 @@
 //! Items of models.
 
 ghost use Rattle.std.specs.Prelude.{◌≡◌, ◌⊎◌, ◌&&◌, map, not, is_some, option_map, None, Some, Ok, Err, MatchResult, OnOk, OnErr, IfErr, IfOk};
-ghost use Rattle.smt_text.specs.Sexp.{Sexp};
-ghost use Rattle.smt_text.specs.Tree.{sexp_of, sexps_of};
+ghost use Rattle.smt_trees.specs.Sexp.{Sexp};
+ghost use Rattle.smt_trees.specs.Tree.{sexp_of, sexps_of};
 ghost use Rattle.smt_theory.specs.Ranks.{are_exactly};
 ghost use Rattle.smt_theory.specs.Sort.{is_same_sort};
 ghost use Rattle.smt_theory.specs.Words.{look_up};
@@ -22,8 +22,8 @@ use crate::library::checker::are_same;
 use crate::library::{Entry, Found, Library};
 use crate::scope::Variable;
 use smt_faults::TermFault;
-use smt_text::Tree;
 use smt_theory::Sort;
+use smt_trees::Tree;
 
 impl Library {
     /// A library for the items of a model of these names (SMT-LIB 2.6, section 4.2.6): of the same theories, and without names. Only

@@ -3,19 +3,19 @@ use Rattle.std.specs.Prelude.{◌≡◌, ◌==◌, ◌&&◌, ℕ, Bool, true, fa
 use Rattle.std.specs.Str.{bytes_eq}
 use Rattle.smt_text.specs.Grammar.{Token, OpenParenthesis, CloseParenthesis, AtomToken, WordToken}
 use Rattle.smt_text.specs.Lexical.{quote, bar, semicolon, point, zero_digit, open_parenthesis, close_parenthesis, is_white, is_digit, is_nonzero_digit, is_hexadecimal_digit, is_binary_digit, is_letter, is_symbol_byte, is_text_byte, is_quoted_byte, is_comment_byte}
-use Rattle.smt_text.specs.Reserved.{spelling_of, all_words}
-use Rattle.smt_text.specs.Sexp as sexp
-use Rattle.smt_text.specs.Sexp.{Sexp, Sexps, Atom, Reserved, Items, Nil, Cons, append}
+use Rattle.smt_trees.specs.Reserved.{spelling_of, all_words}
+use Rattle.smt_trees.specs.Sexp as sexp
+use Rattle.smt_trees.specs.Sexp.{Sexp, Sexps, Atom, Reserved, Items, Nil, Cons, append}
 use Rattle.smt_text.specs.declared.lexer.AtomState.{AtomState}
 use Rattle.smt_text.specs.declared.lexer.AtomState.TheVariants.{Nothing, Zero, Digits, Point, Fraction, Hash, HexMark, HexDigits, BinMark, BinDigits, Name, Colon, KeywordName, InText, TextQuote, InBars, AfterBar, InComment}
 use Rattle.smt_text.specs.declared.lexer.LexerStep.{LexerStep}
 use Rattle.smt_text.specs.declared.lexer.LexerStep.TheVariants.{Push, Skip, Finish, Open, Close, Stuck}
-use Rattle.smt_text.specs.declared.reserved.Word.{Word}
-use Rattle.smt_text.specs.declared.reserved.Word.TheVariants as words
-use Rattle.smt_text.specs.declared.fault.TextFault.{TextFault}
-use Rattle.smt_text.specs.declared.fault.TextFault.TheVariants.{Byte, Deep, Memory}
-use Rattle.smt_text.specs.declared.fault.Refusal.{Refusal}
-use Rattle.smt_text.specs.declared.fault.Refusal.TheVariants.{Unfit, TooDeep, NoMemory}
+use Rattle.smt_trees.specs.declared.reserved.Word.{Word}
+use Rattle.smt_trees.specs.declared.reserved.Word.TheVariants as words
+use Rattle.smt_faults.specs.declared.text_fault.TextFault.{TextFault}
+use Rattle.smt_faults.specs.declared.text_fault.TextFault.TheVariants.{Byte, Deep, Memory}
+use Rattle.smt_text.specs.declared.refusal.Refusal.{Refusal}
+use Rattle.smt_text.specs.declared.refusal.Refusal.TheVariants.{Unfit, TooDeep, NoMemory}
 
 -- the trees so far: those of each list that is not closed, the innermost list first, and those at the top
 pub data Levels : Type 0 where

@@ -1,19 +1,19 @@
 -- The state that a reader's value is.
 use Rattle.std.specs.Prelude.{◌≡◌, ◌<◌, ◌≤◌, ◌+◌, ◌⊎◌, ℕ, length, take, get_or, List, [], ◌∷◌, true, false, Option, Some, None, Result, Ok, Err}
-use Rattle.smt_text.specs.declared.fault.TextFault.{TextFault}
-use Rattle.smt_text.specs.declared.fault.TextFault.TheVariants.{End, Memory}
-use Rattle.smt_text.specs.declared.fault.Refusal.{Refusal}
-use Rattle.smt_text.specs.declared.fault.Refusal.TheVariants.{NoMemory}
+use Rattle.smt_faults.specs.declared.text_fault.TextFault.{TextFault}
+use Rattle.smt_faults.specs.declared.text_fault.TextFault.TheVariants.{End, Memory}
+use Rattle.smt_text.specs.declared.refusal.Refusal.{Refusal}
+use Rattle.smt_text.specs.declared.refusal.Refusal.TheVariants.{NoMemory}
 use Rattle.smt_text.specs.declared.reader.TheConstants.{MAX_DEPTH}
 use Rattle.std.specs.declared.alloc.Global.{Global}
 use Rattle.std.specs.declared.vec.Vec.{Vec}
 use Rattle.smt_text.specs.Internal.Machine.{Levels, On, State, At, blame, depth_in, finished, lex, may_end, refusal_of, run, step, token_in}
-use Rattle.smt_text.specs.Sexp.{Sexps, append}
-use Rattle.smt_text.specs.Tree.{sexps_of}
+use Rattle.smt_trees.specs.Sexp.{Sexps, append}
+use Rattle.smt_trees.specs.Tree.{sexps_of}
 use Rattle.smt_text.specs.declared.lexer.AtomState.TheVariants.{Nothing}
 use Rattle.smt_text.specs.declared.builder.Builder.{Builder}
 use Rattle.smt_text.specs.declared.reader.Reader.{Reader}
-use Rattle.smt_text.specs.declared.tree.Tree.{Tree}
+use Rattle.smt_trees.specs.declared.tree.Tree.{Tree}
 
 -- the trees of lists that are not closed, the outermost list first, in prefix of those of lists around them
 abbrev pub lists_of : List (Vec Tree Global) → List Sexps → List Sexps

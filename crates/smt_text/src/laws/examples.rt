@@ -4,9 +4,9 @@
 ghost use Rattle.std.specs.Prelude.{◌≡◌, ◌<◌, ◌+◌, ℕ, List, [], ◌∷◌, ◌++◌, codes, true, false, Some, None, replicate};
 ghost use Rattle.smt_text.specs.Grammar.{limit, Forest};
 ghost use Rattle.smt_text.specs.Reading.{Reads};
-ghost use Rattle.smt_text.specs.Sexp.{Atom, Reserved, Items, Nil, Cons, Symbol, Numeral, Decimal, Hexadecimal, Binary, Text, Keyword};
-ghost use Rattle.smt_text.specs.declared.fault.TextFault.TheVariants.{Byte, Deep, End};
-ghost use Rattle.smt_text.specs.declared.reserved.Word.TheVariants.{Assert};
+ghost use Rattle.smt_trees.specs.Sexp.{Atom, Reserved, Items, Nil, Cons, Symbol, Numeral, Decimal, Hexadecimal, Binary, Text, Keyword};
+ghost use Rattle.smt_faults.specs.declared.text_fault.TextFault.TheVariants.{Byte, Deep, End};
+ghost use Rattle.smt_trees.specs.declared.reserved.Word.TheVariants.{Assert};
 
 /// Texts and their trees.
 pub fn forests()

@@ -1,6 +1,6 @@
 -- No count passes the number of the script's trees, and each turn takes the dialogue on by one pair.
 use Rattle.std.proofs.Common.{◌∙◌, arith}
-use Rattle.smt_text.specs.Tree.{sexp_of, sexps_of}
+use Rattle.smt_trees.specs.Tree.{sexp_of, sexps_of}
 use Rattle.smt_script.specs.StackView.{start_of}
 use Rattle.smt_dialogue.proofs.StepLemmas.{answers-le, checks-le, commands-push, judged-answer, last-le}
 use Rattle.smt_dialogue.proofs.UnreadLemmas.{few_left, goes_on-push, in_turn, judged-last, step_of}

@@ -1,9 +1,9 @@
 -- the turns so far took up pairs, whatever is left of the script; what is left of the answers, and their fault
 use Rattle.std.proofs.Common.{◌≡◌, ◌+◌, ◌-◌, Option, length}
 use Rattle.smt_text.specs.Reader.{bytes_fed}
-use Rattle.smt_text.specs.Sexp.{Sexps}
-use Rattle.smt_text.specs.Tree.{sexps_of}
-use Rattle.smt_text.specs.declared.fault.TextFault.{TextFault}
+use Rattle.smt_trees.specs.Sexp.{Sexps}
+use Rattle.smt_trees.specs.Tree.{sexps_of}
+use Rattle.smt_faults.specs.declared.text_fault.TextFault.{TextFault}
 use Rattle.smt_script.specs.StackView.{start_of}
 use Rattle.smt_dialogue.specs.Internal.DialogueState.{state_of}
 use Rattle.smt_dialogue.specs.Internal.UnreadText.{HasLeft, IsSound}

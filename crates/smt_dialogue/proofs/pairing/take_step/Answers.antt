@@ -1,5 +1,5 @@
 use Rattle.std.proofs.Common.{Bool, option_map, ap, sym, ◌∙◌}
-use Rattle.smt_text.specs.Tree.{sexp_of, sexps_of}
+use Rattle.smt_trees.specs.Tree.{sexp_of, sexps_of}
 use Rattle.smt_script.specs.CommandView.{command_view}
 use Rattle.smt_script.specs.StackView.{start_of}
 use Rattle.smt_dialogue.proofs.StepLemmas.{step_taken}

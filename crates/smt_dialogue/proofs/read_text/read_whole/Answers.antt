@@ -1,8 +1,8 @@
 use Rattle.std.proofs.Common.{◌≡◌, [], ◌∷◌, ap, subst, sym, ◌∙◌}
-use Rattle.smt_text.specs.TreeJoins.{sexps_of-append}
+use Rattle.smt_trees.specs.TreeJoins.{sexps_of-append}
 use Rattle.smt_text.specs.Reader.{StandsFor}
-use Rattle.smt_text.specs.Sexp.{Sexps, Nil, Cons, append}
-use Rattle.smt_text.specs.Tree.{sexp_of, sexps_of}
+use Rattle.smt_trees.specs.Sexp.{Sexps, Nil, Cons, append}
+use Rattle.smt_trees.specs.Tree.{sexp_of, sexps_of}
 use Rattle.smt_dialogue.proofs.read_text.read_whole.Goals as goal
 
 pub loop-tree-preserved : goal.loop-tree-preserved

@@ -2,7 +2,7 @@
 use Rattle.std.proofs.Common.{Bool, true, subst}
 use Rattle.std.specs.Result.{IfOk}
 use Rattle.smt_text.specs.Grammar.{limit}
-use Rattle.smt_text.specs.Tree.{sexps_of}
+use Rattle.smt_trees.specs.Tree.{sexps_of}
 use Rattle.smt_dialogue.specs.Internal.Steps.{IsJudged}
 use Rattle.smt_dialogue.proofs.ValidityLemmas.{invalid_answer, report_answer, valid_answer, verdict_answer}
 use Rattle.smt_dialogue.proofs.validation.validate.Goals as goal

@@ -1,5 +1,5 @@
 use Rattle.std.proofs.Common.{map, ap, sym, ◌∙◌}
-use Rattle.smt_text.specs.Tree.{sexp_of}
+use Rattle.smt_trees.specs.Tree.{sexp_of}
 use Rattle.smt_terms.specs.Signature.{Defined}
 use Rattle.smt_eval.specs.Internal.DefinitionValues as values
 use Rattle.smt_eval.specs.Internal.Evaluation.{meaning_over}

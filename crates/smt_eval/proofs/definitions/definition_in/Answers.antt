@@ -1,6 +1,6 @@
 use Rattle.std.proofs.Common.{Some, length, slice_get, option_map, refl, ap, sym, ◌∙◌}
 use Rattle.std.proofs.lemmas.Option.{slice_get-map, slice_get_read}
-use Rattle.smt_text.specs.Sexp.{Sexp}
+use Rattle.smt_trees.specs.Sexp.{Sexp}
 use Rattle.smt_terms.specs.Contents.{contents_of}
 use Rattle.smt_terms.specs.Library.{defined_among, definitions_of, term_at}
 use Rattle.smt_eval.proofs.PlaceLemmas.{definition_of_place}

@@ -1,5 +1,5 @@
 use Rattle.std.proofs.Common.{[], ap, sym, ◌∙◌}
-use Rattle.smt_text.specs.Tree.{sexps_of}
+use Rattle.smt_trees.specs.Tree.{sexps_of}
 use Rattle.smt_terms.specs.Identifier.{operator_of}
 use Rattle.smt_terms.specs.IdentifierView.{identifier_view}
 use Rattle.smt_eval.specs.Internal.Evaluation.{meaning_over}

@@ -1,5 +1,5 @@
 use Rattle.std.proofs.Common.{◌≡◌, ◌⊎◌, ◌+◌, [], ◌∷◌, ◌++◌, List, drop, Result, Err, ap, sym, ◌∙◌, subst}
-use Rattle.smt_text.specs.Tree.{sexp_of, sexps_of}
+use Rattle.smt_trees.specs.Tree.{sexp_of, sexps_of}
 use Rattle.smt_terms.specs.Items.{items_before}
 use Rattle.smt_terms.specs.Signature.{Entry}
 use Rattle.smt_eval.specs.Internal.ItemFault.{fault_of_item}

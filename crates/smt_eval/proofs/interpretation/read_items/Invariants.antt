@@ -1,6 +1,6 @@
 -- the items so far are defined, and what all of them are is what the others are behind these
 use Rattle.std.proofs.Common.{◌≡◌, ◌+◌, List, [], drop}
-use Rattle.smt_text.specs.Tree.{sexps_of}
+use Rattle.smt_trees.specs.Tree.{sexps_of}
 use Rattle.smt_terms.specs.Items.{items_before}
 use Rattle.smt_terms.specs.Library.{HasTheoriesOf, StandsFor}
 use Rattle.smt_terms.specs.Signature.{Entry, Signature}

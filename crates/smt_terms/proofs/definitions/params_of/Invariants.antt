@@ -1,6 +1,6 @@
 use Rattle.std.proofs.Common.{◌≡◌, ◌++◌, map}
-use Rattle.smt_text.specs.Sexp.{weight_all}
-use Rattle.smt_text.specs.Tree.{sexps_of}
+use Rattle.smt_trees.specs.Sexp.{weight_all}
+use Rattle.smt_trees.specs.Tree.{sexps_of}
 use Rattle.smt_terms.specs.Bindings.{named_trees}
 use Rattle.smt_terms.specs.ParamView.{param_view}
 use Rattle.smt_terms.proofs.definitions.params_of.Given as goal

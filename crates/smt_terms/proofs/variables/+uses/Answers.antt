@@ -1,7 +1,7 @@
 use Rattle.std.proofs.Common.{ap, sym, ◌∙◌, arith, map}
-use Rattle.smt_text.specs.Sexp.{Cons, Items, Reserved, weight_all}
-use Rattle.smt_text.specs.Tree.{sexp_of, sexps_of}
-use Rattle.smt_text.specs.declared.reserved.Word.TheVariants.{Bang, Let}
+use Rattle.smt_trees.specs.Sexp.{Cons, Items, Reserved, weight_all}
+use Rattle.smt_trees.specs.Tree.{sexp_of, sexps_of}
+use Rattle.smt_trees.specs.declared.reserved.Word.TheVariants.{Bang, Let}
 use Rattle.smt_terms.specs.Labels.{uses_outer}
 use Rattle.smt_terms.specs.ScopeView.{scope_view}
 use Rattle.smt_terms.proofs.CheckerLemmas.{bang_head, let_head}

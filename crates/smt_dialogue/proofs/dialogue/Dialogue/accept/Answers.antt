@@ -1,6 +1,6 @@
 -- The stack and the checks go on by one pair.
 use Rattle.std.proofs.Common.{◌+◌, ap, option_map, refl}
-use Rattle.smt_text.specs.Tree.{sexp_of}
+use Rattle.smt_trees.specs.Tree.{sexp_of}
 use Rattle.smt_script.specs.CommandView.{command_view}
 use Rattle.smt_dialogue.proofs.DialogueLemmas.{accepted, refused_fault, refused_stands}
 use Rattle.smt_dialogue.specs.Internal.DialogueState.{state_of}

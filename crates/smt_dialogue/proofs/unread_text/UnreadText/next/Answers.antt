@@ -1,7 +1,7 @@
 use Rattle.std.proofs.Common.{Bool, Some, ap, refl, subst, sym, ◌∙◌}
 use Rattle.smt_text.specs.Grammar.{limit}
 use Rattle.smt_text.specs.Reading.{Reads}
-use Rattle.smt_text.specs.Tree.{sexp_of}
+use Rattle.smt_trees.specs.Tree.{sexp_of}
 use Rattle.smt_dialogue.proofs.UnreadLemmas.{fault_read, first_left, left_behind, none_left}
 use Rattle.smt_dialogue.proofs.unread_text.UnreadText.next.Goals as goal
 

@@ -1,7 +1,7 @@
 -- nothing that was left is lost, and what was not told is told
 use Rattle.std.proofs.Common.{Option}
-use Rattle.smt_text.specs.Sexp.{Sexps}
-use Rattle.smt_text.specs.declared.fault.TextFault.{TextFault}
+use Rattle.smt_trees.specs.Sexp.{Sexps}
+use Rattle.smt_faults.specs.declared.text_fault.TextFault.{TextFault}
 use Rattle.smt_dialogue.specs.Internal.UnreadText.{HasLeft, IsSound, size_of}
 use Rattle.smt_dialogue.proofs.unread_text.UnreadText.next.Given as goal
 

@@ -2,7 +2,7 @@ use Rattle.std.proofs.Common.{◌++◌, true, ap, subst, sym, ◌∙◌}
 use Rattle.std.proofs.lemmas.List.{append_assoc}
 use Rattle.smt_text.specs.Grammar.{limit}
 use Rattle.smt_text.specs.Reading.{Reads}
-use Rattle.smt_text.specs.Sexp.{append}
+use Rattle.smt_trees.specs.Sexp.{append}
 use Rattle.smt_dialogue.proofs.UnreadLemmas.{parts_whole}
 use Rattle.smt_dialogue.proofs.unread_text.UnreadText.read_on.Goals as goal
 

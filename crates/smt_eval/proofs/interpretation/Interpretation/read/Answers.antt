@@ -1,5 +1,5 @@
 use Rattle.std.proofs.Common.{ℕ, inr, [], Option, ap, sym, ◌∙◌}
-use Rattle.smt_text.specs.Tree.{sexps_of}
+use Rattle.smt_trees.specs.Tree.{sexps_of}
 use Rattle.smt_terms.specs.Items.{items_before}
 use Rattle.smt_eval.specs.Internal.Evaluation.{HaveStructure}
 use Rattle.smt_eval.specs.Model.{complete_or, items_of}

@@ -1,6 +1,6 @@
 use Rattle.std.proofs.Common.{refl, sym, subst, ◌∙◌}
 use Rattle.std.proofs.lemmas.Result.{err_from_is_err_and}
-use Rattle.smt_text.specs.Tree.{sexp_of}
+use Rattle.smt_trees.specs.Tree.{sexp_of}
 use Rattle.smt_terms.specs.Assertions.{asserted_in}
 use Rattle.smt_terms.specs.Contents.{Contents, Extends, contents_of}
 use Rattle.smt_terms.specs.Library.{Holds}

@@ -1,6 +1,6 @@
 use Rattle.std.proofs.Common.{refl}
 use Rattle.std.proofs.lemmas.Result.{err_from_is_err_and}
-use Rattle.smt_text.specs.Tree.{sexp_of, sexps_of}
+use Rattle.smt_trees.specs.Tree.{sexp_of, sexps_of}
 use Rattle.smt_terms.specs.Signature.{declared_in}
 use Rattle.smt_script.specs.Stack.{signature_in_force}
 use Rattle.smt_script.proofs.EffectLemmas.{declare_fun_effect, refused_by, unchanged_by}

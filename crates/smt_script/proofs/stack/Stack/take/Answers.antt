@@ -1,5 +1,5 @@
 use Rattle.std.proofs.Common.{◌++◌, ◌∷◌, [], ap, subst, sym, ◌∙◌}
-use Rattle.smt_text.specs.Tree.{sexp_of}
+use Rattle.smt_trees.specs.Tree.{sexp_of}
 use Rattle.smt_script.specs.Command.{Command, Assert}
 use Rattle.smt_script.specs.CommandView.{command_view}
 use Rattle.smt_script.specs.StackView.{StandsFor}

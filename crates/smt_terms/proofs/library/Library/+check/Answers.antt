@@ -1,8 +1,8 @@
 use Rattle.std.proofs.Common.{[], ◌∷◌, length, ap, sym, ◌∙◌, arith}
 use Rattle.std.proofs.lemmas.List.{length-append, map-append}
 use Rattle.std.proofs.lemmas.Result.{err_from_is_err_and}
-use Rattle.smt_text.specs.Sexp.{Cons, Items, count, weight_all}
-use Rattle.smt_text.specs.Tree.{sexp_of, sexps_of}
+use Rattle.smt_trees.specs.Sexp.{Cons, Items, count, weight_all}
+use Rattle.smt_trees.specs.Tree.{sexp_of, sexps_of}
 use Rattle.smt_terms.specs.Bindings.{are_named_trees}
 use Rattle.smt_terms.specs.Checking.{sort_in, sort_of_call}
 use Rattle.smt_terms.specs.IdentifierView.{identifier_view}

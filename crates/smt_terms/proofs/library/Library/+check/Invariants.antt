@@ -1,7 +1,7 @@
 use Rattle.std.proofs.Common.{◌≡◌, ◌+◌, ◌*◌, ◌≤◌, [], true}
 use Rattle.smallvec.specs.SmallVec.{HasRoomFor}
-use Rattle.smt_text.specs.Sexp.{count, weight, weight_all}
-use Rattle.smt_text.specs.Tree.{sexp_of, sexps_of}
+use Rattle.smt_trees.specs.Sexp.{count, weight, weight_all}
+use Rattle.smt_trees.specs.Tree.{sexp_of, sexps_of}
 use Rattle.smt_terms.specs.Bindings.{are_named_trees}
 use Rattle.smt_terms.specs.Checking.{bound_in, sorts_in}
 use Rattle.smt_terms.specs.Internal.LabelsView.{labels_view}

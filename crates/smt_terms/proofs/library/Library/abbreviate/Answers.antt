@@ -1,6 +1,6 @@
 use Rattle.std.proofs.Common.{◌≡◌, Ok, refl, ap, sym, ◌∙◌}
 use Rattle.std.proofs.lemmas.Result.{IfErr-weaker, on_ok_weaker}
-use Rattle.smt_text.specs.Tree.{sexp_of}
+use Rattle.smt_trees.specs.Tree.{sexp_of}
 use Rattle.smt_terms.specs.Contents.{contents_of}
 use Rattle.smt_terms.specs.Internal.LibraryView.{abbreviations_of, sort_names}
 use Rattle.smt_terms.specs.Signature.{sort_names_of}

@@ -1,5 +1,5 @@
 use Rattle.std.proofs.Common.{map, sym, subst, ◌∙◌}
-use Rattle.smt_text.specs.Tree.{sexp_of}
+use Rattle.smt_trees.specs.Tree.{sexp_of}
 use Rattle.smt_terms.specs.Contents.{Extends, contents_of}
 use Rattle.smt_terms.specs.Internal.LabelsView.{AreNew, label_entry}
 use Rattle.smt_terms.specs.Internal.LibraryView.{ranks_of_library}

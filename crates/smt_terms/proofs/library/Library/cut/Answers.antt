@@ -1,5 +1,5 @@
 use Rattle.std.proofs.Common.{refl}
-use Rattle.smt_text.specs.Tree.{sexp_of}
+use Rattle.smt_trees.specs.Tree.{sexp_of}
 use Rattle.smt_terms.specs.Contents.{contents_of, declaration_view, first_of}
 use Rattle.smt_terms.specs.Internal.LibraryView.{rank_of}
 use Rattle.smt_terms.proofs.ContentsLemmas.{mapped, same_contents}

@@ -1,6 +1,6 @@
 use Rattle.std.proofs.Common.{rules, map, ap, sym, ◌∙◌}
 use Rattle.std.proofs.lemmas.Result.{IfErr-weaker, on_ok_weaker}
-use Rattle.smt_text.specs.Tree.{sexp_of}
+use Rattle.smt_trees.specs.Tree.{sexp_of}
 use Rattle.smt_terms.specs.Definitions.{defined_in, definition_in}
 use Rattle.smt_terms.specs.ParamView.{param_view}
 use Rattle.smt_terms.specs.ScopeView.{scope_view}

@@ -1,5 +1,5 @@
 use Rattle.std.proofs.Common.{rules, refl, sym, ◌∙◌}
-use Rattle.smt_text.specs.Tree.{sexp_of}
+use Rattle.smt_trees.specs.Tree.{sexp_of}
 use Rattle.smt_terms.specs.Internal.LibraryView.{names_of_library}
 use Rattle.smt_terms.specs.ScopeView.{scope_view}
 use Rattle.smt_terms.specs.Signature.{unlabelled}

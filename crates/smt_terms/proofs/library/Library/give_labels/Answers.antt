@@ -1,7 +1,7 @@
 use Rattle.std.proofs.Common.{ap, ◌∙◌}
 use Rattle.std.proofs.lemmas.List.{map-append}
 use Rattle.std.proofs.lemmas.Result.{err_from_is_err_and}
-use Rattle.smt_text.specs.Tree.{sexp_of, sexps_of}
+use Rattle.smt_trees.specs.Tree.{sexp_of, sexps_of}
 use Rattle.smt_terms.specs.Internal.Attributes.{label_of_tree}
 use Rattle.smt_terms.specs.Internal.LabelsView.{labels_view}
 use Rattle.smt_terms.specs.Internal.LibraryView.{names_for, names_of_library}

@@ -1,7 +1,7 @@
 -- The new name goes last, among the names and among the definitions.
 use Rattle.std.proofs.Common.{◌≡◌, ℕ, List, ◌++◌, ◌∷◌, [], map, refl, ap, ◌∙◌, arith}
 use Rattle.std.proofs.lemmas.Grind.{common_steps}
-use Rattle.smt_text.specs.Tree.{sexp_of}
+use Rattle.smt_trees.specs.Tree.{sexp_of}
 use Rattle.smt_theory.specs.declared.sort.Sort.{Sort}
 use Rattle.smt_terms.specs.Contents.{contents_of, declaration_view}
 use Rattle.smt_terms.specs.Internal.LibraryView.{abbreviations_of, places_of_library, ranks_of_library}

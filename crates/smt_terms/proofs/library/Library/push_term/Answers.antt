@@ -1,6 +1,6 @@
 use Rattle.std.proofs.Common.{[], ◌∷◌, map, refl, ap, ◌∙◌}
 use Rattle.std.proofs.lemmas.List.{map-append}
-use Rattle.smt_text.specs.Tree.{sexp_of}
+use Rattle.smt_trees.specs.Tree.{sexp_of}
 use Rattle.smt_terms.specs.Contents.{contents_of}
 use Rattle.smt_terms.proofs.ContentsLemmas.{nothing_more}
 use Rattle.smt_terms.proofs.StandsLemmas.{counted, stands_still}

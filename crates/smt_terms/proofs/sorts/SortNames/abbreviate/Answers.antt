@@ -1,5 +1,5 @@
 use Rattle.std.proofs.Common.{Err, cond, ap, sym, ◌∙◌}
-use Rattle.smt_text.specs.Tree.{sexp_of}
+use Rattle.smt_trees.specs.Tree.{sexp_of}
 use Rattle.smt_terms.specs.Internal.LibraryView.{sort_names}
 use Rattle.smt_terms.specs.SortTrees.{sort_named}
 use Rattle.smt_faults.specs.declared.term_fault.TermFault.TheVariants.{NotFresh}

@@ -1,6 +1,6 @@
 use Rattle.std.proofs.Common.{vec_len, refl}
 use Rattle.smt_text.proofs.BuilderLemmas.{add_last, add_topmost}
-use Rattle.smt_text.specs.Tree.{sexps_of}
+use Rattle.smt_trees.specs.Tree.{sexps_of}
 use Rattle.smt_text.proofs.builder.Builder.add.Goals as goal
 
 pub returns-in_ok-push-in-Some : goal.returns-in_ok-push-in-Some

@@ -1,0 +1,11 @@
+-- the reader stands for the whole text and the trees so far
+use Rattle.std.proofs.Common.{◌≡◌, true}
+use Rattle.smt_text.specs.Reader.{StandsFor, is_finished, trees_waiting}
+use Rattle.smt_trees.specs.Tree.{sexps_of}
+use Rattle.smt_text.proofs.reader.read_trees.Given as goal
+
+abbrev pub invariant-loop-tree : goal.invariant-loop-tree
+invariant-loop-tree l = StandsFor l.reader l.text (sexps_of l.trees.items) × (is_finished l.reader ≡ true)
+
+abbrev pub decreases-loop-tree : goal.decreases-loop-tree
+decreases-loop-tree l = trees_waiting l.reader

@@ -1,0 +1,2 @@
+pub mod SexpLemmas
+pub mod BytesLemmas

@@ -1,0 +1,5 @@
+pub mod Reserved
+pub mod Sexp
+pub mod Tree
+pub mod TreeJoins
+pub mod Internal

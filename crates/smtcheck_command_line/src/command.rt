@@ -1,0 +1,108 @@
+//! What a command line may say, and what the program says of it.
+
+ghost use Rattle.std.specs.Prelude.{◌≡◌, IfErr, IfOk, None, [], true, false};
+ghost use Rattle.clap.specs.Walk.{texts};
+ghost use Rattle.clap.specs.Words.{IsPlainArg, app_of, rule_of, takes};
+ghost use Rattle.smtcheck_command_line.specs.Settings.{AreSettings, HasSuccessWord, IsFaultOf, NeedsFiles, OfCommand, Places, TakesOption, TakesTwo, file_rule, success_rule};
+
+use crate::line::{LineFault, Settings};
+use clap::error::ErrorKind;
+use clap::{Arg, ArgAction, Command};
+use std::alloc::{AllocError, Global};
+
+const ABOUT: &str = "Checks the models that an SMT solver printed.
+
+SCRIPT is the SMT-LIB 2.6 script that the solver read, and ANSWERS the text that it printed for it. Each answer is paired with its \
+command, and every `sat` is checked by evaluating the printed model in each assertion that was in force.";
+
+const PRINT_SUCCESS: &str =
+    "Whether the solver prints `success`, from the start, for each command that has no answer of its own.
+
+off: for z3, cvc5 and cvc4, which print it only once the script says (set-option :print-success true)
+on:  for SMTInterpol and others that keep to the default of SMT-LIB, and for a run that was told to print it, such as \
+`z3 smtlib2_compliant=true` or `cvc5 --print-success`
+
+A script's own (set-option :print-success ..) is followed from there on.";
+
+const VERDICTS: &str =
+    "The last line of the report is the verdict, and the exit status says the same:
+  0  valid: every `sat` is confirmed by the models printed for it
+  1  invalid: some model makes an assertion false
+  2  not decided: no model refutes a `sat`, and some `sat` is not confirmed
+  3  refused: the script or the answers have a fault
+  4  a file could not be opened, read or written, or memory was refused
+  5  the command line was refused, or help was asked for";
+
+/// The command line of the program.
+pub(crate) fn smtcheck_command<'a>(alloc: Global) -> Result<Command<'a>, AllocError>
+    ensures app { IfOk result (λ c. OfCommand (λ a. app_of c ≡ a)) }
+    ensures needs { IfOk result NeedsFiles }
+    ensures success { IfOk result HasSuccessWord }
+{
+    let script = file(alloc, "SCRIPT", "the script that the solver read");
+    let answers = file(alloc, "ANSWERS", "what the solver printed");
+    Command::new(alloc, "smtcheck")
+        .about(ABOUT)
+        .bin_name("smtcheck")?
+        .after_help(VERDICTS)
+        .arg(script)?
+        .arg(answers)?
+        .arg(print_success(alloc))
+}
+
+// The argument that names a file.
+fn file<'a>(alloc: Global, id: &'a str, help: &'a str) -> Arg<'a>
+    ensures rule { rule_of result ≡ file_rule id.entry.now }
+    ensures plain { IsPlainArg result }
+    ensures local { result.global ≡ false }
+    ensures undivided { result.val_delim ≡ None }
+{
+    Arg::new(alloc, id)
+        .required(true)
+        .action(ArgAction::Set)
+        .help(help)
+}
+
+// The option that says whether the solver prints `success` from the start.
+fn print_success<'a>(alloc: Global) -> Arg<'a>
+    ensures rule { (places : Places) × (rule_of result ≡ success_rule places) }
+    ensures plain { IsPlainArg result }
+    ensures local { result.global ≡ false }
+    ensures undivided { result.val_delim ≡ None }
+    ensures unconditional { result.default_vals_ifs.items ≡ [] }
+{
+    let choices: &'a [&'a str] = &["on", "off"];
+    Arg::new(alloc, "print-success")
+        .long("print-success")
+        .action(ArgAction::Set)
+        .value_name("on|off")
+        .value_parser(choices)
+        .default_value("on")
+        .hide_possible_values(true)
+        .help("whether the solver printed `success` from the start")
+        .long_help(PRINT_SUCCESS)
+}
+
+/// Reads the words of a command line, the program's name first.
+pub fn settings<'a>(alloc: Global, words: &'a [&'a str]) -> Result<Settings<'a>, LineFault>
+    ensures ok { IfOk result (λ s. OfCommand (AreSettings (texts words.entry.now) s)) }
+    ensures two_words { TakesTwo (texts words.entry.now) result }
+    ensures option { TakesOption (texts words.entry.now) result }
+    ensures taken { IfOk result (λ _. OfCommand (λ a. takes a (texts words.entry.now) ≡ true)) }
+    ensures refused { IfErr result (λ f. OfCommand (IsFaultOf (texts words.entry.now) f)) }
+    ensures memory { IfErr result (λ f. OfCommand (λ a. takes a (texts words.entry.now) ≡ true → f ≡ LineFault.Memory)) }
+{
+    let Ok(command) = smtcheck_command(alloc) else {
+        return Err(LineFault::Memory);
+    };
+    let matches = match command.try_get_matches_from(words) {
+        Ok(matches) => matches,
+        Err(error) if error.kind() == ErrorKind::OutOfMemory => return Err(LineFault::Memory),
+        Err(error) => return Err(LineFault::Refused(error)),
+    };
+    Ok(Settings {
+        script: matches.get_str("SCRIPT").unwrap(),
+        answers: matches.get_str("ANSWERS").unwrap(),
+        start: matches.get_str("print-success").unwrap() == "on",
+    })
+}
