@@ -2,7 +2,7 @@
 
 ghost use Rattle.std.specs.Prelude.{IfOk, MatchOption};
 ghost use Rattle.smt_eval.specs.Interpretation.{Fits};
-ghost use Rattle.smt_terms.specs.Library.{StandsFor};
+ghost use Rattle.smt_terms.specs.Library.{HasTheoriesOf, StandsFor};
 ghost use Rattle.smt_terms.specs.Signature.{Signature};
 
 use crate::trees::{declare, parts_of, refuse, split_logic};
@@ -61,13 +61,24 @@ pub(crate) fn print_model<W: Write>(
     requires { (s : Signature) × StandsFor declared.now s }
     ensures { IfOk result (λ found. MatchOption found (Unit {0}) (λ model. Fits model declared.now)) }
 {
-    let text = &field.text;
     let parts = parts_of(alloc, field)?;
-    match Interpretation::read(declared, &parts) {
-        Ok(model) => {
+    let read = Interpretation::read(declared, &parts);
+    print_read(out, declared, field, &parts, &read)?;
+    Ok(read.ok())
+}
+
+fn print_read<W: Write>(
+    out: &mut W,
+    declared: &Library,
+    field: &Field,
+    parts: &Trees,
+    read: &Result<Interpretation, ModelFault>,
+) -> Result<()> {
+    let text = &field.text;
+    match read {
+        Ok(_) => {
             write!(out, "{text} => defines")?;
-            print_names(out, declared, &parts)?;
-            return Ok(Some(model));
+            print_names(out, declared, parts)?;
         }
         Err(ModelFault::Item { number, fault }) => writeln!(
             out,
@@ -79,7 +90,7 @@ pub(crate) fn print_model<W: Write>(
         )?,
         Err(ModelFault::Memory) => writeln!(out, "{text} => memory")?,
     }
-    Ok(None)
+    Ok(())
 }
 
 // Prints the names that a model without a fault defines, in order, each behind a space, and ends the line.
@@ -87,6 +98,13 @@ fn print_names<W: Write>(out: &mut W, declared: &Library, model: &Trees) -> Resu
     let Ok(mut definitions) = declared.for_model() else {
         bail!("memory was refused");
     };
+    define(declared, &mut definitions, model)?;
+    write_names(out, &definitions)
+}
+
+fn define(declared: &Library, definitions: &mut Library, model: &Trees) -> Result<()>
+    requires { HasTheoriesOf definitions.old declared.now }
+{
     for item in model.as_slice() {
         if item.is_symbol(b"model") {
             continue;
@@ -95,7 +113,11 @@ fn print_names<W: Write>(out: &mut W, declared: &Library, model: &Trees) -> Resu
             bail!("an item of a model without a fault is refused: {fault}");
         }
     }
-    for definition in definitions.definitions() {
+    Ok(())
+}
+
+fn write_names<W: Write>(out: &mut W, library: &Library) -> Result<()> {
+    for definition in library.definitions() {
         write!(out, " ")?;
         out.write_all(definition.name.as_slice())?;
     }

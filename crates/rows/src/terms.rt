@@ -43,8 +43,17 @@ fn print_term<W: Write>(
     field: &Field,
 ) -> Result<()> {
     let term = tree_of(alloc, field)?;
+    write_checked(out, library, field, &term)
+}
+
+fn write_checked<W: Write>(
+    out: &mut W,
+    library: &mut Library,
+    field: &Field,
+    term: &Tree,
+) -> Result<()> {
     write!(out, "{} => ", field.text)?;
-    match &library.check(&term) {
+    match &library.check(term) {
         Ok((_, sort)) => write_sort(out, sort)?,
         Err(fault) => write!(out, "{fault}")?,
     }

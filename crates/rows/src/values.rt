@@ -9,7 +9,7 @@ use crate::trees::{refuse, split_logic, tree_of};
 use anyhow::{Result, bail};
 use row_texts::Field;
 use smt_eval::plain::Closed;
-use smt_eval::{Checked, Interpretation};
+use smt_eval::{Checked, Interpretation, Memory};
 use smt_terms::Library;
 use smt_values::Value;
 use std::alloc::Global;
@@ -81,7 +81,15 @@ fn print_value<W: Write>(
         interpretation,
         tree: &tree,
     };
-    match &term.known() {
+    write_value(out, field, &term.known())
+}
+
+fn write_value<W: Write>(
+    out: &mut W,
+    field: &Field,
+    known: &Result<Option<Value>, Memory>,
+) -> Result<()> {
+    match known {
         Ok(Some(Value::Bool(value))) => writeln!(out, "{} => {value}", field.text)?,
         Ok(Some(Value::Int(value))) => writeln!(out, "{} => {value}", field.text)?,
         Ok(Some(Value::Bits(value))) => writeln!(

@@ -114,10 +114,10 @@ fn apply_if(
     ensures start { start_of stack.new ≡ start_of stack.old }
 {
     if effective {
-        stack.take(number, command)
-    } else {
-        Ok(())
+        return stack.take(number, command);
     }
+    drop(command);
+    Ok(())
 }
 
 // How many answers that are: one or none.

@@ -41,22 +41,28 @@ fn read_all<R: Files + Env + AllocGlobal + Print>(rt: &R) -> io::Result<()> {
         match word.as_str() {
             "keep" => purpose = Purpose::Keep,
             "sort" => purpose = Purpose::Sort,
-            path => {
-                let mut bytes = Vec::new(rt.alloc());
-                fs::open(rt, path)?.read_to_end(&mut bytes)?;
-                read_text(rt, bytes.as_slice(), purpose)?;
-            }
+            path => read_file(rt, path, purpose)?,
         }
     }
     Ok(())
 }
 
-// Reads one text, and prints what it has.
-fn read_text<R: AllocGlobal + Print>(rt: &R, text: &[u8], purpose: Purpose) -> io::Result<()> {
+fn read_file<R: Files + AllocGlobal + Print>(
+    rt: &R,
+    path: &str,
+    purpose: Purpose,
+) -> io::Result<()> {
+    let mut bytes = Vec::new(rt.alloc());
+    fs::open(rt, path)?.read_to_end(&mut bytes)?;
     let mut kept = Kept::new(rt.alloc(), purpose);
-    let fault = read_trees(rt.alloc(), text, &mut kept)?;
+    print_text(rt, bytes.as_slice(), &mut kept)
+}
+
+// Reads one text, and prints what it has.
+fn print_text<R: AllocGlobal + Print>(rt: &R, text: &[u8], kept: &mut Kept) -> io::Result<()> {
+    let fault = read_trees(rt.alloc(), text, kept)?;
     print!(rt; "{} bytes, {} trees", text.len(), kept.count)?;
-    if purpose == Purpose::Sort {
+    if kept.purpose == Purpose::Sort {
         print!(rt; ", terms sorted: {}", kept.terms)?;
     }
     match fault {
@@ -90,16 +96,11 @@ impl Kept {
     fn take(&mut self, tree: Tree) -> Result<(), AllocError> {
         self.count = self.count.wrapping_add(1);
         match self.purpose {
-            Purpose::Drop => Ok(()),
-            Purpose::Keep => {
-                self.trees.push(tree)?;
-                Ok(())
-            }
-            Purpose::Sort => {
-                self.sort(tree);
-                Ok(())
-            }
+            Purpose::Drop => drop(tree),
+            Purpose::Keep => self.trees.push(tree)?,
+            Purpose::Sort => self.sort(tree),
         }
+        Ok(())
     }
 
     // Declares or checks what a command declares or asserts.
