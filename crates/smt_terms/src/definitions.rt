@@ -33,7 +33,9 @@ pub fn params_of(alloc: Global, trees: &[Tree]) -> Result<Vec<Param<'_>>, TermFa
     let mut params = Vec::new(alloc);
     let mut left = trees;
     while let Some((name, sort, rest)) = split_named(left) {
-        params.push(Param { name, sort })?;
+        if params.push(Param { name, sort }).is_err() {
+            return Err(TermFault::Memory);
+        }
         left = rest;
     }
     Ok(params)
@@ -50,14 +52,28 @@ pub(crate) fn sorted_params<'a>(
         (λ fault. (fault ≡ Memory) ⊎ (parameters_named (sort_names sorts.now) [] (map param_view params.now) ≡ Err fault)) }
 {
     let mut variables = Vec::new(alloc);
+    push_sorted(&mut variables, sorts, params)?;
+    Ok(variables)
+}
+
+// Puts the variables that parameters are into a vector that has none.
+fn push_sorted<'a>(
+    variables: &mut Vec<Variable<'a, Sort>>,
+    sorts: &SortNames,
+    params: &[Param<'a>],
+) -> Result<(), TermFault>
+    requires { variables.old.items ≡ [] }
+    ensures { MatchResult result (λ _. parameters_named (sort_names sorts.now) [] (map param_view params.now) ≡ Ok (scope_view variables.new.items))
+        (λ fault. (fault ≡ Memory) ⊎ (parameters_named (sort_names sorts.now) [] (map param_view params.now) ≡ Err fault)) }
+{
     for param in params {
         let value = sorts.sort_of(param.sort)?;
         if find_variable(variables.as_slice(), param.name).is_some() {
             return Err(TermFault::BoundTwice);
         }
-        push_variable(&mut variables, param.name, value)?;
+        push_variable(variables, param.name, value)?;
     }
-    Ok(variables)
+    Ok(())
 }
 
 // The same of the parameters that trees are, up to the first that is none.
@@ -99,7 +115,9 @@ pub(crate) fn sorts_of_variables(
 {
     let mut sorts = Vec::new(alloc);
     for variable in variables {
-        sorts.push(variable.value)?;
+        if sorts.push(variable.value).is_err() {
+            return Err(TermFault::Memory);
+        }
     }
     Ok(sorts)
 }

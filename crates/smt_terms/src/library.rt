@@ -232,8 +232,10 @@ impl Library {
         ensures sorts { self.new.sorts ≡ self.old.sorts }
         ensures grown { Extends (contents_of self.old) (contents_of self.new) }
     {
-        let copy = term.copy(self.alloc)?;
-        self.push_term(copy)
+        match term.copy(self.alloc) {
+            Ok(copy) => self.push_term(copy),
+            Err(_) => Err(TermFault::Memory),
+        }
     }
 
     // Adds a term.

@@ -85,8 +85,12 @@ impl SortNames {
             return Err(TermFault::NotFresh);
         }
         let sort = self.sort_of(tree)?;
-        let key = Vec::from_slice(alloc, name)?;
-        self.abbreviations.insert(key, sort)?;
+        let Ok(key) = Vec::from_slice(alloc, name) else {
+            return Err(TermFault::Memory);
+        };
+        let Ok(_) = self.abbreviations.insert(key, sort) else {
+            return Err(TermFault::Memory);
+        };
         Ok(())
     }
 

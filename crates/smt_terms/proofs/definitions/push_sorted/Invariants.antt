@@ -3,7 +3,7 @@ use Rattle.smt_terms.specs.Definitions.{parameters_named}
 use Rattle.smt_terms.specs.Internal.LibraryView.{sort_names}
 use Rattle.smt_terms.specs.ParamView.{param_view}
 use Rattle.smt_terms.specs.ScopeView.{scope_view}
-use Rattle.smt_terms.proofs.definitions.sorted_params.Given as goal
+use Rattle.smt_terms.proofs.definitions.push_sorted.Given as goal
 
 abbrev pub invariant-loop-param : goal.invariant-loop-param
 invariant-loop-param l =
