@@ -9,7 +9,7 @@ use smt_script::Command;
 use smt_trees::{Tree, split_first};
 
 /// Which answers a command takes (SMT-LIB 2.6, section 3.9.1).
-#[derive(Clone, Copy, Debug, PartialEq, Eq)]
+#[derive(Clone, Copy)]
 pub enum AnswerForm {
     /// `success`, `unsupported` or an error.
     General,
@@ -28,7 +28,7 @@ pub enum AnswerForm {
 }
 
 /// What a command needs of the answers.
-#[derive(Clone, Copy, Debug, PartialEq, Eq)]
+#[derive(Clone, Copy)]
 pub enum Need {
     /// It takes none.
     Nothing,

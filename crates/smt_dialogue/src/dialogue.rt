@@ -85,15 +85,14 @@ impl Dialogue {
     }
 
     /// Ends the dialogue, with the line of a fault or without one.
-    pub(crate) fn finish(mut self, fault: Option<Line>) -> Result<Report, Memory>
+    pub(crate) fn finish(self, fault: Option<Line>) -> Result<Report, Memory>
         ensures lines { IfOk result (λ r. (pairs : List Pair) → StandsFor (state_of self) pairs → r.lines.items ≡ with_verdict (lines_in true [] pairs [] ++ lines_of_end fault)) }
         ensures verdict { IfOk result (λ r. (pairs : List Pair) → StandsFor (state_of self) pairs → r.verdict ≡ verdict_of (lines_in true [] pairs [] ++ lines_of_end fault)) }
     {
-        self.checks.end_window()?;
-        if let Some(line) = fault {
-            self.checks.lines.push(line)?;
-        }
-        Ok(Report::from_lines(self.checks.lines)?)
+        let Dialogue { stack, checks, .. } = self;
+        // dropped by name: the prover takes long over a stack that goes on more than one path
+        drop(stack);
+        checks.report(fault)
     }
 }
 

@@ -20,7 +20,7 @@ use smt_trees::Trees;
 use smt_values::Value;
 
 /// What is found of a model. Commands, and items of a model, count from 1.
-#[derive(Clone, Copy, Debug, PartialEq, Eq)]
+#[derive(Clone, Copy)]
 pub enum Judgement {
     /// The first item with a fault.
     ItemFault { item: u64, fault: TermFault },

@@ -1,6 +1,6 @@
 //! The window of a check: the models printed behind it, and its line.
 
-ghost use Rattle.std.specs.Prelude.{◌≡◌, ◌<◌, ◌+◌, ◌^◌, List, [], None, OnOk, if◌then◌else◌, option_map};
+ghost use Rattle.std.specs.Prelude.{◌≡◌, ◌<◌, ◌+◌, ◌^◌, ◌++◌, List, [], None, IfOk, OnOk, if◌then◌else◌, option_map};
 ghost use Rattle.smt_trees.specs.Tree.{sexp_of};
 ghost use Rattle.smt_script.specs.CommandView.{command_view};
 ghost use Rattle.smt_script.specs.Stack.{Numbered, assertions_in_force, signature_in_force};
@@ -9,11 +9,13 @@ ghost use Rattle.smt_dialogue.specs.Lines as check_lines;
 ghost use Rattle.smt_dialogue.specs.Internal.ChecksState as state;
 ghost use Rattle.smt_dialogue.specs.Internal.ChecksState.{IsAnswered, checks_after, checks_state, with_check, with_line, with_models, with_window_ended};
 ghost use Rattle.smt_dialogue.specs.Judgement.{judgement_of};
+ghost use Rattle.smt_dialogue.specs.Report.{lines_of_end};
+ghost use Rattle.smt_report.specs.Verdict.{verdict_of, with_verdict};
 
 use crate::answer::is_error;
 use crate::judgement::{Judgement, judge};
 use smt_eval::Memory;
-use smt_report::{CheckAnswer, Line};
+use smt_report::{CheckAnswer, Line, Report};
 use smt_script::{Command, Stack};
 use smt_trees::{Tree, Trees};
 use std::alloc::Global;
@@ -174,6 +176,18 @@ impl Checks {
             self.pending = None;
         }
         Ok(())
+    }
+
+    /// The report, once the window of the last check has ended, with the line of a fault or without one.
+    pub(crate) fn report(mut self, fault: Option<Line>) -> Result<Report, Memory>
+        ensures lines { IfOk result (λ r. r.lines.items ≡ with_verdict ((with_window_ended (checks_state self)).lines ++ lines_of_end fault)) }
+        ensures verdict { IfOk result (λ r. r.verdict ≡ verdict_of ((with_window_ended (checks_state self)).lines ++ lines_of_end fault)) }
+    {
+        self.end_window()?;
+        if let Some(line) = fault {
+            self.lines.push(line)?;
+        }
+        Ok(Report::from_lines(self.lines)?)
     }
 }
 

@@ -72,7 +72,7 @@ pub enum LexerStep {
 
 impl AtomState {
     /// What one more byte does.
-    pub fn after(self, byte: u8) -> LexerStep
+    pub(crate) fn after(self, byte: u8) -> LexerStep
         ensures { result ≡ machine.lex self byte }
     {
         match self {
@@ -114,7 +114,7 @@ impl AtomState {
 
     /// How many bytes at the beginning of a text the token keeps and stays what it is.
     #[inline]
-    pub fn run_length(self, text: &[u8]) -> usize
+    pub(crate) fn run_length(self, text: &[u8]) -> usize
         ensures within { result ≤ length text.now }
         ensures kept { (k : ℕ) → k < result → machine.lex self (slice_index text.now k) ≡ Push self }
     {
@@ -142,7 +142,7 @@ impl AtomState {
     }
 
     /// Whether a text may end here.
-    pub fn may_end(self) -> bool
+    pub(crate) fn may_end(self) -> bool
         ensures { result ≡ machine.may_end self }
     {
         match self {
@@ -277,7 +277,7 @@ fn in_comment(byte: u8) -> LexerStep
 }
 
 /// The atom that a token which says these bytes is if it ends here. The vector is empty then.
-pub fn atom_of(
+pub(crate) fn atom_of(
     alloc: Global,
     token: AtomState,
     bytes: &mut Vec<u8>,
@@ -326,7 +326,7 @@ fn name_of(alloc: Global, bytes: &mut Vec<u8>) -> Result<Tree, AllocError>
 
 /// The reserved word or the simple symbol at the beginning of a text, of so many bytes.
 #[inline(always)]
-pub fn name_at(alloc: Global, text: &[u8], count: usize) -> Result<Tree, AllocError>
+pub(crate) fn name_at(alloc: Global, text: &[u8], count: usize) -> Result<Tree, AllocError>
     requires { count ≤ length text.now }
     ensures { IfOk result (λ tree. let name = take count text.now in sexp_of tree ≡ machine.name_or_word (machine.word_named name) name) }
 {
@@ -337,7 +337,7 @@ pub fn name_at(alloc: Global, text: &[u8], count: usize) -> Result<Tree, AllocEr
 }
 
 /// How many bytes at the beginning of a text belong to a comment that has begun.
-pub fn comment_length(text: &[u8]) -> usize
+pub(crate) fn comment_length(text: &[u8]) -> usize
     ensures within { result ≤ length text.now }
     ensures skipped { (k : ℕ) → k < result → machine.lex InComment (slice_index text.now k) ≡ Skip InComment }
 {

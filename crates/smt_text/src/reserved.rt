@@ -56,7 +56,7 @@ fn words_like(length: usize, first: u8) -> &'static [Word]
 
 /// The reserved word that is written so, if there is one.
 #[inline(always)]
-pub fn word_of(bytes: &[u8]) -> Option<Word>
+pub(crate) fn word_of(bytes: &[u8]) -> Option<Word>
     ensures named { result ≡ word_named bytes.now }
     ensures written { MatchOption result ((word : Word) → bytes.now ≢ spelling_of word) (λ word. bytes.now ≡ spelling_of word) }
 {

@@ -34,14 +34,33 @@ pub fn run<R: Files + AllocGlobal + Print>(rt: &R, settings: Settings) -> Result
     let Ok(mut answers) = fs::open(rt, settings.answers) else {
         return Err(RunFault::Answers);
     };
-    let script = contents_of(rt.alloc(), &mut script).ok_or(RunFault::Script)?;
-    let answers = contents_of(rt.alloc(), &mut answers).ok_or(RunFault::Answers)?;
-    let Ok(report) = validate(
-        rt.alloc(),
-        script.as_slice(),
-        answers.as_slice(),
-        settings.start,
-    ) else {
+    run_open(rt, &mut script, &mut answers, settings.start)
+}
+
+// Checks the dialogue in two files that are open.
+fn run_open<R: AllocGlobal + Print, F: Read>(
+    rt: &R,
+    script: &mut F,
+    answers: &mut F,
+    start: bool,
+) -> Result<u8, RunFault> {
+    let Some(script) = contents_of(rt.alloc(), script) else {
+        return Err(RunFault::Script);
+    };
+    let Some(answers) = contents_of(rt.alloc(), answers) else {
+        return Err(RunFault::Answers);
+    };
+    report_on(rt, script.as_slice(), answers.as_slice(), start)
+}
+
+// Checks a dialogue, and prints the report.
+fn report_on<R: AllocGlobal + Print>(
+    rt: &R,
+    script: &[u8],
+    answers: &[u8],
+    start: bool,
+) -> Result<u8, RunFault> {
+    let Ok(report) = validate(rt.alloc(), script, answers, start) else {
         return Err(RunFault::Memory);
     };
     match print(rt, &report) {

@@ -11,7 +11,7 @@ use smt_terms::{Library, Mark};
 use smt_theory::number;
 
 /// What came outside a level: how much of the library, and how many assertions.
-#[derive(Clone, Copy, Debug, PartialEq, Eq)]
+#[derive(Clone, Copy)]
 pub struct Level {
     pub(crate) mark: Mark,
     pub(crate) assertions: usize,

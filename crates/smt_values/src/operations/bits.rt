@@ -13,7 +13,7 @@ use crate::value::Value;
 use smt_bits::{Bits, arithmetic, bitwise, parts, shifts, signed};
 use smt_theory::{BitsBinary, BitsComparison, BitsFolded, BitsOp, BitsUnary, Width};
 
-pub fn apply_bits(op: BitsOp, args: &[Option<Value>]) -> Option<Value>
+pub(crate) fn apply_bits(op: BitsOp, args: &[Option<Value>]) -> Option<Value>
     ensures { known_element result ≡ option_and_then (known_bits op) (known_vectors (known_elements args.now)) }
 {
     match op {

@@ -9,7 +9,7 @@ ghost use Rattle.smt_values.specs.Operations.{compares};
 use crate::value::Value;
 use smt_theory::{Arithmetic, Comparison, IntsOp};
 
-pub fn apply_ints(op: IntsOp, args: &[Option<Value>]) -> Option<Value>
+pub(crate) fn apply_ints(op: IntsOp, args: &[Option<Value>]) -> Option<Value>
     ensures { known_element result ≡ option_and_then (known_ints op) (known_integers (known_elements args.now)) }
 {
     match op {

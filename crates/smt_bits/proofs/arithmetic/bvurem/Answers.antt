@@ -1,4 +1,4 @@
-use Rattle.std.proofs.Common.{◌≡◌, ◌<◌, ◌^◌, subst}
+use Rattle.std.proofs.Common.{rules, ◌≡◌, ◌<◌, ◌^◌, subst}
 use Rattle.smt_bits.proofs.ArithmeticLemmas.{remainder}
 use Rattle.smt_bits.proofs.arithmetic.bvurem.Goals as goal
 
@@ -9,3 +9,6 @@ returns-else-number-eq0 c =
     let below = subst (λ n. n < 2 ^ c.args.s.width) s.ensures.value s.ensures.below in
     let meant = remainder c.args.s.width c.args.s.number c.args.t.number some below in
     cc
+
+pub returns-then-number-eq0 : goal.returns-then-number-eq0
+returns-then-number-eq0 c = search rules

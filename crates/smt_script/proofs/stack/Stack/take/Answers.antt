@@ -1,4 +1,4 @@
-use Rattle.std.proofs.Common.{◌++◌, ◌∷◌, [], ap, subst, sym, ◌∙◌}
+use Rattle.std.proofs.Common.{rules, ◌++◌, ◌∷◌, [], ap, subst, sym, ◌∙◌}
 use Rattle.smt_trees.specs.Tree.{sexp_of}
 use Rattle.smt_script.specs.Command.{Command, Assert}
 use Rattle.smt_script.specs.CommandView.{command_view}
@@ -18,3 +18,6 @@ returns-in_ok-assert-in-Assert-clause-applied c = λ cs h.
 pub returns-in_ok-assert-in-Assert-clause-start : goal.returns-in_ok-assert-in-Assert-clause-start
 returns-in_ok-assert-in-Assert-clause-start c =
     ap (λ (s : Stack). s.start) (c.note_assertion.ensures (sexp_of c.in-Assert.term)) ∙ c.in_ok-assert-in-Assert.ensures.effect.start
+
+pub returns-in_default : goal.returns-in_default
+returns-in_default c = search rules

@@ -1,6 +1,12 @@
-use Rattle.std.proofs.Common.{sym}
+use Rattle.std.proofs.Common.{rules, sym}
 use Rattle.smt_terms.proofs.NameLookUps.{not_taken}
 use Rattle.smt_terms.proofs.library.Library.declare.Goals as goal
 
 pub add_declared-requires-clause-absent : goal.add_declared-requires-clause-absent
 add_declared-requires-clause-absent c = not_taken _ _ (sym c.if-is_taken.ensures)
+
+pub returns-in_err-declared-clause-refused : goal.returns-in_err-declared-clause-refused
+returns-in_err-declared-clause-refused c = search rules
+
+pub returns-clause-declared : goal.returns-clause-declared
+returns-clause-declared c = search rules

@@ -1,0 +1,5 @@
+use Rattle.std.proofs.Common.{rules}
+use Rattle.smt_bits.proofs.signed.bvsmod.Goals as goal
+
+pub returns : goal.returns
+returns c = search rules

@@ -1,5 +1,0 @@
-(declare-const p Bool)
-(declare-const x (_ BitVec 8))
-(assert (or p (= x #x0f)))
-(assert (= x p))
-(check-sat)
