@@ -11,7 +11,7 @@ use thiserror::Error;
 
 /// Why a run gives no report.
 #[derive(Debug, Drop, Error)]
-pub enum RunFault {
+pub(crate) enum RunFault {
     /// The script could not be opened or read.
     #[error("smtcheck: script")]
     Script,
@@ -27,7 +27,10 @@ pub enum RunFault {
 }
 
 /// Checks the dialogue in two files, and prints the report. Answers the status.
-pub fn run<R: Files + AllocGlobal + Print>(rt: &R, settings: Settings) -> Result<u8, RunFault> {
+pub(crate) fn run<R: Files + AllocGlobal + Print>(
+    rt: &R,
+    settings: Settings,
+) -> Result<u8, RunFault> {
     let Ok(mut script) = fs::open(rt, settings.script) else {
         return Err(RunFault::Script);
     };

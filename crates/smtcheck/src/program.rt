@@ -14,7 +14,7 @@ const REFUSED: u8 = 5;
 
 /// Runs the program, and answers its exit status: 0 to 3 by the verdict, 4 where there is no report, and 5 where the command line was
 /// refused or asked for help.
-pub fn start<R: Files + Env + AllocGlobal + Print + Eprint>(rt: &R) -> u8 {
+pub(crate) fn start<R: Files + Env + AllocGlobal + Print + Eprint>(rt: &R) -> u8 {
     let words = match words(rt) {
         Ok(words) => words,
         Err(error) if error.kind() == io::ErrorKind::InvalidData => {
@@ -30,7 +30,7 @@ pub fn start<R: Files + Env + AllocGlobal + Print + Eprint>(rt: &R) -> u8 {
 }
 
 /// The same for these words, the program's name first.
-pub fn run_words<R: Files + AllocGlobal + Print + Eprint>(rt: &R, words: &[&str]) -> u8 {
+pub(crate) fn run_words<R: Files + AllocGlobal + Print + Eprint>(rt: &R, words: &[&str]) -> u8 {
     match settings(rt.alloc(), words) {
         Ok(settings) => match run(rt, settings) {
             Ok(status) => status,
