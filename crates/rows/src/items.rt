@@ -3,7 +3,7 @@
 ghost use Rattle.smt_terms.specs.Library.{HasTheoriesOf};
 
 use crate::names::{print_counts, write_found};
-use crate::trees::{declare, print_answer, refuse, split_logic, tree_of};
+use crate::trees::{declare, print_answer, refuse, tree_of};
 use anyhow::{Result, bail};
 use row_texts::Field;
 use smt_terms::Library;
@@ -12,11 +12,14 @@ use std::io::Write;
 
 /// Prints what is answered to declarations, and then to items of a model of the declared names, in order. Each declaration is the
 /// command of its place behind the logic. An item that is refused defines nothing, and those behind it are answered all the same.
-pub(crate) fn print<W: Write>(alloc: Global, out: &mut W, fields: &[Field]) -> Result<()> {
-    let (theories, fields) = split_logic(alloc, fields)?;
-    let mut script = Library::new(alloc, theories);
-    let items = declare_all(alloc, out, &mut script, fields)?;
-    print_items(alloc, out, &script, items)
+pub(crate) fn print<W: Write>(
+    alloc: Global,
+    out: &mut W,
+    script: &mut Library,
+    fields: &[Field],
+) -> Result<()> {
+    let items = declare_all(alloc, out, script, fields)?;
+    print_items(alloc, out, script, items)
 }
 
 // Declares what the first fields say, and answers the fields behind the declarations.

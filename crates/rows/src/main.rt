@@ -9,8 +9,13 @@ mod terms;
 mod trees;
 mod values;
 
+ghost use Rattle.smt_terms.specs.Library.{StandsFor};
+ghost use Rattle.smt_terms.specs.Signature.{Signature};
+
+use crate::trees::split_logic;
 use anyhow::{Context, Result, bail};
 use row_texts::Field;
+use smt_terms::Library;
 use std::alloc::Global;
 use std::io::{BufWriter, Write};
 use std::rt::{Env, Files};
@@ -44,13 +49,39 @@ fn print_rows<W: Write>(alloc: Global, out: &mut W, text: &str) -> Result<()> {
 fn print_row<W: Write>(alloc: Global, out: &mut W, title: &Field, fields: &[Field]) -> Result<()> {
     writeln!(out, "{}", title.text)?;
     match title.key {
-        "terms" => terms::print(alloc, out, fields)?,
-        "values" => values::print(alloc, out, title, fields)?,
-        "models" => models::print(alloc, out, fields)?,
-        "items" => items::print(alloc, out, fields)?,
         "commands" => commands::print(alloc, out, fields)?,
-        key => bail!("line {}: `{key}` is no kind of row", title.line),
+        _ => print_over_library(alloc, out, title, fields)?,
     }
     writeln!(out)?;
     Ok(())
+}
+
+// Prints what is answered to a row over a library of the logic that its first field names, or of all theories.
+fn print_over_library<W: Write>(
+    alloc: Global,
+    out: &mut W,
+    title: &Field,
+    fields: &[Field],
+) -> Result<()> {
+    let (theories, fields) = split_logic(alloc, fields)?;
+    let mut library = Library::new(alloc, theories);
+    print_by_kind(alloc, out, &mut library, title, fields)
+}
+
+fn print_by_kind<W: Write>(
+    alloc: Global,
+    out: &mut W,
+    library: &mut Library,
+    title: &Field,
+    fields: &[Field],
+) -> Result<()>
+    requires { (s : Signature) × StandsFor library.old s }
+{
+    match title.key {
+        "terms" => terms::print(alloc, out, library, fields),
+        "values" => values::print(alloc, out, library, title, fields),
+        "models" => models::print(alloc, out, library, fields),
+        "items" => items::print(alloc, out, library, fields),
+        key => bail!("line {}: `{key}` is no kind of row", title.line),
+    }
 }

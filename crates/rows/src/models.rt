@@ -5,7 +5,7 @@ ghost use Rattle.smt_eval.specs.Interpretation.{Fits};
 ghost use Rattle.smt_terms.specs.Library.{HasTheoriesOf, StandsFor};
 ghost use Rattle.smt_terms.specs.Signature.{Signature};
 
-use crate::trees::{declare, parts_of, refuse, split_logic};
+use crate::trees::{declare, parts_of, refuse};
 use anyhow::{Result, bail};
 use row_texts::Field;
 use smt_eval::{Interpretation, ModelFault};
@@ -15,13 +15,7 @@ use std::alloc::Global;
 use std::io::Write;
 
 /// Prints what is answered to declarations and models, in order. Each declaration is the command of its place behind the logic.
-pub(crate) fn print<W: Write>(alloc: Global, out: &mut W, fields: &[Field]) -> Result<()> {
-    let (theories, fields) = split_logic(alloc, fields)?;
-    let mut library = Library::new(alloc, theories);
-    print_fields(alloc, out, &mut library, fields)
-}
-
-fn print_fields<W: Write>(
+pub(crate) fn print<W: Write>(
     alloc: Global,
     out: &mut W,
     library: &mut Library,

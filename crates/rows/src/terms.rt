@@ -1,7 +1,7 @@
 //! Rows of terms: each with its sort, or the first fault that is told of it; and of definitions, assertions and names.
 
 use crate::names::{print_counts, print_name, write_sort};
-use crate::trees::{declare, print_answer, refuse, split_logic, tree_of, trees_of};
+use crate::trees::{declare, print_answer, refuse, tree_of, trees_of};
 use anyhow::{Result, bail};
 use row_texts::Field;
 use smt_terms::{Library, are_named, params_of};
@@ -10,13 +10,7 @@ use std::alloc::Global;
 use std::io::Write;
 
 /// Prints what is answered to the fields, in order. Each declaration is the command of its place behind the logic.
-pub(crate) fn print<W: Write>(alloc: Global, out: &mut W, fields: &[Field]) -> Result<()> {
-    let (theories, fields) = split_logic(alloc, fields)?;
-    let mut library = Library::new(alloc, theories);
-    print_fields(alloc, out, &mut library, fields)
-}
-
-fn print_fields<W: Write>(
+pub(crate) fn print<W: Write>(
     alloc: Global,
     out: &mut W,
     library: &mut Library,

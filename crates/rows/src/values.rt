@@ -5,7 +5,7 @@ ghost use Rattle.smt_terms.specs.Library.{StandsFor};
 ghost use Rattle.smt_terms.specs.Signature.{Signature};
 
 use crate::models::print_model;
-use crate::trees::{refuse, split_logic, tree_of};
+use crate::trees::{refuse, tree_of};
 use anyhow::{Result, bail};
 use row_texts::Field;
 use smt_eval::plain::Closed;
@@ -19,15 +19,16 @@ use std::io::Write;
 pub(crate) fn print<W: Write>(
     alloc: Global,
     out: &mut W,
+    declared: &Library,
     title: &Field,
     fields: &[Field],
-) -> Result<()> {
-    let (theories, fields) = split_logic(alloc, fields)?;
+) -> Result<()>
+    requires { (s : Signature) × StandsFor declared.now s }
+{
     let Some((first, terms)) = fields.split_first() else {
         bail!("line {}: a row of values has a model", title.line);
     };
-    let declared = Library::new(alloc, theories);
-    print_values(alloc, out, &declared, first, terms)
+    print_values(alloc, out, declared, first, terms)
 }
 
 fn print_values<W: Write>(
