@@ -17,12 +17,12 @@ use Rattle.smt_theory.specs.declared.op.Op.{Op}
 use Rattle.smt_theory.specs.declared.op.OpFault.{OpFault}
 use Rattle.smt_values.specs.Element.{Element, known_element, known_elements}
 use Rattle.smt_values.specs.declared.value.Value.{Value}
-use Rattle.smt_terms.specs.Bindings.{let_form}
-use Rattle.smt_terms.specs.Identifier.{Identifier, Plain, Indexed, all_indexes, applied, indexed, operator_of}
-use Rattle.smt_terms.specs.ScopeView.{scope_view}
+use Rattle.smt_forms.specs.Bindings.{let_form}
+use Rattle.smt_forms.specs.Identifier.{Identifier, Plain, Indexed, all_indexes, applied, indexed, operator_of}
+use Rattle.smt_forms.specs.ScopeView.{scope_view}
 use Rattle.smt_terms.specs.Signature.{AreDistinct, Entry, Origin, Defined, Signature, entry_named}
 use Rattle.smt_faults.specs.declared.term_fault.TermFault.TheVariants.{Form}
-use Rattle.smt_terms.specs.declared.scope.Variable.{Variable}
+use Rattle.smt_forms.specs.declared.scope.Variable.{Variable}
 use Rattle.smt_terms.proofs.EntryLemmas.{entry_named-take}
 use Rattle.smt_terms.proofs.NameLemmas.{none_step, same_self}
 use Rattle.smt_eval.specs.Internal.DefinitionValues.{definition_values, first, kept_value, values_after}

@@ -11,7 +11,7 @@ use Rattle.smt_theory.specs.declared.theories.Theories.{Theories}
 use Rattle.smt_values.specs.Element.{Element}
 use Rattle.smt_values.specs.KnownOperations.{known_step}
 use Rattle.smt_values.specs.Literals.{bin_element, hex_element, numeral_element}
-use Rattle.smt_terms.specs.Identifier.{Identifier, Plain, Indexed, applied, indexed, operator_of}
+use Rattle.smt_forms.specs.Identifier.{Identifier, Plain, Indexed, applied, indexed, operator_of}
 use Rattle.smt_terms.specs.Signature.{Entry, Origin, Declared, Defined, Signature}
 use Rattle.smt_faults.specs.declared.term_fault.TermFault.{TermFault}
 

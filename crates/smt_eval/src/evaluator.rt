@@ -9,7 +9,7 @@ ghost use Rattle.smt_values.specs.KnownOperations.{known_step};
 ghost use Rattle.smt_values.specs.Element.{known_element, known_elements};
 ghost use Rattle.smt_theory.specs.declared.op.CoreOp.TheVariants.{Ite};
 ghost use Rattle.smt_theory.specs.declared.op.Op.TheVariants.{Core};
-ghost use Rattle.smt_terms.specs.Identifier.{applied, indexed};
+ghost use Rattle.smt_forms.specs.Identifier.{applied, indexed};
 ghost use Rattle.smt_terms.specs.Signature.{Signature};
 ghost use Rattle.smt_eval.specs.Internal.Evaluation.{Evaluates, known_scope, meaning_over};
 ghost use Rattle.smt_eval.specs.Known.{known_by, known_of, knowns_bound, knowns_of};
@@ -18,10 +18,10 @@ use crate::calls::{known_applied, known_at, known_of_operator, known_plain};
 use crate::definitions::{Definitions, place_of};
 use crate::memory::Memory;
 use crate::scope::push_variable;
-use smt_terms::{
-    TermFault, Variable, applied_identifier, find_variable, indexed_identifier, split_let,
-    split_named,
+use smt_forms::{
+    Variable, applied_identifier, find_variable, indexed_identifier, split_let, split_named,
 };
+use smt_terms::TermFault;
 use smt_theory::{CoreOp, Op, op_of};
 use smt_trees::{Tree, Trees, Word, split_first};
 use smt_values::{Value, apply, bin, hex, numeral};

@@ -6,7 +6,7 @@ ghost use Rattle.smt_values.specs.Element.{known_element, known_elements};
 ghost use Rattle.smt_eval.specs.Internal.Evaluation.{known_scope};
 
 use crate::memory::Memory;
-use smt_terms::Variable;
+use smt_forms::Variable;
 use smt_theory::Sort;
 use smt_values::Value;
 use std::alloc::Global;

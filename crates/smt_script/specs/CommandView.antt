@@ -2,7 +2,7 @@
 use Rattle.std.specs.Prelude.{option_map}
 use Rattle.std.specs.Str.Parse.{digits_value}
 use Rattle.smt_trees.specs.Tree.{sexp_of}
-use Rattle.smt_terms.specs.Bindings.{named_trees}
+use Rattle.smt_forms.specs.Bindings.{named_trees}
 use Rattle.smt_script.specs.Command as spec
 use Rattle.smt_script.specs.declared.command.Command.{Command}
 use Rattle.smt_script.specs.declared.command.Command.TheVariants.{SetLogic, SetPrintSuccess, SetOption, SetInfo, DeclareConst, DeclareFun, DefineFun, DefineSort, Assert, Push, Pop, Reset, ResetAssertions, Exit, CheckSat, GetModel, Echo, Get}

@@ -2,7 +2,7 @@
 use Rattle.std.specs.Prelude.{ℕ, List, Bool, true, false, Option, Some, None, codes, if◌then◌else◌}
 use Rattle.std.specs.Str.Parse.{digits_value}
 use Rattle.smt_trees.specs.Sexp.{Sexp, Sexps, Atom, Items, Nil, Cons, Keyword, Numeral, Symbol, Text, is_symbol}
-use Rattle.smt_terms.specs.Bindings.{are_named_trees, named_trees}
+use Rattle.smt_forms.specs.Bindings.{are_named_trees, named_trees}
 
 abbrev pub is_none : Sexps → Bool
 is_none Nil = true

@@ -4,7 +4,7 @@ use Rattle.smt_trees.specs.Sexp.{Sexp, Sexps, Atom, Reserved, Items, Nil, Cons, 
 use Rattle.smt_trees.specs.declared.reserved.Word.TheVariants.{Bang, Let}
 use Rattle.smt_theory.specs.Words.{look_up, result_and_then}
 use Rattle.smt_theory.specs.declared.sort.Sort.{Sort}
-use Rattle.smt_terms.specs.Bindings.{are_attributes, are_bindings}
+use Rattle.smt_forms.specs.Bindings.{are_attributes, are_bindings}
 use Rattle.smt_terms.specs.Checking.{bound_in, fault_of_labels, sort_in, unless}
 use Rattle.smt_terms.specs.Labels.{labels_among, labels_in, labels_in_bindings}
 use Rattle.smt_terms.specs.Signature.{Names, behind}

@@ -7,9 +7,9 @@ use Rattle.smt_trees.specs.Sexp.{Sexp, Sexps, Atom, Reserved, Items, Nil, Cons, 
 use Rattle.smt_trees.specs.declared.reserved.Word.TheVariants.{Bang, Let, Underscore}
 use Rattle.smt_theory.specs.Words.{look_up, result_and_then}
 use Rattle.smt_theory.specs.declared.sort.Sort.{Sort}
-use Rattle.smt_terms.specs.Bindings.{are_attributes, are_bindings, named_trees}
+use Rattle.smt_forms.specs.Bindings.{are_attributes, are_bindings, named_trees}
 use Rattle.smt_terms.specs.Checking.{bound_in, fault_of_labels, sort_applied, sort_in, sort_of_call, sort_of_symbol, sort_unless_variable, sorts_in, unless}
-use Rattle.smt_terms.specs.Identifier.{Identifier, Plain, Indexed, applied}
+use Rattle.smt_forms.specs.Identifier.{Identifier, Plain, Indexed, applied}
 use Rattle.smt_terms.specs.Labels.{Unread, any_uses_outer, bindings_use_outer, is_among, labels_among, labels_in, labels_in_bindings, uses_outer}
 use Rattle.smt_terms.specs.Signature.{Names, behind}
 use Rattle.smt_faults.specs.declared.term_fault.TermFault.{TermFault}

@@ -10,10 +10,10 @@ use Rattle.smt_theory.specs.declared.sort.Sort.{Sort}
 use Rattle.smt_theory.specs.declared.sort.Sort.TheVariants.{Bool as Boolean}
 use Rattle.smt_theory.specs.declared.theories.Theories.{Theories}
 use Rattle.smt_terms.specs.Assertions.{asserted_in, label_entries, label_or_none}
-use Rattle.smt_terms.specs.Bindings.{are_attributes, are_bindings}
+use Rattle.smt_forms.specs.Bindings.{are_attributes, are_bindings}
 use Rattle.smt_terms.specs.Checking.{bound_in, fault_of_label, fault_of_labels, sort_in, sort_of_call, sorts_in, unless}
 use Rattle.smt_terms.specs.Definitions.{definition}
-use Rattle.smt_terms.specs.Identifier.{applied}
+use Rattle.smt_forms.specs.Identifier.{applied}
 use Rattle.smt_terms.specs.Labels.{Labels, Refused, Given, Unread, is_among, labels_among, labels_in, labels_in_all, labels_in_bindings, uses_variable, with_labels}
 use Rattle.smt_terms.specs.Signature.{Entry, Names, Rank, Signature, behind, entry_named, in_assertion, is_taken, names_of, rank_of_entry, ranks_of, unlabelled, unlabelled_over}
 use Rattle.smt_terms.specs.WellSorted.{AreIntroduced, Keeps}

@@ -8,7 +8,7 @@ use Rattle.smt_trees.specs.Tree.{sexp_of}
 use Rattle.smt_theory.specs.Words.{look_up}
 use Rattle.smt_theory.specs.declared.sort.Sort.{Sort}
 use Rattle.smt_terms.specs.Checking.{fault_of_label, fault_of_labels, is_underscore_tree, sort_in, sort_of_call, sort_of_plain, sort_unless_variable}
-use Rattle.smt_terms.specs.Identifier.{Identifier, Plain, Indexed}
+use Rattle.smt_forms.specs.Identifier.{Identifier, Plain, Indexed}
 use Rattle.smt_terms.specs.Internal.Attributes.{label_of_tree}
 use Rattle.smt_terms.specs.Internal.Heads.{is_bang_tree, is_let_tree}
 use Rattle.smt_terms.specs.Internal.LabelsView.{AreGiven, AreSorted, given_names, given_terms, labels_view}

@@ -1,5 +1,4 @@
 pub mod NameLemmas
-pub mod IdentifierLemmas
 pub mod EntryLemmas
 pub mod LibraryLemmas
 pub mod SortLemmas

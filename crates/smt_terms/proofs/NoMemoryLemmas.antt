@@ -17,9 +17,9 @@ use Rattle.smt_theory.specs.declared.sort.Sort.{Sort}
 use Rattle.smt_theory.specs.declared.sort.Sort.TheVariants.{Bits}
 use Rattle.smt_theory.specs.declared.theories.Theories.{Theories}
 use Rattle.smt_terms.specs.Checking.{sort_of_rank, sort_of_operator, sort_of_plain, sort_applied, sort_of_symbol, sort_unless_variable, sort_of_call, bound_in, fault_of_label, fault_of_labels, sort_in, sorts_in, unless}
-use Rattle.smt_terms.specs.Bindings.{are_attributes, are_bindings, are_named_trees, named_trees}
+use Rattle.smt_forms.specs.Bindings.{are_attributes, are_bindings, are_named_trees, named_trees}
 use Rattle.smt_terms.specs.Definitions.{defined_in, definition, definition_in, parameters_named}
-use Rattle.smt_terms.specs.Identifier.{Identifier, Plain, Indexed, all_indexes, applied, indexed, word_fault}
+use Rattle.smt_forms.specs.Identifier.{Identifier, Plain, Indexed, all_indexes, applied, indexed, word_fault}
 use Rattle.smt_terms.specs.Items.{ItemForm, declared_named, defined_as, form_in, has_rank_of, item_form, item_in, items_before, name_fault}
 use Rattle.std.specs.Option.{option_or}
 use Rattle.smt_theory.specs.declared.sort.Sort.TheVariants.{Bool as Boolean}

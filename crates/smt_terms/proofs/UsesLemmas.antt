@@ -2,7 +2,7 @@
 use Rattle.std.proofs.Common.{◌≡◌, ℕ, Bool, true, false, ◌||◌, List, [], ◌++◌, map, None, Result, Ok, Err, IfOk, refl, ap, sym, ◌∙◌}
 use Rattle.smt_trees.specs.Sexp.{Sexp, Sexps, Atom, Reserved, Items, Nil, Cons, Symbol}
 use Rattle.smt_trees.specs.declared.reserved.Word.TheVariants.{Bang, Let, Underscore}
-use Rattle.smt_terms.specs.Bindings.{first_named, let_form, named_trees}
+use Rattle.smt_forms.specs.Bindings.{first_named, let_form, named_trees}
 use Rattle.smt_terms.specs.Checking.{is_underscore_tree}
 use Rattle.smt_terms.specs.Internal.Heads.{is_bang_tree, is_let_tree}
 use Rattle.smt_terms.specs.Labels.{any_uses_outer, bindings_use_outer, uses_outer}

@@ -13,8 +13,8 @@ use Rattle.smt_theory.specs.declared.op.Op.{Op}
 use Rattle.smt_theory.specs.declared.op.OpFault.{OpFault}
 use Rattle.smt_theory.specs.declared.op.OpFault.TheVariants as ops
 use Rattle.smt_theory.specs.declared.sort.Sort.{Sort}
-use Rattle.smt_terms.specs.Bindings.{are_attributes, are_bindings}
-use Rattle.smt_terms.specs.Identifier.{Identifier, Plain, Indexed, applied, indexed}
+use Rattle.smt_forms.specs.Bindings.{are_attributes, are_bindings}
+use Rattle.smt_forms.specs.Identifier.{Identifier, Plain, Indexed, applied, indexed}
 use Rattle.smt_terms.specs.Labels.{Labels, Refused, Given, Unread, is_among, labels_among, labels_in, labels_in_bindings, uses_variable}
 use Rattle.smt_terms.specs.Signature.{Names, Rank, behind, is_taken}
 use Rattle.smt_terms.specs.SortTrees.{bit_vectors, integers}

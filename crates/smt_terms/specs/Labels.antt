@@ -6,7 +6,7 @@ use Rattle.smt_trees.specs.Sexp.{Sexp, Sexps, Atom, Reserved, Items, Nil, Cons, 
 use Rattle.smt_trees.specs.declared.reserved.Word.TheVariants.{Bang, Let, Underscore}
 use Rattle.smt_theory.specs.Words.{look_up}
 use Rattle.smt_theory.specs.declared.sort.Sort.{Sort}
-use Rattle.smt_terms.specs.Bindings.{is_label, named_trees}
+use Rattle.smt_forms.specs.Bindings.{is_label, named_trees}
 
 -- ---- the labels of a term
 

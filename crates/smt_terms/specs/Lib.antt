@@ -1,14 +1,9 @@
-pub mod Bindings
-pub mod Identifier
-pub mod IdentifierView
 pub mod SortTrees
 pub mod Labels
 pub mod Signature
 pub mod Checking
 pub mod Definitions
 pub mod Assertions
-pub mod ParamView
-pub mod ScopeView
 pub mod Items
 pub mod WellSorted
 pub mod Contents

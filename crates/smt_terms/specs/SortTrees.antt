@@ -9,7 +9,7 @@ use Rattle.smt_theory.specs.declared.sort.Sort.TheVariants.{Bool as Boolean, Int
 use Rattle.smt_theory.specs.declared.theories.Theories.{Theories}
 use Rattle.smt_theory.specs.Width.{width_of}
 use Rattle.smt_theory.specs.Words.{look_up, result_and_then}
-use Rattle.smt_terms.specs.Identifier.{all_indexes}
+use Rattle.smt_forms.specs.Identifier.{all_indexes}
 use Rattle.smt_faults.specs.declared.term_fault.TermFault.{TermFault}
 use Rattle.smt_faults.specs.declared.term_fault.TermFault.TheVariants.{Form, Unsupported, Unknown, Index, NotFresh}
 

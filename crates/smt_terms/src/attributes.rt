@@ -3,8 +3,8 @@
 ghost use Rattle.std.specs.Prelude.{◌≡◌, ◌≤◌, ◌∷◌, [], false, None, MatchOption};
 ghost use Rattle.smt_trees.specs.Sexp.{Atom, Cons, Keyword, weight_all};
 ghost use Rattle.smt_trees.specs.Tree.{sexp_of, sexps_of};
-ghost use Rattle.smt_terms.specs.Bindings as bindings;
-ghost use Rattle.smt_terms.specs.Bindings.{is_symbol_tree, go_on_behind};
+ghost use Rattle.smt_forms.specs.Bindings as bindings;
+ghost use Rattle.smt_forms.specs.Bindings.{is_symbol_tree, go_on_behind};
 ghost use Rattle.smt_terms.specs.Internal.Attributes.{first_keyword, has_value, is_keyword_tree, is_label_tree, label_of_tree};
 
 use smt_trees::{Tree, split_first};

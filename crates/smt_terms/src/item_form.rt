@@ -8,8 +8,8 @@ ghost use Rattle.smt_terms.specs.Internal.ItemView.{form_of};
 ghost use Rattle.smt_terms.specs.Items as items;
 ghost use Rattle.smt_faults.specs.declared.term_fault.TermFault.TheVariants.{Form};
 
-use crate::bindings::are_named;
 use smt_faults::TermFault;
+use smt_forms::are_named;
 use smt_trees::{Tree, Word, split_first};
 
 // The parts of an item.

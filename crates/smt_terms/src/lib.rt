@@ -9,10 +9,8 @@
 #![tactic(auto)]
 
 mod attributes;
-mod bindings;
 mod definitions;
 mod heads;
-mod identifier;
 mod item_form;
 mod labels;
 pub mod laws;
@@ -21,9 +19,5 @@ mod scope;
 mod sorts;
 mod variables;
 
-pub use bindings::{are_named, split_let, split_named};
-pub use definitions::{Param, params_of};
-pub use identifier::{Identifier, applied_identifier, indexed_identifier};
 pub use library::{Declared, Definition, Found, Library, Mark, TermId};
-pub use scope::{Variable, find_variable};
 pub use smt_faults::TermFault;

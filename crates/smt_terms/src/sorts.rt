@@ -12,9 +12,9 @@ ghost use Rattle.smt_terms.specs.SortTrees.{abbreviated_in, is_sort_taken, sort_
 ghost use Rattle.smt_faults.specs.declared.term_fault.TermFault.TheVariants.{Memory};
 ghost use Rattle.smt_terms.specs.SortTrees as sorts;
 
-use crate::identifier::are_indexes;
 use indexmap::IndexMap;
 use smt_faults::TermFault;
+use smt_forms::are_indexes;
 use smt_theory::{Sort, Theories, Width, number};
 use smt_trees::{Tree, Word, split_first};
 use std::alloc::Global;

@@ -5,15 +5,14 @@ ghost use Rattle.smt_trees.specs.Sexp.{Cons, Items, Reserved};
 ghost use Rattle.smt_trees.specs.Tree.{sexp_of, sexps_of};
 ghost use Rattle.smt_trees.specs.declared.reserved.Word.TheVariants.{Bang, Let};
 ghost use Rattle.smt_theory.specs.Words.{look_up};
-ghost use Rattle.smt_terms.specs.Bindings.{named_trees};
+ghost use Rattle.smt_forms.specs.Bindings.{named_trees};
 ghost use Rattle.smt_terms.specs.Labels as labels;
-ghost use Rattle.smt_terms.specs.ScopeView.{scope_view};
+ghost use Rattle.smt_forms.specs.ScopeView.{scope_view};
 ghost use Rattle.smt_faults.specs.declared.term_fault.TermFault.TheVariants.{Memory};
 
-use crate::bindings::{split_let, split_named};
 use crate::heads::{is_bang, is_let, is_underscore};
-use crate::scope::{Variable, find_variable};
 use smt_faults::TermFault;
+use smt_forms::{Variable, find_variable, split_let, split_named};
 use smt_theory::Sort;
 use smt_trees::{Tree, Trees, split_first};
 use std::alloc::Global;

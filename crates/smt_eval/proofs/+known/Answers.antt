@@ -7,8 +7,8 @@ use Rattle.smt_theory.specs.Index.{index_view}
 use Rattle.smt_theory.specs.Operators.{op_by}
 use Rattle.smt_values.specs.Element.{known_element, known_elements}
 use Rattle.smt_values.specs.KnownOperations.{known_step}
-use Rattle.smt_terms.specs.Identifier.{applied}
-use Rattle.smt_terms.specs.IdentifierView.{identifier_view}
+use Rattle.smt_forms.specs.Identifier.{applied}
+use Rattle.smt_forms.specs.IdentifierView.{identifier_view}
 use Rattle.smt_terms.specs.Signature.{Defined}
 use Rattle.smt_eval.specs.Internal.DefinitionValues.{first}
 use Rattle.smt_eval.specs.Internal.Evaluation.{bodies_of, known_scope, meaning_over}

@@ -6,7 +6,7 @@ use Rattle.smt_values.specs.declared.value.Value.{Value}
 use Rattle.smt_terms.specs.Library.{StandsFor, definitions_of, term_at}
 use Rattle.smt_terms.specs.Signature.{AreDistinct, Signature}
 use Rattle.smt_terms.specs.declared.library.Library.{Library}
-use Rattle.smt_terms.specs.declared.scope.Variable.{Variable}
+use Rattle.smt_forms.specs.declared.scope.Variable.{Variable}
 use Rattle.smt_eval.specs.Internal.DefinitionValues.{AllDefined, definition_values, first}
 use Rattle.smt_eval.specs.Known.{KnownMeaning, known_in}
 use Rattle.smt_eval.specs.Structure.{structure_of}

@@ -3,13 +3,13 @@
 ghost use Rattle.std.specs.Prelude.{◌≡◌, Some, None, option_map, if◌then◌else◌};
 ghost use Rattle.std.specs.Str.Parse.{digits_value};
 ghost use Rattle.smt_trees.specs.Tree.{sexp_of, sexps_of};
-ghost use Rattle.smt_terms.specs.Bindings.{named_trees};
+ghost use Rattle.smt_forms.specs.Bindings.{named_trees};
 ghost use Rattle.smt_script.specs.Command as commands;
 ghost use Rattle.smt_script.specs.Internal.PartsView.{one_value, parts_view};
 ghost use Rattle.smt_script.specs.Parts as shapes;
 
 use crate::forms::parts::Parts;
-use smt_terms::are_named;
+use smt_forms::are_named;
 use smt_trees::{Bytes, Tree, Trees, split_first};
 
 pub(crate) fn one_symbol(mut parts: Parts) -> Option<Bytes>

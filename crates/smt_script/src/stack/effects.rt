@@ -4,7 +4,7 @@ ghost use Rattle.std.specs.Prelude.{◌≡◌, ◌∷◌, ℕ, List, [], IfErr, 
 ghost use Rattle.std.specs.Str.Parse.{digits_value};
 ghost use Rattle.smt_trees.specs.Sexp.{Sexp};
 ghost use Rattle.smt_trees.specs.Tree.{sexp_of, sexps_of};
-ghost use Rattle.smt_terms.specs.Bindings.{named_trees};
+ghost use Rattle.smt_forms.specs.Bindings.{named_trees};
 ghost use Rattle.smt_script.specs.Command as commands;
 ghost use Rattle.smt_script.specs.Command.{SetLogic, DeclareConst, DeclareFun, DefineFun, DefineSort, Assert, Push, Pop};
 ghost use Rattle.smt_script.specs.CommandView.{command_view};
@@ -15,8 +15,9 @@ ghost use Rattle.smt_script.specs.Internal.Effect.{HasEffect, IsRefused, IsUncha
 use crate::command::Command;
 use crate::stack::{Assertion, Stack, all_theories};
 use smt_faults::CommandFault;
+use smt_forms::params_of;
+use smt_terms::Library;
 use smt_terms::laws::faults_are_no_memory;
-use smt_terms::{Library, params_of};
 use smt_theory::theories_of;
 use smt_trees::Tree;
 

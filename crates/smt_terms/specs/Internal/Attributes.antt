@@ -1,7 +1,7 @@
 -- Attributes, by the trees that they begin with.
 use Rattle.std.specs.Prelude.{ℕ, List, [], Bool, true, false, Option, Some, None}
 use Rattle.smt_trees.specs.Sexp.{Sexp, Sexps, Atom, Cons, Keyword}
-use Rattle.smt_terms.specs.Bindings.{is_label}
+use Rattle.smt_forms.specs.Bindings.{is_label}
 use Rattle.smt_terms.specs.Labels.{label_at}
 
 -- the first tree, if it is a keyword

@@ -4,7 +4,7 @@ use Rattle.smt_trees.specs.Sexp.{Sexp, Reserved}
 use Rattle.smt_trees.specs.declared.reserved.Word.TheVariants.{Bang, Let}
 use Rattle.smt_theory.specs.Words.{look_up}
 use Rattle.smt_theory.specs.declared.sort.Sort.{Sort}
-use Rattle.smt_terms.specs.Identifier.{Identifier, Plain, Indexed}
+use Rattle.smt_forms.specs.Identifier.{Identifier, Plain, Indexed}
 
 abbrev pub is_let_tree : Sexp → Bool
 is_let_tree (Reserved Let) = true

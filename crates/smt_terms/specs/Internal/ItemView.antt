@@ -1,6 +1,6 @@
 -- What a contract sees of the parts of an item.
 use Rattle.smt_trees.specs.Tree.{sexp_of, sexps_of}
-use Rattle.smt_terms.specs.Bindings.{named_trees}
+use Rattle.smt_forms.specs.Bindings.{named_trees}
 use Rattle.smt_terms.specs.Items as items
 use Rattle.smt_terms.specs.declared.item_form.ItemForm.{ItemForm}
 

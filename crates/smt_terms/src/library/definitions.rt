@@ -8,18 +8,18 @@ ghost use Rattle.smt_terms.specs.Contents.{Extends, contents_of};
 ghost use Rattle.smt_terms.specs.Definitions.{defined_in, definition, definition_in};
 ghost use Rattle.smt_terms.specs.Internal.LibraryView.{names_of_library, ranks_of_library};
 ghost use Rattle.smt_terms.specs.Library.{IsTerm, StandsFor};
-ghost use Rattle.smt_terms.specs.ParamView.{param_view};
-ghost use Rattle.smt_terms.specs.ScopeView.{scope_view};
+ghost use Rattle.smt_forms.specs.ParamView.{param_view};
+ghost use Rattle.smt_forms.specs.ScopeView.{scope_view};
 ghost use Rattle.smt_terms.specs.Signature as signature;
 ghost use Rattle.smt_terms.specs.Signature.{Signature, names_of, with_entry};
 ghost use Rattle.smt_faults.specs.declared.term_fault.TermFault.TheVariants.{Memory};
 
-use crate::definitions::{Param, named_parameters, sorted_params, sorts_of_variables};
+use crate::definitions::{named_parameters, sorted_params, sorts_of_variables};
 use crate::labels::Labels;
 use crate::library::items::are_equal;
 use crate::library::{Definition, Entry, Found, Library, TermId};
-use crate::scope::Variable;
 use smt_faults::TermFault;
+use smt_forms::{Param, Variable};
 use smt_theory::Sort;
 use smt_trees::Tree;
 

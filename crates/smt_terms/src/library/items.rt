@@ -10,7 +10,7 @@ ghost use Rattle.smt_terms.specs.Contents.{Extends, contents_of};
 ghost use Rattle.smt_terms.specs.Internal.LibraryView.{names_of_library, rank_of};
 ghost use Rattle.smt_terms.specs.Items.{declared_named, has_rank_of, item_in, name_fault};
 ghost use Rattle.smt_terms.specs.Library.{HasTheoriesOf, IsTerm, StandsFor};
-ghost use Rattle.smt_terms.specs.ScopeView.{scope_view};
+ghost use Rattle.smt_forms.specs.ScopeView.{scope_view};
 ghost use Rattle.smt_terms.specs.Signature as signature;
 ghost use Rattle.smt_terms.specs.Signature.{Signature, is_taken, names_of, no_names, rank_of_entry, with_entry};
 ghost use Rattle.smt_terms.specs.SortTrees.{sort_named};
@@ -20,8 +20,8 @@ use crate::definitions::{sorted_params_of, sorts_of_variables};
 use crate::item_form::item_form;
 use crate::library::checker::are_same;
 use crate::library::{Entry, Found, Library};
-use crate::scope::Variable;
 use smt_faults::TermFault;
+use smt_forms::Variable;
 use smt_theory::Sort;
 use smt_trees::Tree;
 

@@ -1,7 +1,7 @@
 use Rattle.std.proofs.Common.{[], ap, sym, ◌∙◌}
 use Rattle.smt_trees.specs.Tree.{sexps_of}
-use Rattle.smt_terms.specs.Identifier.{operator_of}
-use Rattle.smt_terms.specs.IdentifierView.{identifier_view}
+use Rattle.smt_forms.specs.Identifier.{operator_of}
+use Rattle.smt_forms.specs.IdentifierView.{identifier_view}
 use Rattle.smt_eval.specs.Internal.Evaluation.{meaning_over}
 use Rattle.smt_eval.specs.Known.{known_by, known_of_op}
 use Rattle.smt_eval.proofs.EvaluatorLemmas.{indexed_means}

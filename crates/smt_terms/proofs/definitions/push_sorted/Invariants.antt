@@ -1,8 +1,8 @@
 use Rattle.std.proofs.Common.{◌≡◌, [], drop, map}
 use Rattle.smt_terms.specs.Definitions.{parameters_named}
 use Rattle.smt_terms.specs.Internal.LibraryView.{sort_names}
-use Rattle.smt_terms.specs.ParamView.{param_view}
-use Rattle.smt_terms.specs.ScopeView.{scope_view}
+use Rattle.smt_forms.specs.ParamView.{param_view}
+use Rattle.smt_forms.specs.ScopeView.{scope_view}
 use Rattle.smt_terms.proofs.definitions.push_sorted.Given as goal
 
 abbrev pub invariant-loop-param : goal.invariant-loop-param

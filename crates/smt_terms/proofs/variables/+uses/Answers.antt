@@ -3,7 +3,7 @@ use Rattle.smt_trees.specs.Sexp.{Cons, Items, Reserved, weight_all}
 use Rattle.smt_trees.specs.Tree.{sexp_of, sexps_of}
 use Rattle.smt_trees.specs.declared.reserved.Word.TheVariants.{Bang, Let}
 use Rattle.smt_terms.specs.Labels.{uses_outer}
-use Rattle.smt_terms.specs.ScopeView.{scope_view}
+use Rattle.smt_forms.specs.ScopeView.{scope_view}
 use Rattle.smt_terms.proofs.CheckerLemmas.{bang_head, let_head}
 use Rattle.smt_terms.proofs.UsesLemmas.{let_uses_body, let_uses_bindings, no_let, other_list, used_as}
 use Rattle.smt_terms.proofs.variables.+uses.Goals as goal

@@ -2,8 +2,8 @@ use Rattle.std.proofs.Common.{◌≡◌, ℕ, true, List, [], ◌∷◌, length,
 use Rattle.std.specs.Bool.{◌==◌}
 use Rattle.smt_trees.specs.Tree.{sexp_of}
 use Rattle.smt_theory.specs.declared.sort.Sort.{Sort}
-use Rattle.smt_terms.specs.ScopeView.{scope_view}
-use Rattle.smt_terms.specs.declared.scope.Variable.{Variable}
+use Rattle.smt_forms.specs.ScopeView.{scope_view}
+use Rattle.smt_forms.specs.declared.scope.Variable.{Variable}
 use Rattle.smt_terms.proofs.ClosedLemmas.{uses_no_variable}
 use Rattle.smt_terms.proofs.variables.uses_variable.Goals as goal
 

@@ -2,9 +2,9 @@ use Rattle.std.proofs.Common.{◌≡◌, ◌⊎◌, Err, ℕ, List, map, ap, sub
 use Rattle.std.proofs.lemmas.Result.{err_from_is_err_and}
 use Rattle.smt_trees.specs.Sexp.{Sexp}
 use Rattle.smt_trees.specs.Tree.{sexp_of, sexps_of}
-use Rattle.smt_terms.specs.Bindings.{named_trees}
+use Rattle.smt_forms.specs.Bindings.{named_trees}
 use Rattle.smt_terms.specs.Definitions.{defined_in}
-use Rattle.smt_terms.specs.ParamView.{param_view}
+use Rattle.smt_forms.specs.ParamView.{param_view}
 use Rattle.smt_faults.specs.declared.term_fault.TermFault.TheVariants.{Memory}
 use Rattle.smt_script.specs.Stack.{signature_in_force}
 use Rattle.smt_script.proofs.EffectLemmas.{DefinesIn, define_effect, refused_by, unchanged_by}

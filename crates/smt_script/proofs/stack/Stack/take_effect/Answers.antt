@@ -1,7 +1,7 @@
 use Rattle.std.proofs.Common.{◌≡◌, ℕ, List, Result, Ok, Err, IfErr, OnOk, ap, sym, ◌∙◌}
 use Rattle.std.specs.Str.Parse.{digits_value}
 use Rattle.smt_trees.specs.Tree.{sexp_of, sexps_of}
-use Rattle.smt_terms.specs.Bindings.{named_trees}
+use Rattle.smt_forms.specs.Bindings.{named_trees}
 use Rattle.smt_script.specs.Command.{Command, DefineFun, DefineSort, Pop, Push, Reset, ResetAssertions, SetLogic}
 use Rattle.smt_script.specs.CommandView.{command_view}
 use Rattle.smt_script.specs.Internal.Effect.{HasEffect, IsRefused}

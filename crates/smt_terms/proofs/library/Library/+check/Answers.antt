@@ -3,13 +3,13 @@ use Rattle.std.proofs.lemmas.List.{length-append, map-append}
 use Rattle.std.proofs.lemmas.Result.{err_from_is_err_and}
 use Rattle.smt_trees.specs.Sexp.{Cons, Items, count, weight_all}
 use Rattle.smt_trees.specs.Tree.{sexp_of, sexps_of}
-use Rattle.smt_terms.specs.Bindings.{are_named_trees}
+use Rattle.smt_forms.specs.Bindings.{are_named_trees}
 use Rattle.smt_terms.specs.Checking.{sort_in, sort_of_call}
-use Rattle.smt_terms.specs.IdentifierView.{identifier_view}
+use Rattle.smt_forms.specs.IdentifierView.{identifier_view}
 use Rattle.smt_terms.specs.Internal.LabelsView.{labels_view}
 use Rattle.smt_terms.specs.Internal.LibraryView.{names_for, names_of_library}
 use Rattle.smt_terms.specs.Labels.{labels_in, labels_in_all, labels_in_bindings}
-use Rattle.smt_terms.specs.ScopeView.{scope_view}
+use Rattle.smt_forms.specs.ScopeView.{scope_view}
 use Rattle.smt_terms.specs.Signature.{unlabelled}
 use Rattle.smt_terms.proofs.BinderLemmas.{annotated, bang_in, bound_in-next, fault_of_annotated, fault_of_annotation, fault_of_bindings, let_in, let_of_body}
 use Rattle.smt_terms.proofs.CheckerLemmas.{applied_ok, bang_head, carried, fault_of_args, let_head, count-trees, sorts_behind-next, sorts_behind-start, told}

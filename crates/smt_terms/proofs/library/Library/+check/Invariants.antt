@@ -2,12 +2,12 @@ use Rattle.std.proofs.Common.{◌≡◌, ◌+◌, ◌*◌, ◌≤◌, [], true}
 use Rattle.smallvec.specs.SmallVec.{HasRoomFor}
 use Rattle.smt_trees.specs.Sexp.{count, weight, weight_all}
 use Rattle.smt_trees.specs.Tree.{sexp_of, sexps_of}
-use Rattle.smt_terms.specs.Bindings.{are_named_trees}
+use Rattle.smt_forms.specs.Bindings.{are_named_trees}
 use Rattle.smt_terms.specs.Checking.{bound_in, sorts_in}
 use Rattle.smt_terms.specs.Internal.LabelsView.{labels_view}
 use Rattle.smt_terms.specs.Internal.LibraryView.{names_for, names_of_library}
 use Rattle.smt_terms.specs.Labels.{labels_in_all, labels_in_bindings}
-use Rattle.smt_terms.specs.ScopeView.{scope_view}
+use Rattle.smt_forms.specs.ScopeView.{scope_view}
 use Rattle.smt_terms.proofs.CheckerLemmas.{sorts_behind}
 use Rattle.smt_terms.proofs.LabelLemmas.{AreGivenOf}
 use Rattle.smt_terms.proofs.library.Library.+check.Given as goal

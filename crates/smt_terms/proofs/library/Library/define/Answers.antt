@@ -2,8 +2,8 @@ use Rattle.std.proofs.Common.{rules, map, ap, sym, ◌∙◌}
 use Rattle.std.proofs.lemmas.Result.{IfErr-weaker, on_ok_weaker}
 use Rattle.smt_trees.specs.Tree.{sexp_of}
 use Rattle.smt_terms.specs.Definitions.{defined_in, definition_in}
-use Rattle.smt_terms.specs.ParamView.{param_view}
-use Rattle.smt_terms.specs.ScopeView.{scope_view}
+use Rattle.smt_forms.specs.ParamView.{param_view}
+use Rattle.smt_forms.specs.ScopeView.{scope_view}
 use Rattle.smt_terms.specs.Signature.{names_of}
 use Rattle.smt_terms.proofs.DefinitionLemmas.{define_step, same_fault}
 use Rattle.smt_terms.proofs.NameLookUps.{not_taken}

@@ -4,7 +4,7 @@ use Rattle.smt_trees.specs.Tree.{sexp_of}
 use Rattle.smt_terms.specs.Definitions.{definition_in}
 use Rattle.smt_terms.specs.Internal.ItemView.{form_of}
 use Rattle.smt_terms.specs.Items.{item_in}
-use Rattle.smt_terms.specs.ScopeView.{scope_view}
+use Rattle.smt_forms.specs.ScopeView.{scope_view}
 use Rattle.smt_terms.specs.Signature.{names_of}
 use Rattle.smt_terms.proofs.DefinitionLemmas.{same_fault}
 use Rattle.smt_terms.proofs.ItemLemmas.{item_step}

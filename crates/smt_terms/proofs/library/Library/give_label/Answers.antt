@@ -1,7 +1,7 @@
 use Rattle.std.proofs.Common.{rules, refl, sym, ◌∙◌}
 use Rattle.smt_trees.specs.Tree.{sexp_of}
 use Rattle.smt_terms.specs.Internal.LibraryView.{names_of_library}
-use Rattle.smt_terms.specs.ScopeView.{scope_view}
+use Rattle.smt_forms.specs.ScopeView.{scope_view}
 use Rattle.smt_terms.specs.Signature.{unlabelled}
 use Rattle.smt_terms.proofs.ClosedLemmas.{closed}
 use Rattle.smt_terms.proofs.LabelLemmas.{AreGiven-push, on_ok}

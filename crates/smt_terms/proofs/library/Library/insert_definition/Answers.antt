@@ -8,7 +8,7 @@ use Rattle.smt_terms.specs.Internal.LibraryView.{abbreviations_of, places_of_lib
 use Rattle.smt_terms.specs.declared.library.Found.TheVariants as place
 use Rattle.smt_terms.specs.declared.sorts.SortNames.{SortNames}
 use Rattle.smt_terms.proofs.ContentsLemmas.{nothing_more}
-use Rattle.smt_terms.specs.ScopeView.{scope_view}
+use Rattle.smt_forms.specs.ScopeView.{scope_view}
 use Rattle.smt_terms.proofs.StandsLemmas.{counted, on_err, stands_defined, stands_still}
 use Rattle.smt_terms.proofs.library.Library.insert_definition.Goals as goal
 

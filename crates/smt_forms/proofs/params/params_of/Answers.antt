@@ -1,0 +1,9 @@
+use Rattle.std.proofs.Common.{rules, arith}
+use Rattle.std.proofs.lemmas.Grind.{common_steps}
+use Rattle.smt_forms.proofs.params.params_of.Goals as goal
+
+pub loop-name-preserved : goal.loop-name-preserved
+loop-name-preserved c = grind (arith, common_steps)
+
+pub returns-clause-params : goal.returns-clause-params
+returns-clause-params c = search rules

@@ -1,0 +1,5 @@
+pub mod Bindings
+pub mod Identifier
+pub mod IdentifierView
+pub mod ParamView
+pub mod ScopeView

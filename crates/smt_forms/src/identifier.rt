@@ -1,0 +1,153 @@
+//! Identifiers: plain symbols, and symbols with indexes.
+
+ghost use Rattle.std.specs.Prelude.{◌≡◌, ◌⊎◌, Some, None, Ok, Err, map, is_some, MatchOption, MatchResult};
+ghost use Rattle.smt_trees.specs.Sexp.{Items};
+ghost use Rattle.smt_trees.specs.Tree.{sexp_of, sexps_of};
+ghost use Rattle.smt_theory.specs.Index.{index_view};
+ghost use Rattle.smt_forms.specs.Identifier as identifiers;
+ghost use Rattle.smt_forms.specs.Identifier.{all_indexes, applied, index_of_numeral, index_of_tree, indexed, operator_of};
+ghost use Rattle.smt_forms.specs.IdentifierView.{identifier_view};
+ghost use Rattle.smt_faults.specs.declared.term_fault.TermFault.TheVariants.{Form, Memory};
+
+use smt_faults::TermFault;
+use smt_theory::{Index, Op, OpFault, Theories, number, op_of};
+use smt_trees::{Tree, Trees, Word, split_first};
+use std::alloc::Global;
+
+/// An identifier (SMT-LIB 2.6, section 3.3), which borrows its names.
+#[derive(Drop)]
+pub enum Identifier<'a> {
+    /// A symbol, without bars.
+    Plain(&'a [u8]),
+    /// A symbol with one index or more, as in `(_ divisible 3)`.
+    Indexed {
+        name: &'a [u8],
+        indexes: Vec<Index<'a>>,
+    },
+}
+
+impl Identifier<'_> {
+    /// The operator that it names among those of the theories, or why it names none. Names in force are looked up before this.
+    pub fn operator(&self, theories: Theories) -> Result<Op, OpFault>
+        ensures { result ≡ operator_of theories (identifier_view self.now) }
+    {
+        match self {
+            Identifier::Plain(name) => op_of(theories, *name, &[]),
+            Identifier::Indexed { name, indexes } => op_of(theories, *name, indexes.as_slice()),
+        }
+    }
+}
+
+/// The identifier that is applied to arguments, or what is wrong with the form of a list of this head and these arguments.
+pub fn applied_identifier<'a>(
+    alloc: Global,
+    head: &'a Tree,
+    args: &[Tree],
+) -> Result<Identifier<'a>, TermFault>
+    ensures { MatchResult result (λ f. applied (sexp_of head.now) (sexps_of args.now) ≡ Ok (identifier_view f))
+        (λ fault. (fault ≡ Memory) ⊎ (applied (sexp_of head.now) (sexps_of args.now) ≡ Err fault)) }
+{
+    match head {
+        Tree::Symbol(name) if split_first(args).is_some() => Ok(Identifier::Plain(name.as_slice())),
+        Tree::Reserved(word) => Err(word_fault(*word)),
+        Tree::List(parts) => applied_list(alloc, parts, args),
+        _ => Err(TermFault::Form),
+    }
+}
+
+// The same where the head is a list of these parts.
+fn applied_list<'a>(
+    alloc: Global,
+    parts: &'a Trees,
+    args: &[Tree],
+) -> Result<Identifier<'a>, TermFault>
+    ensures { MatchResult result (λ f. applied (Items parts.now) (sexps_of args.now) ≡ Ok (identifier_view f))
+        (λ fault. (fault ≡ Memory) ⊎ (applied (Items parts.now) (sexps_of args.now) ≡ Err fault)) }
+{
+    match split_first(parts.as_slice()) {
+        Some((Tree::Reserved(Word::As), _)) => Err(TermFault::Unsupported),
+        Some((Tree::Reserved(Word::Underscore), rest)) if split_first(args).is_some() => {
+            indexed_identifier(alloc, rest)
+        }
+        _ => Err(TermFault::Form),
+    }
+}
+
+/// The identifier `(_ symbol index ..)`, by what stands behind the `_`.
+pub fn indexed_identifier<'a>(alloc: Global, parts: &'a [Tree]) -> Result<Identifier<'a>, TermFault>
+    ensures { MatchResult result (λ f. indexed (sexps_of parts.now) ≡ Ok (identifier_view f))
+        (λ fault. (fault ≡ Memory) ⊎ (indexed (sexps_of parts.now) ≡ Err fault)) }
+{
+    let Some((Tree::Symbol(name), rest)) = split_first(parts) else {
+        return Err(TermFault::Form);
+    };
+    if split_first(rest).is_none() {
+        return Err(TermFault::Form);
+    }
+    let indexes = indexes_of(alloc, rest)?;
+    Ok(Identifier::Indexed {
+        name: name.as_slice(),
+        indexes,
+    })
+}
+
+// The indexes that trees are, in order.
+fn indexes_of<'a>(alloc: Global, trees: &'a [Tree]) -> Result<Vec<Index<'a>>, TermFault>
+    ensures { MatchResult result (λ indexes. all_indexes (sexps_of trees.now) ≡ Some (map index_view indexes.items))
+        (λ fault. (fault ≡ Memory) ⊎ ((fault ≡ Form) × (all_indexes (sexps_of trees.now) ≡ None))) }
+{
+    let mut indexes = Vec::new(alloc);
+    let mut left = trees;
+    while let Some((tree, rest)) = split_first(left) {
+        let Some(index) = index_of(tree) else {
+            return Err(TermFault::Form);
+        };
+        indexes.push(index)?;
+        left = rest;
+    }
+    Ok(indexes)
+}
+
+/// Whether each of the trees is an index: a numeral or a symbol.
+pub fn are_indexes(trees: &[Tree]) -> bool
+    ensures { result ≡ is_some (all_indexes (sexps_of trees.now)) }
+{
+    let mut left = trees;
+    while let Some((tree, rest)) = split_first(left) {
+        if index_of(tree).is_none() {
+            return false;
+        }
+        left = rest;
+    }
+    true
+}
+
+// The index that a tree is: a numeral or a symbol.
+fn index_of(tree: &Tree) -> Option<Index<'_>>
+    ensures { MatchOption result (index_of_tree (sexp_of tree.now) ≡ None) (λ index. index_of_tree (sexp_of tree.now) ≡ Some (index_view index)) }
+{
+    match tree {
+        Tree::Numeral(digits) => Some(numeral_index(digits.as_slice())),
+        Tree::Symbol(name) => Some(Index::Name(name.as_slice())),
+        _ => None,
+    }
+}
+
+fn numeral_index(digits: &[u8]) -> Index<'static>
+    ensures { index_view result ≡ index_of_numeral digits.now }
+{
+    match number(10, digits) {
+        Some(value) if value < 1 << 64 => Index::Number(value as u64),
+        _ => Index::Large,
+    }
+}
+
+// What is wrong with a list that begins with this word, and is no term in form.
+fn word_fault(word: Word) -> TermFault
+    ensures { result ≡ identifiers.word_fault word }
+{
+    match word {
+        Word::Forall | Word::Exists | Word::Match | Word::As => TermFault::Unsupported,
+        _ => TermFault::Form,
+    }
+}

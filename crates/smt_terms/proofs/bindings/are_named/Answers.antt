@@ -1,8 +1,0 @@
-use Rattle.std.proofs.Common.{rules}
-use Rattle.smt_terms.proofs.bindings.are_named.Goals as goal
-
-pub loop-rest-preserved : goal.loop-rest-preserved
-loop-rest-preserved c = search rules
-
-pub returns : goal.returns
-returns c = search rules

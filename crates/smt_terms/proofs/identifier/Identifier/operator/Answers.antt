@@ -1,8 +1,0 @@
-use Rattle.std.proofs.Common.{rules}
-use Rattle.smt_terms.proofs.identifier.Identifier.operator.Goals as goal
-
-pub returns-in-Plain : goal.returns-in-Plain
-returns-in-Plain c = search rules
-
-pub returns-in-Indexed : goal.returns-in-Indexed
-returns-in-Indexed c = search rules

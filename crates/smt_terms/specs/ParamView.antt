@@ -1,8 +1,0 @@
--- What a contract sees of a parameter.
-use Rattle.std.specs.Prelude.{ℕ, List}
-use Rattle.smt_trees.specs.Sexp.{Sexp}
-use Rattle.smt_trees.specs.Tree.{sexp_of}
-use Rattle.smt_terms.specs.declared.definitions.Param.{Param}
-
-abbrev pub param_view : Param → List ℕ × Sexp
-param_view param = (param.name.now, sexp_of param.sort.now)
