@@ -1,5 +1,5 @@
 #!/bin/sh
-# Runs the reader, which text_rows calls, and the program with each of their requests for memory refused in turn, until a run meets none. Each
+# Runs the reader, which rows calls, and the program with each of their requests for memory refused in turn, until a run meets none. Each
 # run has to give the right answer, or to say that memory was refused. Needs what `rt ci` has built, and a C compiler. Says nothing
 # where all is well.
 set -e
@@ -30,19 +30,30 @@ each_request() {
     [ "$number" -gt 10 ] || fail "$what" "only so many were met"
 }
 
-# What is read of a text is right, or status 2 says that memory was refused.
+# What is read of a text is right, however it is cut; or status 1 and a line say that memory was refused, and what was printed before
+# is right.
 judge() {
+    output=$(cat "$work/output")
     if [ "$status" = 0 ]; then
-        [ "$(cat "$work/output")" = '1 texts, 0 wrong' ] || fail "$what" "$(cat "$work/output")"
-    elif [ "$status" != 2 ] || [ "$met" = no ] || [ -s "$work/output" ]; then
-        fail "$what" "status $status, $(cat "$work/output")"
+        [ "$output" = "$read" ] || fail "$what" "$output"
+    elif [ "$status" = 1 ] && [ "$met" = yes ]; then
+        case $read in
+        "$output"*) ;;
+        *) fail "$what" "$output" ;;
+        esac
+        case $(cat "$work/errors") in
+        *'out of memory' | *'memory allocation failed') ;;
+        *) fail "$what" "$(cat "$work/errors")" ;;
+        esac
+    else
+        fail "$what" "status $status, $output"
     fi
 }
 
-mkdir "$work/rows"
-echo '((1)x)abcdefghijklmnopqrstuvw ==> ( ( n:1 ) s:x ) s:abcdefghijklmnopqrstuvw .' >"$work/rows/rows.txt"
-cd "$work/rows"
-each_request 'the reader' "$top/crates/text_rows/out/text_rows"
+printf 'texts: a text\ntext: ((1)x)abcdefghijklmnopqrstuvw\n' >"$work/texts.txt"
+read='a text
+((1)x)abcdefghijklmnopqrstuvw => ( ( n:1 ) s:x ) s:abcdefghijklmnopqrstuvw .'
+each_request 'the reader' "$top/crates/rows/out/rows" "$work/texts.txt"
 
 # The program has status 4, no report and a line that says why, or the status and the report that it has without a refusal.
 judge() {

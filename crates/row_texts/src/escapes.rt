@@ -70,20 +70,31 @@ pub(crate) fn unescape(alloc: Global, text: &str) -> Result<Vec<u8>> {
         parts: Vec::new(alloc),
         outer: Vec::new(alloc),
     };
-    for byte in text.bytes() {
-        reader.state = reader.take(byte)?;
-    }
-    if !matches!(reader.state, State::Outside) || !reader.outer.is_empty() {
-        bail!("the text ends inside an escape");
-    }
+    reader.take_all(text)?;
     let mut bytes = Vec::new(alloc);
-    for part in &reader.parts {
-        part.write(0, &mut bytes)?;
-    }
+    write_parts(reader.parts.as_slice(), &mut bytes)?;
     Ok(bytes)
 }
 
+// Writes the parts of a whole text.
+fn write_parts(parts: &[Part], bytes: &mut Vec<u8>) -> io::Result<()> {
+    for part in parts {
+        part.write(0, bytes)?;
+    }
+    Ok(())
+}
+
 impl Reader {
+    fn take_all(&mut self, text: &str) -> Result<()> {
+        for byte in text.bytes() {
+            self.state = self.take(byte)?;
+        }
+        if !matches!(self.state, State::Outside) || !self.outer.is_empty() {
+            bail!("the text ends inside an escape");
+        }
+        Ok(())
+    }
+
     // Takes one byte, and answers the state behind it.
     fn take(&mut self, byte: u8) -> Result<State> {
         match self.state {
@@ -109,18 +120,13 @@ impl Reader {
     }
 
     fn take_escaped(&mut self, byte: u8) -> Result<State> {
-        let is_inside = !self.outer.is_empty();
-        Ok(match byte {
-            b'n' => self.add(Part::Byte(b'\n'))?,
-            b't' => self.add(Part::Byte(b'\t'))?,
-            b'r' => self.add(Part::Byte(b'\r'))?,
-            b'\\' | b'{' | b'}' => self.add(Part::Byte(byte))?,
-            b'x' => State::Byte,
-            b'*' => State::Repeat,
-            b'#' if is_inside => self.add(Part::Number)?,
-            b'-' if is_inside => self.add(Part::Before)?,
-            _ => bail!("there is no such escape"),
-        })
+        match byte {
+            b'x' => Ok(State::Byte),
+            b'*' => Ok(State::Repeat),
+            b'#' if !self.outer.is_empty() => Ok(self.add(Part::Number)?),
+            b'-' if !self.outer.is_empty() => Ok(self.add(Part::Before)?),
+            _ => Ok(self.add(Part::Byte(escaped(byte)?))?),
+        }
     }
 
     fn take_times(&mut self, byte: u8) -> Result<State> {
@@ -188,6 +194,17 @@ impl Part {
             }
         }
         Ok(())
+    }
+}
+
+// The byte that stands behind a backslash for one byte.
+fn escaped(byte: u8) -> Result<u8> {
+    match byte {
+        b'n' => Ok(b'\n'),
+        b't' => Ok(b'\t'),
+        b'r' => Ok(b'\r'),
+        b'\\' | b'{' | b'}' => Ok(byte),
+        _ => bail!("there is no such escape"),
     }
 }
 

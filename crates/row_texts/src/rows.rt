@@ -30,21 +30,29 @@ impl Field<'_> {
 /// The rows of a file, none of them empty.
 pub fn read<'a>(alloc: Global, text: &'a str) -> Result<Vec<Vec<Field<'a>>>> {
     let mut rows = Vec::new(alloc);
-    let mut row: Vec<Field<'a>> = Vec::new(alloc);
+    let mut row = Vec::new(alloc);
+    read_lines(alloc, &mut rows, &mut row, text)?;
+    Ok(rows)
+}
+
+// Adds the rows of a text; one that is open is emptied.
+fn read_lines<'a>(
+    alloc: Global,
+    rows: &mut Vec<Vec<Field<'a>>>,
+    row: &mut Vec<Field<'a>>,
+    text: &'a str,
+) -> Result<()> {
     for (number, line) in (1..u64::MAX).zip(text.lines()) {
         if line.is_empty() {
-            end_row(alloc, &mut rows, &mut row)?;
+            end_row(alloc, rows, row)?;
         } else if let Some(more) = line.strip_prefix("  ") {
-            let Some(field) = row.last_mut() else {
-                bail!("line {number}: there is no field to continue");
-            };
-            field.text.push_str(more)?;
+            continue_field(row, number, more)?;
         } else if !line.starts_with('#') {
-            row.push(field_of(alloc, number, line)?)?;
+            add_field(alloc, row, number, line)?;
         }
     }
-    end_row(alloc, &mut rows, &mut row)?;
-    Ok(rows)
+    end_row(alloc, rows, row)?;
+    Ok(())
 }
 
 // Adds the row that ends here, if there is one.
@@ -59,15 +67,30 @@ fn end_row<'a>(
     Ok(())
 }
 
-// The field that begins with a line. One space behind the colon is no part of the text.
-fn field_of<'a>(alloc: Global, number: u64, line: &'a str) -> Result<Field<'a>> {
+// Adds what a line continues the last field with.
+fn continue_field(row: &mut Vec<Field>, number: u64, more: &str) -> Result<()> {
+    match row.last_mut() {
+        Some(field) => Ok(field.text.push_str(more)?),
+        None => bail!("line {number}: there is no field to continue"),
+    }
+}
+
+// Adds the field that begins with a line. One space behind the colon is no part of the text.
+fn add_field<'a>(
+    alloc: Global,
+    row: &mut Vec<Field<'a>>,
+    number: u64,
+    line: &'a str,
+) -> Result<()> {
     let Some((key, text)) = line.split_once(':') else {
         bail!("line {number}: a field begins with its key and a colon");
     };
     let text = text.strip_prefix(' ').unwrap_or(text);
-    Ok(Field {
+    let text = String::from_str(alloc, text)?;
+    row.push(Field {
         line: number,
         key,
-        text: String::from_str(alloc, text)?,
-    })
+        text,
+    })?;
+    Ok(())
 }

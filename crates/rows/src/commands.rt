@@ -59,12 +59,17 @@ fn print_command<W: Write>(
 // Whether the solver prints `success` at the start, as the first field says, and the fields behind it. Where none says so, it does.
 fn split_start<'a, 'b>(fields: &'b [Field<'a>]) -> Result<(bool, &'b [Field<'a>])> {
     match fields.split_first() {
-        Some((first, rest)) if first.key == "start" => match first.text.as_str() {
-            "on" => Ok((true, rest)),
-            "off" => Ok((false, rest)),
-            _ => bail!("line {}: the start is `on` or `off`", first.line),
-        },
+        Some((first, rest)) if first.key == "start" => Ok((is_on(first)?, rest)),
         _ => Ok((true, fields)),
+    }
+}
+
+/// Whether the solver prints `success` at the start, as a field says.
+pub(crate) fn is_on(start: &Field) -> Result<bool> {
+    match start.text.as_str() {
+        "on" => Ok(true),
+        "off" => Ok(false),
+        _ => bail!("line {}: the start is `on` or `off`", start.line),
     }
 }
 

@@ -1,11 +1,14 @@
 //! rows: prints what the crates answer to the rows of the files that its words name.
 #![tactic(auto)]
 
+mod bits;
 mod commands;
+mod dialogues;
 mod items;
 mod models;
 mod names;
 mod terms;
+mod texts;
 mod trees;
 mod values;
 
@@ -50,6 +53,9 @@ fn print_row<W: Write>(alloc: Global, out: &mut W, title: &Field, fields: &[Fiel
     writeln!(out, "{}", title.text)?;
     match title.key {
         "commands" => commands::print(alloc, out, fields)?,
+        "dialogue" => dialogues::print(alloc, out, title, fields)?,
+        "texts" => texts::print(alloc, out, fields)?,
+        "bits" => bits::print(out, fields)?,
         _ => print_over_library(alloc, out, title, fields)?,
     }
     writeln!(out)?;

@@ -1,4 +1,4 @@
-//! The exit status of the program. It is a crate of its own, so that the program of whole dialogues can show it too: a program of this
+//! The exit status of the program. It is a crate of its own, so that the program of rows can show it too: a program of this
 //! toolchain can't be called by another.
 //!
 //! `status_of(Verdict::Invalid)` is 1.

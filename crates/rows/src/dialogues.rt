@@ -1,0 +1,62 @@
+//! Rows of dialogues: each with its report and the exit status.
+
+use crate::commands::is_on;
+use anyhow::{Result, bail};
+use row_texts::Field;
+use smt_dialogue::{Report, validate};
+use smtcheck_status::status_of;
+use std::alloc::Global;
+use std::io::Write;
+
+/// Prints the report on a dialogue, and the status.
+pub(crate) fn print<W: Write>(
+    alloc: Global,
+    out: &mut W,
+    title: &Field,
+    fields: &[Field],
+) -> Result<()> {
+    match fields {
+        [script, answers, start]
+            if script.key == "script" && answers.key == "answers" && start.key == "start" => {
+            let print_success = is_on(start)?;
+            let script = script.bytes(alloc)?;
+            print_answers(alloc, out, script.as_slice(), answers, print_success)
+        }
+        _ => bail!(
+            "line {}: a dialogue has a script, answers and a start",
+            title.line
+        ),
+    }
+}
+
+fn print_answers<W: Write>(
+    alloc: Global,
+    out: &mut W,
+    script: &[u8],
+    answers: &Field,
+    print_success: bool,
+) -> Result<()> {
+    let answers = answers.bytes(alloc)?;
+    print_report(alloc, out, script, answers.as_slice(), print_success)
+}
+
+fn print_report<W: Write>(
+    alloc: Global,
+    out: &mut W,
+    script: &[u8],
+    answers: &[u8],
+    print_success: bool,
+) -> Result<()> {
+    match &validate(alloc, script, answers, print_success) {
+        Ok(report) => write_report(out, report),
+        Err(_) => bail!("out of memory"),
+    }
+}
+
+fn write_report<W: Write>(out: &mut W, report: &Report) -> Result<()> {
+    for line in &report.lines {
+        writeln!(out, "{line}")?;
+    }
+    writeln!(out, "status {}", status_of(report.verdict))?;
+    Ok(())
+}

@@ -1,0 +1,63 @@
+//! Rows of texts: each with what is read of it, whole and in pieces.
+
+ghost use Rattle.std.specs.Prelude.{◌≤◌, length};
+
+mod reading;
+mod writing;
+
+use crate::trees::refuse;
+use anyhow::Result;
+use row_texts::Field;
+use std::alloc::{AllocError, Global};
+use std::io::Write;
+
+/// Prints what is read of each text.
+pub(crate) fn print<W: Write>(alloc: Global, out: &mut W, fields: &[Field]) -> Result<()> {
+    for field in fields {
+        if field.key != "text" {
+            return refuse(field);
+        }
+        print_text(alloc, out, field)?;
+    }
+    Ok(())
+}
+
+fn print_text<W: Write>(alloc: Global, out: &mut W, field: &Field) -> Result<()> {
+    let text = field.bytes(alloc)?;
+    write!(out, "{} => ", field.text)?;
+    write_read(alloc, out, text.as_slice())
+}
+
+// Writes what is read of a whole text, and what else is read of it in pieces, and ends the line.
+fn write_read<W: Write>(alloc: Global, out: &mut W, text: &[u8]) -> Result<()> {
+    let whole = reading::read_whole(alloc, text)?;
+    out.write_all(whole.as_slice())?;
+    write_other(alloc, out, text, whole.as_slice())?;
+    writeln!(out)?;
+    Ok(())
+}
+
+// Cuts a text at every two places. Where something else is read of the pieces, writes the first two such places, and what it is.
+fn write_other<W: Write>(alloc: Global, out: &mut W, text: &[u8], whole: &[u8]) -> Result<()> {
+    for first in 0..text.len() {
+        for second in first..text.len() {
+            let pieces = read_cut(alloc, text, first, second)?;
+            if pieces.as_slice() != whole {
+                write!(out, ", but cut at {first} and {second}: ")?;
+                out.write_all(pieces.as_slice())?;
+                return Ok(());
+            }
+        }
+    }
+    Ok(())
+}
+
+// What is read of a text that is cut before the bytes at two places.
+fn read_cut(alloc: Global, text: &[u8], first: usize, second: usize) -> Result<Vec<u8>, AllocError>
+    requires ordered { first ≤ second }
+    requires inside { second ≤ length text.now }
+{
+    let (front, rest) = text.split_at(first);
+    let (middle, back) = rest.split_at(second - first);
+    reading::read_in_pieces(alloc, front, middle, back)
+}

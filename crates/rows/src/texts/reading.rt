@@ -1,0 +1,63 @@
+//! What is read of a text, written out.
+
+ghost use Rattle.std.specs.Prelude.{◌≡◌, ◌+◌, ◌<◌, ◌^◌, length};
+ghost use Rattle.smt_text.specs.Reader.{is_finished, bytes_fed};
+
+use crate::texts::writing;
+use smt_faults::TextFault;
+use smt_text::{Next, Reader, read_trees};
+use smt_trees::{Tree, Trees};
+use std::alloc::{AllocError, Global};
+
+/// What is read of a whole text by one call.
+pub(crate) fn read_whole(alloc: Global, text: &[u8]) -> Result<Vec<u8>, AllocError> {
+    let mut out = Vec::new(alloc);
+    match read_trees(alloc, text) {
+        Ok(trees) => {
+            writing::write_trees(&mut out, trees.as_slice())?;
+            writing::write_end(alloc, &mut out, None)?;
+            Ok(out)
+        }
+        // The trees before the fault are read again.
+        Err(_) => read_in_pieces(alloc, text, b"", b""),
+    }
+}
+
+/// What is read of a text in three pieces, some of which may be empty. The trees are taken after each piece.
+pub(crate) fn read_in_pieces(
+    alloc: Global,
+    first: &[u8],
+    second: &[u8],
+    third: &[u8],
+) -> Result<Vec<u8>, AllocError>
+    requires { length first.now + length second.now + length third.now < 2 ^ 64 }
+{
+    let mut trees = Vec::new(alloc);
+    let mut reader = Reader::new(alloc);
+    reader.feed(first);
+    let _first = take(&mut reader, &mut trees)?;
+    reader.feed(second);
+    let _second = take(&mut reader, &mut trees)?;
+    reader.feed(third);
+    let _third = take(&mut reader, &mut trees)?;
+    reader.finish();
+    let fault = take(&mut reader, &mut trees)?;
+    let mut out = Vec::new(alloc);
+    writing::write_trees(&mut out, trees.as_slice())?;
+    writing::write_end(alloc, &mut out, fault)?;
+    Ok(out)
+}
+
+// Takes the trees that are ready. Answers the fault behind them, if there is one.
+fn take(reader: &mut Reader, trees: &mut Vec<Tree>) -> Result<Option<TextFault>, AllocError>
+    ensures finished { is_finished reader.new ≡ is_finished reader.old }
+    ensures counted { bytes_fed reader.new ≡ bytes_fed reader.old }
+{
+    loop {
+        match reader.next() {
+            Next::Tree(tree) => trees.push(tree)?,
+            Next::Wait | Next::End => return Ok(None),
+            Next::Fault(fault) => return Ok(Some(fault)),
+        }
+    }
+}
