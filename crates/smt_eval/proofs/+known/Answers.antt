@@ -1,4 +1,5 @@
 use Rattle.std.proofs.Common.{◌<◌, [], None, length, map, refl, ap, sym, ◌∙◌, arith}
+use Rattle.std.proofs.lemmas.Grind.{common_steps}
 use Rattle.std.proofs.lemmas.List.{get_or_default}
 use Rattle.smt_trees.specs.Sexp.{Atom, Cons, Items, Reserved, Symbol, weight_all}
 use Rattle.smt_trees.specs.Tree.{sexp_of, sexps_of}
@@ -298,3 +299,49 @@ evaluator::known_reserved-known_value-requires t c = (grind arith, c.requires)
 
 pub evaluator::knowns_bound_by-known_value-requires : goal.evaluator::knowns_bound_by-known_value-requires
 evaluator::knowns_bound_by-known_value-requires t c = (grind arith, c.requires)
+
+-- ---- the loops
+
+pub evaluator::known_all-loop-term-preserved : goal.evaluator::known_all-loop-term-preserved
+evaluator::known_all-loop-term-preserved t c = grind (arith, common_steps)
+
+pub evaluator::knowns_bound_by-loop-name-preserved : goal.evaluator::knowns_bound_by-loop-name-preserved
+evaluator::knowns_bound_by-loop-name-preserved t c = grind (arith, common_steps)
+
+-- ---- what is handed on
+
+pub calls::known_at-definition_at-requires-clause-over : goal.calls::known_at-definition_at-requires-clause-over
+calls::known_at-definition_at-requires-clause-over t c = c.requires.over
+
+pub calls::known_at-known_body-requires : goal.calls::known_at-known_body-requires
+calls::known_at-known_body-requires t c = (omega (arith, c.decreases), (c.requires.over, (c.requires.seen, c.definition_at.ensures.body)))
+
+pub calls::known_plain-place_of-requires : goal.calls::known_plain-place_of-requires
+calls::known_plain-place_of-requires t c = c.requires
+
+pub evaluator::known_named-place_of-requires : goal.evaluator::known_named-place_of-requires
+evaluator::known_named-place_of-requires t c = c.requires
+
+pub calls::known_plain-known_at-requires : goal.calls::known_plain-known_at-requires
+calls::known_plain-known_at-requires t c = (omega (arith, c.decreases), (c.requires, c.in-Some.ensures.within))
+
+pub evaluator::known_named-known_at-requires : goal.evaluator::known_named-known_at-requires
+evaluator::known_named-known_at-requires t c = (omega (arith, c.decreases), (c.requires, c.in-Some-place_of.ensures.within))
+
+pub evaluator::known_operation-bounds-args-0 : goal.evaluator::known_operation-bounds-args-0
+evaluator::known_operation-bounds-args-0 t c = omega (arith, c.in-len1.len_at_least)
+
+pub evaluator::known_operation-bounds-args-0-then-args-lt3 : goal.evaluator::known_operation-bounds-args-0-then-args-lt3
+evaluator::known_operation-bounds-args-0-then-args-lt3 t c = omega (arith, c.in-len2.len_at_least)
+
+pub evaluator::known_operation-bounds-args-1 : goal.evaluator::known_operation-bounds-args-1
+evaluator::known_operation-bounds-args-1 t c = omega (arith, c.in-len2.len_at_least)
+
+pub evaluator::known_operation-bounds-args-0-then-args-lt4 : goal.evaluator::known_operation-bounds-args-0-then-args-lt4
+evaluator::known_operation-bounds-args-0-then-args-lt4 t c = omega (arith, c.in-len3.len_at_least)
+
+pub evaluator::known_operation-bounds-args-1-then-args-lt4 : goal.evaluator::known_operation-bounds-args-1-then-args-lt4
+evaluator::known_operation-bounds-args-1-then-args-lt4 t c = omega (arith, c.in-len3.len_at_least)
+
+pub evaluator::known_operation-bounds-args-2 : goal.evaluator::known_operation-bounds-args-2
+evaluator::known_operation-bounds-args-2 t c = omega (arith, c.in-len3.len_at_least)
