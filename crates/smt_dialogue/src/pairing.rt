@@ -112,6 +112,7 @@ fn take_step(
 {
     let number = dialogue.commands + 1;
     if dialogue.stack.exited() {
+        drop(tree);
         return Ok(Some(refused(number, CommandFault::AfterExit)));
     }
     let command = match read_command(tree) {
