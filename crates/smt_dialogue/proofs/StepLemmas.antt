@@ -22,7 +22,7 @@ use Rattle.smt_report.specs.Verdict.{verdict_of, with_verdict}
 use Rattle.smt_dialogue.specs.Pairing.{AreCommands}
 use Rattle.smt_dialogue.specs.Pairs.{Pair, answers_taken, answers_then, next_of, pair_of, with_answer}
 use Rattle.smt_dialogue.specs.Internal.DialogueState.{State, StandsFor}
-use Rattle.smt_dialogue.specs.Internal.Steps.{EndsAt, IsAccepted, IsJudged, IsStep, IsUnfit, SoFar, TakesUp}
+use Rattle.smt_dialogue.specs.Internal.Steps.{EndsAt, HasEnded, IsAccepted, IsJudged, IsStep, IsUnfit, SoFar, TakesUp}
 use Rattle.smt_dialogue.specs.declared.answer.AnswerForm.{AnswerForm}
 use Rattle.smt_dialogue.specs.declared.answer.Need.TheVariants.{Needed}
 use Rattle.smt_report.specs.declared.line.Line.{Line}
@@ -59,41 +59,35 @@ so_far-push start s t script tree later answers rest left g u =
       faultless = AreFaultless-append [] g.pairs p g.faultless u.goes_on u.faultless;
     }
 
--- what the turns came to, if the dialogue ends at a tree
-pub judged-at : (start : Bool) (s t : State) (script : Sexps) (tree : Sexp) (later answers rest : Sexps) (script_fault answers_fault : Option TextFault) (line : Line) (ls : List Line) (v : Verdict) → (g : SoFar start s script (Cons tree later) answers rest) → EndsAt start g.pairs tree rest answers_fault line t → ((pairs : List Pair) → StandsFor t pairs → ls ≡ with_verdict (lines_in true [] pairs [] ++ lines_of_end (Some line))) → ((pairs : List Pair) → StandsFor t pairs → v ≡ verdict_of (lines_in true [] pairs [] ++ lines_of_end (Some line))) → IsJudged start script answers script_fault answers_fault ls v
-judged-at start s t script tree later answers rest script_fault answers_fault line ls v g e lines_are verdict_is = record {
+-- how the dialogue ends at a tree
+pub ended-at : (start : Bool) (s t : State) (script : Sexps) (tree : Sexp) (later answers rest : Sexps) (script_fault answers_fault : Option TextFault) (line : Line) → (g : SoFar start s script (Cons tree later) answers rest) → EndsAt start g.pairs tree rest answers_fault line t
+    → HasEnded start t script answers script_fault answers_fault (Some line)
+ended-at start s t script tree later answers rest script_fault answers_fault line g e = record {
   pairs = g.pairs;
   later = Cons tree later;
   rest = rest;
   pairing = g.pairing;
   faultless = g.faultless;
-  fault = Some line;
   ends = e.ends later script_fault;
-  lines_are = lines_are g.pairs e.stands;
-  verdict_is = verdict_is g.pairs e.stands;
+  stands = e.stands;
 }
 
--- the same, said of what the last call answered
-pub judged-answer : (start : Bool) (r : Result Report Memory) (s t : State) (script : Sexps) (tree : Sexp) (later answers rest : Sexps) (script_fault answers_fault : Option TextFault) (line : Line) → (g : SoFar start s script (Cons tree later) answers rest) → EndsAt start g.pairs tree rest answers_fault line t
-    → IfOk r (λ x. (pairs : List Pair) → StandsFor t pairs → x.lines.items ≡ with_verdict (lines_in true [] pairs [] ++ lines_of_end (Some line))) → IfOk r (λ x. (pairs : List Pair) → StandsFor t pairs → x.verdict ≡ verdict_of (lines_in true [] pairs [] ++ lines_of_end (Some line)))
+-- what the turns came to, if the dialogue has ended
+pub judged-ended : (start : Bool) (r : Result Report Memory) (s : State) (script answers : Sexps) (script_fault answers_fault : Option TextFault) (line : Option Line) → HasEnded start s script answers script_fault answers_fault line
+    → IfOk r (λ x. (pairs : List Pair) → StandsFor s pairs → x.lines.items ≡ with_verdict (lines_in true [] pairs [] ++ lines_of_end line)) → IfOk r (λ x. (pairs : List Pair) → StandsFor s pairs → x.verdict ≡ verdict_of (lines_in true [] pairs [] ++ lines_of_end line))
     → IfOk r (λ x. IsJudged start script answers script_fault answers_fault x.lines.items x.verdict)
-judged-answer start (Ok x) s t script tree later answers rest script_fault answers_fault line g e lines_are verdict_is =
-    judged-at start s t script tree later answers rest script_fault answers_fault line x.lines.items x.verdict g e lines_are verdict_is
-judged-answer start (Err x) s t script tree later answers rest script_fault answers_fault line g e lines_are verdict_is = tt
-
--- what the turns came to, if the dialogue ends behind the last tree
-pub judged-end : (start : Bool) (s : State) (script answers rest : Sexps) (script_fault answers_fault : Option TextFault) (fault : Option Line) (ls : List Line) (v : Verdict) → (g : SoFar start s script Nil answers rest) → step_after start g.pairs Nil script_fault rest answers_fault ≡ Stop fault → ((pairs : List Pair) → StandsFor s pairs → ls ≡ with_verdict (lines_in true [] pairs [] ++ lines_of_end fault)) → ((pairs : List Pair) → StandsFor s pairs → v ≡ verdict_of (lines_in true [] pairs [] ++ lines_of_end fault)) → IsJudged start script answers script_fault answers_fault ls v
-judged-end start s script answers rest script_fault answers_fault fault ls v g ends lines_are verdict_is = record {
-  pairs = g.pairs;
-  later = Nil;
-  rest = rest;
-  pairing = g.pairing;
-  faultless = g.faultless;
-  fault = fault;
-  ends = ends;
-  lines_are = lines_are g.pairs g.stands;
-  verdict_is = verdict_is g.pairs g.stands;
+judged-ended start (Ok x) s script answers script_fault answers_fault line e lines_are verdict_is = record {
+  pairs = e.pairs;
+  later = e.later;
+  rest = e.rest;
+  pairing = e.pairing;
+  faultless = e.faultless;
+  fault = line;
+  ends = e.ends;
+  lines_are = lines_are e.pairs e.stands;
+  verdict_is = verdict_is e.pairs e.stands;
 }
+judged-ended start (Err x) s script answers script_fault answers_fault line e lines_are verdict_is = tt
 
 -- no count is above that of the commands
 pub answers-le : (start : Bool) (s : State) (script later answers rest : Sexps) → SoFar start s script later answers rest → s.answers ≤ s.commands

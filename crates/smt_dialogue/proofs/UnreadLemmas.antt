@@ -10,23 +10,17 @@ use Rattle.smt_trees.specs.Sexp.{Sexp, Sexps, Nil, Cons, append, count}
 use Rattle.smt_faults.specs.declared.text_fault.TextFault.{TextFault}
 use Rattle.smt_faults.specs.declared.text_fault.TextFault.TheVariants.{Byte, Deep, End, Memory}
 use Rattle.smt_text.specs.declared.reader.Next.TheVariants.{Fault}
-use Rattle.std.specs.Result.{IfOk}
-use Rattle.smt_eval.specs.declared.memory.Memory.{Memory as OutOfMemory}
 use Rattle.smt_trees.specs.Tree.{sexp_of}
 use Rattle.smt_trees.specs.declared.tree.Tree.{Tree}
-use Rattle.smt_dialogue.proofs.StepLemmas.{commands-push, judged-end, so_far-push, so_far-start}
+use Rattle.smt_dialogue.proofs.StepLemmas.{commands-push, so_far-push, so_far-start}
 use Rattle.smt_dialogue.specs.FirstFault.{Stop, step_after}
-use Rattle.smt_dialogue.specs.Lines.{lines_in}
 use Rattle.smt_dialogue.specs.Pairs.{Pair, pair_of}
-use Rattle.smt_dialogue.specs.Report.{lines_of_end}
 use Rattle.smt_dialogue.specs.Internal.DialogueState.{State, StandsFor}
-use Rattle.smt_dialogue.specs.Internal.Steps.{IsJudged, IsStep, SoFar, TakesUp}
+use Rattle.smt_dialogue.specs.Internal.Steps.{HasEnded, IsStep, SoFar, TakesUp}
 use Rattle.smt_dialogue.specs.Internal.UnreadText.{ComesNext, HasLeft}
 use Rattle.smt_dialogue.specs.declared.unread_text.Further.{Further}
 use Rattle.smt_dialogue.specs.declared.unread_text.Further.TheVariants as comes
-use Rattle.smt_report.specs.Verdict.{verdict_of, with_verdict}
 use Rattle.smt_report.specs.declared.line.Line.{Line}
-use Rattle.smt_report.specs.declared.report.Report.{Report}
 use Rattle.smt_dialogue.specs.declared.unread_text.UnreadText.{UnreadText}
 
 -- what `one_reading`, `read_trees_stay` and `trees_are_no_more_than_bytes` say
@@ -144,15 +138,20 @@ goes_on-push start s t v tree trees answers rest left fault i u = record {
   counted = omega (arith, i.counted, commands-push s t i.so_far.pairs (pair_of u.command u.answer) i.so_far.stands u.stands);
 }
 
--- what the turns came to where nothing comes next
-pub judged-last : (start : Bool) (r : Result Report OutOfMemory) (s : State) (u v : UnreadText) (trees answers rest : Sexps) (fault answers_fault : Option TextFault) (further : Further) (told : Option TextFault) (line : Option Line) → GoesOn start s u trees answers rest fault
+-- how the dialogue ends where nothing comes next
+pub ended-last : (start : Bool) (s : State) (u v : UnreadText) (trees answers rest : Sexps) (fault answers_fault : Option TextFault) (further : Further) (told : Option TextFault) (line : Option Line) → GoesOn start s u trees answers rest fault
     → ((xs : Sexps) (f : Option TextFault) → HasLeft u xs f → ComesNext further v xs f) → further ≡ comes.End told
     → ((pairs : List Pair) → StandsFor s pairs → step_after start pairs Nil told rest answers_fault ≡ Stop line)
-    → IfOk r (λ x. (pairs : List Pair) → StandsFor s pairs → x.lines.items ≡ with_verdict (lines_in true [] pairs [] ++ lines_of_end line)) → IfOk r (λ x. (pairs : List Pair) → StandsFor s pairs → x.verdict ≡ verdict_of (lines_in true [] pairs [] ++ lines_of_end line))
-    → IfOk r (λ x. IsJudged start trees answers fault answers_fault x.lines.items x.verdict)
-judged-last start (Err e) s u v trees answers rest fault answers_fault further told line g next is ends lines_are verdict_is = tt
-judged-last start (Ok x) s u v trees answers rest fault answers_fault further told line g next is ends lines_are verdict_is =
+    → HasEnded start s trees answers fault answers_fault line
+ended-last start s u v trees answers rest fault answers_fault further told line g next is ends =
     let n = subst (λ (f : Further). ComesNext f v g.later fault) is (next g.later fault g.left) in
     let so_far = subst (λ (xs : Sexps). SoFar start s trees xs answers rest) n.0 g.so_far in
-    let stops = ap (λ f. step_after start so_far.pairs Nil f rest answers_fault) n.1 ∙ ends so_far.pairs so_far.stands in
-    judged-end start s trees answers rest fault answers_fault line x.lines.items x.verdict so_far stops lines_are verdict_is
+    record {
+      pairs = so_far.pairs;
+      later = Nil;
+      rest = rest;
+      pairing = so_far.pairing;
+      faultless = so_far.faultless;
+      ends = ap (λ f. step_after start so_far.pairs Nil f rest answers_fault) n.1 ∙ ends so_far.pairs so_far.stands;
+      stands = so_far.stands;
+    }

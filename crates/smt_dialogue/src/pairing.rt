@@ -12,7 +12,7 @@ ghost use Rattle.smt_dialogue.specs.Pairs.{Pair, next_of, pair_of};
 ghost use Rattle.smt_dialogue.specs.Internal.ChecksState.{IsAnswered, role_of};
 ghost use Rattle.smt_dialogue.specs.Internal.DialogueState.{StandsFor, state_of};
 ghost use Rattle.smt_dialogue.specs.Internal.UnreadText.{HasLeft, IsSound};
-ghost use Rattle.smt_dialogue.specs.Internal.Steps.{IsAccepted, IsJudged, IsLeft, IsStep, taken_view};
+ghost use Rattle.smt_dialogue.specs.Internal.Steps.{HasEnded, IsAccepted, IsJudged, IsLeft, IsStep, taken_view};
 
 use crate::answer::{Need, Taken, need_of};
 use crate::dialogue::Dialogue;
@@ -37,18 +37,47 @@ pub(crate) fn judge_all(
     ensures { (trees : Sexps) (fault : Option Fault) → HasLeft script.entry trees fault
         → IfOk result (λ r. IsJudged (start_of dialogue.stack) trees (sexps_of answers.trees.items) fault answers.fault r.lines.items r.verdict) }
 {
+    // What leaves on several paths owns nothing here, or the dialogue alone: the prover takes long over what is owned on each.
+    let line = last_line(&mut dialogue, &mut script, &mut answers);
+    report_of(dialogue, line)
+}
+
+// The report on a dialogue that has ended with this line, or without one.
+fn report_of(dialogue: Dialogue, line: Result<Option<Line>, Memory>) -> Result<Report, Memory>
+    ensures { (start : Bool) (script answers : Sexps) (script_fault answers_fault : Option Fault)
+        → IfOk line (λ line. HasEnded start (state_of dialogue) script answers script_fault answers_fault line)
+        → IfOk result (λ r. IsJudged start script answers script_fault answers_fault r.lines.items r.verdict) }
+{
+    match line {
+        Ok(line) => dialogue.finish(line),
+        Err(_) => {
+            drop(dialogue);
+            Err(Memory)
+        }
+    }
+}
+
+// Judges the commands of a script with their answers, and answers the line that the dialogue ends with, if it ends with one.
+fn last_line(
+    dialogue: &mut Dialogue,
+    script: &mut UnreadText<'_>,
+    answers: &mut ReadText,
+) -> Result<Option<Line>, Memory>
+    requires stands { StandsFor (state_of dialogue.old) [] }
+    requires sound { IsSound script.old }
+    requires left { (trees : Sexps) × (fault : Option Fault) × HasLeft script.old trees fault }
+    ensures { (trees : Sexps) (fault : Option Fault) → HasLeft script.old trees fault
+        → IfOk result (λ line. HasEnded (start_of dialogue.old.stack) (state_of dialogue.new) trees (sexps_of answers.old.trees.items) fault answers.old.fault line) }
+{
     // A law: no count passes the number of the script's bytes.
     trees_are_no_more_than_bytes();
     loop {
         match script.next()? {
-            Further::Tree(tree) => match take_step(&mut dialogue, tree, &mut answers)? {
-                Some(fault) => return dialogue.finish(Some(fault)),
+            Further::Tree(tree) => match take_step(dialogue, tree, answers)? {
+                Some(fault) => return Ok(Some(fault)),
                 None => {}
             },
-            Further::End(fault) => {
-                let line = end_of_script(&dialogue, fault, &answers);
-                return dialogue.finish(line);
-            }
+            Further::End(fault) => return Ok(end_of_script(dialogue, fault, answers)),
         }
     }
 }
@@ -83,6 +112,7 @@ fn take_step(
 {
     let number = dialogue.commands + 1;
     if dialogue.stack.exited() {
+        drop(tree);
         return Ok(Some(refused(number, CommandFault::AfterExit)));
     }
     let command = match read_command(tree) {

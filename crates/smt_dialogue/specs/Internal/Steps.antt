@@ -70,6 +70,16 @@ pub record SoFar (start : Bool) (state : State) (script later answers rest : Sex
   pub pairing : IsPairing start pairs script later answers rest
   pub faultless : AreFaultless [] pairs
 
+-- all steps came to the end of the dialogue, with this line or without one
+pub record HasEnded (start : Bool) (state : State) (script answers : Sexps) (script_fault answers_fault : Option TextFault) (line : Option Line) : Type 0 where
+  pub pairs : List Pair
+  pub later : Sexps
+  pub rest : Sexps
+  pub pairing : IsPairing start pairs script later answers rest
+  pub faultless : AreFaultless [] pairs
+  pub ends : step_after start pairs later script_fault rest answers_fault ≡ Stop line
+  pub stands : StandsFor state pairs
+
 -- all steps came to these lines and this verdict
 pub record IsJudged (start : Bool) (script answers : Sexps) (script_fault answers_fault : Option TextFault) (ls : List Line) (verdict : Verdict) : Type 0 where
   pub pairs : List Pair

@@ -1,6 +1,7 @@
 use Rattle.std.proofs.Common.{◌<◌, [], None, length, map, refl, ap, sym, ◌∙◌, arith}
+use Rattle.std.proofs.lemmas.Grind.{common_steps}
 use Rattle.std.proofs.lemmas.List.{get_or_default}
-use Rattle.smt_trees.specs.Sexp.{Atom, Cons, Items, Reserved, Symbol}
+use Rattle.smt_trees.specs.Sexp.{Atom, Cons, Items, Reserved, Symbol, weight_all}
 use Rattle.smt_trees.specs.Tree.{sexp_of, sexps_of}
 use Rattle.smt_trees.specs.declared.reserved.Word.TheVariants.{Bang}
 use Rattle.smt_theory.specs.Index.{index_view}
@@ -191,3 +192,156 @@ pub evaluator::known_operation-returns-in-len3 : goal.evaluator::known_operation
 evaluator::known_operation-returns-in-len3 t c = λ d e.
     let parts = three_of c.args.args.now c.first-item-then-args-lt4.result c.second-item-then-args-lt4.result c.third-item.result c.in-len3.len_at_least c.in-len3.len_below c.first-item-then-args-lt4.is c.second-item-then-args-lt4.is c.third-item.is in
     if_known c.known_of_three.result _ _ (c.known_of_three.ensures d e) (sym (ap (λ ts. known_step c.args.op (knowns_of (meaning_over c.args.over d) (known_scope c.args.scope.now) ts)) parts))
+
+-- ---- the measure
+
+pub calls::known_applied-known_plain-requires : goal.calls::known_applied-known_plain-requires
+calls::known_applied-known_plain-requires t c = (omega (arith, c.decreases), c.requires)
+
+pub evaluator::known_value-known_symbol-requires : goal.evaluator::known_value-known_symbol-requires
+evaluator::known_value-known_symbol-requires t c = (grind arith, c.requires)
+
+pub evaluator::known_value-known_other-requires : goal.evaluator::known_value-known_other-requires
+evaluator::known_value-known_other-requires t c = (omega (arith, c.decreases), c.requires)
+
+pub evaluator::known_symbol-known_plain-requires : goal.evaluator::known_symbol-known_plain-requires
+evaluator::known_symbol-known_plain-requires t c = (omega (arith, c.decreases), c.requires)
+
+pub evaluator::known_operation-known_choice-requires : goal.evaluator::known_operation-known_choice-requires
+evaluator::known_operation-known_choice-requires t c = (omega (arith, c.decreases), c.requires)
+
+pub evaluator::known_operation-known_all-requires : goal.evaluator::known_operation-known_all-requires
+evaluator::known_operation-known_all-requires t c = (omega (arith, c.decreases), c.requires)
+
+pub evaluator::known_call-known_applied-requires : goal.evaluator::known_call-known_applied-requires
+evaluator::known_call-known_applied-requires t c = (omega (arith, c.decreases), c.requires)
+
+pub evaluator::known_named-known_operation-requires : goal.evaluator::known_named-known_operation-requires
+evaluator::known_named-known_operation-requires t c = (omega (arith, c.decreases), c.requires)
+
+pub evaluator::known_reserved-known_let-requires : goal.evaluator::known_reserved-known_let-requires
+evaluator::known_reserved-known_let-requires t c = (omega (arith, c.decreases), c.requires)
+
+pub evaluator::known_other-known_symbol-requires : goal.evaluator::known_other-known_symbol-requires
+evaluator::known_other-known_symbol-requires t c = (grind arith, c.requires)
+
+pub evaluator::known_call-known_all-requires : goal.evaluator::known_call-known_all-requires
+evaluator::known_call-known_all-requires t c = (omega (arith, c.decreases), c.requires)
+
+pub evaluator::known_named-known_all-requires : goal.evaluator::known_named-known_all-requires
+evaluator::known_named-known_all-requires t c = (omega (arith, c.decreases), c.requires)
+
+pub evaluator::known_all-known_value-requires : goal.evaluator::known_all-known_value-requires
+evaluator::known_all-known_value-requires t c = (grind arith, c.requires)
+
+pub evaluator::known_choice-known_value-requires : goal.evaluator::known_choice-known_value-requires
+evaluator::known_choice-known_value-requires t c = (grind arith, c.requires)
+
+pub evaluator::known_choice-known_value-requires-in-Some-Bool-true : goal.evaluator::known_choice-known_value-requires-in-Some-Bool-true
+evaluator::known_choice-known_value-requires-in-Some-Bool-true t c = (grind arith, c.requires)
+
+pub evaluator::known_choice-known_value-requires-in-Some-Bool-false : goal.evaluator::known_choice-known_value-requires-in-Some-Bool-false
+evaluator::known_choice-known_value-requires-in-Some-Bool-false t c = (grind arith, c.requires)
+
+pub evaluator::known_let-knowns_bound_by-requires : goal.evaluator::known_let-knowns_bound_by-requires
+evaluator::known_let-knowns_bound_by-requires t c = (grind arith, c.requires)
+
+pub evaluator::known_let-known_value-requires : goal.evaluator::known_let-known_value-requires
+evaluator::known_let-known_value-requires t c = (grind arith, c.requires)
+
+pub evaluator::known_list-known_reserved-requires : goal.evaluator::known_list-known_reserved-requires
+evaluator::known_list-known_reserved-requires t c = (grind arith, c.requires)
+
+pub evaluator::known_list-known_named-requires : goal.evaluator::known_list-known_named-requires
+evaluator::known_list-known_named-requires t c = (grind arith, c.requires)
+
+pub evaluator::known_list-known_call-requires : goal.evaluator::known_list-known_call-requires
+evaluator::known_list-known_call-requires t c = (grind arith, c.requires)
+
+pub evaluator::known_of_one-known_value-requires : goal.evaluator::known_of_one-known_value-requires
+evaluator::known_of_one-known_value-requires t c = (grind arith, c.requires)
+
+pub evaluator::known_of_three-known_value-requires : goal.evaluator::known_of_three-known_value-requires
+evaluator::known_of_three-known_value-requires t c = (grind arith, c.requires)
+
+pub evaluator::known_of_three-known_value-requires-2 : goal.evaluator::known_of_three-known_value-requires-2
+evaluator::known_of_three-known_value-requires-2 t c = (grind arith, c.requires)
+
+pub evaluator::known_of_three-known_value-requires-3 : goal.evaluator::known_of_three-known_value-requires-3
+evaluator::known_of_three-known_value-requires-3 t c = (grind arith, c.requires)
+
+pub evaluator::known_of_two-known_value-requires : goal.evaluator::known_of_two-known_value-requires
+evaluator::known_of_two-known_value-requires t c = (grind arith, c.requires)
+
+pub evaluator::known_of_two-known_value-requires-2 : goal.evaluator::known_of_two-known_value-requires-2
+evaluator::known_of_two-known_value-requires-2 t c = (grind arith, c.requires)
+
+pub evaluator::known_operation-known_of_one-requires : goal.evaluator::known_operation-known_of_one-requires
+evaluator::known_operation-known_of_one-requires t c =
+    let parts = one_of c.args.args.now c.only-item.result c.in-len1.len_at_least c.in-len1.len_below c.only-item.is in
+    (omega (arith, c.decreases, ap weight_all parts), c.requires)
+
+pub evaluator::known_operation-known_of_two-requires : goal.evaluator::known_operation-known_of_two-requires
+evaluator::known_operation-known_of_two-requires t c =
+    let parts = two_of c.args.args.now c.first-item.result c.second-item.result c.in-len2.len_at_least c.in-len2.len_below c.first-item.is c.second-item.is in
+    (omega (arith, c.decreases, ap weight_all parts), c.requires)
+
+pub evaluator::known_operation-known_of_three-requires : goal.evaluator::known_operation-known_of_three-requires
+evaluator::known_operation-known_of_three-requires t c =
+    let parts = three_of c.args.args.now c.first-item-then-args-lt4.result c.second-item-then-args-lt4.result c.third-item.result c.in-len3.len_at_least c.in-len3.len_below c.first-item-then-args-lt4.is c.second-item-then-args-lt4.is c.third-item.is in
+    (omega (arith, c.decreases, ap weight_all parts), c.requires)
+
+pub evaluator::known_other-known_list-requires : goal.evaluator::known_other-known_list-requires
+evaluator::known_other-known_list-requires t c = (grind arith, c.requires)
+
+pub evaluator::known_reserved-known_value-requires : goal.evaluator::known_reserved-known_value-requires
+evaluator::known_reserved-known_value-requires t c = (grind arith, c.requires)
+
+pub evaluator::knowns_bound_by-known_value-requires : goal.evaluator::knowns_bound_by-known_value-requires
+evaluator::knowns_bound_by-known_value-requires t c = (grind arith, c.requires)
+
+-- ---- the loops
+
+pub evaluator::known_all-loop-term-preserved : goal.evaluator::known_all-loop-term-preserved
+evaluator::known_all-loop-term-preserved t c = grind (arith, common_steps)
+
+pub evaluator::knowns_bound_by-loop-name-preserved : goal.evaluator::knowns_bound_by-loop-name-preserved
+evaluator::knowns_bound_by-loop-name-preserved t c = grind (arith, common_steps)
+
+-- ---- what is handed on
+
+pub calls::known_at-definition_at-requires-clause-over : goal.calls::known_at-definition_at-requires-clause-over
+calls::known_at-definition_at-requires-clause-over t c = c.requires.over
+
+pub calls::known_at-known_body-requires : goal.calls::known_at-known_body-requires
+calls::known_at-known_body-requires t c = (omega (arith, c.decreases), (c.requires.over, (c.requires.seen, c.definition_at.ensures.body)))
+
+pub calls::known_plain-place_of-requires : goal.calls::known_plain-place_of-requires
+calls::known_plain-place_of-requires t c = c.requires
+
+pub evaluator::known_named-place_of-requires : goal.evaluator::known_named-place_of-requires
+evaluator::known_named-place_of-requires t c = c.requires
+
+pub calls::known_plain-known_at-requires : goal.calls::known_plain-known_at-requires
+calls::known_plain-known_at-requires t c = (omega (arith, c.decreases), (c.requires, c.in-Some.ensures.within))
+
+pub evaluator::known_named-known_at-requires : goal.evaluator::known_named-known_at-requires
+evaluator::known_named-known_at-requires t c = (omega (arith, c.decreases), (c.requires, c.in-Some-place_of.ensures.within))
+
+pub evaluator::known_operation-bounds-args-0 : goal.evaluator::known_operation-bounds-args-0
+evaluator::known_operation-bounds-args-0 t c = omega (arith, c.in-len1.len_at_least)
+
+pub evaluator::known_operation-bounds-args-0-then-args-lt3 : goal.evaluator::known_operation-bounds-args-0-then-args-lt3
+evaluator::known_operation-bounds-args-0-then-args-lt3 t c = omega (arith, c.in-len2.len_at_least)
+
+pub evaluator::known_operation-bounds-args-1 : goal.evaluator::known_operation-bounds-args-1
+evaluator::known_operation-bounds-args-1 t c = omega (arith, c.in-len2.len_at_least)
+
+pub evaluator::known_operation-bounds-args-0-then-args-lt4 : goal.evaluator::known_operation-bounds-args-0-then-args-lt4
+evaluator::known_operation-bounds-args-0-then-args-lt4 t c = omega (arith, c.in-len3.len_at_least)
+
+pub evaluator::known_operation-bounds-args-1-then-args-lt4 : goal.evaluator::known_operation-bounds-args-1-then-args-lt4
+evaluator::known_operation-bounds-args-1-then-args-lt4 t c = omega (arith, c.in-len3.len_at_least)
+
+pub evaluator::known_operation-bounds-args-2 : goal.evaluator::known_operation-bounds-args-2
+evaluator::known_operation-bounds-args-2 t c = omega (arith, c.in-len3.len_at_least)

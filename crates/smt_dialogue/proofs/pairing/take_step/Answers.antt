@@ -2,12 +2,18 @@ use Rattle.std.proofs.Common.{Bool, option_map, ap, sym, ◌∙◌}
 use Rattle.smt_trees.specs.Tree.{sexp_of, sexps_of}
 use Rattle.smt_script.specs.CommandView.{command_view}
 use Rattle.smt_script.specs.StackView.{start_of}
+use Rattle.smt_dialogue.proofs.PairLemmas.{check_answered}
 use Rattle.smt_dialogue.proofs.StepLemmas.{step_taken}
 use Rattle.smt_dialogue.specs.Answers.{need_of, taken}
 use Rattle.smt_dialogue.specs.Internal.DialogueState.{state_of}
 use Rattle.smt_dialogue.specs.Pairs.{effective_commands, next_of}
 use Rattle.smt_dialogue.specs.declared.answer.Need.{Need}
 use Rattle.smt_dialogue.proofs.pairing.take_step.Goals as goal
+
+pub accept-requires-clause-answered : goal.accept-requires-clause-answered
+accept-requires-clause-answered c =
+    let next = next_of (sexps_of c.args.answers.now.trees.items) in
+    check_answered c.print_success.result (command_view c.in-Ok.command) next (option_map sexp_of c.in-Takes.answer) (ap (λ (n : Need). taken n next) (sym c.need_of-need.ensures) ∙ sym c.in-Takes.ensures.taken)
 
 pub returns-in-Takes-clause-step : goal.returns-in-Takes-clause-step
 returns-in-Takes-clause-step c =

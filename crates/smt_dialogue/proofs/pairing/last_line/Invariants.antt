@@ -8,10 +8,10 @@ use Rattle.smt_script.specs.StackView.{start_of}
 use Rattle.smt_dialogue.specs.Internal.DialogueState.{state_of}
 use Rattle.smt_dialogue.specs.Internal.UnreadText.{HasLeft, IsSound}
 use Rattle.smt_dialogue.proofs.UnreadLemmas.{GoesOn}
-use Rattle.smt_dialogue.proofs.pairing.judge_all.Given as goal
+use Rattle.smt_dialogue.proofs.pairing.last_line.Given as goal
 
-abbrev pub invariant-loop-answers : goal.invariant-loop-answers
-invariant-loop-answers l = record {
+abbrev pub invariant-loop-tree : goal.invariant-loop-tree
+invariant-loop-tree l = record {
   sound : IsSound l.script;
   goes_on : (trees : Sexps) (fault : Option TextFault) → HasLeft l.fn.script trees fault
       → GoesOn (start_of l.fn.dialogue.stack) (state_of l.dialogue) l.script trees (sexps_of l.fn.answers.trees.items) (sexps_of l.answers.trees.items) fault;
@@ -19,5 +19,5 @@ invariant-loop-answers l = record {
   answers_fault : l.answers.fault ≡ l.fn.answers.fault;
 }
 
-abbrev pub decreases-loop-answers : goal.decreases-loop-answers
-decreases-loop-answers l = bytes_fed l.fn.script.reader + length l.fn.script.left.now - l.dialogue.commands
+abbrev pub decreases-loop-tree : goal.decreases-loop-tree
+decreases-loop-tree l = bytes_fed l.fn.script.reader + length l.fn.script.left.now - l.dialogue.commands
