@@ -7,7 +7,7 @@ use smt_theory::Width;
 use std::marker::Model;
 
 /// A bit vector of 1 to 128 bits (SMT-LIB 2.6, theory FixedSizeBitVectors). Contracts see it as its width and its number.
-#[derive(Clone, Copy, Debug, PartialEq, Eq)]
+#[derive(Clone, Copy, PartialEq, Eq)]
 pub struct Bits {
     width: Width,
     bits: u128,

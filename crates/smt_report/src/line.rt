@@ -9,7 +9,7 @@ use smt_faults::{CommandFault, TermFault, TextFault};
 use std::fmt;
 
 /// What a check was answered where it was not `sat`.
-#[derive(Clone, Copy, Debug, PartialEq, Eq)]
+#[derive(Clone, Copy)]
 pub enum CheckAnswer {
     Unsat,
     Unknown,
@@ -19,14 +19,14 @@ pub enum CheckAnswer {
 }
 
 /// Which of the two texts.
-#[derive(Clone, Copy, Debug, PartialEq, Eq)]
+#[derive(Clone, Copy)]
 pub enum Side {
     Script,
     Answers,
 }
 
 /// Why a text is none of the language.
-#[derive(Clone, Copy, Debug, PartialEq, Eq)]
+#[derive(Clone, Copy)]
 pub enum TextFaultKind {
     /// A byte with which no text goes on (`X1`).
     Byte,
@@ -37,7 +37,7 @@ pub enum TextFaultKind {
 }
 
 /// A line of a report. Checks, commands, answers and items of a model count from 1, and bytes from 0.
-#[derive(Clone, Copy, Debug, PartialEq, Eq)]
+#[derive(Clone, Copy)]
 pub enum Line {
     /// A check that was answered otherwise than `sat`.
     Unchecked {

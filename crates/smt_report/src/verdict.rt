@@ -3,7 +3,7 @@
 use std::fmt;
 
 /// How many `sat` were confirmed, refuted and left undecided, and how many checks were answered otherwise.
-#[derive(Clone, Copy, Debug, PartialEq, Eq)]
+#[derive(Clone, Copy)]
 pub struct Tally {
     pub confirmed: u64,
     pub refuted: u64,
@@ -12,7 +12,7 @@ pub struct Tally {
 }
 
 /// What a report comes to.
-#[derive(Clone, Copy, Debug, PartialEq, Eq)]
+#[derive(Clone, Copy)]
 pub enum Verdict {
     /// Each `sat` is confirmed.
     Valid,

@@ -20,7 +20,7 @@ use smt_theory::Theories;
 use std::alloc::Global;
 
 /// An assertion: the number of the command that made it, from 1, and that of its term in the stack's library.
-#[derive(Clone, Copy, Debug, PartialEq, Eq)]
+#[derive(Clone, Copy)]
 pub struct Assertion {
     pub command: u64,
     pub term: TermId,

@@ -1,7 +1,7 @@
 //! Indexes of identifiers.
 
 /// An index of an identifier `(_ symbol index ..)` (SMT-LIB 2.6, section 3.3).
-#[derive(Clone, Copy, Debug)]
+#[derive(Clone, Copy)]
 pub enum Index<'a> {
     /// A numeral up to 2^64 - 1.
     Number(u64),

@@ -6,7 +6,7 @@ pub(crate) mod names;
 use crate::width::Width;
 
 /// An operator of a theory, with its indexes.
-#[derive(Clone, Copy, Debug, PartialEq, Eq)]
+#[derive(Clone, Copy)]
 pub enum Op {
     Core(CoreOp),
     Ints(IntsOp),
@@ -14,7 +14,7 @@ pub enum Op {
 }
 
 /// An operator of the theory Core.
-#[derive(Clone, Copy, Debug, PartialEq, Eq)]
+#[derive(Clone, Copy)]
 pub enum CoreOp {
     True,
     False,
@@ -32,7 +32,7 @@ pub enum CoreOp {
 }
 
 /// An operator of the theory Ints.
-#[derive(Clone, Copy, Debug, PartialEq, Eq)]
+#[derive(Clone, Copy)]
 pub enum IntsOp {
     Arithmetic(Arithmetic),
     Comparison(Comparison),
@@ -43,7 +43,7 @@ pub enum IntsOp {
 }
 
 /// The operators on integers that are applied from the left.
-#[derive(Clone, Copy, Debug, PartialEq, Eq)]
+#[derive(Clone, Copy)]
 pub enum Arithmetic {
     /// `-`, of one argument its negation.
     Minus,
@@ -53,7 +53,7 @@ pub enum Arithmetic {
 }
 
 /// The relations on integers that are chained.
-#[derive(Clone, Copy, Debug, PartialEq, Eq)]
+#[derive(Clone, Copy)]
 pub enum Comparison {
     /// `<=`
     AtMost,
@@ -66,7 +66,7 @@ pub enum Comparison {
 }
 
 /// An operator of the theory FixedSizeBitVectors, or one that the logic QF_BV adds.
-#[derive(Clone, Copy, Debug, PartialEq, Eq)]
+#[derive(Clone, Copy)]
 pub enum BitsOp {
     /// `(_ bvX n)`: the number X in n bits; an operator where X is below 2^n.
     Constant(u128, Width),
@@ -92,7 +92,7 @@ pub enum BitsOp {
 }
 
 /// The operators on one bit vector.
-#[derive(Clone, Copy, Debug, PartialEq, Eq)]
+#[derive(Clone, Copy)]
 pub enum BitsUnary {
     /// `bvnot`
     Not,
@@ -101,7 +101,7 @@ pub enum BitsUnary {
 }
 
 /// The operators on bit vectors that are applied from the left, to two or more.
-#[derive(Clone, Copy, Debug, PartialEq, Eq)]
+#[derive(Clone, Copy)]
 pub enum BitsFolded {
     /// `bvand`
     And,
@@ -116,7 +116,7 @@ pub enum BitsFolded {
 }
 
 /// The operators on two bit vectors that give a third.
-#[derive(Clone, Copy, Debug, PartialEq, Eq)]
+#[derive(Clone, Copy)]
 pub enum BitsBinary {
     /// `bvnand`
     Nand,
@@ -145,7 +145,7 @@ pub enum BitsBinary {
 }
 
 /// The relations on two bit vectors.
-#[derive(Clone, Copy, Debug, PartialEq, Eq)]
+#[derive(Clone, Copy)]
 pub enum BitsComparison {
     /// `bvult`
     UnsignedLess,
@@ -166,7 +166,7 @@ pub enum BitsComparison {
 }
 
 /// Why an identifier is no operator.
-#[derive(Clone, Copy, Debug, PartialEq, Eq)]
+#[derive(Clone, Copy)]
 pub enum OpFault {
     /// No operator has that name in that form: plain where there is no index, indexed where there is one.
     Unknown,

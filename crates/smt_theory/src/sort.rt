@@ -3,7 +3,7 @@
 use crate::width::Width;
 
 /// A sort of the theories (SMT-LIB 2.6, theories Core, Ints and FixedSizeBitVectors). The default means nothing: small vectors ask for one.
-#[derive(Clone, Copy, Debug, PartialEq, Eq, Default)]
+#[derive(Clone, Copy, PartialEq, Eq, Default)]
 pub enum Sort {
     #[default]
     Bool,

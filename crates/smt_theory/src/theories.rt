@@ -6,7 +6,7 @@ ghost use Rattle.smt_theory.specs.Theories.{theories_named, is_logic_of_bit_vect
 use crate::op::names::is_named;
 
 /// The theories that a logic has besides Core.
-#[derive(Clone, Copy, Debug, PartialEq, Eq)]
+#[derive(Clone, Copy)]
 pub struct Theories {
     /// The theory Ints.
     pub ints: bool,

@@ -6,7 +6,7 @@ ghost use Rattle.smt_theory.specs.Width.{width_of};
 use std::marker::Model;
 
 /// The width of a bit vector, in bits: 1 to 128. Contracts see it as a number. The upper limit is this project's own.
-#[derive(Clone, Copy, Debug, PartialEq, Eq)]
+#[derive(Clone, Copy, PartialEq, Eq)]
 pub struct Width {
     bits: u8,
 }

@@ -4,7 +4,7 @@ ghost use Rattle.std.specs.Prelude.{◌≡◌};
 ghost use Rattle.smt_trees.specs.Reserved.{spelling_of};
 
 /// A reserved word (SMT-LIB 2.6, section 3.1): no symbol has its spelling, unless it stands between bars.
-#[derive(Clone, Copy, Debug, PartialEq, Eq)]
+#[derive(Clone, Copy)]
 pub enum Word {
     /// `!`
     Bang,

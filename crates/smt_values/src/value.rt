@@ -3,7 +3,7 @@
 use smt_bits::Bits;
 
 /// A value of a sort's domain (SMT-LIB 2.6, theories Core, Ints and FixedSizeBitVectors).
-#[derive(Clone, Copy, Debug, PartialEq, Eq)]
+#[derive(Clone, Copy, PartialEq, Eq)]
 pub enum Value {
     Bool(bool),
     /// From -2^127 to 2^127 - 1: an integer outside has no value here.
