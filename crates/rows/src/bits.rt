@@ -17,7 +17,7 @@ use std::io::Write;
 /// Prints how many cases of each operator were computed, and in how many the two answers differ. The row has no fields.
 pub(crate) fn print<W: Write>(out: &mut W, fields: &[Field]) -> Result<()> {
     match fields.first() {
-        None => lines::print(out),
+        None => Ok(lines::print(out)?),
         Some(field) => refuse(field),
     }
 }

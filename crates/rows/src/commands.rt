@@ -7,9 +7,10 @@ use crate::names::print_counts;
 use crate::trees::{refuse, tree_of};
 use anyhow::{Result, bail};
 use row_texts::Field;
-use smt_script::{CommandFault, Stack, read_command};
+use smt_script::{Assertion, CommandFault, Stack, read_command};
 use smt_trees::Tree;
 use std::alloc::Global;
+use std::io;
 use std::io::Write;
 
 /// Prints what is answered to commands, in order, and then what the stack holds. Each command has the number of its place behind
@@ -17,11 +18,10 @@ use std::io::Write;
 pub(crate) fn print<W: Write>(alloc: Global, out: &mut W, fields: &[Field]) -> Result<()> {
     let (start, fields) = split_start(fields)?;
     let mut stack = Stack::new(alloc, start);
-    print_commands(alloc, out, &mut stack, fields)?;
-    print_stack(out, &stack)
+    print_commands(alloc, out, &mut stack, fields)
 }
 
-// Prints what is answered to the first commands of a stack.
+// Prints what is answered to the first commands of a stack, and then what it holds.
 fn print_commands<W: Write>(
     alloc: Global,
     out: &mut W,
@@ -33,6 +33,7 @@ fn print_commands<W: Write>(
     for (place, field) in fields.iter().enumerate() {
         print_command(alloc, out, stack, place as u64 + 1, field)?;
     }
+    print_stack(out, stack)?;
     Ok(())
 }
 
@@ -49,11 +50,22 @@ fn print_command<W: Write>(
     if field.key != "command" {
         return refuse(field);
     }
-    match take(stack, number, tree_of(alloc, field)?) {
-        Ok(()) => writeln!(out, "{number} {} => done", field.text)?,
-        Err(fault) => writeln!(out, "{number} {} => {fault}", field.text)?,
-    }
+    let tree = tree_of(alloc, field)?;
+    let answer = take(stack, number, tree);
+    print_answer(out, number, field, answer)?;
     Ok(())
+}
+
+fn print_answer<W: Write>(
+    out: &mut W,
+    number: u64,
+    field: &Field,
+    answer: Result<(), CommandFault>,
+) -> io::Result<()> {
+    match answer {
+        Ok(()) => writeln!(out, "{number} {} => done", field.text),
+        Err(fault) => writeln!(out, "{number} {} => {fault}", field.text),
+    }
 }
 
 // Whether the solver prints `success` at the start, as the first field says, and the fields behind it. Where none says so, it does.
@@ -83,15 +95,18 @@ fn take(stack: &mut Stack, number: u64, tree: Tree) -> Result<(), CommandFault>
 }
 
 // Prints what is in force: names, the numbers of the commands of the assertions, levels, and what the solver was told.
-fn print_stack<W: Write>(out: &mut W, stack: &Stack) -> Result<()> {
+fn print_stack<W: Write>(out: &mut W, stack: &Stack) -> io::Result<()> {
     print_counts(out, "names", stack.library())?;
-    write!(out, "assertions =>")?;
-    for assertion in stack.assertions() {
-        write!(out, " {}", assertion.command)?;
-    }
-    writeln!(out)?;
+    print_assertions(out, stack.assertions())?;
     writeln!(out, "depth => {}", stack.depth())?;
     writeln!(out, "print-success => {}", stack.print_success())?;
-    writeln!(out, "exited => {}", stack.exited())?;
-    Ok(())
+    writeln!(out, "exited => {}", stack.exited())
+}
+
+fn print_assertions<W: Write>(out: &mut W, assertions: &[Assertion]) -> io::Result<()> {
+    write!(out, "assertions =>")?;
+    for assertion in assertions {
+        write!(out, " {}", assertion.command)?;
+    }
+    writeln!(out)
 }

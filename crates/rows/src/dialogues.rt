@@ -6,6 +6,7 @@ use row_texts::Field;
 use smt_dialogue::{Report, validate};
 use smtcheck_status::status_of;
 use std::alloc::Global;
+use std::io;
 use std::io::Write;
 
 /// Prints the report on a dialogue, and the status.
@@ -18,9 +19,7 @@ pub(crate) fn print<W: Write>(
     match fields {
         [script, answers, start]
             if script.key == "script" && answers.key == "answers" && start.key == "start" => {
-            let print_success = is_on(start)?;
-            let script = script.bytes(alloc)?;
-            print_answers(alloc, out, script.as_slice(), answers, print_success)
+            print_dialogue(alloc, out, script, answers, is_on(start)?)
         }
         _ => bail!(
             "line {}: a dialogue has a script, answers and a start",
@@ -29,15 +28,22 @@ pub(crate) fn print<W: Write>(
     }
 }
 
-fn print_answers<W: Write>(
+fn print_dialogue<W: Write>(
     alloc: Global,
     out: &mut W,
-    script: &[u8],
+    script: &Field,
     answers: &Field,
     print_success: bool,
 ) -> Result<()> {
+    let script = script.bytes(alloc)?;
     let answers = answers.bytes(alloc)?;
-    print_report(alloc, out, script, answers.as_slice(), print_success)
+    print_report(
+        alloc,
+        out,
+        script.as_slice(),
+        answers.as_slice(),
+        print_success,
+    )
 }
 
 fn print_report<W: Write>(
@@ -48,15 +54,14 @@ fn print_report<W: Write>(
     print_success: bool,
 ) -> Result<()> {
     match &validate(alloc, script, answers, print_success) {
-        Ok(report) => write_report(out, report),
+        Ok(report) => Ok(write_report(out, report)?),
         Err(_) => bail!("out of memory"),
     }
 }
 
-fn write_report<W: Write>(out: &mut W, report: &Report) -> Result<()> {
+fn write_report<W: Write>(out: &mut W, report: &Report) -> io::Result<()> {
     for line in &report.lines {
         writeln!(out, "{line}")?;
     }
-    writeln!(out, "status {}", status_of(report.verdict))?;
-    Ok(())
+    writeln!(out, "status {}", status_of(report.verdict))
 }

@@ -33,14 +33,23 @@ fn main(rt: HostRuntime) -> Result<()> {
 
 fn print_files<R: Files + Env + AllocGlobal, W: Write>(rt: &R, out: &mut W) -> Result<()> {
     for name in env::args(rt)?.skip(1) {
-        let text = fs::read_to_string(rt, name.as_str()).context(format_args!("reading {name}"))?;
-        print_rows(rt.alloc(), out, text.as_str()).context(format_args!("{name}"))?;
+        print_file(rt, out, name.as_str())?;
     }
     Ok(())
 }
 
-fn print_rows<W: Write>(alloc: Global, out: &mut W, text: &str) -> Result<()> {
-    for row in &row_texts::read(alloc, text)? {
+fn print_file<R: Files + AllocGlobal, W: Write>(rt: &R, out: &mut W, name: &str) -> Result<()> {
+    let text = fs::read_to_string(rt, name).context(format_args!("reading {name}"))?;
+    print_text(rt.alloc(), out, text.as_str()).context(format_args!("{name}"))
+}
+
+fn print_text<W: Write>(alloc: Global, out: &mut W, text: &str) -> Result<()> {
+    let rows = row_texts::read(alloc, text)?;
+    print_rows(alloc, out, rows.as_slice())
+}
+
+fn print_rows<W: Write>(alloc: Global, out: &mut W, rows: &[Vec<Field>]) -> Result<()> {
+    for row in rows {
         if let Some((title, fields)) = row.split_first() {
             print_row(alloc, out, title, fields)?;
         }
@@ -51,15 +60,24 @@ fn print_rows<W: Write>(alloc: Global, out: &mut W, text: &str) -> Result<()> {
 // Prints the title of a row, what is answered to the row, and an empty line.
 fn print_row<W: Write>(alloc: Global, out: &mut W, title: &Field, fields: &[Field]) -> Result<()> {
     writeln!(out, "{}", title.text)?;
-    match title.key {
-        "commands" => commands::print(alloc, out, fields)?,
-        "dialogue" => dialogues::print(alloc, out, title, fields)?,
-        "texts" => texts::print(alloc, out, fields)?,
-        "bits" => bits::print(out, fields)?,
-        _ => print_over_library(alloc, out, title, fields)?,
-    }
+    print_answers(alloc, out, title, fields)?;
     writeln!(out)?;
     Ok(())
+}
+
+fn print_answers<W: Write>(
+    alloc: Global,
+    out: &mut W,
+    title: &Field,
+    fields: &[Field],
+) -> Result<()> {
+    match title.key {
+        "commands" => commands::print(alloc, out, fields),
+        "dialogue" => dialogues::print(alloc, out, title, fields),
+        "texts" => texts::print(alloc, out, fields),
+        "bits" => bits::print(out, fields),
+        _ => print_over_library(alloc, out, title, fields),
+    }
 }
 
 // Prints what is answered to a row over a library of the logic that its first field names, or of all theories.

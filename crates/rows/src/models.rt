@@ -12,6 +12,7 @@ use smt_eval::{Interpretation, ModelFault};
 use smt_terms::Library;
 use smt_trees::Trees;
 use std::alloc::Global;
+use std::io;
 use std::io::Write;
 
 /// Prints what is answered to declarations and models, in order. Each declaration is the command of its place behind the logic.
@@ -92,8 +93,21 @@ fn print_names<W: Write>(out: &mut W, declared: &Library, model: &Trees) -> Resu
     let Ok(mut definitions) = declared.for_model() else {
         bail!("memory was refused");
     };
-    define(declared, &mut definitions, model)?;
-    write_names(out, &definitions)
+    write_defined(out, declared, &mut definitions, model)
+}
+
+// Defines the items of a model, and writes the names of all definitions.
+fn write_defined<W: Write>(
+    out: &mut W,
+    declared: &Library,
+    definitions: &mut Library,
+    model: &Trees,
+) -> Result<()>
+    requires { HasTheoriesOf definitions.old declared.now }
+{
+    define(declared, definitions, model)?;
+    write_names(out, definitions)?;
+    Ok(())
 }
 
 fn define(declared: &Library, definitions: &mut Library, model: &Trees) -> Result<()>
@@ -110,11 +124,10 @@ fn define(declared: &Library, definitions: &mut Library, model: &Trees) -> Resul
     Ok(())
 }
 
-fn write_names<W: Write>(out: &mut W, library: &Library) -> Result<()> {
+fn write_names<W: Write>(out: &mut W, library: &Library) -> io::Result<()> {
     for definition in library.definitions() {
         write!(out, " ")?;
         out.write_all(definition.name.as_slice())?;
     }
-    writeln!(out)?;
-    Ok(())
+    writeln!(out)
 }

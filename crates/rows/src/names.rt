@@ -1,10 +1,11 @@
 //! What a library says of its names.
 
-use anyhow::{Result, bail};
+use anyhow::Result;
 use row_texts::Field;
 use smt_terms::{Declared, Definition, Found, Library};
 use smt_theory::Sort;
 use std::alloc::Global;
+use std::io;
 use std::io::Write;
 
 /// Prints where a library has the name that a field is, and its rank.
@@ -21,50 +22,46 @@ pub(crate) fn print_name<W: Write>(
 }
 
 /// Prints behind a title how many names a library has that are declared, and how many that are defined.
-pub(crate) fn print_counts<W: Write>(out: &mut W, title: &str, library: &Library) -> Result<()> {
+pub(crate) fn print_counts<W: Write>(
+    out: &mut W,
+    title: &str,
+    library: &Library,
+) -> io::Result<()> {
     let declared = library.declared().len();
     let definitions = library.definitions().len();
-    writeln!(out, "{title} => {declared} declared, {definitions} defined")?;
-    Ok(())
+    writeln!(out, "{title} => {declared} declared, {definitions} defined")
 }
 
 /// Writes where a library has a name, by its place among the declared names or among the definitions, from 0, and its rank.
-pub(crate) fn write_found<W: Write>(out: &mut W, library: &Library, name: &[u8]) -> Result<()> {
+pub(crate) fn write_found<W: Write>(out: &mut W, library: &Library, name: &[u8]) -> io::Result<()> {
     match library.find(name) {
         Some(Found::Declared(place)) => {
-            let Some(declared) = library.declared().get(place) else {
-                bail!("a declared name is not at its place");
-            };
-            write!(out, "declared {place} by command {}: ", declared.command)?;
-            write_declared(out, declared)
+            write!(out, "declared {place}")?;
+            write_declared(out, library.declared().get(place))
         }
         Some(Found::Defined(place)) => {
-            let Some(definition) = library.definitions().get(place) else {
-                bail!("a definition is not at its place");
-            };
-            write!(out, "defined {place}: ")?;
-            write_definition(out, definition)
+            write!(out, "defined {place}")?;
+            write_definition(out, library.definitions().get(place))
         }
-        None => {
-            write!(out, "unknown")?;
-            Ok(())
-        }
+        None => write!(out, "unknown"),
     }
 }
 
 /// Writes a sort, as the standard does.
-pub(crate) fn write_sort<W: Write>(out: &mut W, sort: &Sort) -> Result<()> {
+pub(crate) fn write_sort<W: Write>(out: &mut W, sort: &Sort) -> io::Result<()> {
     match sort {
-        Sort::Bool => write!(out, "Bool")?,
-        Sort::Int => write!(out, "Int")?,
-        Sort::Bits(width) => write!(out, "(_ BitVec {})", width.bits())?,
+        Sort::Bool => write!(out, "Bool"),
+        Sort::Int => write!(out, "Int"),
+        Sort::Bits(width) => write!(out, "(_ BitVec {})", width.bits()),
     }
-    Ok(())
 }
 
-// Writes the rank of a declared name, as `(Int Bool) Int`.
-fn write_declared<W: Write>(out: &mut W, declared: &Declared) -> Result<()> {
-    write!(out, "(")?;
+// Writes the command of a declared name and its rank, as ` by command 2: (Int Bool) Int`, or that nothing is at its place.
+fn write_declared<W: Write>(out: &mut W, declared: Option<&Declared>) -> io::Result<()> {
+    let Some(declared) = declared else {
+        return write!(out, ", and is not there");
+    };
+    write!(out, " by command {}: (", declared.command)?;
     for (place, sort) in declared.params.iter().enumerate() {
         write_space(out, place)?;
         write_sort(out, sort)?;
@@ -73,23 +70,30 @@ fn write_declared<W: Write>(out: &mut W, declared: &Declared) -> Result<()> {
     write_sort(out, &declared.result)
 }
 
-// Writes the parameters of a definition and the sort of its result, as `((a Int) (b Bool)) Int`.
-fn write_definition<W: Write>(out: &mut W, definition: &Definition) -> Result<()> {
-    write!(out, "(")?;
+// Writes the parameters of a definition and the sort of its result, as `: ((a Int) (b Bool)) Int`, or that nothing is at its place.
+fn write_definition<W: Write>(out: &mut W, definition: Option<&Definition>) -> io::Result<()> {
+    let Some(definition) = definition else {
+        return write!(out, ", and is not there");
+    };
+    write!(out, ": (")?;
     for (place, (name, sort)) in definition.params.iter().enumerate() {
         write_space(out, place)?;
-        write!(out, "(")?;
-        out.write_all(name.as_slice())?;
-        write!(out, " ")?;
-        write_sort(out, sort)?;
-        write!(out, ")")?;
+        write_param(out, name.as_slice(), sort)?;
     }
     write!(out, ") ")?;
     write_sort(out, &definition.result)
 }
 
+fn write_param<W: Write>(out: &mut W, name: &[u8], sort: &Sort) -> io::Result<()> {
+    write!(out, "(")?;
+    out.write_all(name)?;
+    write!(out, " ")?;
+    write_sort(out, sort)?;
+    write!(out, ")")
+}
+
 // Writes a space before each part of a list but the first.
-fn write_space<W: Write>(out: &mut W, place: usize) -> Result<()> {
+fn write_space<W: Write>(out: &mut W, place: usize) -> io::Result<()> {
     if place > 0 {
         write!(out, " ")?;
     }

@@ -18,17 +18,27 @@ pub(crate) fn print<W: Write>(
     fields: &[Field],
 ) -> Result<()> {
     for (command, field) in (1..u64::MAX).zip(fields) {
-        match field.key {
-            "declare" => declare(alloc, out, library, command, field)?,
-            "define" => define(alloc, out, library, field)?,
-            "assert" => assert(alloc, out, library, field)?,
-            "term" => print_term(alloc, out, library, field)?,
-            "find" => print_name(alloc, out, library, field)?,
-            "names" => print_counts(out, "names", library)?,
-            _ => return refuse(field),
-        }
+        print_field(alloc, out, library, command, field)?;
     }
     Ok(())
+}
+
+fn print_field<W: Write>(
+    alloc: Global,
+    out: &mut W,
+    library: &mut Library,
+    command: u64,
+    field: &Field,
+) -> Result<()> {
+    match field.key {
+        "declare" => declare(alloc, out, library, command, field),
+        "define" => define(alloc, out, library, field),
+        "assert" => assert(alloc, out, library, field),
+        "term" => print_term(alloc, out, library, field),
+        "find" => print_name(alloc, out, library, field),
+        "names" => Ok(print_counts(out, "names", library)?),
+        _ => refuse(field),
+    }
 }
 
 fn print_term<W: Write>(

@@ -95,6 +95,6 @@ pub(crate) fn print_answer<W: Write>(
 }
 
 /// Says that a row has a field of another key than it may.
-pub(crate) fn refuse<T>(field: &Field) -> Result<T> {
+pub(crate) fn refuse(field: &Field) -> Result<()> {
     bail!("line {}: `{}` can't stand here", field.line, field.key)
 }

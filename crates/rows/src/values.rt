@@ -13,6 +13,7 @@ use smt_eval::{Checked, Interpretation, Memory};
 use smt_terms::Library;
 use smt_values::Value;
 use std::alloc::Global;
+use std::io;
 use std::io::Write;
 
 /// Prints what is answered to a model and to terms over it, in order.
@@ -90,18 +91,22 @@ fn write_value<W: Write>(
     field: &Field,
     known: &Result<Option<Value>, Memory>,
 ) -> Result<()> {
-    match known {
-        Ok(Some(Value::Bool(value))) => writeln!(out, "{} => {value}", field.text)?,
-        Ok(Some(Value::Int(value))) => writeln!(out, "{} => {value}", field.text)?,
-        Ok(Some(Value::Bits(value))) => writeln!(
-            out,
-            "{} => (_ bv{} {})",
-            field.text,
-            value.number(),
-            value.width().bits()
-        )?,
-        Ok(None) => writeln!(out, "{} => open", field.text)?,
-        Err(_) => bail!("out of memory"),
-    }
+    let Ok(known) = known else {
+        bail!("out of memory");
+    };
+    write!(out, "{} => ", field.text)?;
+    write_known(out, known)?;
     Ok(())
+}
+
+fn write_known<W: Write>(out: &mut W, known: &Option<Value>) -> io::Result<()> {
+    match known {
+        Some(Value::Bool(value)) => writeln!(out, "{value}"),
+        Some(Value::Int(value)) => writeln!(out, "{value}"),
+        Some(Value::Bits(value)) => {
+            let bits = value.width().bits();
+            writeln!(out, "(_ bv{} {bits})", value.number())
+        }
+        None => writeln!(out, "open"),
+    }
 }

@@ -2,7 +2,7 @@
 
 use crate::bits::arguments::Widths;
 use crate::bits::compare::{Indexes, Operator, is_agreed};
-use anyhow::Result;
+use std::io;
 use std::io::Write;
 
 /// How many cases were computed, and in how many the two answers differ.
@@ -111,7 +111,7 @@ const GROUPS: &[Group] = &[
 ];
 
 /// Prints a line for each operator, and a last one with the sums.
-pub(crate) fn print<W: Write>(out: &mut W) -> Result<()> {
+pub(crate) fn print<W: Write>(out: &mut W) -> io::Result<()> {
     let mut sum = Tally::default();
     for group in GROUPS {
         print_group(out, &mut sum, group)?;
@@ -120,35 +120,29 @@ pub(crate) fn print<W: Write>(out: &mut W) -> Result<()> {
     print_tally(out, sum)
 }
 
-fn print_group<W: Write>(out: &mut W, sum: &mut Tally, group: &Group) -> Result<()> {
+fn print_group<W: Write>(out: &mut W, sum: &mut Tally, group: &Group) -> io::Result<()> {
     for name in group.names {
+        let tally = tally_of(name, group.widths);
+        sum.cases = sum.cases.wrapping_add(tally.cases);
+        sum.differences = sum.differences.wrapping_add(tally.differences);
         write!(out, "{}{name}{}", group.before, group.behind)?;
-        print_counts(out, sum, name, group.widths)?;
+        print_tally(out, tally)?;
     }
     Ok(())
 }
 
-// Prints the counts of one operator, and adds them to the sums.
-fn print_counts<W: Write>(
-    out: &mut W,
-    sum: &mut Tally,
-    name: &str,
-    all_widths: &[Widths],
-) -> Result<()> {
+fn print_tally<W: Write>(out: &mut W, tally: Tally) -> io::Result<()> {
+    let cases = tally.cases;
+    let differences = tally.differences;
+    writeln!(out, ": {cases} cases, {differences} differences")
+}
+
+fn tally_of(name: &str, all_widths: &[Widths]) -> Tally {
     let mut tally = Tally::default();
     for widths in all_widths {
         count(&mut tally, name, *widths);
     }
-    sum.cases = sum.cases.wrapping_add(tally.cases);
-    sum.differences = sum.differences.wrapping_add(tally.differences);
-    print_tally(out, tally)
-}
-
-fn print_tally<W: Write>(out: &mut W, tally: Tally) -> Result<()> {
-    let cases = tally.cases;
-    let differences = tally.differences;
-    writeln!(out, ": {cases} cases, {differences} differences")?;
-    Ok(())
+    tally
 }
 
 // Computes an operator with all its indexes for all arguments of these widths.

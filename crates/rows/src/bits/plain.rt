@@ -24,11 +24,13 @@ pub(crate) fn read(operator: Operator, args: Arguments) -> Option<Answer> {
     match args {
         Arguments::One(s) => Some(Answer::Bits(of_one(operator, s)?)),
         Arguments::Two(s, t) => of_two(operator.name, s, t),
-        Arguments::Three(s, t, u) => {
-            let first = binary(operator.name, s, t)?;
-            Some(Answer::Bits(binary(operator.name, first, u)?))
-        }
+        Arguments::Three(s, t, u) => of_three(operator.name, s, t, u),
     }
+}
+
+fn of_three(name: &str, s: BitList, t: BitList, u: BitList) -> Option<Answer> {
+    let first = binary(name, s, t)?;
+    Some(Answer::Bits(binary(name, first, u)?))
 }
 
 fn of_one(operator: Operator, s: BitList) -> Option<BitList> {
