@@ -1,3 +1,4 @@
 pub mod FaultLine
 pub mod Verdict
 pub mod LineText
+pub mod Internal

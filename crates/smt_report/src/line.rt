@@ -243,63 +243,15 @@ impl fmt::Display for Line {
 
     fn fmt<W: fmt::Write>(&self, f: &mut fmt::Formatter<W>) -> fmt::Result {
         match self {
-            Line::Unchecked {
-                check,
-                command,
-                answer,
-            } => write!(f, "check {check} at command {command}: {answer}"),
-            Line::Confirmed { check, command } => write!(
-                f,
-                "check {check} at command {command}: sat, confirmed"
-            ),
-            Line::NoModel { check, command } => write!(
-                f,
-                "check {check} at command {command}: sat, no model"
-            ),
-            Line::ItemFault {
-                check,
-                command,
-                model,
-                item,
-                fault,
-            } => {
-                write!(
-                    f,
-                    "check {check} at command {command}: sat, model of command {model}: item {item} {fault}"
-                )
-            }
-            Line::Lacks {
-                check,
-                command,
-                model,
-                declaration,
-            } => {
-                write!(
-                    f,
-                    "check {check} at command {command}: sat, model of command {model}: lacks the symbol of command {declaration}"
-                )
-            }
-            Line::Refuted {
-                check,
-                command,
-                model,
-                assertion,
-            } => {
-                write!(
-                    f,
-                    "check {check} at command {command}: sat, model of command {model}: refuted by the assertion of command {assertion}"
-                )
-            }
-            Line::NotDecided {
-                check,
-                command,
-                model,
-                assertion,
-            } => {
-                write!(
-                    f,
-                    "check {check} at command {command}: sat, model of command {model}: assertion of command {assertion} not decided"
-                )
+            Line::Unchecked { check, command, .. }
+            | Line::Confirmed { check, command }
+            | Line::NoModel { check, command }
+            | Line::ItemFault { check, command, .. }
+            | Line::Lacks { check, command, .. }
+            | Line::Refuted { check, command, .. }
+            | Line::NotDecided { check, command, .. } => {
+                let outcome = Outcome { line: self };
+                write!(f, "check {check} at command {command}: {outcome}")
             }
             Line::TextFault { side, kind, place } => write!(
                 f,
@@ -316,6 +268,67 @@ impl fmt::Display for Line {
             ),
             Line::ExtraAnswer { answer } => write!(f, "fault P3 at answer {answer}"),
             Line::Verdict { verdict, tally } => write!(f, "verdict: {verdict}, {tally}"),
+        }
+    }
+}
+
+/// What the line on a check says behind the check; of any other line nothing.
+#[derive(Clone, Copy)]
+struct Outcome<'a> {
+    line: &'a Line,
+}
+
+impl fmt::Display for Outcome<'_> {
+    ghost use Rattle.std.specs.Prelude.{Some};
+    ghost use Rattle.smt_report.specs.Internal.CheckText.{text_of_outcome};
+
+    ghost output = { λ x. Some (text_of_outcome x.line.now) };
+
+    fn fmt<W: fmt::Write>(&self, f: &mut fmt::Formatter<W>) -> fmt::Result {
+        match self.line {
+            Line::Unchecked { answer, .. } => write!(f, "{answer}"),
+            Line::Confirmed { .. } => f.write_str("sat, confirmed"),
+            Line::NoModel { .. } => f.write_str("sat, no model"),
+            Line::ItemFault { model, .. }
+            | Line::Lacks { model, .. }
+            | Line::Refuted { model, .. }
+            | Line::NotDecided { model, .. } => {
+                let finding = Finding { line: self.line };
+                write!(f, "sat, model of command {model}: {finding}")
+            }
+            _ => Ok(()),
+        }
+    }
+}
+
+/// What the line on a model of a check says behind the model; of any other line nothing.
+#[derive(Clone, Copy)]
+struct Finding<'a> {
+    line: &'a Line,
+}
+
+impl fmt::Display for Finding<'_> {
+    ghost use Rattle.std.specs.Prelude.{Some};
+    ghost use Rattle.smt_report.specs.Internal.CheckText.{text_of_finding};
+
+    ghost output = { λ x. Some (text_of_finding x.line.now) };
+
+    fn fmt<W: fmt::Write>(&self, f: &mut fmt::Formatter<W>) -> fmt::Result {
+        match self.line {
+            Line::ItemFault { item, fault, .. } => write!(f, "item {item} {fault}"),
+            Line::Lacks { declaration, .. } => write!(
+                f,
+                "lacks the symbol of command {declaration}"
+            ),
+            Line::Refuted { assertion, .. } => write!(
+                f,
+                "refuted by the assertion of command {assertion}"
+            ),
+            Line::NotDecided { assertion, .. } => write!(
+                f,
+                "assertion of command {assertion} not decided"
+            ),
+            _ => Ok(()),
         }
     }
 }
