@@ -1,11 +1,11 @@
 -- Judging a model assertion by assertion.
-use Rattle.std.proofs.Common.{◌≡◌, ℕ, true, false, not, List, [], ◌∷◌, Option, Some, None, is_some, refl, ap, sym, subst, ◌∙◌}
+use Rattle.std.proofs.Common.{◌≡◌, ℕ, true, false, not, List, [], ◌∷◌, Option, Some, None, is_some, length, refl, ap, sym, subst, ◌∙◌}
 use Rattle.smt_trees.specs.Sexp.{Sexp}
 use Rattle.smt_script.specs.Stack.{Assertion}
 use Rattle.smt_script.specs.StackView.{AreAssertions}
 use Rattle.smt_terms.specs.Contents.{Contents}
 use Rattle.smt_terms.specs.Library.{IsTermOf}
-use Rattle.smt_dialogue.specs.Judgement.{first_assertion, is_false_over, is_open_over, refuted_or}
+use Rattle.smt_dialogue.specs.Judgement.{first_assertion, is_false_over, is_open_over, open_or_confirmed, refuted_or}
 use Rattle.smt_values.specs.KnownOperations.{is_known}
 use Rattle.smt_eval.specs.Known.{known_over}
 use Rattle.smt_terms.specs.Signature.{Signature}
@@ -75,8 +75,23 @@ left-open l left as' a d (Some n) found here is some h =
     let open' = is next.0.term next.4 in
     (next.1, next.5, sym (judged_from-open d (Some n) next.0 next.1 open'.0 open'.1) ∙ ap (judged_from d (Some n)) (sym next.2) ∙ h.2)
 
+-- the first that is open
+pub left-opened : (l : Contents) (left as' : List code.Assertion) (a : code.Assertion) (d : Signature) (first : Option ℕ) (found : Judgement) → left ≡ a ∷ as'
+    → ((t : Sexp) → IsTermOf l a.term t → IsOpen (known_over d t)) → is_some first ≡ false → IsLeft l left d first found → IsLeft l as' d (Some a.command) found
+left-opened l left as' a d None found here is none h =
+    let next = next_term l a as' h.0 (subst (λ ls. AreAssertions l ls h.0) here h.1) in
+    let open' = is next.0.term next.4 in
+    (next.1, next.5, ap (λ n. judged_from d (Some n) next.1) next.3 ∙ sym (judged_from-open d None next.0 next.1 open'.0 open'.1) ∙ ap (judged_from d None) (sym next.2) ∙ h.2)
+left-opened l left as' a d (Some n) found here is none h = cc
+
 -- those that are left behind the next
 pub terms_left : (l : Contents) (left as' : List code.Assertion) (a : code.Assertion) → left ≡ a ∷ as' → (all : List Assertion) × AreAssertions l left all → (all : List Assertion) × AreAssertions l as' all
 terms_left l left as' a here h =
     let next = next_term l a as' h.0 (subst (λ ls. AreAssertions l ls h.0) here h.1) in
     (next.1, next.5)
+
+-- none is left
+pub left-none : (l : Contents) (left : List code.Assertion) (d : Signature) (first : Option ℕ) (found : Judgement) → length left ≡ 0 → IsLeft l left d first found → open_or_confirmed first ≡ found
+left-none l (a ∷ as') d first found here h = cc
+left-none l [] d None found here h = sym (ap (judged_from d None) (none_left l h.0 h.1)) ∙ h.2
+left-none l [] d (Some n) found here h = sym (ap (judged_from d (Some n)) (none_left l h.0 h.1)) ∙ h.2

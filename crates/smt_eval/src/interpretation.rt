@@ -25,7 +25,7 @@ use smt_trees::{Tree, Trees, split_first};
 use smt_values::Value;
 
 /// Why a model can't be used.
-#[derive(Clone, Copy, Debug, PartialEq, Eq)]
+#[derive(Clone, Copy)]
 pub enum ModelFault {
     /// The first item with a fault; items count from 1.
     Item { number: u64, fault: TermFault },
