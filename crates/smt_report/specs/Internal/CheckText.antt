@@ -14,6 +14,7 @@ text_of_finding (Refuted check command model assertion) = codes "refuted by the 
 text_of_finding (NotDecided check command model assertion) = codes "assertion of command " ++ (decimal assertion ++ codes " not decided")
 text_of_finding _ = []
 
+-- the model printed for a command, and then the rest
 abbrev pub model_and : ℕ → List ℕ → List ℕ
 model_and model rest = codes "sat, model of command " ++ (decimal model ++ (codes ": " ++ rest))
 
