@@ -4,7 +4,7 @@ ghost use Rattle.std.specs.Prelude.{◌<◌, ◌≤◌};
 ghost use Rattle.smt_script.specs.StackView.{last_of};
 
 use crate::names::print_counts;
-use crate::trees::{refuse, tree_of};
+use crate::trees::{tree_of, want_key};
 use anyhow::{Result, bail};
 use row_texts::Field;
 use smt_script::{Assertion, CommandFault, Stack, read_command};
@@ -47,9 +47,7 @@ fn print_command<W: Write>(
     requires { last_of stack.old < number }
     ensures { last_of stack.new ≤ number }
 {
-    if field.key != "command" {
-        return refuse(field);
-    }
+    want_key(field, "command")?;
     let tree = tree_of(alloc, field)?;
     let answer = take(stack, number, tree);
     print_answer(out, number, field, answer)?;

@@ -1,6 +1,7 @@
 //! Rows of dialogues: each with its report and the exit status.
 
 use crate::commands::is_on;
+use crate::trees::want_key;
 use anyhow::{Result, bail};
 use row_texts::Field;
 use smt_dialogue::{Report, validate};
@@ -16,16 +17,16 @@ pub(crate) fn print<W: Write>(
     title: &Field,
     fields: &[Field],
 ) -> Result<()> {
-    match fields {
-        [script, answers, start]
-            if script.key == "script" && answers.key == "answers" && start.key == "start" => {
-            print_dialogue(alloc, out, script, answers, is_on(start)?)
-        }
-        _ => bail!(
+    let [script, answers, start] = fields else {
+        bail!(
             "line {}: a dialogue has a script, answers and a start",
             title.line
-        ),
-    }
+        );
+    };
+    want_key(script, "script")?;
+    want_key(answers, "answers")?;
+    want_key(start, "start")?;
+    print_dialogue(alloc, out, script, answers, is_on(start)?)
 }
 
 fn print_dialogue<W: Write>(

@@ -8,6 +8,7 @@ use anyhow::{Result, bail};
 use row_texts::Field;
 use smt_terms::Library;
 use std::alloc::Global;
+use std::io;
 use std::io::Write;
 
 /// Prints what is answered to declarations, and then to items of a model of the declared names, in order. Each declaration is the
@@ -60,17 +61,31 @@ fn print_fields<W: Write>(
     requires { HasTheoriesOf model.old script.now }
 {
     for field in fields {
-        match field.key {
-            "item" => define(alloc, out, script, model, field)?,
-            "find" => find(alloc, out, script, model, field)?,
-            "names" => {
-                print_counts(out, "script", script)?;
-                print_counts(out, "model", model)?;
-            }
-            _ => return refuse(field),
-        }
+        print_field(alloc, out, script, model, field)?;
     }
     Ok(())
+}
+
+fn print_field<W: Write>(
+    alloc: Global,
+    out: &mut W,
+    script: &Library,
+    model: &mut Library,
+    field: &Field,
+) -> Result<()>
+    requires { HasTheoriesOf model.old script.now }
+    ensures { HasTheoriesOf model.new script.now }
+{
+    match field.key {
+        "item" => define(alloc, out, script, model, field),
+        "find" => find(alloc, out, script, model, field),
+        "names" => {
+            print_counts(out, "script", script)?;
+            print_counts(out, "model", model)?;
+            Ok(())
+        }
+        _ => refuse(field),
+    }
 }
 
 // Defines the item that a field holds, and prints the answer.
@@ -98,10 +113,20 @@ fn find<W: Write>(
     field: &Field,
 ) -> Result<()> {
     let name = field.bytes(alloc)?;
-    write!(out, "{} => script ", field.text)?;
-    write_found(out, script, name.as_slice())?;
-    write!(out, ", model ")?;
-    write_found(out, model, name.as_slice())?;
-    writeln!(out)?;
+    write_places(out, script, model, field, name.as_slice())?;
     Ok(())
+}
+
+fn write_places<W: Write>(
+    out: &mut W,
+    script: &Library,
+    model: &Library,
+    field: &Field,
+    name: &[u8],
+) -> io::Result<()> {
+    write!(out, "{} => script ", field.text)?;
+    write_found(out, script, name)?;
+    write!(out, ", model ")?;
+    write_found(out, model, name)?;
+    writeln!(out)
 }

@@ -5,7 +5,7 @@ ghost use Rattle.std.specs.Prelude.{◌≤◌, length};
 mod reading;
 mod writing;
 
-use crate::trees::refuse;
+use crate::trees::want_key;
 use anyhow::Result;
 use row_texts::Field;
 use std::alloc::{AllocError, Global};
@@ -14,9 +14,7 @@ use std::io::Write;
 /// Prints what is read of each text.
 pub(crate) fn print<W: Write>(alloc: Global, out: &mut W, fields: &[Field]) -> Result<()> {
     for field in fields {
-        if field.key != "text" {
-            return refuse(field);
-        }
+        want_key(field, "text")?;
         print_text(alloc, out, field)?;
     }
     Ok(())
@@ -43,12 +41,16 @@ fn write_other<W: Write>(alloc: Global, out: &mut W, text: &[u8], whole: &[u8]) 
         for second in first..text.len() {
             let pieces = read_cut(alloc, text, first, second)?;
             if pieces.as_slice() != whole {
-                write!(out, ", but cut at {first} and {second}: ")?;
-                out.write_all(pieces.as_slice())?;
-                return Ok(());
+                return write_cut(out, first, second, pieces.as_slice());
             }
         }
     }
+    Ok(())
+}
+
+fn write_cut<W: Write>(out: &mut W, first: usize, second: usize, read: &[u8]) -> Result<()> {
+    write!(out, ", but cut at {first} and {second}: ")?;
+    out.write_all(read)?;
     Ok(())
 }
 

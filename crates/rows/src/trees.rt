@@ -94,6 +94,15 @@ pub(crate) fn print_answer<W: Write>(
     Ok(())
 }
 
+/// Refuses a field of another key than it is to have.
+pub(crate) fn want_key(field: &Field, key: &str) -> Result<()> {
+    if field.key == key {
+        Ok(())
+    } else {
+        refuse(field)
+    }
+}
+
 /// Says that a row has a field of another key than it may.
 pub(crate) fn refuse(field: &Field) -> Result<()> {
     bail!("line {}: `{}` can't stand here", field.line, field.key)

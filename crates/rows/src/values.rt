@@ -5,7 +5,7 @@ ghost use Rattle.smt_terms.specs.Library.{StandsFor};
 ghost use Rattle.smt_terms.specs.Signature.{Signature};
 
 use crate::models::print_model;
-use crate::trees::{refuse, tree_of};
+use crate::trees::{tree_of, want_key};
 use anyhow::{Result, bail};
 use row_texts::Field;
 use smt_eval::plain::Closed;
@@ -41,9 +41,7 @@ fn print_values<W: Write>(
 ) -> Result<()>
     requires { (s : Signature) × StandsFor declared.now s }
 {
-    if first.key != "model" {
-        return refuse(first);
-    }
+    want_key(first, "model")?;
     let Some(model) = print_model(alloc, out, declared, first)? else {
         bail!("line {}: the model has a fault", first.line);
     };
@@ -60,10 +58,8 @@ fn print_terms<W: Write>(
     requires { Fits interpretation.now library.now }
 {
     for field in fields {
-        match field.key {
-            "term" => print_value(alloc, out, library, interpretation, field)?,
-            _ => return refuse(field),
-        }
+        want_key(field, "term")?;
+        print_value(alloc, out, library, interpretation, field)?;
     }
     Ok(())
 }

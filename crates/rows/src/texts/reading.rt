@@ -11,13 +11,8 @@ use std::alloc::{AllocError, Global};
 
 /// What is read of a whole text by one call.
 pub(crate) fn read_whole(alloc: Global, text: &[u8]) -> Result<Vec<u8>, AllocError> {
-    let mut out = Vec::new(alloc);
     match read_trees(alloc, text) {
-        Ok(trees) => {
-            writing::write_trees(&mut out, trees.as_slice())?;
-            writing::write_end(alloc, &mut out, None)?;
-            Ok(out)
-        }
+        Ok(trees) => writing::written(alloc, trees.as_slice(), None),
         // The trees before the fault are read again.
         Err(_) => read_in_pieces(alloc, text, b"", b""),
     }
@@ -42,10 +37,7 @@ pub(crate) fn read_in_pieces(
     let _third = take(&mut reader, &mut trees)?;
     reader.finish();
     let fault = take(&mut reader, &mut trees)?;
-    let mut out = Vec::new(alloc);
-    writing::write_trees(&mut out, trees.as_slice())?;
-    writing::write_end(alloc, &mut out, fault)?;
-    Ok(out)
+    writing::written(alloc, trees.as_slice(), fault)
 }
 
 // Takes the trees that are ready. Answers the fault behind them, if there is one.

@@ -6,8 +6,20 @@ use smt_faults::TextFault;
 use smt_trees::{Bytes, Tree, Word, spelling, split_first};
 use std::alloc::{AllocError, Global};
 
-/// Writes trees, with a space behind each.
-pub(crate) fn write_trees(out: &mut Vec<u8>, trees: &[Tree]) -> Result<(), AllocError> {
+/// Trees, with a space behind each, and the fault behind them.
+pub(crate) fn written(
+    alloc: Global,
+    trees: &[Tree],
+    fault: Option<TextFault>,
+) -> Result<Vec<u8>, AllocError> {
+    let mut out = Vec::new(alloc);
+    write_trees(&mut out, trees)?;
+    write_end(alloc, &mut out, fault)?;
+    Ok(out)
+}
+
+// Writes trees, with a space behind each.
+fn write_trees(out: &mut Vec<u8>, trees: &[Tree]) -> Result<(), AllocError> {
     let Some((tree, rest)) = split_first(trees) else {
         return Ok(());
     };
@@ -29,12 +41,8 @@ pub(crate) fn write_trees(out: &mut Vec<u8>, trees: &[Tree]) -> Result<(), Alloc
     write_trees(out, rest)
 }
 
-/// Writes the fault with its place, or that there is none. Want of memory is a failure of this call.
-pub(crate) fn write_end(
-    alloc: Global,
-    out: &mut Vec<u8>,
-    fault: Option<TextFault>,
-) -> Result<(), AllocError> {
+// Writes the fault with its place, or that there is none. Want of memory is a failure of this call.
+fn write_end(alloc: Global, out: &mut Vec<u8>, fault: Option<TextFault>) -> Result<(), AllocError> {
     let end = match fault {
         None => format!(in alloc; ".")?,
         Some(TextFault::Byte { place }) => format!(in alloc; "byte {place}")?,
