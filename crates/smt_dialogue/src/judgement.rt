@@ -41,7 +41,11 @@ pub(crate) fn judge(stack: &Stack, model: &Trees) -> Result<Judgement, Memory>
 {
     let library = stack.library();
     match Interpretation::read(library, model) {
-        Ok(interpretation) => judge_assertions(library, &interpretation, stack.assertions()),
+        Ok(interpretation) => {
+            let judgement = judge_assertions(library, &interpretation, stack.assertions());
+            drop(interpretation);
+            judgement
+        }
         Err(ModelFault::Item { number, fault }) => Ok(Judgement::ItemFault {
             item: number,
             fault,

@@ -64,17 +64,24 @@ impl Interpretation {
             (λ fault. (fault ≡ OutOfMemory) ⊎ (model_in s model.now ≡ Err fault)) }
     {
         let definitions = read_items(declared, items(model.as_slice()))?;
+        // (dropped by name: the prover takes long over a library that is owned on more than one path)
         if let Some(command) = first_lacking(declared, &definitions) {
+            drop(definitions);
             return Err(ModelFault::Lacks { command });
         }
         // Laws: no two definitions have one name, nor one of them that of a definition of the script.
         models_are_complete();
         structures_are_distinct();
-        let values = values_of(declared, &definitions)?;
-        Ok(Interpretation {
-            definitions,
-            values,
-        })
+        match values_of(declared, &definitions) {
+            Ok(values) => Ok(Interpretation {
+                definitions,
+                values,
+            }),
+            Err(_) => {
+                drop(definitions);
+                Err(ModelFault::Memory)
+            }
+        }
     }
 }
 
@@ -91,6 +98,7 @@ fn read_items(declared: &Library, items: &[Tree]) -> Result<Library, ModelFault>
     };
     for (index, item) in items.iter().enumerate() {
         if let Err(fault) = definitions.define_item(declared, item) {
+            drop(definitions);
             return Err(item_fault(index as u64 + 1, fault));
         }
     }

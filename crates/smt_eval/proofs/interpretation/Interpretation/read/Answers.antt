@@ -23,8 +23,8 @@ values_of-requires c =
     let model = c.models_are_complete.ensures s c.args.model.now d whole in
     (s, d, record { names = c.requires.1; stands = read.2; defined = sorted_defined d.theories [] d.entries model.well_sorted; distinct = c.structures_are_distinct.ensures s c.args.model.now d whole c.requires.1.distinct })
 
-pub returns : goal.returns
-returns c = λ s stands.
+pub returns-in-Ok : goal.returns-in-Ok
+returns-in-Ok c = λ s stands.
     let read = c.in_ok-definitions.ensures s stands in
     let d = items_before s read.0 in
     let whole = model_whole s c.args.model.now (sexps_of c.items.result.now) read.0 (c.items.ensures ∙ ap items_of c.as_slice.ensures) read.1
@@ -32,4 +32,4 @@ returns c = λ s stands.
     let defined = sorted_defined d.theories [] d.entries (c.models_are_complete.ensures s c.args.model.now d whole).well_sorted in
     let distinct = c.structures_are_distinct.ensures s c.args.model.now d whole stands.distinct in
     let structure : HaveStructure c.args.declared.now c.in_ok-definitions.definitions s d = record { names = stands; stands = read.2; defined = defined; distinct = distinct } in
-    (d, whole, record { stands = read.2; defined = defined; distinct = distinct; valued = c.in_ok-values.ensures s d structure })
+    (d, whole, record { stands = read.2; defined = defined; distinct = distinct; valued = c.in-Ok.ensures s d structure })
