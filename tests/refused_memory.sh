@@ -7,14 +7,15 @@ cd "$(dirname "$0")/.."
 top=$PWD
 work=$(mktemp -d)
 trap 'rm -rf "$work"' EXIT
-"${CC:-cc}" -shared -fPIC -O1 -o "$work/refuse.so" tests/refuse_memory.c
+refuse=$work/refuse.so
+"${CC:-cc}" -shared -fPIC -O1 -o "$refuse" tests/refuse_memory.c
 
 fail() {
     echo "refused memory: $1, request $number: $2"
     exit 1
 }
 
-# Runs the words behind the first, which says what they are, until no request is left to be refused; `judge` looks at each run.
+# Runs the words behind the first, which says what they are, until no request is left to be refused; `$judge` looks at each run.
 each_request() {
     what=$1
     shift
@@ -23,16 +24,16 @@ each_request() {
     while [ "$met" = yes ]; do
         number=$((number + 1))
         status=0
-        REFUSE=$number REFUSED=$work/met LD_PRELOAD=$work/refuse.so "$@" >"$work/output" 2>"$work/errors" || status=$?
+        REFUSE=$number REFUSED=$work/met LD_PRELOAD=$refuse "$@" >"$work/output" 2>"$work/errors" || status=$?
         if [ -e "$work/met" ]; then rm "$work/met"; else met=no; fi
-        judge
+        "$judge"
     done
     [ "$number" -gt 10 ] || fail "$what" "only so many were met"
 }
 
-# What is read of a text is right, however it is cut; or status 1 and a line say that memory was refused, and what was printed before
-# is right.
-judge() {
+# What is read of each text is right, however it is cut; or status 1 and a line say that memory was refused, and what was printed
+# before is right.
+judge_reader() {
     output=$(cat "$work/output")
     if [ "$status" = 0 ]; then
         [ "$output" = "$read" ] || fail "$what" "$output"
@@ -50,13 +51,21 @@ judge() {
     fi
 }
 
-printf 'texts: a text\ntext: ((1)x)abcdefghijklmnopqrstuvw\n' >"$work/texts.txt"
-read='a text
-((1)x)abcdefghijklmnopqrstuvw => ( ( n:1 ) s:x ) s:abcdefghijklmnopqrstuvw .'
-each_request 'the reader' "$top/crates/rows/out/rows" "$work/texts.txt"
+# The reader's requests are many, so that it runs beside the program, in a folder of its own.
+(
+    judge=judge_reader
+    work=$work/reader
+    mkdir "$work"
+    printf 'texts: two texts\ntext: ((1)x)\ntext: abcdefghijklmnopqrstuvw\n' >"$work/texts.txt"
+    read='two texts
+((1)x) => ( ( n:1 ) s:x ) .
+abcdefghijklmnopqrstuvw => s:abcdefghijklmnopqrstuvw .'
+    each_request 'the reader' "$top/crates/rows/out/rows" "$work/texts.txt"
+) &
+reader=$!
 
 # The program has status 4, no report and a line that says why, or the status and the report that it has without a refusal.
-judge() {
+judge_program() {
     if [ "$status" = "$right" ]; then
         cmp -s "$work/output" "$work/right" || fail "$what" 'another report'
     elif [ "$status" = 4 ] && [ "$met" = yes ]; then
@@ -78,6 +87,7 @@ program() {
     each_request "$what" "$top/crates/smtcheck/out/smtcheck" "$@"
 }
 
+judge=judge_program
 data=$top/crates/smtcheck/data
 program 'a valid dialogue' "$data/script.smt2" "$data/answers.txt"
 program 'checks of every kind' "$top/tests/every_kind.smt2" "$top/tests/every_kind.txt"
@@ -88,3 +98,4 @@ program 'the texts swapped' "$data/answers.txt" "$data/script.smt2"
 program 'a missing file' "$data/script.smt2" "$work/none"
 program 'a word too many' "$data/script.smt2" "$data/answers.txt" "$data/script.smt2"
 program 'help' --help
+wait "$reader"

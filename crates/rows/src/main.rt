@@ -1,7 +1,6 @@
 //! rows: prints what the crates answer to the rows of the files that its words name.
 #![tactic(auto)]
 
-mod bits;
 mod commands;
 mod dialogues;
 mod items;
@@ -75,7 +74,6 @@ fn print_answers<W: Write>(
         "commands" => commands::print(alloc, out, fields),
         "dialogue" => dialogues::print(alloc, out, title, fields),
         "texts" => texts::print(alloc, out, fields),
-        "bits" => bits::print(out, fields),
         _ => print_over_library(alloc, out, title, fields),
     }
 }
