@@ -1,4 +1,4 @@
-use Rattle.std.proofs.Common.{map, sym, subst, ◌∙◌}
+use Rattle.std.proofs.Common.{map, sym, subst, ◌∙◌, rules}
 use Rattle.smt_trees.specs.Tree.{sexp_of}
 use Rattle.smt_terms.specs.Contents.{Extends, contents_of}
 use Rattle.smt_terms.specs.Internal.LabelsView.{AreNew, label_entry}
@@ -27,3 +27,6 @@ returns-clause-grown c =
     subst (λ d. Extends (contents_of c.args.self.now) d)
     (sym (undone c.mark-mark.result (contents_of c.args.self.now) (contents_of c.add_assertion.new.self) (contents_of c.cut.new.self) c.mark-mark.ensures.all c.mark-mark.ensures.within c.in-Err.ensures.grown c.cut.ensures))
     (extends_itself (contents_of c.args.self.now))
+
+pub returns-then-not-are_equal-clause-refused : goal.returns-then-not-are_equal-clause-refused
+returns-then-not-are_equal-clause-refused c = search rules
