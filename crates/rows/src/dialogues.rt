@@ -4,7 +4,7 @@ use crate::commands::is_on;
 use crate::trees::want_key;
 use anyhow::{Result, bail};
 use row_texts::Field;
-use smt_dialogue::{Report, validate};
+use smt_dialogue::{Options, Report, validate};
 use smtcheck_status::status_of;
 use std::alloc::Global;
 use std::io;
@@ -26,7 +26,10 @@ pub(crate) fn print<W: Write>(
     want_key(script, "script")?;
     want_key(answers, "answers")?;
     want_key(start, "start")?;
-    print_dialogue(alloc, out, script, answers, is_on(start)?)
+    let options = Options {
+        print_success: is_on(start)?,
+    };
+    print_dialogue(alloc, out, script, answers, options)
 }
 
 fn print_dialogue<W: Write>(
@@ -34,17 +37,11 @@ fn print_dialogue<W: Write>(
     out: &mut W,
     script: &Field,
     answers: &Field,
-    print_success: bool,
+    options: Options,
 ) -> Result<()> {
     let script = script.bytes(alloc)?;
     let answers = answers.bytes(alloc)?;
-    print_report(
-        alloc,
-        out,
-        script.as_slice(),
-        answers.as_slice(),
-        print_success,
-    )
+    print_report(alloc, out, script.as_slice(), answers.as_slice(), options)
 }
 
 fn print_report<W: Write>(
@@ -52,9 +49,9 @@ fn print_report<W: Write>(
     out: &mut W,
     script: &[u8],
     answers: &[u8],
-    print_success: bool,
+    options: Options,
 ) -> Result<()> {
-    match &validate(alloc, script, answers, print_success) {
+    match &validate(alloc, script, answers, options) {
         Ok(report) => Ok(write_report(out, report)?),
         Err(_) => bail!("out of memory"),
     }

@@ -25,41 +25,41 @@ use Rattle.smt_dialogue.specs.declared.window.PendingCheck.{PendingCheck}
 
 -- ## The window that has not ended does, or goes on
 
-sat_lines-closing : (ended s more : Bool) (k n : ℕ) → sat_lines k n None (s || false) (ended || (true || more)) ≡ confirmed_line k n s ∷ []
+sat_lines-closing : (closed s more : Bool) (k n : ℕ) → sat_lines k n None (s || false) (closed || (true || more)) ≡ confirmed_line k n s ∷ []
 sat_lines-closing true true more k n = refl
 sat_lines-closing true false more k n = refl
 sat_lines-closing false true more k n = refl
 sat_lines-closing false false more k n = refl
 
-pub pending-closing : (ended : Bool) (o : Option PendingCheck) (names : Signature) (assertions : List Assertion) (m : ℕ) (p : Pair) (after : List Pair) → closes p ≡ true → pending_lines ended o names assertions m (p ∷ after) ≡ closing_lines o
-pending-closing ended None names assertions m p after h = refl
-pending-closing ended (Some c) names assertions m p after h =
-    rw h (sat_lines-closing ended c.some_model (list_any closes after) c.check c.command)
+pub pending-closing : (closed : Bool) (o : Option PendingCheck) (names : Signature) (assertions : List Assertion) (m : ℕ) (p : Pair) (after : List Pair) → closes p ≡ true → pending_lines closed o names assertions m (p ∷ after) ≡ closing_lines o
+pending-closing closed None names assertions m p after h = refl
+pending-closing closed (Some c) names assertions m p after h =
+    rw h (sat_lines-closing closed c.some_model (list_any closes after) c.check c.command)
 
 -- the models that a pair printed
 abbrev models_of : ℕ → Pair → List Printed
 models_of m p = cond (is_effective p) (printed_by m p.command p.answer) []
 
 -- a pair that neither ends the window nor prints a model leaves the lines as they are
-pending-past : (ended : Bool) (o : Option PendingCheck) (names : Signature) (assertions : List Assertion) (m : ℕ) (p : Pair) (after : List Pair) → closes p ≡ false → models_of m p ≡ []
-    → pending_lines ended o names assertions m (p ∷ after) ≡ pending_lines ended o names assertions (m + 1) after
-pending-past ended None names assertions m p after h none = refl
-pending-past ended (Some c) names assertions m p after h none = rw (h, none) refl
+pending-past : (closed : Bool) (o : Option PendingCheck) (names : Signature) (assertions : List Assertion) (m : ℕ) (p : Pair) (after : List Pair) → closes p ≡ false → models_of m p ≡ []
+    → pending_lines closed o names assertions m (p ∷ after) ≡ pending_lines closed o names assertions (m + 1) after
+pending-past closed None names assertions m p after h none = refl
+pending-past closed (Some c) names assertions m p after h none = rw (h, none) refl
 
 -- ## The checks go on
 
 -- t is s after one more pair: so many more checks, and the lines for whatever pairs come
 pub record GoesOn (s : ChecksState) (pairs : List Pair) (p : Pair) (t : ChecksState) : Type 0 where
   pub count : t.count ≡ s.count + checks_in (p ∷ [])
-  pub lines : (ended : Bool) (after : List Pair)
-      → s.lines ++ (pending_lines ended s.pending (signature_after pairs) (assertions_after pairs) (length pairs + 1) (p ∷ after) ++ lines_of_pair ended pairs p after)
-      ≡ t.lines ++ pending_lines ended t.pending (signature_after (pairs ++ p ∷ [])) (assertions_after (pairs ++ p ∷ [])) (length (pairs ++ p ∷ []) + 1) after
+  pub lines : (closed : Bool) (after : List Pair)
+      → s.lines ++ (pending_lines closed s.pending (signature_after pairs) (assertions_after pairs) (length pairs + 1) (p ∷ after) ++ lines_of_pair closed pairs p after)
+      ≡ t.lines ++ pending_lines closed t.pending (signature_after (pairs ++ p ∷ [])) (assertions_after (pairs ++ p ∷ [])) (length (pairs ++ p ∷ []) + 1) after
 
 -- the lines where the window ends at a pair that has these lines itself
-closes_with : (s : ChecksState) (pairs : List Pair) (p : Pair) (ended : Bool) (after : List Pair) (own : List Line) → closes p ≡ true → lines_of_pair ended pairs p after ≡ own
-    → s.lines ++ (pending_lines ended s.pending (signature_after pairs) (assertions_after pairs) (length pairs + 1) (p ∷ after) ++ lines_of_pair ended pairs p after) ≡ (s.lines ++ closing_lines s.pending) ++ own
-closes_with s pairs p ended after own h is =
-    ap (λ (ls : List Line). s.lines ++ (ls ++ lines_of_pair ended pairs p after)) (pending-closing ended s.pending (signature_after pairs) (assertions_after pairs) (length pairs + 1) p after h)
+closes_with : (s : ChecksState) (pairs : List Pair) (p : Pair) (closed : Bool) (after : List Pair) (own : List Line) → closes p ≡ true → lines_of_pair closed pairs p after ≡ own
+    → s.lines ++ (pending_lines closed s.pending (signature_after pairs) (assertions_after pairs) (length pairs + 1) (p ∷ after) ++ lines_of_pair closed pairs p after) ≡ (s.lines ++ closing_lines s.pending) ++ own
+closes_with s pairs p closed after own h is =
+    ap (λ (ls : List Line). s.lines ++ (ls ++ lines_of_pair closed pairs p after)) (pending-closing closed s.pending (signature_after pairs) (assertions_after pairs) (length pairs + 1) p after h)
     ∙ ap (λ (ls : List Line). s.lines ++ (closing_lines s.pending ++ ls)) is
     ∙ sym (append_assoc s.lines (closing_lines s.pending) own)
 
@@ -67,32 +67,32 @@ closes_with s pairs p ended after own h is =
 ends_window : (s : ChecksState) (pairs : List Pair) (p : Pair) → closes p ≡ true → is_check p.command ≡ false → GoesOn s pairs p (with_window_ended s)
 ends_window s pairs p ends other = record {
   count = rw other (omega arith);
-  lines = λ ended after. closes_with s pairs p ended after [] ends (rw other refl);
+  lines = λ closed after. closes_with s pairs p closed after [] ends (rw other refl);
 }
 
 -- the lines of a check whose window goes on behind a pair that changes nothing
-pending-idle : (ended : Bool) (o : Option PendingCheck) (pairs : List Pair) (p : Pair) (after : List Pair) → IsIdle pairs p
-    → pending_lines ended o (signature_after pairs) (assertions_after pairs) ((length pairs + 1) + 1) after
-    ≡ pending_lines ended o (signature_after (pairs ++ p ∷ [])) (assertions_after (pairs ++ p ∷ [])) (length (pairs ++ p ∷ []) + 1) after
-pending-idle ended o pairs p after idle =
+pending-idle : (closed : Bool) (o : Option PendingCheck) (pairs : List Pair) (p : Pair) (after : List Pair) → IsIdle pairs p
+    → pending_lines closed o (signature_after pairs) (assertions_after pairs) ((length pairs + 1) + 1) after
+    ≡ pending_lines closed o (signature_after (pairs ++ p ∷ [])) (assertions_after (pairs ++ p ∷ [])) (length (pairs ++ p ∷ []) + 1) after
+pending-idle closed o pairs p after idle =
     let new = pairs ++ p ∷ [] in
     let len : length new ≡ length pairs + 1 = length-append pairs (p ∷ []) ∙ omega arith in
-    ap (λ (m : ℕ). pending_lines ended o (signature_after pairs) (assertions_after pairs) (m + 1) after) (sym len)
-    ∙ ap (λ (es : Signature). pending_lines ended o es (assertions_after pairs) (length new + 1) after) (sym idle.signature)
-    ∙ ap (λ (es : List Assertion). pending_lines ended o (signature_after new) es (length new + 1) after) (sym idle.assertions)
+    ap (λ (m : ℕ). pending_lines closed o (signature_after pairs) (assertions_after pairs) (m + 1) after) (sym len)
+    ∙ ap (λ (es : Signature). pending_lines closed o es (assertions_after pairs) (length new + 1) after) (sym idle.signature)
+    ∙ ap (λ (es : List Assertion). pending_lines closed o (signature_after new) es (length new + 1) after) (sym idle.assertions)
 
 -- a pair that neither ends the window nor prints a model, and changes nothing, leaves all as it is
 stays : (s : ChecksState) (pairs : List Pair) (p : Pair) → closes p ≡ false → is_check p.command ≡ false → ((m : ℕ) → models_of m p ≡ []) → IsIdle pairs p → GoesOn s pairs p s
 stays s pairs p open' other none idle = record {
   count = rw other (omega arith);
-  lines = λ ended after.
+  lines = λ closed after.
       let names = signature_after pairs in
       let assertions = assertions_after pairs in
-      let here = pending_lines ended s.pending names assertions (length pairs + 1) (p ∷ after) in
+      let here = pending_lines closed s.pending names assertions (length pairs + 1) (p ∷ after) in
       ap (λ (ls : List Line). s.lines ++ (here ++ ls)) (rw other refl)
       ∙ ap (λ (ls : List Line). s.lines ++ ls) (append-nil here)
-      ∙ ap (λ (ls : List Line). s.lines ++ ls) (pending-past ended s.pending names assertions (length pairs + 1) p after open' (none (length pairs + 1)))
-      ∙ ap (λ (ls : List Line). s.lines ++ ls) (pending-idle ended s.pending pairs p after idle);
+      ∙ ap (λ (ls : List Line). s.lines ++ ls) (pending-past closed s.pending names assertions (length pairs + 1) p after open' (none (length pairs + 1)))
+      ∙ ap (λ (ls : List Line). s.lines ++ ls) (pending-idle closed s.pending pairs p after idle);
 }
 
 neither : {A : Type 0} (b : Bool) → ◌≡◌ {A = List A} (cond b [] []) []
@@ -111,27 +111,27 @@ closes_if s pairs p false is ends other =
 -- ## Checks
 
 -- a check that was answered otherwise than sat, and has this line
-answered_goes : (s : ChecksState) (pairs : List Pair) (a : Sexp) (line : Line) → ((ended : Bool) (after : List Pair) → lines_of_pair ended pairs (pair_of CheckSat (Some a)) after ≡ line ∷ [])
+answered_goes : (s : ChecksState) (pairs : List Pair) (a : Sexp) (line : Line) → ((closed : Bool) (after : List Pair) → lines_of_pair closed pairs (pair_of CheckSat (Some a)) after ≡ line ∷ [])
     → GoesOn s pairs (pair_of CheckSat (Some a)) (record (with_window_ended s) { count = s.count + 1; lines = (with_window_ended s).lines ++ line ∷ [] })
 answered_goes s pairs a line own = record {
   count = omega arith;
-  lines = λ ended after. closes_with s pairs (pair_of CheckSat (Some a)) ended after (line ∷ []) refl (own ended after) ∙ sym (append-nil ((s.lines ++ closing_lines s.pending) ++ line ∷ []));
+  lines = λ closed after. closes_with s pairs (pair_of CheckSat (Some a)) closed after (line ∷ []) refl (own closed after) ∙ sym (append-nil ((s.lines ++ closing_lines s.pending) ++ line ∷ []));
 }
 
 -- a check that was answered sat
 begun_goes : (s : ChecksState) (pairs : List Pair) (a : Sexp) (k n : ℕ) → k ≡ checks_in pairs + 1 → n ≡ length pairs + 1
-    → ((ended : Bool) (after : List Pair) → lines_of_pair ended pairs (pair_of CheckSat (Some a)) after ≡ lines_of_sat ended (checks_in pairs + 1) (length pairs + 1) (signature_after pairs) (assertions_after pairs) ((length pairs + 1) + 1) after)
+    → ((closed : Bool) (after : List Pair) → lines_of_pair closed pairs (pair_of CheckSat (Some a)) after ≡ lines_of_sat closed (checks_in pairs + 1) (length pairs + 1) (signature_after pairs) (assertions_after pairs) ((length pairs + 1) + 1) after)
     → GoesOn s pairs (pair_of CheckSat (Some a)) (record (with_window_ended s) { count = s.count + 1; pending = Some (record { check = k; command = n; some_model = false }) })
 begun_goes s pairs a k n is_k is_n own =
     let p = pair_of CheckSat (Some a) in
     let begun : Option PendingCheck = Some (record { check = k; command = n; some_model = false }) in
     record {
       count = omega arith;
-      lines = λ ended after.
-          closes_with s pairs p ended after _ refl (own ended after)
-          ∙ ap (λ (i : ℕ). (with_window_ended s).lines ++ lines_of_sat ended i (length pairs + 1) (signature_after pairs) (assertions_after pairs) ((length pairs + 1) + 1) after) (sym is_k)
-          ∙ ap (λ (i : ℕ). (with_window_ended s).lines ++ lines_of_sat ended k i (signature_after pairs) (assertions_after pairs) ((length pairs + 1) + 1) after) (sym is_n)
-          ∙ ap (λ (ls : List Line). (with_window_ended s).lines ++ ls) (pending-idle ended begun pairs p after (quiet_is_idle pairs p check_is_quiet));
+      lines = λ closed after.
+          closes_with s pairs p closed after _ refl (own closed after)
+          ∙ ap (λ (i : ℕ). (with_window_ended s).lines ++ lines_of_sat closed i (length pairs + 1) (signature_after pairs) (assertions_after pairs) ((length pairs + 1) + 1) after) (sym is_k)
+          ∙ ap (λ (i : ℕ). (with_window_ended s).lines ++ lines_of_sat closed k i (signature_after pairs) (assertions_after pairs) ((length pairs + 1) + 1) after) (sym is_n)
+          ∙ ap (λ (ls : List Line). (with_window_ended s).lines ++ ls) (pending-idle closed begun pairs p after (quiet_is_idle pairs p check_is_quiet));
     }
 
 -- where a check has an answer that is not one of the others, it is `sat`
@@ -149,13 +149,13 @@ check_by : (s : ChecksState) (pairs : List Pair) (a : Sexp) (u : Option CheckAns
 check_by s pairs a (Some other) is h count =
     let is_k : s.count + 1 ≡ checks_in pairs + 1 = ap (λ (i : ℕ). i + 1) count in
     answered_goes s pairs a (lines.Unchecked (s.count + 1) (length pairs + 1) other)
-    (λ ended after. ap (λ (v : Option CheckAnswer). unchecked_line_or (checks_in pairs + 1) (length pairs + 1) v (cond (is_symbol (codes "sat") a) (lines_of_sat ended (checks_in pairs + 1) (length pairs + 1) (signature_after pairs) (assertions_after pairs) ((length pairs + 1) + 1) after) [])) is ∙ ap (λ (i : ℕ). lines.Unchecked i (length pairs + 1) other ∷ []) (sym is_k))
+    (λ closed after. ap (λ (v : Option CheckAnswer). unchecked_line_or (checks_in pairs + 1) (length pairs + 1) v (cond (is_symbol (codes "sat") a) (lines_of_sat closed (checks_in pairs + 1) (length pairs + 1) (signature_after pairs) (assertions_after pairs) ((length pairs + 1) + 1) after) [])) is ∙ ap (λ (i : ℕ). lines.Unchecked i (length pairs + 1) other ∷ []) (sym is_k))
 check_by s pairs a None is h count =
     let is_k : s.count + 1 ≡ checks_in pairs + 1 = ap (λ (i : ℕ). i + 1) count in
     let sat : is_symbol (codes "sat") a ≡ true =
     sat_left (is_symbol (codes "sat") a) (is_symbol (codes "unsat") a) (is_symbol (codes "unknown") a) (is_symbol (codes "unsupported") a) (is_error a) h is in
     begun_goes s pairs a (s.count + 1) (length pairs + 1) is_k refl
-    (λ ended after. ap (λ (v : Option CheckAnswer). unchecked_line_or (checks_in pairs + 1) (length pairs + 1) v (cond (is_symbol (codes "sat") a) (lines_of_sat ended (checks_in pairs + 1) (length pairs + 1) (signature_after pairs) (assertions_after pairs) ((length pairs + 1) + 1) after) [])) is ∙ rw sat refl)
+    (λ closed after. ap (λ (v : Option CheckAnswer). unchecked_line_or (checks_in pairs + 1) (length pairs + 1) v (cond (is_symbol (codes "sat") a) (lines_of_sat closed (checks_in pairs + 1) (length pairs + 1) (signature_after pairs) (assertions_after pairs) ((length pairs + 1) + 1) after) [])) is ∙ rw sat refl)
 
 -- ## Models
 
@@ -164,20 +164,20 @@ or_true true = refl
 or_true false = refl
 
 -- the lines of a pending check at one more model
-pending-model : (ended : Bool) (c : PendingCheck) (names : Signature) (assertions : List Assertion) (m : ℕ) (parts : Sexps) (after : List Pair) → is_effective_with (Some (Items parts)) ≡ true
-    → pending_lines ended (Some c) names assertions m (pair_of GetModel (Some (Items parts)) ∷ after)
-    ≡ sat_lines c.check c.command (option_or (line_of_judgement c.check c.command m (judgement_of names assertions parts)) (unconfirmed_line c.check c.command names assertions (models_from (m + 1) (window after)))) true (ended || list_any closes after)
-pending-model ended c names assertions m parts after h = rw (h, or_true) refl
+pending-model : (closed : Bool) (c : PendingCheck) (names : Signature) (assertions : List Assertion) (m : ℕ) (parts : Sexps) (after : List Pair) → is_effective_with (Some (Items parts)) ≡ true
+    → pending_lines closed (Some c) names assertions m (pair_of GetModel (Some (Items parts)) ∷ after)
+    ≡ sat_lines c.check c.command (option_or (line_of_judgement c.check c.command m (judgement_of names assertions parts)) (unconfirmed_line c.check c.command names assertions (models_from (m + 1) (window after)))) true (closed || list_any closes after)
+pending-model closed c names assertions m parts after h = rw (h, or_true) refl
 
 -- what is added where the model has a line, and where it is confirmed
 model_line : (s : ChecksState) (pairs : List Pair) (c : PendingCheck) (parts : Sexps) (l : Option Line) → s.pending ≡ Some c → is_effective_with (Some (Items parts)) ≡ true
     → line_of_judgement c.check c.command (length pairs + 1) (judgement_of (signature_after pairs) (assertions_after pairs) parts) ≡ l → GoesOn s pairs (pair_of GetModel (Some (Items parts))) (with_line s c l)
 model_line s pairs c parts (Some line) is_pending h is = record {
   count = omega arith;
-  lines = λ ended after.
-      ap (λ (o : Option PendingCheck). s.lines ++ (pending_lines ended o (signature_after pairs) (assertions_after pairs) (length pairs + 1) (pair_of GetModel (Some (Items parts)) ∷ after) ++ [])) is_pending
-      ∙ ap (λ (ls : List Line). s.lines ++ (ls ++ [])) (pending-model ended c (signature_after pairs) (assertions_after pairs) (length pairs + 1) parts after h)
-      ∙ ap (λ (l : Option Line). s.lines ++ (sat_lines c.check c.command (option_or l (unconfirmed_line c.check c.command (signature_after pairs) (assertions_after pairs) (models_from ((length pairs + 1) + 1) (window after)))) true (ended || list_any closes after) ++ [])) is
+  lines = λ closed after.
+      ap (λ (o : Option PendingCheck). s.lines ++ (pending_lines closed o (signature_after pairs) (assertions_after pairs) (length pairs + 1) (pair_of GetModel (Some (Items parts)) ∷ after) ++ [])) is_pending
+      ∙ ap (λ (ls : List Line). s.lines ++ (ls ++ [])) (pending-model closed c (signature_after pairs) (assertions_after pairs) (length pairs + 1) parts after h)
+      ∙ ap (λ (l : Option Line). s.lines ++ (sat_lines c.check c.command (option_or l (unconfirmed_line c.check c.command (signature_after pairs) (assertions_after pairs) (models_from ((length pairs + 1) + 1) (window after)))) true (closed || list_any closes after) ++ [])) is
       ∙ sym (append-nil (s.lines ++ line ∷ []));
 }
 model_line s pairs c parts None is_pending h is =
@@ -185,12 +185,12 @@ model_line s pairs c parts None is_pending h is =
     let noted : PendingCheck = record c { some_model = true } in
     record {
       count = omega arith;
-      lines = λ ended after.
-          ap (λ (o : Option PendingCheck). s.lines ++ (pending_lines ended o (signature_after pairs) (assertions_after pairs) (length pairs + 1) (p ∷ after) ++ [])) is_pending
-          ∙ ap (λ (ls : List Line). s.lines ++ (ls ++ [])) (pending-model ended c (signature_after pairs) (assertions_after pairs) (length pairs + 1) parts after h)
-          ∙ ap (λ (l : Option Line). s.lines ++ (sat_lines c.check c.command (option_or l (unconfirmed_line c.check c.command (signature_after pairs) (assertions_after pairs) (models_from ((length pairs + 1) + 1) (window after)))) true (ended || list_any closes after) ++ [])) is
-          ∙ ap (λ (ls : List Line). s.lines ++ ls) (append-nil (pending_lines ended (Some noted) (signature_after pairs) (assertions_after pairs) ((length pairs + 1) + 1) after))
-          ∙ ap (λ (ls : List Line). s.lines ++ ls) (pending-idle ended (Some noted) pairs p after (quiet_is_idle pairs p model_is_quiet));
+      lines = λ closed after.
+          ap (λ (o : Option PendingCheck). s.lines ++ (pending_lines closed o (signature_after pairs) (assertions_after pairs) (length pairs + 1) (p ∷ after) ++ [])) is_pending
+          ∙ ap (λ (ls : List Line). s.lines ++ (ls ++ [])) (pending-model closed c (signature_after pairs) (assertions_after pairs) (length pairs + 1) parts after h)
+          ∙ ap (λ (l : Option Line). s.lines ++ (sat_lines c.check c.command (option_or l (unconfirmed_line c.check c.command (signature_after pairs) (assertions_after pairs) (models_from ((length pairs + 1) + 1) (window after)))) true (closed || list_any closes after) ++ [])) is
+          ∙ ap (λ (ls : List Line). s.lines ++ ls) (append-nil (pending_lines closed (Some noted) (signature_after pairs) (assertions_after pairs) ((length pairs + 1) + 1) after))
+          ∙ ap (λ (ls : List Line). s.lines ++ ls) (pending-idle closed (Some noted) pairs p after (quiet_is_idle pairs p model_is_quiet));
     }
 
 -- an answer to `get-model` that is no model leaves all as it is
@@ -201,7 +201,7 @@ model_goes : (s : ChecksState) (pairs : List Pair) (pending : Option PendingChec
     → GoesOn s pairs (pair_of GetModel o) (with_models s pending (signature_after pairs) (assertions_after pairs) (length pairs + 1) e o)
 model_goes s pairs None e o is_pending is = record {
   count = omega arith;
-  lines = λ ended after. rw is_pending refl;
+  lines = λ closed after. rw is_pending refl;
 }
 model_goes s pairs (Some c) false o is_pending is = no_model s pairs o (λ m. no_models (is_effective_with o) (printed_by m GetModel o) is)
 model_goes s pairs (Some c) true None is_pending is = no_model s pairs None (λ m. refl)

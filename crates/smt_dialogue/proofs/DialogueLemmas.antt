@@ -20,9 +20,9 @@ use Rattle.smt_dialogue.specs.declared.window.Role.{Role}
 use Rattle.smt_report.specs.declared.line.Line.{Line}
 
 -- the lines of the pairs and one more
-lines_in-push : (ended : Bool) (pairs : List Pair) (p : Pair) (after : List Pair) → lines_in ended [] (pairs ++ p ∷ []) after ≡ lines_in ended [] pairs (p ∷ after) ++ lines_of_pair ended pairs p after
-lines_in-push ended pairs p after =
-    lines_in-append ended [] pairs (p ∷ []) after ∙ ap (λ (ls : List Line). lines_in ended [] pairs (p ∷ after) ++ ls) (append-nil (lines_of_pair ended pairs p after))
+lines_in-push : (closed : Bool) (pairs : List Pair) (p : Pair) (after : List Pair) → lines_in closed [] (pairs ++ p ∷ []) after ≡ lines_in closed [] pairs (p ∷ after) ++ lines_of_pair closed pairs p after
+lines_in-push closed pairs p after =
+    lines_in-append closed [] pairs (p ∷ []) after ∙ ap (λ (ls : List Line). lines_in closed [] pairs (p ∷ after) ++ ls) (append-nil (lines_of_pair closed pairs p after))
 
 -- the stack behind one more pair
 stack_push : (s t : State) (pairs : List Pair) (p : Pair) → s.commands ≡ length pairs
@@ -56,11 +56,11 @@ accepted_stands s t pairs c o h before applied last checks commands answers =
       commands = omega (arith, commands, before.commands, len);
       answers = omega (arith, answers, before.answers, answers_taken-append pairs (p ∷ []));
       checks = omega (arith, g.count, before.checks, checks_in-append pairs (p ∷ []));
-      lines = λ ended after.
-          lines_in-push ended pairs p after
-          ∙ ap (λ (ls : List Line). ls ++ lines_of_pair ended pairs p after) (before.lines ended (p ∷ after))
-          ∙ append_assoc s.checks.lines (pending_lines ended s.checks.pending (signature_after pairs) (assertions_after pairs) (length pairs + 1) (p ∷ after)) (lines_of_pair ended pairs p after)
-          ∙ g.lines ended after;
+      lines = λ closed after.
+          lines_in-push closed pairs p after
+          ∙ ap (λ (ls : List Line). ls ++ lines_of_pair closed pairs p after) (before.lines closed (p ∷ after))
+          ∙ append_assoc s.checks.lines (pending_lines closed s.checks.pending (signature_after pairs) (assertions_after pairs) (length pairs + 1) (p ∷ after)) (lines_of_pair closed pairs p after)
+          ∙ g.lines closed after;
     }
 
 -- the fault of a pair is that of its command, if that took effect
@@ -75,8 +75,8 @@ refused_stands s t pairs before stack last checks commands answers = record {
   commands = commands ∙ before.commands;
   answers = answers ∙ before.answers;
   checks = ap (λ (c : ChecksState). c.count) checks ∙ before.checks;
-  lines = λ ended after. before.lines ended after
-      ∙ ap (λ (c : ChecksState). c.lines ++ pending_lines ended c.pending (signature_after pairs) (assertions_after pairs) (length pairs + 1) after) (sym checks);
+  lines = λ closed after. before.lines closed after
+      ∙ ap (λ (c : ChecksState). c.lines ++ pending_lines closed c.pending (signature_after pairs) (assertions_after pairs) (length pairs + 1) after) (sym checks);
 }
 
 -- so a refused command has the fault that the stack told, or there was no memory

@@ -32,34 +32,35 @@ is_word word (Reserved w) h = cc
 is_word word (Items parts) h = cc
 
 -- what is taken where an answer is needed is one of its form
-pub needed_takes : (form : AnswerForm) (next answer : Option Sexp) → taken (Needed form) next ≡ Takes answer → (a : Sexp) × (answer ≡ Some a) × (has_form form a ≡ true)
-needed_takes form None answer h = absurd (cc)
-needed_takes form (Some a) answer h = by (has_form form a) refl h
+pub needed_takes : (told : Bool) (form : AnswerForm) (next answer : Option Sexp) → taken told (Needed form) next ≡ Takes answer → (a : Sexp) × (answer ≡ Some a) × (has_form form a ≡ true)
+needed_takes true form None answer h = absurd (cc)
+needed_takes false form None answer h = absurd (cc)
+needed_takes told form (Some a) answer h = by (has_form form a) refl h
   where
     by : (b : Bool) → has_form form a ≡ b → cond b (Takes (Some a)) Unfit ≡ Takes answer → (x : Sexp) × (answer ≡ Some x) × (has_form form x ≡ true)
     by true is e = (a, cc, is)
     by false is e = absurd (cc)
 
 -- so a check has one of the answers of checks
-pub check_answered : (on : Bool) (c : Command) (next answer : Option Sexp) → taken (need_of on c) next ≡ Takes answer → IsAnswered (role_of c) answer
-check_answered on (SetLogic name) next answer h = tt
-check_answered on (SetPrintSuccess value) next answer h = tt
-check_answered on (SetOption keyword value) next answer h = tt
-check_answered on (SetInfo keyword value) next answer h = tt
-check_answered on (DeclareConst x sort) next answer h = tt
-check_answered on (DeclareFun x parameters sort) next answer h = tt
-check_answered on (DefineFun x parameters sort body) next answer h = tt
-check_answered on (DefineSort x sort) next answer h = tt
-check_answered on (Assert term) next answer h = tt
-check_answered on (Push levels) next answer h = tt
-check_answered on (Pop levels) next answer h = tt
-check_answered on Reset next answer h = tt
-check_answered on ResetAssertions next answer h = tt
-check_answered on Exit next answer h = tt
-check_answered on (Echo text) next answer h = tt
-check_answered on (Get query) next answer h = tt
-check_answered on GetModel next answer h = tt
-check_answered on CheckSat next answer h = needed_takes Check next answer h
+pub check_answered : (told on : Bool) (c : Command) (next answer : Option Sexp) → taken told (need_of on c) next ≡ Takes answer → IsAnswered (role_of c) answer
+check_answered told on (SetLogic name) next answer h = tt
+check_answered told on (SetPrintSuccess value) next answer h = tt
+check_answered told on (SetOption keyword value) next answer h = tt
+check_answered told on (SetInfo keyword value) next answer h = tt
+check_answered told on (DeclareConst x sort) next answer h = tt
+check_answered told on (DeclareFun x parameters sort) next answer h = tt
+check_answered told on (DefineFun x parameters sort body) next answer h = tt
+check_answered told on (DefineSort x sort) next answer h = tt
+check_answered told on (Assert term) next answer h = tt
+check_answered told on (Push levels) next answer h = tt
+check_answered told on (Pop levels) next answer h = tt
+check_answered told on Reset next answer h = tt
+check_answered told on ResetAssertions next answer h = tt
+check_answered told on Exit next answer h = tt
+check_answered told on (Echo text) next answer h = tt
+check_answered told on (Get query) next answer h = tt
+check_answered told on GetModel next answer h = tt
+check_answered told on CheckSat next answer h = needed_takes told Check next answer h
 
 -- ## Pairs side by side
 
@@ -134,29 +135,29 @@ pub answers_taken-le : (xs : List Pair) → answers_taken xs ≤ length xs
 answers_taken-le [] = omega arith
 answers_taken-le (x ∷ xs) = omega (arith, answers_taken-le xs, answer_count-le x.answer)
 
-pub lines_in-append : (ended : Bool) (before xs ys after : List Pair) → lines_in ended before (xs ++ ys) after ≡ lines_in ended before xs (ys ++ after) ++ lines_in ended (before ++ xs) ys after
-lines_in-append ended before [] ys after = ap (λ (b : List Pair). lines_in ended b ys after) (sym (append-nil before))
-lines_in-append ended before (x ∷ xs) ys after =
-    let rest = lines_in ended (before ++ x ∷ []) xs (ys ++ after) in
-    let far = lines_in ended (before ++ x ∷ xs) ys after in
-    ap (λ (b : List Line). lines_of_pair ended before x ((xs ++ ys) ++ after) ++ b) (lines_in-append ended (before ++ x ∷ []) xs ys after ∙ ap (λ (b : List Pair). rest ++ lines_in ended b ys after) (append_assoc before (x ∷ []) xs))
-    ∙ ap (λ (a : List Pair). lines_of_pair ended before x a ++ (rest ++ far)) (append_assoc xs ys after)
-    ∙ sym (append_assoc (lines_of_pair ended before x (xs ++ (ys ++ after))) rest far)
+pub lines_in-append : (closed : Bool) (before xs ys after : List Pair) → lines_in closed before (xs ++ ys) after ≡ lines_in closed before xs (ys ++ after) ++ lines_in closed (before ++ xs) ys after
+lines_in-append closed before [] ys after = ap (λ (b : List Pair). lines_in closed b ys after) (sym (append-nil before))
+lines_in-append closed before (x ∷ xs) ys after =
+    let rest = lines_in closed (before ++ x ∷ []) xs (ys ++ after) in
+    let far = lines_in closed (before ++ x ∷ xs) ys after in
+    ap (λ (b : List Line). lines_of_pair closed before x ((xs ++ ys) ++ after) ++ b) (lines_in-append closed (before ++ x ∷ []) xs ys after ∙ ap (λ (b : List Pair). rest ++ lines_in closed b ys after) (append_assoc before (x ∷ []) xs))
+    ∙ ap (λ (a : List Pair). lines_of_pair closed before x a ++ (rest ++ far)) (append_assoc xs ys after)
+    ∙ sym (append_assoc (lines_of_pair closed before x (xs ++ (ys ++ after))) rest far)
 
 pub answers_then-append : (xs ys : List Pair) (rest : Sexps) → answers_then (xs ++ ys) rest ≡ answers_then xs (answers_then ys rest)
 answers_then-append [] ys rest = refl
 answers_then-append (x ∷ xs) ys rest = ap (with_answer x.answer) (answers_then-append xs ys rest)
 
 -- the pairs and one more take what they have, where the one takes it of what they leave
-pub AllTake-append : (start : Bool) (before xs : List Pair) (y : Pair) (rest left : Sexps) → AllTake start before xs rest → rest ≡ with_answer y.answer left
-    → taken (need_after start (before ++ xs) y.command) (next_of rest) ≡ Takes y.answer → AllTake start before (xs ++ y ∷ []) left
-AllTake-append start before [] y rest left all next one =
-    (ap (λ (r : Sexps). taken (need_after start before y.command) (next_of r)) (sym next) ∙ rw (append-nil before) at one, tt)
-AllTake-append start before (x ∷ xs) y rest left all next one =
+pub AllTake-append : (told start : Bool) (before xs : List Pair) (y : Pair) (rest left : Sexps) → AllTake told start before xs rest → rest ≡ with_answer y.answer left
+    → taken told (need_after start (before ++ xs) y.command) (next_of rest) ≡ Takes y.answer → AllTake told start before (xs ++ y ∷ []) left
+AllTake-append told start before [] y rest left all next one =
+    (ap (λ (r : Sexps). taken told (need_after start before y.command) (next_of r)) (sym next) ∙ rw (append-nil before) at one, tt)
+AllTake-append told start before (x ∷ xs) y rest left all next one =
     let same : answers_then (x ∷ (xs ++ y ∷ [])) left ≡ answers_then (x ∷ xs) rest =
     ap (with_answer x.answer) (answers_then-append xs (y ∷ []) left ∙ ap (answers_then xs) (sym next)) in (
-      ap (λ (r : Sexps). taken (need_after start before x.command) (next_of r)) same ∙ all.0,
-      AllTake-append start (before ++ x ∷ []) xs y rest left all.1 next (rw (append_assoc before (x ∷ []) xs) one),
+      ap (λ (r : Sexps). taken told (need_after start before x.command) (next_of r)) same ∙ all.0,
+      AllTake-append told start (before ++ x ∷ []) xs y rest left all.1 next (rw (append_assoc before (x ∷ []) xs) one),
     )
 
 pub AreFaultless-append : (before xs : List Pair) (y : Pair) → AreFaultless before xs → has_exited_after (before ++ xs) ≡ false → fault_of_pair (before ++ xs) y ≡ None → AreFaultless before (xs ++ y ∷ [])

@@ -13,7 +13,7 @@ use Rattle.smt_text.specs.declared.reader.Next.TheVariants.{Fault}
 use Rattle.smt_trees.specs.Tree.{sexp_of}
 use Rattle.smt_trees.specs.declared.tree.Tree.{Tree}
 use Rattle.smt_dialogue.proofs.StepLemmas.{commands-push, so_far-push, so_far-start}
-use Rattle.smt_dialogue.specs.FirstFault.{Stop, step_after}
+use Rattle.smt_dialogue.specs.FirstFault.{Ends, TextSoFar, turn_after, whole_text}
 use Rattle.smt_dialogue.specs.Pairs.{Pair, pair_of}
 use Rattle.smt_dialogue.specs.Internal.DialogueState.{State, StandsFor}
 use Rattle.smt_dialogue.specs.Internal.Steps.{HasEnded, IsStep, SoFar, TakesUp}
@@ -87,10 +87,10 @@ few_left few u trees fault h =
 -- ---- the turns of a dialogue
 
 -- the turns so far took up pairs, and so many trees are left of the script
-pub record GoesOn (start : Bool) (state : State) (script : UnreadText) (trees answers rest : Sexps) (fault : Option TextFault) : Type 0 where
+pub record GoesOn (start : Bool) (state : State) (script : UnreadText) (trees : Sexps) (answers : TextSoFar) (rest : Sexps) (fault : Option TextFault) : Type 0 where
   pub later : Sexps
   pub left : HasLeft script later fault
-  pub so_far : SoFar start state trees later answers rest
+  pub so_far : SoFar start state (whole_text trees fault) answers later rest
   pub counted : state.commands + count later ≤ count trees
 
 -- a step, said of what is the same
@@ -101,57 +101,61 @@ step_of {start} {other} {fault} {answers_fault} {line} pairs tree answers left n
     (subst (λ (f : Option TextFault). IsStep other line pairs tree answers f left new) behind (subst (λ (l : Option Line). IsStep other l pairs tree answers answers_fault left new) is h))
 
 -- before the first turn
-pub goes_on-start : (start : Bool) (s : State) (u : UnreadText) (trees answers : Sexps) (fault : Option TextFault) → StandsFor s [] → HasLeft u trees fault → GoesOn start s u trees answers answers fault
+pub goes_on-start : (start : Bool) (s : State) (u : UnreadText) (trees : Sexps) (answers : TextSoFar) (fault : Option TextFault) → StandsFor s [] → HasLeft u trees fault → GoesOn start s u trees answers answers.trees fault
 goes_on-start start s u trees answers fault stands left = record {
   later = trees;
   left = left;
-  so_far = so_far-start start s trees answers stands;
+  so_far = so_far-start start s (whole_text trees fault) answers stands;
   counted = omega (arith, stands.commands);
 }
 
 -- the same where a tree was taken of the script, which is in turn
-pub record IsInTurn (start : Bool) (state : State) (script : UnreadText) (tree : Sexp) (trees answers rest : Sexps) (fault : Option TextFault) : Type 0 where
+pub record IsInTurn (start : Bool) (state : State) (script : UnreadText) (tree : Sexp) (trees : Sexps) (answers : TextSoFar) (rest : Sexps) (fault : Option TextFault) : Type 0 where
   pub later : Sexps
   pub left : HasLeft script later fault
-  pub so_far : SoFar start state trees (Cons tree later) answers rest
+  pub so_far : SoFar start state (whole_text trees fault) answers (Cons tree later) rest
   pub counted : state.commands + 1 + count later ≤ count trees
 
 -- what comes next of the script is in turn
-pub in_turn : (start : Bool) (s : State) (u v : UnreadText) (trees answers rest : Sexps) (fault : Option TextFault) (further : Further) (tree : Tree) → GoesOn start s u trees answers rest fault
+pub in_turn : (start : Bool) (s : State) (u v : UnreadText) (trees : Sexps) (answers : TextSoFar) (rest : Sexps) (fault : Option TextFault) (further : Further) (tree : Tree) → GoesOn start s u trees answers rest fault
     → ((xs : Sexps) (f : Option TextFault) → HasLeft u xs f → ComesNext further v xs f) → further ≡ comes.Tree tree → IsInTurn start s v (sexp_of tree) trees answers rest fault
 in_turn start s u v trees answers rest fault further tree g next is =
     let n = subst (λ (x : Further). ComesNext x v g.later fault) is (next g.later fault g.left) in
     record {
       later = n.0;
       left = n.2;
-      so_far = subst (λ (xs : Sexps). SoFar start s trees xs answers rest) n.1 g.so_far;
+      so_far = subst (λ (xs : Sexps). SoFar start s (whole_text trees fault) answers xs rest) n.1 g.so_far;
       counted = omega (arith, g.counted, ap count n.1);
     }
 
 -- after the turn that took up its command
-pub goes_on-push : (start : Bool) (s t : State) (v : UnreadText) (tree : Sexp) (trees answers rest left : Sexps) (fault : Option TextFault) → (i : IsInTurn start s v tree trees answers rest fault)
-    → TakesUp start i.so_far.pairs tree rest left t → GoesOn start t v trees answers left fault
-goes_on-push start s t v tree trees answers rest left fault i u = record {
+pub goes_on-push : (start : Bool) (s t : State) (v : UnreadText) (tree : Sexp) (trees answers : Sexps) (answers_fault : Option TextFault) (rest left : Sexps) (fault : Option TextFault) → (i : IsInTurn start s v tree trees (whole_text answers answers_fault) rest fault)
+    → TakesUp start i.so_far.pairs tree rest left t → GoesOn start t v trees (whole_text answers answers_fault) left fault
+goes_on-push start s t v tree trees answers answers_fault rest left fault i u = record {
   later = i.later;
   left = i.left;
-  so_far = so_far-push start s t trees tree i.later answers rest left i.so_far u;
+  so_far = so_far-push start s t (whole_text trees fault) answers answers_fault tree i.later rest left i.so_far u;
   counted = omega (arith, i.counted, commands-push s t i.so_far.pairs (pair_of u.command u.answer) i.so_far.stands u.stands);
 }
 
 -- how the dialogue ends where nothing comes next
-pub ended-last : (start : Bool) (s : State) (u v : UnreadText) (trees answers rest : Sexps) (fault answers_fault : Option TextFault) (further : Further) (told : Option TextFault) (line : Option Line) → GoesOn start s u trees answers rest fault
+pub ended-last : (start : Bool) (s : State) (u v : UnreadText) (trees answers rest : Sexps) (fault answers_fault rest_fault : Option TextFault) (further : Further) (told : Option TextFault) (line : Option Line) → rest_fault ≡ answers_fault → GoesOn start s u trees (whole_text answers answers_fault) rest fault
     → ((xs : Sexps) (f : Option TextFault) → HasLeft u xs f → ComesNext further v xs f) → further ≡ comes.End told
-    → ((pairs : List Pair) → StandsFor s pairs → step_after start pairs Nil told rest answers_fault ≡ Stop line)
-    → HasEnded start s trees answers fault answers_fault line
-ended-last start s u v trees answers rest fault answers_fault further told line g next is ends =
+    → ((pairs : List Pair) → StandsFor s pairs → turn_after start pairs (whole_text Nil told) (whole_text rest rest_fault) ≡ Ends line)
+    → HasEnded start s (whole_text trees fault) (whole_text answers answers_fault) line
+ended-last start s u v trees answers rest fault answers_fault rest_fault further told line same g next is ends =
     let n = subst (λ (f : Further). ComesNext f v g.later fault) is (next g.later fault g.left) in
-    let so_far = subst (λ (xs : Sexps). SoFar start s trees xs answers rest) n.0 g.so_far in
+    let so_far = subst (λ (xs : Sexps). SoFar start s (whole_text trees fault) (whole_text answers answers_fault) xs rest) n.0 g.so_far in
     record {
       pairs = so_far.pairs;
-      later = Nil;
-      rest = rest;
-      pairing = so_far.pairing;
-      faultless = so_far.faultless;
-      ends = ap (λ f. step_after start so_far.pairs Nil f rest answers_fault) n.1 ∙ ends so_far.pairs so_far.stands;
       stands = so_far.stands;
+      ends = record {
+        later = Nil;
+        rest = rest;
+        paired = so_far.paired;
+        turn_is =
+            ap (λ f. turn_after start so_far.pairs (whole_text Nil f) (whole_text rest answers_fault)) n.1
+            ∙ ap (λ f. turn_after start so_far.pairs (whole_text Nil told) (whole_text rest f)) (sym same)
+            ∙ ends so_far.pairs so_far.stands;
+      };
     }

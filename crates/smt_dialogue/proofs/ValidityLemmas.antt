@@ -1,5 +1,5 @@
 -- What the verdicts mean.
-use Rattle.std.proofs.Common.{◌≡◌, ◌+◌, ℕ, Bool, true, false, not, ◌||◌, List, [], ◌∷◌, ◌++◌, length, Option, Some, None, Result, Ok, Err, cond, codes, refl, ap, sym, ◌∙◌, subst, arith, append_assoc}
+use Rattle.std.proofs.Common.{◌≡◌, ◌+◌, ℕ, Bool, true, false, not, ◌||◌, List, [], ◌∷◌, ◌++◌, length, Option, Some, None, is_some, Result, Ok, Err, cond, codes, refl, ap, sym, ◌∙◌, subst, arith, append_assoc}
 use Rattle.std.proofs.lemmas.List.{append-nil}
 use Rattle.std.specs.List.{AllByRecursion, list_any}
 use Rattle.std.specs.Result.{IfOk}
@@ -13,14 +13,16 @@ use Rattle.smt_dialogue.proofs.StructureLemmas.{structure_behind}
 use Rattle.smt_dialogue.proofs.PairingUnique.{all_commands, one_pairing}
 use Rattle.smt_dialogue.proofs.ConfirmedLemmas.{Laws, asserted_formula, closed_value, confirmed_at, faultless_at, is_false_value, lines_at, lines_of_sat_at}
 use Rattle.smt_script.specs.Command.{Command, SetLogic, SetPrintSuccess, SetOption, SetInfo, DeclareConst, DeclareFun, DefineFun, DefineSort, Assert, Push, Pop, Reset, ResetAssertions, Exit, CheckSat, GetModel, Echo, Get}
-use Rattle.smt_dialogue.specs.Report.{IsReport, lines_of_end}
+use Rattle.smt_dialogue.specs.FirstFault.{TextSoFar, is_over}
+use Rattle.smt_dialogue.specs.Report.{AreLinesOf, IsRead, IsReport, lines_of_end}
+use Rattle.smt_dialogue.specs.declared.options.Options.{Options}
 use Rattle.smt_dialogue.specs.Validity.{IsAsserted, IsFullyPaired, IsInvalid, IsSatCheck, IsTrueModel, IsValid}
 use Rattle.smt_dialogue.specs.InForce.{AreFaultless, assertions_after, signature_after}
-use Rattle.smt_dialogue.specs.Pairing.{IsPairing}
+use Rattle.smt_dialogue.specs.Pairing.{IsPairing, IsPairingSoFar}
 use Rattle.smt_dialogue.specs.Pairs.{Pair, effective_commands}
 use Rattle.smt_script.specs.Stack.{Assertion}
 use Rattle.smt_dialogue.specs.Lines.{checks_in, is_empty, line_of_judgement, lines_in, lines_of_pair, lines_of_sat, sat_lines, unchecked_answer, unchecked_line_or, unconfirmed_line}
-use Rattle.smt_report.specs.Verdict.{IsVerdictOf, is_fault_line, is_refuted_line, is_undecided_line, tally_of, verdict_of}
+use Rattle.smt_report.specs.Verdict.{IsVerdictOf, is_fault_line, is_refuted_line, is_undecided_line, tally_of, verdict_of, with_verdict}
 use Rattle.std.specs.Option.{option_or}
 use Rattle.smt_dialogue.specs.Internal.Steps.{IsJudged}
 use Rattle.smt_dialogue.specs.Window.{Printed, models_from, structure_at, window}
@@ -42,51 +44,74 @@ use Rattle.smt_report.specs.declared.line.Line.{Line}
 use Rattle.smt_report.specs.declared.line.Line.TheVariants as lines
 use Rattle.smt_eval.specs.declared.memory.Memory.{Memory}
 use Rattle.smt_report.specs.declared.report.Report.{Report}
+use Rattle.smt_report.specs.declared.verdict.Tally.{Tally}
 use Rattle.smt_report.specs.declared.verdict.Verdict.{Verdict}
 use Rattle.smt_report.specs.declared.verdict.Verdict.TheVariants.{Valid, Invalid}
 
 -- ## A dialogue without the line of a fault is paired whole
 
-pub fully_paired : (start : Bool) (script answers : List ℕ) (st at' : Sexps) (sf af : Option TextFault) (ls : List Line) (v : Verdict) → Reads limit true script st sf → Reads limit true answers at' af → (j : IsJudged start st at' sf af ls v) → list_any is_fault_line (lines_in true [] j.pairs [] ++ lines_of_end j.fault) ≡ false → IsFullyPaired start script answers j.pairs × (j.fault ≡ None)
-fully_paired start script answers st at' sf af ls v rs ra j h =
-    let clean = ends_clean start j.pairs j.later sf j.rest af j.fault j.ends (none_of is_fault_line (lines_in true [] j.pairs []) (lines_of_end j.fault) h).1 in
-    let one : IsPairing start j.pairs st Nil at' j.rest = subst (λ (t : Sexps). IsPairing start j.pairs st t at' j.rest) clean.trees j.pairing in (
+pub fully_paired : (options : Options) (script answers : List ℕ) (st at' : TextSoFar) (ls : List Line) → IsRead true script st → IsRead true answers at' → (j : AreLinesOf options.print_success st at' ls) → list_any is_fault_line (lines_in true [] j.pairs [] ++ lines_of_end j.fault) ≡ false → IsFullyPaired options script answers j.pairs × (j.fault ≡ None)
+fully_paired options script answers st at' ls rs ra j h =
+    let start = options.print_success in
+    let clean = ends_clean start j.pairs st.told at'.told j.ends.later st.fault j.ends.rest at'.fault j.fault j.ends.turn_is (none_of is_fault_line (lines_in true [] j.pairs []) (lines_of_end j.fault) h).1 in
+    let over : is_over at' ≡ true = ap (λ (b : Bool). b || is_some at'.fault) ra.told_so in
+    let told : IsPairingSoFar true start j.pairs st.trees j.ends.later at'.trees j.ends.rest = subst (λ (b : Bool). IsPairingSoFar b start j.pairs st.trees j.ends.later at'.trees j.ends.rest) over j.ends.paired.pairing in
+    let one : IsPairing start j.pairs st.trees Nil at'.trees j.ends.rest = subst (λ (t : Sexps). IsPairing start j.pairs st.trees t at'.trees j.ends.rest) clean.trees told in (
       record {
-        script_trees = st;
-        script_forest = subst (λ (f : Option TextFault). Reads limit true script st f) clean.script rs;
-        answer_trees = at';
-        answers_forest = subst (λ (f : Option TextFault). Reads limit true answers at' f) clean.answers ra;
-        pairing = subst (λ (t : Sexps). IsPairing start j.pairs st Nil at' t) clean.left one;
+        script_trees = st.trees;
+        script_forest = subst (λ (f : Option TextFault). Reads limit true script st.trees f) clean.script rs.reads;
+        answer_trees = at'.trees;
+        answers_forest = subst (λ (f : Option TextFault). Reads limit true answers at'.trees f) clean.answers ra.reads;
+        pairing = subst (λ (t : Sexps). IsPairing start j.pairs st.trees Nil at'.trees t) clean.left one;
       },
       clean.none,
     )
+
+-- ## The verdict is that of the lines
+
+last_same : {A : Type 0} (xs ys : List A) (x y : A) → xs ++ x ∷ [] ≡ ys ++ y ∷ [] → x ≡ y
+last_same [] [] x y h = cc
+last_same [] (z ∷ []) x y h = absurd (cc)
+last_same [] (z ∷ (w ∷ ys)) x y h = absurd (cc)
+last_same (z ∷ []) [] x y h = absurd (cc)
+last_same (z ∷ (w ∷ xs)) [] x y h = absurd (cc)
+last_same (z ∷ xs) (w ∷ ys) x y h = last_same xs ys x y (cc)
+
+verdict_same : (v w : Verdict) (t u : Tally) → lines.Verdict v t ≡ lines.Verdict w u → v ≡ w
+verdict_same v w t u h = cc
+
+-- the verdict of lines that end with theirs
+pub verdict_of_lines : (v : Verdict) (ls ms : List Line) → IsVerdictOf v ls → ls ≡ with_verdict ms → v ≡ verdict_of ms
+verdict_of_lines v ls ms h is = verdict_same v (verdict_of ms) h.1 (tally_of ms) (last_same h.0 ms (lines.Verdict v h.1) (lines.Verdict (verdict_of ms) (tally_of ms)) (sym h.2 ∙ is))
 
 -- a text has at most one forest: a law of the reader's crate
 abbrev pub OneForest : Type 0
 OneForest = (bound other : ℕ) (text : List ℕ) (xs ys : Sexps) → Forest bound text xs → Forest other text ys → xs ≡ ys
 
 -- there is one such pairing, and none that leaves answers
-pub only_pairing : OneForest → (start : Bool) (script answers : List ℕ) (pairs others : List Pair) (trees answered rest : Sexps) → IsFullyPaired start script answers pairs → Forest limit script trees → Forest limit answers answered → IsPairing start others trees Nil answered rest → (others ≡ pairs) × (rest ≡ Nil)
-only_pairing one start script answers pairs others trees answered rest whole f g p =
+pub only_pairing : OneForest → (options : Options) (script answers : List ℕ) (pairs others : List Pair) (trees answered rest : Sexps) → IsFullyPaired options script answers pairs → Forest limit script trees → Forest limit answers answered → IsPairing options.print_success others trees Nil answered rest → (others ≡ pairs) × (rest ≡ Nil)
+only_pairing one options script answers pairs others trees answered rest whole f g p =
+    let start = options.print_success in
     let same_script : whole.script_trees ≡ trees = one limit limit script whole.script_trees trees whole.script_forest f in
     let same_answers : whole.answer_trees ≡ answered = one limit limit answers whole.answer_trees answered whole.answers_forest g in
     let once : IsPairing start pairs trees Nil whole.answer_trees Nil = subst (λ (t : Sexps). IsPairing start pairs t Nil whole.answer_trees Nil) same_script whole.pairing in
     let mine : IsPairing start pairs trees Nil answered Nil = subst (λ (t : Sexps). IsPairing start pairs trees Nil t Nil) same_answers once in
-    let same = one_pairing start [] others pairs trees Nil Nil answered rest Nil (all_commands others trees p.commands ∙ sym (all_commands pairs trees mine.commands)) p.commands mine.commands p.answered mine.answered p.taken_so mine.taken_so in
+    let same = one_pairing true start [] others pairs trees Nil Nil answered rest Nil (all_commands others trees p.commands ∙ sym (all_commands pairs trees mine.commands)) p.commands mine.commands p.answered mine.answered p.taken_so mine.taken_so in
     (same.0, same.2)
 
 -- ## Valid means valid
 
-pub valid_means : Laws → OneForest → (start : Bool) (script answers : List ℕ) (st at' : Sexps) (sf af : Option TextFault) (ls : List Line) (v : Verdict) → Reads limit true script st sf → Reads limit true answers at' af → IsJudged start st at' sf af ls v → v ≡ Valid → IsValid start script answers
-valid_means laws one start script answers st at' sf af ls v rs ra j h =
-    let mine = lines_in true [] j.pairs [] in
-    let tests = valid_lines (mine ++ lines_of_end j.fault) (sym j.verdict_is ∙ h) in
-    let whole = (fully_paired start script answers st at' sf af ls v rs ra j tests.0).0 in
+pub valid_means : Laws → OneForest → (options : Options) (script answers : List ℕ) (st at' : TextSoFar) (ls : List Line) (v : Verdict) → IsRead true script st → IsRead true answers at' → IsJudged options.print_success st at' ls v → v ≡ Valid → IsValid options script answers
+valid_means laws one options script answers st at' ls v rs ra j h =
+    let l = j.lines_are in
+    let mine = lines_in true [] l.pairs [] in
+    let tests = valid_lines (mine ++ lines_of_end l.fault) (sym (verdict_of_lines v ls (mine ++ lines_of_end l.fault) j.verdict_is l.lines_are) ∙ h) in
+    let whole = (fully_paired options script answers st at' ls rs ra l tests.0).0 in
     record {
-      pairs = j.pairs;
+      pairs = l.pairs;
       paired = whole;
-      only = λ others trees answered rest f g p. only_pairing one start script answers j.pairs others trees answered rest whole f g p;
-      confirmed = λ before after p place sat. confirmed_at laws j.pairs before after p place j.faultless (none_of is_refuted_line mine (lines_of_end j.fault) tests.1).0 (none_of is_undecided_line mine (lines_of_end j.fault) tests.2).0 sat;
+      only = λ others trees answered rest f g p. only_pairing one options script answers l.pairs others trees answered rest whole f g p;
+      confirmed = λ before after p place sat. confirmed_at laws l.pairs before after p place l.ends.paired.faultless (none_of is_refuted_line mine (lines_of_end l.fault) tests.1).0 (none_of is_undecided_line mine (lines_of_end l.fault) tests.2).0 sat;
     }
 
 -- ## Invalid means invalid
@@ -272,11 +297,12 @@ refuted_over script as' (Err faults.Memory) n h = absurd (cc)
 line_place : (l1 l2 end : List Line) (line : Line) → (l1 ++ (line ∷ [] ++ l2)) ++ end ≡ l1 ++ line ∷ (l2 ++ end)
 line_place l1 l2 end line = append_assoc l1 (line ∷ l2) end
 
-pub invalid_means : Laws → (start : Bool) (script answers : List ℕ) (st at' : Sexps) (sf af : Option TextFault) (ls : List Line) (v : Verdict) → Reads limit true script st sf → Reads limit true answers at' af → IsJudged start st at' sf af ls v → v ≡ Invalid → IsInvalid start script answers ls
-invalid_means laws start script answers st at' sf af ls v rs ra j h =
+pub invalid_means : Laws → (options : Options) (script answers : List ℕ) (st at' : TextSoFar) (ls : List Line) (v : Verdict) → IsRead true script st → IsRead true answers at' → IsJudged options.print_success st at' ls v → v ≡ Invalid → IsInvalid options script answers ls
+invalid_means laws options script answers st at' ls v rs ra judged h =
+    let j = judged.lines_are in
     let mine = lines_in true [] j.pairs [] in
-    let tests = invalid_lines (mine ++ lines_of_end j.fault) (sym j.verdict_is ∙ h) in
-    let whole = fully_paired start script answers st at' sf af ls v rs ra j tests.0 in
+    let tests = invalid_lines (mine ++ lines_of_end j.fault) (sym (verdict_of_lines v ls (mine ++ lines_of_end j.fault) judged.verdict_is j.lines_are) ∙ h) in
+    let whole = fully_paired options script answers st at' ls rs ra j tests.0 in
     let no_fault : mine ++ lines_of_end j.fault ≡ mine = ap (λ (f : Option Line). mine ++ lines_of_end f) whole.1 ∙ append-nil mine in
     let at_pair = some_line is_refuted_line [] j.pairs (ap (list_any is_refuted_line) (sym no_fault) ∙ tests.1) in
     let before = at_pair.first in
@@ -314,11 +340,11 @@ invalid_means laws start script answers st at' sf af ls v rs ra j h =
       models = ap (λ (i : ℕ). models_from i (window at_pair.last)) (omega arith) ∙ found.model.place;
       definitions = over.0;
       model_of = laws.complete names found.model.model.parts over.0 over.1;
-      structure = structure_behind laws.introduced laws.structures before (p ∷ at_pair.last) found.model.model.parts over.0 (subst (AreFaultless []) at_pair.place j.faultless) over.1;
+      structure = structure_behind laws.introduced laws.structures before (p ∷ at_pair.last) found.model.model.parts over.0 (subst (AreFaultless []) at_pair.place j.ends.paired.faultless) over.1;
       earlier = source.earlier;
       term = over.2.assertion.term;
       asserted = asserted;
-      sorted = asserted_formula source.earlier q over.2.assertion.term asserted.command asserted.effective (faultless_at [] source.earlier q (asserted.between ++ p ∷ at_pair.last) (subst (AreFaultless []) far j.faultless));
+      sorted = asserted_formula source.earlier q over.2.assertion.term asserted.command asserted.effective (faultless_at [] source.earlier q (asserted.between ++ p ∷ at_pair.last) (subst (AreFaultless []) far j.ends.paired.faultless));
       false_in = λ z. closed_value laws z (structure_at over.0 before) over.2.assertion.term (Truth false) (is_false_value (known_over (structure_at over.0 before) over.2.assertion.term) over.2.passes);
       lines_before = l1;
       lines_after = l2 ++ end;
@@ -330,12 +356,12 @@ invalid_means laws start script answers st at' sf af ls v rs ra j h =
 -- ## Laws of the verdicts
 
 -- the pairs of a valid dialogue are all its pairs
-valid_pairs : (start : Bool) (script answers : List ℕ) (pairs : List Pair) → (v : IsValid start script answers) → IsFullyPaired start script answers pairs → v.pairs ≡ pairs
-valid_pairs start script answers pairs v w = sym (v.only pairs w.script_trees w.answer_trees Nil w.script_forest w.answers_forest w.pairing).0
+valid_pairs : (options : Options) (script answers : List ℕ) (pairs : List Pair) → (v : IsValid options script answers) → IsFullyPaired options script answers pairs → v.pairs ≡ pairs
+valid_pairs options script answers pairs v w = sym (v.only pairs w.script_trees w.answer_trees Nil w.script_forest w.answers_forest w.pairing).0
 
-pub without_model : (start : Bool) (script answers : List ℕ) (pairs before after : List Pair) (p : Pair) → IsFullyPaired start script answers pairs → pairs ≡ before ++ p ∷ after → IsSatCheck p → models_from (length before + 2) (window after) ≡ [] → IsValid start script answers → ⊥
-without_model start script answers pairs before after p whole place sat none v =
-    let confirmed = v.confirmed before after p (valid_pairs start script answers pairs v whole ∙ place) sat in
+pub without_model : (options : Options) (script answers : List ℕ) (pairs before after : List Pair) (p : Pair) → IsFullyPaired options script answers pairs → pairs ≡ before ++ p ∷ after → IsSatCheck p → models_from (length before + 2) (window after) ≡ [] → IsValid options script answers → ⊥
+without_model options script answers pairs before after p whole place sat none v =
+    let confirmed = v.confirmed before after p (valid_pairs options script answers pairs v whole ∙ place) sat in
     let bad : [] ≡ confirmed.first ∷ confirmed.others = sym none ∙ confirmed.models in
     cc
 
@@ -346,10 +372,10 @@ all_at P (y ∷ xs) x ys h = all_at P xs x ys h.1
 not_both : (t : Element) → t ≡ Truth true → t ≡ Truth false → ⊥
 not_both t a b = let bad : Truth true ≡ Truth false = sym a ∙ b in let worse : true ≡ false = cc in cc
 
-pub with_false : (start : Bool) (script answers : List ℕ) (pairs before after : List Pair) (p : Pair) (first last : List Printed) (m : Printed) (definitions : Signature) (earlier : List Pair) (term : Sexp) → IsFullyPaired start script answers pairs → pairs ≡ before ++ p ∷ after → IsSatCheck p
-    → models_from (length before + 2) (window after) ≡ first ++ m ∷ last → IsModelOf (signature_after before) m.parts definitions → IsAsserted before earlier term → ((z : DivisionByZero) → value_over z (structure_at definitions before) [] term ≡ Truth false) → IsValid start script answers → ⊥
-with_false start script answers pairs before after p first last m definitions earlier term whole place sat models of asserted is_false v =
-    let confirmed = v.confirmed before after p (valid_pairs start script answers pairs v whole ∙ place) sat in
+pub with_false : (options : Options) (script answers : List ℕ) (pairs before after : List Pair) (p : Pair) (first last : List Printed) (m : Printed) (definitions : Signature) (earlier : List Pair) (term : Sexp) → IsFullyPaired options script answers pairs → pairs ≡ before ++ p ∷ after → IsSatCheck p
+    → models_from (length before + 2) (window after) ≡ first ++ m ∷ last → IsModelOf (signature_after before) m.parts definitions → IsAsserted before earlier term → ((z : DivisionByZero) → value_over z (structure_at definitions before) [] term ≡ Truth false) → IsValid options script answers → ⊥
+with_false options script answers pairs before after p first last m definitions earlier term whole place sat models of asserted is_false v =
+    let confirmed = v.confirmed before after p (valid_pairs options script answers pairs v whole ∙ place) sat in
     let all = subst (AllByRecursion (λ (n : Printed). IsTrueModel before n.parts)) (sym confirmed.models ∙ models) confirmed.true_models in
     let one = all_at (λ (n : Printed). IsTrueModel before n.parts) first m last all in
     let both : ◌≡◌ {A = Result Signature ModelFault} (Ok one.definitions) (Ok definitions) = sym one.model.read ∙ of.read in
@@ -359,37 +385,26 @@ with_false start script answers pairs before after p first last m definitions ea
 
 -- ## What a call answered
 
-pub valid_answer : Laws → OneForest → (r : Result Report Memory) (start : Bool) (script answers : List ℕ) (st at' : Sexps) (sf af : Option TextFault) → Reads limit true script st sf → Reads limit true answers at' af → IfOk r (λ x. IsJudged start st at' sf af x.lines.items x.verdict) → IfOk r (λ x. x.verdict ≡ Valid → IsValid start script answers)
-valid_answer laws one (Ok x) start script answers st at' sf af rs ra j = valid_means laws one start script answers st at' sf af x.lines.items x.verdict rs ra j
-valid_answer laws one (Err e) start script answers st at' sf af rs ra j = tt
+pub valid_answer : Laws → OneForest → (r : Result Report Memory) (options : Options) (script answers : List ℕ) (st at' : TextSoFar) → IsRead true script st → IsRead true answers at' → IfOk r (λ x. IsJudged options.print_success st at' x.lines.items x.verdict) → IfOk r (λ x. x.verdict ≡ Valid → IsValid options script answers)
+valid_answer laws one (Ok x) options script answers st at' rs ra j = valid_means laws one options script answers st at' x.lines.items x.verdict rs ra j
+valid_answer laws one (Err e) options script answers st at' rs ra j = tt
 
-pub invalid_answer : Laws → (r : Result Report Memory) (start : Bool) (script answers : List ℕ) (st at' : Sexps) (sf af : Option TextFault) → Reads limit true script st sf → Reads limit true answers at' af → IfOk r (λ x. IsJudged start st at' sf af x.lines.items x.verdict) → IfOk r (λ x. x.verdict ≡ Invalid → IsInvalid start script answers x.lines.items)
-invalid_answer laws (Ok x) start script answers st at' sf af rs ra j = invalid_means laws start script answers st at' sf af x.lines.items x.verdict rs ra j
-invalid_answer laws (Err e) start script answers st at' sf af rs ra j = tt
+pub invalid_answer : Laws → (r : Result Report Memory) (options : Options) (script answers : List ℕ) (st at' : TextSoFar) → IsRead true script st → IsRead true answers at' → IfOk r (λ x. IsJudged options.print_success st at' x.lines.items x.verdict) → IfOk r (λ x. x.verdict ≡ Invalid → IsInvalid options script answers x.lines.items)
+invalid_answer laws (Ok x) options script answers st at' rs ra j = invalid_means laws options script answers st at' x.lines.items x.verdict rs ra j
+invalid_answer laws (Err e) options script answers st at' rs ra j = tt
 
 -- a report that was judged is one of the texts
-pub report_answer : (r : Result Report Memory) (start : Bool) (script answers : List ℕ) (st at' : Sexps) (sf af : Option TextFault) → Reads limit true script st sf → Reads limit true answers at' af → IfOk r (λ x. IsJudged start st at' sf af x.lines.items x.verdict) → IfOk r (λ x. IsReport start script answers x.lines.items)
-report_answer (Ok x) start script answers st at' sf af rs ra j = record {
-  script_trees = st;
-  script_fault = sf;
+pub report_answer : (r : Result Report Memory) (options : Options) (script answers : List ℕ) (st at' : TextSoFar) → IsRead true script st → IsRead true answers at' → IfOk r (λ x. IsJudged options.print_success st at' x.lines.items x.verdict) → IfOk r (λ x. IsReport options script answers x.lines.items)
+report_answer (Ok x) options script answers st at' rs ra j = record {
+  script_text = st;
   script_read = rs;
-  answer_trees = at';
-  answers_fault = af;
+  answers_text = at';
   answers_read = ra;
-  pairs = j.pairs;
-  later = j.later;
-  rest = j.rest;
-  pairing = j.pairing;
-  faultless = j.faultless;
-  fault = j.fault;
-  ends = j.ends;
   lines_are = j.lines_are;
 }
-report_answer (Err e) start script answers st at' sf af rs ra j = tt
+report_answer (Err e) options script answers st at' rs ra j = tt
 
 -- and its verdict is that of its lines
-pub verdict_answer : (r : Result Report Memory) (start : Bool) (st at' : Sexps) (sf af : Option TextFault) → IfOk r (λ x. IsJudged start st at' sf af x.lines.items x.verdict) → IfOk r (λ x. IsVerdictOf x.verdict x.lines.items)
-verdict_answer (Ok x) start st at' sf af j =
-    let ls = lines_in true [] j.pairs [] ++ lines_of_end j.fault in
-    (ls, tally_of ls, j.lines_are ∙ ap (λ (v : Verdict). ls ++ lines.Verdict v (tally_of ls) ∷ []) (sym j.verdict_is))
-verdict_answer (Err e) start st at' sf af j = tt
+pub verdict_answer : (r : Result Report Memory) (start : Bool) (st at' : TextSoFar) → IfOk r (λ x. IsJudged start st at' x.lines.items x.verdict) → IfOk r (λ x. IsVerdictOf x.verdict x.lines.items)
+verdict_answer (Ok x) start st at' j = j.verdict_is
+verdict_answer (Err e) start st at' j = tt

@@ -61,16 +61,17 @@ need_of on (SetOption keyword value) = if on then general_need else Optional for
 need_of on (SetInfo keyword value) = if on then general_need else Optional forms.Unsupported
 need_of on command = if on then general_need else Nothing
 
--- what is taken for a command: an answer or none; or one is missing; or the next one is unfit
+-- what is taken for a command: an answer or none; or it waits for one; or one is missing; or the next one is unfit
 pub data Taken : Type 0 where
   Takes : (answer : Option Sexp) → Taken
+  Waits : Taken
   Missing : Taken
   Unfit : Taken
 
--- what a command that needs this takes, the next answer being this one, or there being none
-abbrev pub taken : Need → Option Sexp → Taken
-taken Nothing next = Takes None
-taken (Optional form) None = Takes None
-taken (Optional form) (Some answer) = if has_form form answer then Takes (Some answer) else Takes None
-taken (Needed form) None = Missing
-taken (Needed form) (Some answer) = if has_form form answer then Takes (Some answer) else Unfit
+-- what a command that needs this takes, the next answer being this one, or there being none; `told` says that no further one comes
+abbrev pub taken : Bool → Need → Option Sexp → Taken
+taken told Nothing next = Takes None
+taken told (Optional form) None = if told then Takes None else Waits
+taken told (Optional form) (Some answer) = if has_form form answer then Takes (Some answer) else Takes None
+taken told (Needed form) None = if told then Missing else Waits
+taken told (Needed form) (Some answer) = if has_form form answer then Takes (Some answer) else Unfit

@@ -1,55 +1,81 @@
--- Which fault ends a dialogue. The order in which faults are told is this project's rule.
-use Rattle.std.specs.Prelude.{ℕ, ◌+◌, List, length, Bool, Option, Some, None, Result, Ok, Err, if◌then◌else◌}
+-- Whose turn it is in a dialogue so far, and which fault ends it. The order in which faults are told is this project's rule.
+use Rattle.std.specs.Prelude.{ℕ, ◌+◌, List, length, Bool, true, false, ◌||◌, Option, Some, None, is_some, Result, Ok, Err, if◌then◌else◌}
 use Rattle.smt_trees.specs.Sexp.{Sexps, Nil, Cons}
 use Rattle.smt_faults.specs.declared.text_fault.TextFault.{TextFault}
 use Rattle.smt_script.specs.Command.{Command, command_of}
 use Rattle.smt_faults.specs.declared.command_fault.CommandFault.{CommandFault}
 use Rattle.smt_faults.specs.declared.command_fault.CommandFault.TheVariants.{AfterExit}
+use Rattle.smt_dialogue.specs.Answers as answers
 use Rattle.smt_dialogue.specs.Answers.{Taken, Takes, Missing, Unfit, taken}
 use Rattle.smt_dialogue.specs.InForce.{fault_of_pair, has_exited_after, need_after}
+use Rattle.smt_dialogue.specs.Lines.{is_check}
 use Rattle.smt_dialogue.specs.Pairs.{Pair, answers_taken, next_of, pair_of}
 use Rattle.smt_report.specs.FaultLine.{text_line}
 use Rattle.smt_report.specs.declared.line.Line.{Line}
 use Rattle.smt_report.specs.declared.line.Line.TheVariants as lines
 use Rattle.smt_report.specs.declared.line.Side.TheVariants.{Script, Answers}
 
--- a dialogue goes on with the command in turn, or ends there, with a fault or without one
-pub data Step : Type 0 where
-  Continue : Step
-  Stop : (fault : Option Line) → Step
+-- what there is of a text so far: its trees, the fault behind them, and whether its end was told
+pub record TextSoFar : Type 0 where
+  pub told : Bool
+  pub trees : Sexps
+  pub fault : Option TextFault
 
-abbrev pub end_of_answers : Option TextFault → Option Line
-end_of_answers None = None
-end_of_answers (Some fault) = Some (text_line Answers fault)
+-- there is no more of a text than these trees and this fault
+abbrev pub whole_text : Sexps → Option TextFault → TextSoFar
+whole_text trees fault = record { told = true; trees = trees; fault = fault }
 
--- after the last command: an answer that is left over, or else the fault of the answers
-abbrev pub end_without_fault : List Pair → Sexps → Option TextFault → Option Line
-end_without_fault pairs (Cons answer rest) fault = Some (lines.ExtraAnswer (answers_taken pairs + 1))
-end_without_fault pairs Nil fault = end_of_answers fault
+-- no tree comes behind those that there are
+abbrev pub is_over : TextSoFar → Bool
+is_over text = text.told || is_some text.fault
 
-abbrev pub step_of_fault : ℕ → Option CommandFault → Step
-step_of_fault n None = Continue
-step_of_fault n (Some fault) = Stop (Some (lines.CommandFault n fault))
+-- the command in turn is taken up, and the dialogue goes on; or it waits for more of a text, with every window closed or not; or it ends,
+-- with a fault or without one
+pub data Turn : Type 0 where
+  GoesOn : Turn
+  Waits : (closed : Bool) → Turn
+  Ends : (fault : Option Line) → Turn
+
+abbrev pub turn_of_fault : ℕ → Option CommandFault → Turn
+turn_of_fault n None = GoesOn
+turn_of_fault n (Some fault) = Ends (Some (lines.CommandFault n fault))
 
 abbrev pub want_of_answer : ℕ → Option TextFault → Line
 want_of_answer n None = lines.MissingAnswer n
 want_of_answer n (Some fault) = text_line Answers fault
 
--- a command, by what it takes of the answers: its effect decides where that is what it needs
-abbrev pub step_of_taken : List Pair → Command → Option TextFault → Taken → Step
-step_of_taken pairs command fault (Takes answer) = step_of_fault (length pairs + 1) (fault_of_pair pairs (pair_of command answer))
-step_of_taken pairs command fault Missing = Stop (Some (want_of_answer (length pairs + 1) fault))
-step_of_taken pairs command fault Unfit = Stop (Some (lines.UnexpectedAnswer (length pairs + 1) (answers_taken pairs + 1)))
+-- a command, by what it takes of the answers: its effect decides where that is what it needs. A check that waits closes every window
+abbrev pub turn_of_taken : List Pair → Command → Option TextFault → Taken → Turn
+turn_of_taken pairs command fault (Takes answer) = turn_of_fault (length pairs + 1) (fault_of_pair pairs (pair_of command answer))
+turn_of_taken pairs command fault answers.Waits = Waits (is_check command)
+turn_of_taken pairs command fault Missing = Ends (Some (want_of_answer (length pairs + 1) fault))
+turn_of_taken pairs command fault Unfit = Ends (Some (lines.UnexpectedAnswer (length pairs + 1) (answers_taken pairs + 1)))
 
-abbrev pub step_of_command : Bool → List Pair → Result Command CommandFault → Sexps → Option TextFault → Step
-step_of_command start pairs (Err fault) answers answers_fault = Stop (Some (lines.CommandFault (length pairs + 1) fault))
-step_of_command start pairs (Ok command) answers answers_fault =
-    step_of_taken pairs command answers_fault (taken (need_after start pairs command) (next_of answers))
+abbrev pub turn_of_command : Bool → List Pair → Result Command CommandFault → TextSoFar → Turn
+turn_of_command start pairs (Err fault) answers = Ends (Some (lines.CommandFault (length pairs + 1) fault))
+turn_of_command start pairs (Ok command) answers =
+    turn_of_taken pairs command answers.fault (taken (is_over answers) (need_after start pairs command) (next_of answers.trees))
 
--- the turn behind pairs: of the trees that are left of the script, then its fault, and of the answers that are left, then theirs. No
--- command comes behind an `exit`
-abbrev pub step_after : Bool → List Pair → Sexps → Option TextFault → Sexps → Option TextFault → Step
-step_after start pairs (Cons tree trees) script_fault answers answers_fault =
-    if has_exited_after pairs then Stop (Some (lines.CommandFault (length pairs + 1) AfterExit)) else step_of_command start pairs (command_of tree) answers answers_fault
-step_after start pairs Nil (Some fault) answers answers_fault = Stop (Some (text_line Script fault))
-step_after start pairs Nil None answers answers_fault = Stop (end_without_fault pairs answers answers_fault)
+-- after the last answer: the fault of the answers, or their end, for which the dialogue waits
+abbrev pub turn_of_end : Bool → Option TextFault → Turn
+turn_of_end told (Some fault) = Ends (Some (text_line Answers fault))
+turn_of_end told None = if told then Ends None else Waits true
+
+-- after the last command: an answer that is left over, or else the end of the answers
+abbrev pub turn_of_rest : List Pair → Bool → Option TextFault → Sexps → Turn
+turn_of_rest pairs told fault (Cons answer rest) = Ends (Some (lines.ExtraAnswer (answers_taken pairs + 1)))
+turn_of_rest pairs told fault Nil = turn_of_end told fault
+
+-- the turn behind pairs, of what is left of the script: its trees, its fault, and whether its end was told. No command comes behind an
+-- `exit`
+abbrev pub turn_at : Bool → List Pair → TextSoFar → Bool → Option TextFault → Sexps → Turn
+turn_at start pairs answers told fault (Cons tree trees) =
+    if has_exited_after pairs then Ends (Some (lines.CommandFault (length pairs + 1) AfterExit))
+    else turn_of_command start pairs (command_of tree) answers
+turn_at start pairs answers told (Some fault) Nil = Ends (Some (text_line Script fault))
+turn_at start pairs answers told None Nil =
+    if told then turn_of_rest pairs answers.told answers.fault answers.trees else Waits false
+
+-- the turn behind pairs, of what is left of both texts
+abbrev pub turn_after : Bool → List Pair → (script answers : TextSoFar) → Turn
+turn_after start pairs script answers = turn_at start pairs answers script.told script.fault script.trees

@@ -1,4 +1,5 @@
 pub mod ChecksState
 pub mod DialogueState
+pub mod ReadText
 pub mod Steps
 pub mod UnreadText

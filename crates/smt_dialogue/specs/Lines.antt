@@ -46,11 +46,12 @@ abbrev pub sat_lines : ℕ → ℕ → Option Line → Bool → Bool → List Li
 sat_lines k n (Some line) some_model closed = line ∷ []
 sat_lines k n None some_model closed = if closed then confirmed_line k n some_model ∷ [] else []
 
--- the lines of a check that was answered `sat`, the pairs `after` it beginning with command m. `ended` says that no command follows them
+-- the lines of a check that was answered `sat`, the pairs `after` it beginning with command m. `closed` says that its window is closed
+-- behind these, whatever they are
 abbrev pub lines_of_sat : Bool → ℕ → ℕ → Signature → List Assertion → ℕ → List Pair → List Line
-lines_of_sat ended k n names assertions m after =
+lines_of_sat closed k n names assertions m after =
     let models = models_from m (window after) in
-    sat_lines k n (unconfirmed_line k n names assertions models) (not (is_empty models)) (ended || list_any closes after)
+    sat_lines k n (unconfirmed_line k n names assertions models) (not (is_empty models)) (closed || list_any closes after)
 
 -- what a check was answered otherwise than `sat`
 abbrev pub unchecked_answer : Sexp → Option CheckAnswer
@@ -68,11 +69,11 @@ unchecked_line_or k n None others = others
 
 -- the lines of a check with its answer
 abbrev pub lines_of_answer : Bool → List Pair → ℕ → Option Sexp → List Pair → List Line
-lines_of_answer ended before k None after = []
-lines_of_answer ended before k (Some answer) after =
+lines_of_answer closed before k None after = []
+lines_of_answer closed before k (Some answer) after =
     let n = length before + 1 in
     unchecked_line_or k n (unchecked_answer answer)
-    (if is_symbol (codes "sat") answer then lines_of_sat ended k n (signature_after before) (assertions_after before) (n + 1) after else [])
+    (if is_symbol (codes "sat") answer then lines_of_sat closed k n (signature_after before) (assertions_after before) (n + 1) after else [])
 
 abbrev pub is_check : Command → Bool
 is_check CheckSat = true
@@ -85,11 +86,11 @@ checks_in (pair ∷ pairs) = (if is_check pair.command then 1 else 0) + checks_i
 
 -- the lines that a pair has, for what stands before and after it: a check has one, once it is decided
 abbrev pub lines_of_pair : Bool → List Pair → Pair → List Pair → List Line
-lines_of_pair ended before pair after =
-    if is_check pair.command then lines_of_answer ended before (checks_in before + 1) pair.answer after else []
+lines_of_pair closed before pair after =
+    if is_check pair.command then lines_of_answer closed before (checks_in before + 1) pair.answer after else []
 
--- the lines that pairs have, for what stands before and after them
+-- the lines that pairs have, for what stands before and after them; `closed` says that every window is closed behind these
 abbrev pub lines_in : Bool → List Pair → List Pair → List Pair → List Line
-lines_in ended before [] after = []
-lines_in ended before (pair ∷ pairs) after =
-    lines_of_pair ended before pair (pairs ++ after) ++ lines_in ended (before ++ pair ∷ []) pairs after
+lines_in closed before [] after = []
+lines_in closed before (pair ∷ pairs) after =
+    lines_of_pair closed before pair (pairs ++ after) ++ lines_in closed (before ++ pair ∷ []) pairs after

@@ -3,12 +3,12 @@ use Rattle.std.specs.Prelude.{◌≡◌, ℕ, List, [], ◌∷◌, ◌++◌, Boo
 use Rattle.smt_text.specs.Grammar.{limit}
 use Rattle.smt_text.specs.Reading.{Reads}
 use Rattle.smt_trees.specs.Sexp.{Sexps}
-use Rattle.smt_faults.specs.declared.text_fault.TextFault.{TextFault}
-use Rattle.smt_dialogue.specs.FirstFault.{Stop, step_after}
+use Rattle.smt_dialogue.specs.FirstFault.{Ends, TextSoFar, Turn, is_over, turn_after}
 use Rattle.smt_dialogue.specs.InForce.{AreFaultless}
 use Rattle.smt_dialogue.specs.Lines.{lines_in}
-use Rattle.smt_dialogue.specs.Pairing.{IsPairing}
+use Rattle.smt_dialogue.specs.Pairing.{IsPairingSoFar}
 use Rattle.smt_dialogue.specs.Pairs.{Pair}
+use Rattle.smt_dialogue.specs.declared.options.Options.{Options}
 use Rattle.smt_report.specs.Verdict.{with_verdict}
 use Rattle.smt_report.specs.declared.line.Line.{Line}
 
@@ -16,21 +16,39 @@ abbrev pub lines_of_end : Option Line → List Line
 lines_of_end None = []
 lines_of_end (Some line) = line ∷ []
 
--- the report on a script and answers: what is read of the texts, a pairing of the first commands, none of which has a fault, and how
--- the dialogue ends behind them; the lines are those of the pairs, that of the fault, and that of the verdict. `start` says whether
--- `success` is printed at the start
-pub record IsReport (start : Bool) (script answers : List ℕ) (ls : List Line) : Type 0 where
-  pub script_trees : Sexps
-  pub script_fault : Option TextFault
-  pub script_read : Reads limit true script script_trees script_fault
-  pub answer_trees : Sexps
-  pub answers_fault : Option TextFault
-  pub answers_read : Reads limit true answers answer_trees answers_fault
-  pub pairs : List Pair
+-- the lines where the dialogue ends behind pairs: theirs, that of the fault, and that of the verdict
+abbrev pub lines_at_end : List Pair → Option Line → List Line
+lines_at_end pairs fault = with_verdict (lines_in true [] pairs [] ++ lines_of_end fault)
+
+-- the pairs are a pairing of the first commands with answers, and none has a fault: these trees and answers are left. `start` says
+-- whether `success` is printed at the start
+pub record ArePaired (start : Bool) (script answers : TextSoFar) (pairs : List Pair) (later rest : Sexps) : Type 0 where
+  pub pairing : IsPairingSoFar (is_over answers) start pairs script.trees later answers.trees rest
+  pub faultless : AreFaultless [] pairs
+
+-- behind the pairs it is this turn
+pub record IsTurn (start : Bool) (script answers : TextSoFar) (pairs : List Pair) (turn : Turn) : Type 0 where
   pub later : Sexps
   pub rest : Sexps
-  pub pairing : IsPairing start pairs script_trees later answer_trees rest
-  pub faultless : AreFaultless [] pairs
+  pub paired : ArePaired start script answers pairs later rest
+  pub turn_is : turn_after start pairs (record script { trees = later }) (record answers { trees = rest }) ≡ turn
+
+-- the lines where a dialogue of these texts ends
+pub record AreLinesOf (start : Bool) (script answers : TextSoFar) (ls : List Line) : Type 0 where
+  pub pairs : List Pair
   pub fault : Option Line
-  pub ends : step_after start pairs later script_fault rest answers_fault ≡ Stop fault
-  pub lines_are : ls ≡ with_verdict (lines_in true [] pairs [] ++ lines_of_end fault)
+  pub ends : IsTurn start script answers pairs (Ends fault)
+  pub lines_are : ls ≡ lines_at_end pairs fault
+
+-- this is read of the bytes of a text so far, whose end was told or not
+pub record IsRead (told : Bool) (bytes : List ℕ) (text : TextSoFar) : Type 0 where
+  pub told_so : text.told ≡ told
+  pub reads : Reads limit told bytes text.trees text.fault
+
+-- the report on a script and answers: where the dialogue of what is read of them ends
+pub record IsReport (options : Options) (script answers : List ℕ) (ls : List Line) : Type 0 where
+  pub script_text : TextSoFar
+  pub script_read : IsRead true script script_text
+  pub answers_text : TextSoFar
+  pub answers_read : IsRead true answers answers_text
+  pub lines_are : AreLinesOf options.print_success script_text answers_text ls

@@ -16,17 +16,18 @@ use Rattle.smt_dialogue.specs.InForce.{KeepLevels, levels_after, removes_all, si
 use Rattle.smt_dialogue.specs.Lines.{checks_in, is_check}
 use Rattle.smt_dialogue.specs.Pairing.{IsPairing}
 use Rattle.smt_dialogue.specs.Pairs.{Pair, is_effective}
+use Rattle.smt_dialogue.specs.declared.options.Options.{Options}
 use Rattle.smt_dialogue.specs.Window.{Printed, models_from, structure_at, window}
 use Rattle.smt_report.specs.declared.line.Line.{Line}
 use Rattle.smt_report.specs.declared.line.Line.TheVariants.{Refuted}
 
--- both texts are of trees, and the pairs pair every command with every answer. `start` says whether `success` is printed at the start
-pub record IsFullyPaired (start : Bool) (script answers : List ℕ) (pairs : List Pair) : Type 0 where
+-- both texts are of trees, and the pairs pair every command with every answer
+pub record IsFullyPaired (options : Options) (script answers : List ℕ) (pairs : List Pair) : Type 0 where
   pub script_trees : Sexps
   pub script_forest : Forest limit script script_trees
   pub answer_trees : Sexps
   pub answers_forest : Forest limit answers answer_trees
-  pub pairing : IsPairing start pairs script_trees Nil answer_trees Nil
+  pub pairing : IsPairing options.print_success pairs script_trees Nil answer_trees Nil
 
 -- the pair is a check that was answered `sat`
 pub record IsSatCheck (pair : Pair) : Type 0 where
@@ -64,19 +65,19 @@ pub record IsConfirmed (before after : List Pair) : Type 0 where
   pub true_models : AllByRecursion (λ (m : Printed). IsTrueModel before m.parts) (first ∷ others)
 
 -- what a valid verdict means. No other pairing of all commands exists, whatever answers it might leave
-pub record IsValid (start : Bool) (script answers : List ℕ) : Type 0 where
+pub record IsValid (options : Options) (script answers : List ℕ) : Type 0 where
   pub pairs : List Pair
-  pub paired : IsFullyPaired start script answers pairs
+  pub paired : IsFullyPaired options script answers pairs
   pub only : (others : List Pair) (script_trees answer_trees rest : Sexps) → Forest limit script script_trees → Forest limit answers answer_trees
-      → IsPairing start others script_trees Nil answer_trees rest → (others ≡ pairs) × (rest ≡ Nil)
+      → IsPairing options.print_success others script_trees Nil answer_trees rest → (others ≡ pairs) × (rest ≡ Nil)
   pub confirmed : (before after : List Pair) (pair : Pair) → pairs ≡ before ++ pair ∷ after → IsSatCheck pair → IsConfirmed before after
 
 -- what an invalid verdict means: in the window of a check that was answered `sat` stands a model of the names in force, which with the
 -- script's definitions gives a structure that makes a well-sorted assertion in force false, whatever division by zero gives, and the
 -- report has the line that says so
-pub record IsInvalid (start : Bool) (script answers : List ℕ) (ls : List Line) : Type 0 where
+pub record IsInvalid (options : Options) (script answers : List ℕ) (ls : List Line) : Type 0 where
   pub pairs : List Pair
-  pub paired : IsFullyPaired start script answers pairs
+  pub paired : IsFullyPaired options script answers pairs
   pub before : List Pair
   pub pair : Pair
   pub after : List Pair

@@ -10,8 +10,8 @@ ghost use Rattle.smt_faults.specs.declared.command_fault.CommandFault.TheVariant
 ghost use Rattle.smt_dialogue.specs.InForce.{fault_of_pair};
 ghost use Rattle.smt_dialogue.specs.Lines.{lines_in};
 ghost use Rattle.smt_dialogue.specs.Pairs.{Pair, answer_count, numbered_if, pair_of};
-ghost use Rattle.smt_dialogue.specs.Report.{lines_of_end};
-ghost use Rattle.smt_report.specs.Verdict.{verdict_of, with_verdict};
+ghost use Rattle.smt_dialogue.specs.Report.{lines_at_end, lines_of_end};
+ghost use Rattle.smt_report.specs.Verdict.{verdict_of};
 ghost use Rattle.smt_dialogue.specs.Internal.ChecksState.{IsAnswered, role_of};
 ghost use Rattle.smt_dialogue.specs.Internal.DialogueState.{StandsFor, fault_if, state_of};
 
@@ -86,7 +86,7 @@ impl Dialogue {
 
     /// Ends the dialogue, with the line of a fault or without one.
     pub(crate) fn finish(self, fault: Option<Line>) -> Result<Report, Memory>
-        ensures lines { IfOk result (λ r. (pairs : List Pair) → StandsFor (state_of self) pairs → r.lines.items ≡ with_verdict (lines_in true [] pairs [] ++ lines_of_end fault)) }
+        ensures lines { IfOk result (λ r. (pairs : List Pair) → StandsFor (state_of self) pairs → r.lines.items ≡ lines_at_end pairs fault) }
         ensures verdict { IfOk result (λ r. (pairs : List Pair) → StandsFor (state_of self) pairs → r.verdict ≡ verdict_of (lines_in true [] pairs [] ++ lines_of_end fault)) }
     {
         let Dialogue { stack, checks, .. } = self;

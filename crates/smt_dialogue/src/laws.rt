@@ -13,6 +13,7 @@ ghost use Rattle.smt_dialogue.specs.Window.{Printed, models_from, structure_at, 
 ghost use Rattle.smt_dialogue.specs.Report.{IsReport};
 ghost use Rattle.smt_dialogue.specs.Pairing.{IsPairing};
 ghost use Rattle.smt_dialogue.specs.Pairs.{Pair};
+ghost use Rattle.smt_dialogue.specs.declared.options.Options.{Options};
 ghost use Rattle.smt_report.specs.declared.line.Line.{Line};
 
 use smt_text::laws::{every_text_reads, one_reading};
@@ -24,33 +25,33 @@ pub fn one_pairing()
 
 /// A dialogue has at most one report.
 pub fn one_report()
-    ensures { (start : Bool) (script answers : List ℕ) (ls ms : List Line) → IsReport start script answers ls → IsReport start script answers ms → ls ≡ ms }
+    ensures { (options : Options) (script answers : List ℕ) (ls ms : List Line) → IsReport options script answers ls → IsReport options script answers ms → ls ≡ ms }
 {
     one_reading();
 }
 
 /// Every script and answers have a report.
 pub fn every_dialogue_has_a_report()
-    ensures { (start : Bool) (script answers : List ℕ) → (ls : List Line) × IsReport start script answers ls }
+    ensures { (options : Options) (script answers : List ℕ) → (ls : List Line) × IsReport options script answers ls }
 {
     every_text_reads();
 }
 
 /// A dialogue is not both valid and invalid.
 pub fn valid_is_not_invalid()
-    ensures { (start : Bool) (script answers : List ℕ) (ls : List Line) → IsValid start script answers → IsInvalid start script answers ls → ⊥ }
+    ensures { (options : Options) (script answers : List ℕ) (ls : List Line) → IsValid options script answers → IsInvalid options script answers ls → ⊥ }
 {}
 
 /// A dialogue with a check that was answered `sat` and has no model in its window is not valid.
 pub fn sat_without_model_is_not_valid()
-    ensures { (start : Bool) (script answers : List ℕ) (pairs before after : List Pair) (pair : Pair) → IsFullyPaired start script answers pairs → pairs ≡ before ++ pair ∷ after → IsSatCheck pair
-        → models_from (length before + 2) (window after) ≡ [] → IsValid start script answers → ⊥ }
+    ensures { (options : Options) (script answers : List ℕ) (pairs before after : List Pair) (pair : Pair) → IsFullyPaired options script answers pairs → pairs ≡ before ++ pair ∷ after → IsSatCheck pair
+        → models_from (length before + 2) (window after) ≡ [] → IsValid options script answers → ⊥ }
 {}
 
 /// A dialogue in which a model of a check that was answered `sat` makes an assertion in force false is not valid.
 pub fn false_assertion_is_not_valid()
-    ensures { (start : Bool) (script answers : List ℕ) (pairs before after : List Pair) (pair : Pair) (first last : List Printed) (model : Printed) (definitions : Signature) (earlier : List Pair) (term : Sexp)
-        → IsFullyPaired start script answers pairs → pairs ≡ before ++ pair ∷ after → IsSatCheck pair → models_from (length before + 2) (window after) ≡ first ++ model ∷ last
+    ensures { (options : Options) (script answers : List ℕ) (pairs before after : List Pair) (pair : Pair) (first last : List Printed) (model : Printed) (definitions : Signature) (earlier : List Pair) (term : Sexp)
+        → IsFullyPaired options script answers pairs → pairs ≡ before ++ pair ∷ after → IsSatCheck pair → models_from (length before + 2) (window after) ≡ first ++ model ∷ last
         → IsModelOf (signature_after before) model.parts definitions → IsAsserted before earlier term → ((z : DivisionByZero) → value_over z (structure_at definitions before) [] term ≡ Truth false)
-        → IsValid start script answers → ⊥ }
+        → IsValid options script answers → ⊥ }
 {}

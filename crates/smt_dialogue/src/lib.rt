@@ -8,12 +8,14 @@ mod answer;
 mod dialogue;
 mod judgement;
 pub mod laws;
+mod options;
 mod pairing;
 mod read_text;
 mod unread_text;
 mod validation;
 mod window;
 
+pub use options::Options;
 pub use smt_eval::Memory;
 pub use smt_report::{CheckAnswer, Line, Report, Side, Tally, TextFaultKind, Verdict};
 pub use validation::validate;

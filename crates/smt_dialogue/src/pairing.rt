@@ -1,6 +1,6 @@
 //! The commands of a dialogue, each with its answer.
 
-ghost use Rattle.std.specs.Prelude.{◌≡◌, ◌<◌, ◌≤◌, ◌+◌, ◌^◌, Bool, List, Option, [], Ok, Err, Some, None, IfOk, option_map};
+ghost use Rattle.std.specs.Prelude.{◌≡◌, ◌<◌, ◌≤◌, ◌+◌, ◌^◌, Bool, true, List, Option, [], Ok, Err, Some, None, IfOk, option_map};
 ghost use Rattle.smt_trees.specs.Sexp.{Sexps, Nil};
 ghost use Rattle.smt_trees.specs.Tree.{sexp_of, sexps_of};
 ghost use Rattle.smt_faults.specs.declared.text_fault.TextFault.{TextFault as Fault};
@@ -8,10 +8,12 @@ ghost use Rattle.smt_script.specs.CommandView.{command_view};
 ghost use Rattle.smt_script.specs.StackView.{last_of, start_of};
 ghost use Rattle.smt_dialogue.specs.Answers as answering;
 ghost use Rattle.smt_dialogue.specs.FirstFault as first_fault;
+ghost use Rattle.smt_dialogue.specs.FirstFault.{Ends, TextSoFar, turn_after, turn_of_rest, whole_text};
 ghost use Rattle.smt_dialogue.specs.Pairs.{Pair, next_of, pair_of};
 ghost use Rattle.smt_dialogue.specs.Internal.ChecksState.{IsAnswered, role_of};
 ghost use Rattle.smt_dialogue.specs.Internal.DialogueState.{StandsFor, state_of};
 ghost use Rattle.smt_dialogue.specs.Internal.UnreadText.{HasLeft, IsSound};
+ghost use Rattle.smt_dialogue.specs.Internal.ReadText.{text_view};
 ghost use Rattle.smt_dialogue.specs.Internal.Steps.{HasEnded, IsAccepted, IsJudged, IsLeft, IsStep, taken_view};
 
 use crate::answer::{Need, Taken, need_of};
@@ -35,7 +37,7 @@ pub(crate) fn judge_all(
     requires sound { IsSound script }
     requires left { (trees : Sexps) × (fault : Option Fault) × HasLeft script trees fault }
     ensures { (trees : Sexps) (fault : Option Fault) → HasLeft script.entry trees fault
-        → IfOk result (λ r. IsJudged (start_of dialogue.stack) trees (sexps_of answers.trees.items) fault answers.fault r.lines.items r.verdict) }
+        → IfOk result (λ r. IsJudged (start_of dialogue.stack) (whole_text trees fault) (text_view answers) r.lines.items r.verdict) }
 {
     // What leaves on several paths owns nothing here, or the dialogue alone: the prover takes long over what is owned on each.
     let line = last_line(&mut dialogue, &mut script, &mut answers);
@@ -44,9 +46,9 @@ pub(crate) fn judge_all(
 
 // The report on a dialogue that has ended with this line, or without one.
 fn report_of(dialogue: Dialogue, line: Result<Option<Line>, Memory>) -> Result<Report, Memory>
-    ensures { (start : Bool) (script answers : Sexps) (script_fault answers_fault : Option Fault)
-        → IfOk line (λ line. HasEnded start (state_of dialogue) script answers script_fault answers_fault line)
-        → IfOk result (λ r. IsJudged start script answers script_fault answers_fault r.lines.items r.verdict) }
+    ensures { (start : Bool) (script answers : TextSoFar)
+        → IfOk line (λ line. HasEnded start (state_of dialogue) script answers line)
+        → IfOk result (λ r. IsJudged start script answers r.lines.items r.verdict) }
 {
     match line {
         Ok(line) => dialogue.finish(line),
@@ -67,7 +69,7 @@ fn last_line(
     requires sound { IsSound script.old }
     requires left { (trees : Sexps) × (fault : Option Fault) × HasLeft script.old trees fault }
     ensures { (trees : Sexps) (fault : Option Fault) → HasLeft script.old trees fault
-        → IfOk result (λ line. HasEnded (start_of dialogue.old.stack) (state_of dialogue.new) trees (sexps_of answers.old.trees.items) fault answers.old.fault line) }
+        → IfOk result (λ line. HasEnded (start_of dialogue.old.stack) (state_of dialogue.new) (whole_text trees fault) (text_view answers.old) line) }
 {
     // A law: no count passes the number of the script's bytes.
     trees_are_no_more_than_bytes();
@@ -86,7 +88,7 @@ fn last_line(
 fn end_of_script(dialogue: &Dialogue, fault: Option<TextFault>, answers: &ReadText) -> Option<Line>
     requires { dialogue.now.answers + 1 < 2 ^ 64 }
     ensures { (start : Bool) (pairs : List Pair) → StandsFor (state_of dialogue.now) pairs
-        → first_fault.step_after start pairs Nil fault (sexps_of answers.now.trees.items) answers.now.fault ≡ first_fault.Stop result }
+        → turn_after start pairs (whole_text Nil fault) (text_view answers.now) ≡ Ends result }
 {
     match fault {
         Some(fault) => Some(Line::of_text(Side::Script, fault)),
@@ -147,7 +149,7 @@ fn refused(command: u64, fault: CommandFault) -> Line
 
 // What a command that needs this takes of the answers that are left.
 fn take_answer(need: Need, answers: &mut ReadText) -> Taken
-    ensures taken { taken_view result ≡ answering.taken need (next_of (sexps_of answers.old.trees.items)) }
+    ensures taken { taken_view result ≡ answering.taken true need (next_of (sexps_of answers.old.trees.items)) }
     ensures left { IsLeft result (sexps_of answers.old.trees.items) (sexps_of answers.new.trees.items) }
     ensures fault { answers.new.fault ≡ answers.old.fault }
 {
@@ -203,7 +205,7 @@ fn want_of_answer(command: u64, fault: Option<TextFault>) -> Line
 // After the last command: an answer that is left over, or else the fault of the answers.
 fn end_without_fault(dialogue: &Dialogue, answers: &ReadText) -> Option<Line>
     requires { dialogue.now.answers + 1 < 2 ^ 64 }
-    ensures { (pairs : List Pair) → StandsFor (state_of dialogue.now) pairs → result ≡ first_fault.end_without_fault pairs (sexps_of answers.now.trees.items) answers.now.fault }
+    ensures { (pairs : List Pair) → StandsFor (state_of dialogue.now) pairs → turn_of_rest pairs true answers.now.fault (sexps_of answers.now.trees.items) ≡ Ends result }
 {
     if !answers.trees.is_empty() {
         let answer = dialogue.answers + 1;

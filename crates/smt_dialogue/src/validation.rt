@@ -6,6 +6,7 @@ ghost use Rattle.smt_dialogue.specs.Validity.{IsValid, IsInvalid};
 ghost use Rattle.smt_report.specs.Verdict.{IsVerdictOf};
 
 use crate::dialogue::Dialogue;
+use crate::options::Options;
 use crate::pairing::judge_all;
 use crate::read_text::read_whole;
 use crate::unread_text::UnreadText;
@@ -18,13 +19,17 @@ use std::alloc::Global;
 
 /// Checks a solver's dialogue: the script that it read, and the answers that it printed, in order.
 ///
-/// `start` says whether the solver prints `success`, from the start on, for commands without an answer of their own (SMT-LIB 2.6, section
-/// 4.1.7); a script may say otherwise later.
-pub fn validate(alloc: Global, script: &[u8], answers: &[u8], start: bool) -> Result<Report, Memory>
-    ensures report { IfOk result (λ r. IsReport start script.now answers.now r.lines.items) }
+/// Its only refusal is that memory was refused.
+pub fn validate(
+    alloc: Global,
+    script: &[u8],
+    answers: &[u8],
+    options: Options,
+) -> Result<Report, Memory>
+    ensures report { IfOk result (λ r. IsReport options script.now answers.now r.lines.items) }
     ensures verdict { IfOk result (λ r. IsVerdictOf r.verdict r.lines.items) }
-    ensures valid { IfOk result (λ r. r.verdict ≡ Verdict.Valid → IsValid start script.now answers.now) }
-    ensures invalid { IfOk result (λ r. r.verdict ≡ Verdict.Invalid → IsInvalid start script.now answers.now r.lines.items) }
+    ensures valid { IfOk result (λ r. r.verdict ≡ Verdict.Valid → IsValid options script.now answers.now) }
+    ensures invalid { IfOk result (λ r. r.verdict ≡ Verdict.Invalid → IsInvalid options script.now answers.now r.lines.items) }
 {
     // Laws: of each text something is read, the texts have no other trees, models that are read are complete and give structures, the assertions in force are those of
     // the commands that stand, and what is known of a term is its value.
@@ -37,5 +42,5 @@ pub fn validate(alloc: Global, script: &[u8], answers: &[u8], start: bool) -> Re
     every_text_reads();
     let answers = read_whole(alloc, answers)?;
     let script = UnreadText::new(alloc, script);
-    judge_all(Dialogue::new(alloc, start), script, answers)
+    judge_all(Dialogue::new(alloc, options.print_success), script, answers)
 }

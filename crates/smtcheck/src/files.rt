@@ -1,6 +1,6 @@
 //! The program's work on files.
 
-use smt_dialogue::{Report, validate};
+use smt_dialogue::{Options, Report, validate};
 use smtcheck_command_line::Settings;
 use smtcheck_status::status_of;
 use std::alloc::Global;
@@ -37,7 +37,10 @@ pub(crate) fn run<R: Files + AllocGlobal + Print>(
     let Ok(mut answers) = fs::open(rt, settings.answers) else {
         return Err(RunFault::Answers);
     };
-    run_open(rt, &mut script, &mut answers, settings.start)
+    let options = Options {
+        print_success: settings.start,
+    };
+    run_open(rt, &mut script, &mut answers, options)
 }
 
 // Checks the dialogue in two files that are open.
@@ -45,7 +48,7 @@ fn run_open<R: AllocGlobal + Print, F: Read>(
     rt: &R,
     script: &mut F,
     answers: &mut F,
-    start: bool,
+    options: Options,
 ) -> Result<u8, RunFault> {
     let Some(script) = contents_of(rt.alloc(), script) else {
         return Err(RunFault::Script);
@@ -53,7 +56,7 @@ fn run_open<R: AllocGlobal + Print, F: Read>(
     let Some(answers) = contents_of(rt.alloc(), answers) else {
         return Err(RunFault::Answers);
     };
-    report_on(rt, script.as_slice(), answers.as_slice(), start)
+    report_on(rt, script.as_slice(), answers.as_slice(), options)
 }
 
 // Checks a dialogue, and prints the report.
@@ -61,9 +64,9 @@ fn report_on<R: AllocGlobal + Print>(
     rt: &R,
     script: &[u8],
     answers: &[u8],
-    start: bool,
+    options: Options,
 ) -> Result<u8, RunFault> {
-    let Ok(report) = validate(rt.alloc(), script, answers, start) else {
+    let Ok(report) = validate(rt.alloc(), script, answers, options) else {
         return Err(RunFault::Memory);
     };
     match print(rt, &report) {

@@ -30,10 +30,10 @@ checks_state c = record { count = c.count; pending = c.pending; lines = c.lines.
 
 -- the lines of the check whose window has not ended, for the pairs after, which begin with command m
 abbrev pub pending_lines : Bool → Option PendingCheck → Signature → List Assertion → ℕ → List Pair → List Line
-pending_lines ended None names assertions m after = []
-pending_lines ended (Some c) names assertions m after =
+pending_lines closed None names assertions m after = []
+pending_lines closed (Some c) names assertions m after =
     let models = models_from m (window after) in
-    sat_lines c.check c.command (unconfirmed_line c.check c.command names assertions models) (c.some_model || not (is_empty models)) (ended || list_any closes after)
+    sat_lines c.check c.command (unconfirmed_line c.check c.command names assertions models) (c.some_model || not (is_empty models)) (closed || list_any closes after)
 
 -- the line of a check whose window ends
 abbrev pub closing_lines : Option PendingCheck → List Line

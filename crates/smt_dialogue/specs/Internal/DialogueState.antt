@@ -34,5 +34,5 @@ pub record StandsFor (s : State) (pairs : List Pair) : Type 0 where
   pub commands : s.commands ≡ length pairs
   pub answers : s.answers ≡ answers_taken pairs
   pub checks : s.checks.count ≡ checks_in pairs
-  pub lines : (ended : Bool) (after : List Pair)
-      → lines_in ended [] pairs after ≡ s.checks.lines ++ pending_lines ended s.checks.pending (signature_after pairs) (assertions_after pairs) (length pairs + 1) after
+  pub lines : (closed : Bool) (after : List Pair)
+      → lines_in closed [] pairs after ≡ s.checks.lines ++ pending_lines closed s.checks.pending (signature_after pairs) (assertions_after pairs) (length pairs + 1) after

@@ -6,17 +6,15 @@ use Rattle.smt_faults.specs.declared.text_fault.TextFault.{TextFault}
 use Rattle.smt_script.specs.Command.{Command, command_of}
 use Rattle.smt_dialogue.specs.Answers as answers
 use Rattle.smt_dialogue.specs.Answers.{Takes, has_form, taken}
-use Rattle.smt_dialogue.specs.FirstFault.{Stop, step_after, step_of_fault}
-use Rattle.smt_dialogue.specs.Report.{lines_of_end}
-use Rattle.smt_dialogue.specs.InForce.{AreFaultless, fault_of_pair, has_exited_after, need_after}
-use Rattle.smt_dialogue.specs.Lines.{lines_in}
-use Rattle.smt_report.specs.Verdict.{verdict_of, with_verdict}
-use Rattle.smt_dialogue.specs.Pairing.{IsPairing}
+use Rattle.smt_dialogue.specs.FirstFault.{Ends, TextSoFar, turn_after, turn_of_fault, whole_text}
+use Rattle.smt_dialogue.specs.Report.{ArePaired, AreLinesOf, IsTurn}
+use Rattle.smt_dialogue.specs.InForce.{fault_of_pair, has_exited_after, need_after}
 use Rattle.smt_dialogue.specs.Pairs.{Pair, next_of, pair_of, with_answer}
 use Rattle.smt_dialogue.specs.Internal.DialogueState.{State, StandsFor}
 use Rattle.smt_dialogue.specs.declared.answer.AnswerForm.{AnswerForm}
 use Rattle.smt_dialogue.specs.declared.answer.Taken.{Taken}
 use Rattle.smt_dialogue.specs.declared.answer.Taken.TheVariants as taking
+use Rattle.smt_report.specs.Verdict.{IsVerdictOf}
 use Rattle.smt_report.specs.declared.line.Line.{Line}
 use Rattle.smt_report.specs.declared.verdict.Verdict.{Verdict}
 
@@ -40,7 +38,7 @@ IsLeft _ before after = before ≡ after
 abbrev pub IsAccepted : Option Line → List Pair → Pair → State → Type 0
 IsAccepted None pairs pair new = (fault_of_pair pairs pair ≡ None) × StandsFor new (pairs ++ pair ∷ [])
 IsAccepted (Some line) pairs pair new =
-    (step_of_fault (length pairs + 1) (fault_of_pair pairs pair) ≡ Stop (Some line)) × StandsFor new pairs
+    (turn_of_fault (length pairs + 1) (fault_of_pair pairs pair) ≡ Ends (Some line)) × StandsFor new pairs
 
 -- the command that a tree is was accepted, with what it takes of the answers
 pub record TakesUp (start : Bool) (pairs : List Pair) (tree : Sexp) (answers left : Sexps) (new : State) : Type 0 where
@@ -49,45 +47,33 @@ pub record TakesUp (start : Bool) (pairs : List Pair) (tree : Sexp) (answers lef
   pub goes_on : has_exited_after pairs ≡ false
   pub read : command_of tree ≡ Ok command
   pub next : answers ≡ with_answer answer left
-  pub taken_so : taken (need_after start pairs command) (next_of answers) ≡ Takes answer
+  pub taken_so : taken true (need_after start pairs command) (next_of answers) ≡ Takes answer
   pub faultless : fault_of_pair pairs (pair_of command answer) ≡ None
   pub stands : StandsFor new (pairs ++ pair_of command answer ∷ [])
 
 -- the dialogue ends at the tree, before later ones, with this line
-pub record EndsAt (start : Bool) (pairs : List Pair) (tree : Sexp) (answers : Sexps) (fault : Option TextFault) (line : Line) (new : State) : Type 0 where
-  pub ends : (later : Sexps) (script_fault : Option TextFault) → step_after start pairs (Cons tree later) script_fault answers fault ≡ Stop (Some line)
+pub record EndsAt (start : Bool) (pairs : List Pair) (tree : Sexp) (answers : TextSoFar) (line : Line) (new : State) : Type 0 where
+  pub ends : (later : Sexps) (fault : Option TextFault) → turn_after start pairs (whole_text (Cons tree later) fault) answers ≡ Ends (Some line)
   pub stands : StandsFor new pairs
 
 -- one step accepted a command, or ended the dialogue with the line of a fault
 abbrev pub IsStep : Bool → Option Line → List Pair → Sexp → Sexps → Option TextFault → Sexps → State → Type 0
 IsStep start None pairs tree answers fault left new = TakesUp start pairs tree answers left new
-IsStep start (Some line) pairs tree answers fault left new = EndsAt start pairs tree answers fault line new
+IsStep start (Some line) pairs tree answers fault left new = EndsAt start pairs tree (whole_text answers fault) line new
 
 -- the steps so far accepted these pairs; these trees and answers are left
-pub record SoFar (start : Bool) (state : State) (script later answers rest : Sexps) : Type 0 where
+pub record SoFar (start : Bool) (state : State) (script answers : TextSoFar) (later rest : Sexps) : Type 0 where
   pub pairs : List Pair
   pub stands : StandsFor state pairs
-  pub pairing : IsPairing start pairs script later answers rest
-  pub faultless : AreFaultless [] pairs
+  pub paired : ArePaired start script answers pairs later rest
 
 -- all steps came to the end of the dialogue, with this line or without one
-pub record HasEnded (start : Bool) (state : State) (script answers : Sexps) (script_fault answers_fault : Option TextFault) (line : Option Line) : Type 0 where
+pub record HasEnded (start : Bool) (state : State) (script answers : TextSoFar) (line : Option Line) : Type 0 where
   pub pairs : List Pair
-  pub later : Sexps
-  pub rest : Sexps
-  pub pairing : IsPairing start pairs script later answers rest
-  pub faultless : AreFaultless [] pairs
-  pub ends : step_after start pairs later script_fault rest answers_fault ≡ Stop line
   pub stands : StandsFor state pairs
+  pub ends : IsTurn start script answers pairs (Ends line)
 
--- all steps came to these lines and this verdict
-pub record IsJudged (start : Bool) (script answers : Sexps) (script_fault answers_fault : Option TextFault) (ls : List Line) (verdict : Verdict) : Type 0 where
-  pub pairs : List Pair
-  pub later : Sexps
-  pub rest : Sexps
-  pub pairing : IsPairing start pairs script later answers rest
-  pub faultless : AreFaultless [] pairs
-  pub fault : Option Line
-  pub ends : step_after start pairs later script_fault rest answers_fault ≡ Stop fault
-  pub lines_are : ls ≡ with_verdict (lines_in true [] pairs [] ++ lines_of_end fault)
-  pub verdict_is : verdict ≡ verdict_of (lines_in true [] pairs [] ++ lines_of_end fault)
+-- these are the lines and the verdict of the report
+pub record IsJudged (start : Bool) (script answers : TextSoFar) (ls : List Line) (verdict : Verdict) : Type 0 where
+  pub lines_are : AreLinesOf start script answers ls
+  pub verdict_is : IsVerdictOf verdict ls

@@ -67,7 +67,7 @@ loop-tree-preserved c = record {
       let start = start_of c.args.dialogue.now.stack in
       let i = in_turn _ _ _ _ trees _ _ fault _ c.in-Tree.tree (c.loop-tree.invariant.goes_on trees fault first) c.in_ok-tree.ensures.next c.in-Tree.is in
       let turned = step_of i.so_far.pairs (sexp_of c.in-Tree.tree) (sexps_of c.loop-tree.answers.trees.items) (sexps_of c.take_step.new.answers.trees.items) (state_of c.take_step.new.dialogue) c.loop-tree.invariant.start c.loop-tree.invariant.answers_fault c.in-None.is (c.in_ok-fault-in-Tree.ensures.step i.so_far.pairs i.so_far.stands) in
-      goes_on-push start (state_of c.loop-tree.dialogue) (state_of c.take_step.new.dialogue) c.next.new.self (sexp_of c.in-Tree.tree) trees (sexps_of c.args.answers.now.trees.items) (sexps_of c.loop-tree.answers.trees.items) (sexps_of c.take_step.new.answers.trees.items) fault i turned;
+      goes_on-push start (state_of c.loop-tree.dialogue) (state_of c.take_step.new.dialogue) c.next.new.self (sexp_of c.in-Tree.tree) trees (sexps_of c.args.answers.now.trees.items) c.args.answers.now.fault (sexps_of c.loop-tree.answers.trees.items) (sexps_of c.take_step.new.answers.trees.items) fault i turned;
   start = c.in_ok-fault-in-Tree.ensures.start ∙ c.loop-tree.invariant.start;
   answers_fault = c.in_ok-fault-in-Tree.ensures.fault ∙ c.loop-tree.invariant.answers_fault;
 }
@@ -82,5 +82,5 @@ returns-in-Some c = λ trees fault first.
 pub returns-in-End : goal.returns-in-End
 returns-in-End c = λ trees fault first.
     let start = start_of c.args.dialogue.now.stack in
-    ended-last start (state_of c.loop-tree.dialogue) c.loop-tree.script c.next.new.self trees (sexps_of c.args.answers.now.trees.items) (sexps_of c.loop-tree.answers.trees.items) fault c.args.answers.now.fault c.in_ok-tree.field-0 c.in-End.fault c.end_of_script.result
-    (c.loop-tree.invariant.goes_on trees fault first) c.in_ok-tree.ensures.next c.in-End.is (rw (c.loop-tree.invariant.answers_fault) at (c.end_of_script.ensures start))
+    ended-last start (state_of c.loop-tree.dialogue) c.loop-tree.script c.next.new.self trees (sexps_of c.args.answers.now.trees.items) (sexps_of c.loop-tree.answers.trees.items) fault c.args.answers.now.fault c.loop-tree.answers.fault c.in_ok-tree.field-0 c.in-End.fault c.end_of_script.result
+    c.loop-tree.invariant.answers_fault (c.loop-tree.invariant.goes_on trees fault first) c.in_ok-tree.ensures.next c.in-End.is (c.end_of_script.ensures start)

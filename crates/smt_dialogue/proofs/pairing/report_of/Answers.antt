@@ -9,7 +9,7 @@ use Rattle.smt_dialogue.specs.Internal.Steps.{HasEnded}
 use Rattle.smt_dialogue.proofs.pairing.report_of.Goals as goal
 
 pub returns-in-Ok : goal.returns-in-Ok
-returns-in-Ok c = λ start script answers script_fault answers_fault ended.
+returns-in-Ok c = λ start script answers ended.
     let s = state_of c.args.dialogue in
-    judged-ended start c.finish.result s script answers script_fault answers_fault c.in-Ok.line
-    (subst (λ (r : Result (Option Line) Memory). IfOk r (λ line. HasEnded start s script answers script_fault answers_fault line)) c.in-Ok.is ended) c.finish.ensures.lines c.finish.ensures.verdict
+    judged-ended start c.finish.result s script answers c.in-Ok.line
+    (subst (λ (r : Result (Option Line) Memory). IfOk r (λ line. HasEnded start s script answers line)) c.in-Ok.is ended) c.finish.ensures.lines c.finish.ensures.verdict

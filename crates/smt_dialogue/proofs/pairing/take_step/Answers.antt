@@ -1,4 +1,4 @@
-use Rattle.std.proofs.Common.{Bool, option_map, ap, sym, ◌∙◌}
+use Rattle.std.proofs.Common.{Bool, true, option_map, ap, sym, ◌∙◌}
 use Rattle.smt_trees.specs.Tree.{sexp_of, sexps_of}
 use Rattle.smt_script.specs.CommandView.{command_view}
 use Rattle.smt_script.specs.StackView.{start_of}
@@ -13,7 +13,7 @@ use Rattle.smt_dialogue.proofs.pairing.take_step.Goals as goal
 pub accept-requires-clause-answered : goal.accept-requires-clause-answered
 accept-requires-clause-answered c =
     let next = next_of (sexps_of c.args.answers.now.trees.items) in
-    check_answered c.print_success.result (command_view c.in-Ok.command) next (option_map sexp_of c.in-Takes.answer) (ap (λ (n : Need). taken n next) (sym c.need_of-need.ensures) ∙ sym c.in-Takes.ensures.taken)
+    check_answered true c.print_success.result (command_view c.in-Ok.command) next (option_map sexp_of c.in-Takes.answer) (ap (λ (n : Need). taken true n next) (sym c.need_of-need.ensures) ∙ sym c.in-Takes.ensures.taken)
 
 pub returns-in-Takes-clause-step : goal.returns-in-Takes-clause-step
 returns-in-Takes-clause-step c =
@@ -24,6 +24,6 @@ returns-in-Takes-clause-step c =
     (λ pairs stands.
     let before = effective_commands pairs in (
       sym (c.exited.ensures before stands.stack) ∙ c.if-exited.false,
-      ap (λ (n : Need). taken n (next_of answers)) (sym (c.need_of-need.ensures ∙ ap (λ (on : Bool). need_of on command) (c.print_success.ensures before stands.stack))) ∙ sym c.in-Takes.ensures.taken,
+      ap (λ (n : Need). taken true n (next_of answers)) (sym (c.need_of-need.ensures ∙ ap (λ (on : Bool). need_of on command) (c.print_success.ensures before stands.stack))) ∙ sym c.in-Takes.ensures.taken,
     ))
     c.accept.ensures.accepted
