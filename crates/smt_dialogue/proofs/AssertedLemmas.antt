@@ -1,5 +1,5 @@
 -- Which pairs the assertions in force come from.
-use Rattle.std.proofs.Common.{◌≡◌, ◌≤◌, ◌+◌, ℕ, Bool, true, false, ◌&&◌, ◌||◌, List, [], ◌∷◌, ◌++◌, length, cond, refl, ap, sym, ◌∙◌, subst, arith, append-nil, length-append}
+use Rattle.std.proofs.Common.{◌≡◌, ◌≤◌, ◌+◌, ℕ, Bool, true, false, ◌&&◌, ◌||◌, List, [], ◌∷◌, ◌++◌, length, cond, refl, ap, sym, ◌∙◌, subst, arith, append-nil, append_assoc, length-append}
 use Rattle.std.specs.List.{list_any}
 use Rattle.smt_trees.specs.Sexp.{Sexp}
 use Rattle.smt_script.specs.Command.{Command, Assert}
@@ -7,7 +7,7 @@ use Rattle.smt_script.specs.Stack as stacks
 use Rattle.smt_script.specs.Stack.{Assertion, Numbered, Stands, assertions_in_force, depth_in_force, is_reset}
 use Rattle.smt_dialogue.proofs.PairLemmas.{effective_from-append}
 use Rattle.smt_dialogue.proofs.StructureLemmas.{one_more}
-use Rattle.smt_dialogue.specs.InForce.{KeepLevels, levels_after, removes_all}
+use Rattle.smt_dialogue.specs.InForce.{KeepLevels, assertions_after, levels_after, removes_all}
 use Rattle.smt_dialogue.specs.Pairs.{Pair, effective_commands, effective_from, is_effective}
 use Rattle.smt_dialogue.specs.Validity.{IsAsserted}
 
@@ -198,4 +198,56 @@ comes_from before first c a s is_assert is_number =
         levels = pairs_keep (levels_after new) new g.between (omega arith) mine;
       };
       number = sym is_number ∙ sym number;
+    }
+
+-- ## Assertions in force, by pairs
+
+-- an assertion in force is one of a pair that stands
+pub asserted_from : AssertionsAreFound → (before : List Pair) (first last : List Assertion) (a : Assertion) → assertions_after before ≡ first ++ a ∷ last → (earlier : List Pair) × IsAsserted before earlier a.term × (a.command ≡ length earlier + 1)
+asserted_from found before first last a h =
+    let standing = found (effective_commands before) first last a h in
+    let source = comes_from before standing.0 standing.1 a standing.2 standing.3 standing.4 in
+    (source.earlier, source.asserted, source.number)
+
+pub asserted_in_force : AssertionsStand → (before earlier : List Pair) (term : Sexp) → IsAsserted before earlier term → (first last : List Assertion) × (assertions_after before ≡ first ++ record { command = length earlier + 1; term = term } ∷ last)
+asserted_in_force stand before earlier term asserted =
+    stand (effective_commands before) (effective_commands earlier) (numbered (length earlier + 1) (Assert term)) term (asserted_stands before earlier term asserted) refl
+
+-- an assertion that takes effect is in force behind itself
+pub asserted_here : (before : List Pair) (p : Pair) (term : Sexp) → p.command ≡ Assert term → is_effective p ≡ true → IsAsserted (before ++ p ∷ []) before term
+asserted_here before p term command effective = record {
+  pair = p;
+  between = [];
+  place = refl;
+  command = command;
+  effective = effective;
+  no_reset = refl;
+  levels = tt;
+}
+
+keep_more : (level : ℕ) (before xs : List Pair) (p : Pair) → KeepLevels level before xs → level ≤ levels_after ((before ++ xs) ++ p ∷ []) → KeepLevels level before (xs ++ p ∷ [])
+keep_more level before [] p kept enough = (subst (λ (bs : List Pair). level ≤ levels_after (bs ++ p ∷ [])) (append-nil before) enough, tt)
+keep_more level before (x ∷ xs) p kept enough =
+    (kept.0, keep_more level (before ++ x ∷ []) xs p kept.1 (subst (λ (bs : List Pair). level ≤ levels_after (bs ++ p ∷ [])) (sym (append_assoc before (x ∷ []) xs)) enough))
+
+none_more : (xs : List Pair) (p : Pair) → list_any removes_all xs ≡ false → removes_all p ≡ false → list_any removes_all (xs ++ p ∷ []) ≡ false
+none_more [] p none other = rw other refl
+none_more (x ∷ xs) p none other = by (removes_all x) (λ h. none_more xs p h other) none
+  where
+    by : (b : Bool) → (list_any removes_all xs ≡ false → list_any removes_all (xs ++ p ∷ []) ≡ false) → b || list_any removes_all xs ≡ false → b || list_any removes_all (xs ++ p ∷ []) ≡ false
+    by true on h = cc
+    by false on h = on h
+
+-- it stays behind one more pair that removes nothing of its level
+pub asserted_stays : (before earlier : List Pair) (p : Pair) (term : Sexp) → (a : IsAsserted before earlier term) → removes_all p ≡ false → levels_after (earlier ++ a.pair ∷ []) ≤ levels_after (before ++ p ∷ []) → IsAsserted (before ++ p ∷ []) earlier term
+asserted_stays before earlier p term a other enough =
+    let behind : (earlier ++ a.pair ∷ []) ++ a.between ≡ before = append_assoc earlier (a.pair ∷ []) a.between ∙ sym a.place in
+    record {
+      pair = a.pair;
+      between = a.between ++ p ∷ [];
+      place = ap (λ (bs : List Pair). bs ++ p ∷ []) a.place ∙ append_assoc earlier (a.pair ∷ a.between) (p ∷ []);
+      command = a.command;
+      effective = a.effective;
+      no_reset = none_more a.between p a.no_reset other;
+      levels = keep_more (levels_after (earlier ++ a.pair ∷ [])) (earlier ++ a.pair ∷ []) a.between p a.levels (subst (λ (bs : List Pair). levels_after (earlier ++ a.pair ∷ []) ≤ levels_after (bs ++ p ∷ [])) (sym behind) enough);
     }

@@ -6,14 +6,13 @@ use Rattle.std.specs.Option.{option_or}
 use Rattle.smt_trees.specs.Sexp.{Sexp, Sexps, Atom, Reserved, Items, is_symbol}
 use Rattle.smt_terms.specs.Signature.{Signature}
 use Rattle.smt_script.specs.Command.{Command, SetLogic, SetPrintSuccess, SetOption, SetInfo, DeclareConst, DeclareFun, DefineFun, DefineSort, Assert, Push, Pop, Reset, ResetAssertions, Exit, CheckSat, GetModel, Echo, Get}
-use Rattle.smt_script.specs.Stack.{Assertion}
 use Rattle.smt_dialogue.proofs.InForceLemmas.{IsQuiet, check_is_quiet, echo_is_quiet, exit_is_quiet, info_is_quiet, model_is_quiet, option_is_quiet, print_success_is_quiet, query_is_quiet}
 use Rattle.smt_dialogue.proofs.PairLemmas.{IsIdle, quiet_is_idle, refused_is_idle}
 use Rattle.smt_dialogue.specs.Answers.{has_form, is_effective_with, is_error}
-use Rattle.smt_dialogue.specs.InForce.{assertions_after, signature_after}
+use Rattle.smt_dialogue.specs.InForce.{signature_after}
 use Rattle.smt_dialogue.specs.Internal.ChecksState.{ChecksState, IsAnswered, checks_after, closing_lines, pending_lines, role_of, with_answer_of, with_line, with_models, with_window_ended}
-use Rattle.smt_dialogue.specs.Judgement.{judgement_of}
-use Rattle.smt_dialogue.specs.Lines.{checks_in, confirmed_line, is_check, line_of_judgement, lines_of_pair, lines_of_sat, sat_lines, unchecked_answer, unchecked_line_or, unconfirmed_line}
+use Rattle.smt_dialogue.specs.Judgement.{Claimed, claims_of, judgement_of}
+use Rattle.smt_dialogue.specs.Lines.{checks_in, claims_after, confirmed_line, is_check, line_of_judgement, lines_of_pair, lines_of_sat, sat_lines, unchecked_answer, unchecked_line_or, unconfirmed_line}
 use Rattle.smt_dialogue.specs.Pairs.{Pair, is_effective, pair_of}
 use Rattle.smt_dialogue.specs.Window.{Printed, closes, models_from, printed_by, window}
 use Rattle.smt_dialogue.specs.declared.answer.AnswerForm.TheVariants.{Check}
@@ -31,9 +30,9 @@ sat_lines-closing true false more k n = refl
 sat_lines-closing false true more k n = refl
 sat_lines-closing false false more k n = refl
 
-pub pending-closing : (closed : Bool) (o : Option PendingCheck) (names : Signature) (assertions : List Assertion) (m : ℕ) (p : Pair) (after : List Pair) → closes p ≡ true → pending_lines closed o names assertions m (p ∷ after) ≡ closing_lines o
-pending-closing closed None names assertions m p after h = refl
-pending-closing closed (Some c) names assertions m p after h =
+pub pending-closing : (closed : Bool) (o : Option PendingCheck) (names : Signature) (claims : List Claimed) (m : ℕ) (p : Pair) (after : List Pair) → closes p ≡ true → pending_lines closed o names claims m (p ∷ after) ≡ closing_lines o
+pending-closing closed None names claims m p after h = refl
+pending-closing closed (Some c) names claims m p after h =
     rw h (sat_lines-closing closed c.some_model (list_any closes after) c.check c.command)
 
 -- the models that a pair printed
@@ -41,10 +40,10 @@ abbrev models_of : ℕ → Pair → List Printed
 models_of m p = cond (is_effective p) (printed_by m p.command p.answer) []
 
 -- a pair that neither ends the window nor prints a model leaves the lines as they are
-pending-past : (closed : Bool) (o : Option PendingCheck) (names : Signature) (assertions : List Assertion) (m : ℕ) (p : Pair) (after : List Pair) → closes p ≡ false → models_of m p ≡ []
-    → pending_lines closed o names assertions m (p ∷ after) ≡ pending_lines closed o names assertions (m + 1) after
-pending-past closed None names assertions m p after h none = refl
-pending-past closed (Some c) names assertions m p after h none = rw (h, none) refl
+pending-past : (closed : Bool) (o : Option PendingCheck) (names : Signature) (claims : List Claimed) (m : ℕ) (p : Pair) (after : List Pair) → closes p ≡ false → models_of m p ≡ []
+    → pending_lines closed o names claims m (p ∷ after) ≡ pending_lines closed o names claims (m + 1) after
+pending-past closed None names claims m p after h none = refl
+pending-past closed (Some c) names claims m p after h none = rw (h, none) refl
 
 -- ## The checks go on
 
@@ -52,14 +51,14 @@ pending-past closed (Some c) names assertions m p after h none = rw (h, none) re
 pub record GoesOn (s : ChecksState) (pairs : List Pair) (p : Pair) (t : ChecksState) : Type 0 where
   pub count : t.count ≡ s.count + checks_in (p ∷ [])
   pub lines : (closed : Bool) (after : List Pair)
-      → s.lines ++ (pending_lines closed s.pending (signature_after pairs) (assertions_after pairs) (length pairs + 1) (p ∷ after) ++ lines_of_pair closed pairs p after)
-      ≡ t.lines ++ pending_lines closed t.pending (signature_after (pairs ++ p ∷ [])) (assertions_after (pairs ++ p ∷ [])) (length (pairs ++ p ∷ []) + 1) after
+      → s.lines ++ (pending_lines closed s.pending (signature_after pairs) (claims_after pairs) (length pairs + 1) (p ∷ after) ++ lines_of_pair closed pairs p after)
+      ≡ t.lines ++ pending_lines closed t.pending (signature_after (pairs ++ p ∷ [])) (claims_after (pairs ++ p ∷ [])) (length (pairs ++ p ∷ []) + 1) after
 
 -- the lines where the window ends at a pair that has these lines itself
 closes_with : (s : ChecksState) (pairs : List Pair) (p : Pair) (closed : Bool) (after : List Pair) (own : List Line) → closes p ≡ true → lines_of_pair closed pairs p after ≡ own
-    → s.lines ++ (pending_lines closed s.pending (signature_after pairs) (assertions_after pairs) (length pairs + 1) (p ∷ after) ++ lines_of_pair closed pairs p after) ≡ (s.lines ++ closing_lines s.pending) ++ own
+    → s.lines ++ (pending_lines closed s.pending (signature_after pairs) (claims_after pairs) (length pairs + 1) (p ∷ after) ++ lines_of_pair closed pairs p after) ≡ (s.lines ++ closing_lines s.pending) ++ own
 closes_with s pairs p closed after own h is =
-    ap (λ (ls : List Line). s.lines ++ (ls ++ lines_of_pair closed pairs p after)) (pending-closing closed s.pending (signature_after pairs) (assertions_after pairs) (length pairs + 1) p after h)
+    ap (λ (ls : List Line). s.lines ++ (ls ++ lines_of_pair closed pairs p after)) (pending-closing closed s.pending (signature_after pairs) (claims_after pairs) (length pairs + 1) p after h)
     ∙ ap (λ (ls : List Line). s.lines ++ (closing_lines s.pending ++ ls)) is
     ∙ sym (append_assoc s.lines (closing_lines s.pending) own)
 
@@ -72,14 +71,14 @@ ends_window s pairs p ends other = record {
 
 -- the lines of a check whose window goes on behind a pair that changes nothing
 pending-idle : (closed : Bool) (o : Option PendingCheck) (pairs : List Pair) (p : Pair) (after : List Pair) → IsIdle pairs p
-    → pending_lines closed o (signature_after pairs) (assertions_after pairs) ((length pairs + 1) + 1) after
-    ≡ pending_lines closed o (signature_after (pairs ++ p ∷ [])) (assertions_after (pairs ++ p ∷ [])) (length (pairs ++ p ∷ []) + 1) after
+    → pending_lines closed o (signature_after pairs) (claims_after pairs) ((length pairs + 1) + 1) after
+    ≡ pending_lines closed o (signature_after (pairs ++ p ∷ [])) (claims_after (pairs ++ p ∷ [])) (length (pairs ++ p ∷ []) + 1) after
 pending-idle closed o pairs p after idle =
     let new = pairs ++ p ∷ [] in
     let len : length new ≡ length pairs + 1 = length-append pairs (p ∷ []) ∙ omega arith in
-    ap (λ (m : ℕ). pending_lines closed o (signature_after pairs) (assertions_after pairs) (m + 1) after) (sym len)
-    ∙ ap (λ (es : Signature). pending_lines closed o es (assertions_after pairs) (length new + 1) after) (sym idle.signature)
-    ∙ ap (λ (es : List Assertion). pending_lines closed o (signature_after new) es (length new + 1) after) (sym idle.assertions)
+    ap (λ (m : ℕ). pending_lines closed o (signature_after pairs) (claims_after pairs) (m + 1) after) (sym len)
+    ∙ ap (λ (es : Signature). pending_lines closed o es (claims_after pairs) (length new + 1) after) (sym idle.signature)
+    ∙ ap (λ (es : List Claimed). pending_lines closed o (signature_after new) es (length new + 1) after) (sym (ap claims_of idle.assertions))
 
 -- a pair that neither ends the window nor prints a model, and changes nothing, leaves all as it is
 stays : (s : ChecksState) (pairs : List Pair) (p : Pair) → closes p ≡ false → is_check p.command ≡ false → ((m : ℕ) → models_of m p ≡ []) → IsIdle pairs p → GoesOn s pairs p s
@@ -87,11 +86,11 @@ stays s pairs p open' other none idle = record {
   count = rw other (omega arith);
   lines = λ closed after.
       let names = signature_after pairs in
-      let assertions = assertions_after pairs in
-      let here = pending_lines closed s.pending names assertions (length pairs + 1) (p ∷ after) in
+      let claims = claims_after pairs in
+      let here = pending_lines closed s.pending names claims (length pairs + 1) (p ∷ after) in
       ap (λ (ls : List Line). s.lines ++ (here ++ ls)) (rw other refl)
       ∙ ap (λ (ls : List Line). s.lines ++ ls) (append-nil here)
-      ∙ ap (λ (ls : List Line). s.lines ++ ls) (pending-past closed s.pending names assertions (length pairs + 1) p after open' (none (length pairs + 1)))
+      ∙ ap (λ (ls : List Line). s.lines ++ ls) (pending-past closed s.pending names claims (length pairs + 1) p after open' (none (length pairs + 1)))
       ∙ ap (λ (ls : List Line). s.lines ++ ls) (pending-idle closed s.pending pairs p after idle);
 }
 
@@ -120,7 +119,7 @@ answered_goes s pairs a line own = record {
 
 -- a check that was answered sat
 begun_goes : (s : ChecksState) (pairs : List Pair) (a : Sexp) (k n : ℕ) → k ≡ checks_in pairs + 1 → n ≡ length pairs + 1
-    → ((closed : Bool) (after : List Pair) → lines_of_pair closed pairs (pair_of CheckSat (Some a)) after ≡ lines_of_sat closed (checks_in pairs + 1) (length pairs + 1) (signature_after pairs) (assertions_after pairs) ((length pairs + 1) + 1) after)
+    → ((closed : Bool) (after : List Pair) → lines_of_pair closed pairs (pair_of CheckSat (Some a)) after ≡ lines_of_sat closed (checks_in pairs + 1) (length pairs + 1) (signature_after pairs) (claims_after pairs) ((length pairs + 1) + 1) after)
     → GoesOn s pairs (pair_of CheckSat (Some a)) (record (with_window_ended s) { count = s.count + 1; pending = Some (record { check = k; command = n; some_model = false }) })
 begun_goes s pairs a k n is_k is_n own =
     let p = pair_of CheckSat (Some a) in
@@ -129,8 +128,8 @@ begun_goes s pairs a k n is_k is_n own =
       count = omega arith;
       lines = λ closed after.
           closes_with s pairs p closed after _ refl (own closed after)
-          ∙ ap (λ (i : ℕ). (with_window_ended s).lines ++ lines_of_sat closed i (length pairs + 1) (signature_after pairs) (assertions_after pairs) ((length pairs + 1) + 1) after) (sym is_k)
-          ∙ ap (λ (i : ℕ). (with_window_ended s).lines ++ lines_of_sat closed k i (signature_after pairs) (assertions_after pairs) ((length pairs + 1) + 1) after) (sym is_n)
+          ∙ ap (λ (i : ℕ). (with_window_ended s).lines ++ lines_of_sat closed i (length pairs + 1) (signature_after pairs) (claims_after pairs) ((length pairs + 1) + 1) after) (sym is_k)
+          ∙ ap (λ (i : ℕ). (with_window_ended s).lines ++ lines_of_sat closed k i (signature_after pairs) (claims_after pairs) ((length pairs + 1) + 1) after) (sym is_n)
           ∙ ap (λ (ls : List Line). (with_window_ended s).lines ++ ls) (pending-idle closed begun pairs p after (quiet_is_idle pairs p check_is_quiet));
     }
 
@@ -149,13 +148,13 @@ check_by : (s : ChecksState) (pairs : List Pair) (a : Sexp) (u : Option CheckAns
 check_by s pairs a (Some other) is h count =
     let is_k : s.count + 1 ≡ checks_in pairs + 1 = ap (λ (i : ℕ). i + 1) count in
     answered_goes s pairs a (lines.Unchecked (s.count + 1) (length pairs + 1) other)
-    (λ closed after. ap (λ (v : Option CheckAnswer). unchecked_line_or (checks_in pairs + 1) (length pairs + 1) v (cond (is_symbol (codes "sat") a) (lines_of_sat closed (checks_in pairs + 1) (length pairs + 1) (signature_after pairs) (assertions_after pairs) ((length pairs + 1) + 1) after) [])) is ∙ ap (λ (i : ℕ). lines.Unchecked i (length pairs + 1) other ∷ []) (sym is_k))
+    (λ closed after. ap (λ (v : Option CheckAnswer). unchecked_line_or (checks_in pairs + 1) (length pairs + 1) v (cond (is_symbol (codes "sat") a) (lines_of_sat closed (checks_in pairs + 1) (length pairs + 1) (signature_after pairs) (claims_after pairs) ((length pairs + 1) + 1) after) [])) is ∙ ap (λ (i : ℕ). lines.Unchecked i (length pairs + 1) other ∷ []) (sym is_k))
 check_by s pairs a None is h count =
     let is_k : s.count + 1 ≡ checks_in pairs + 1 = ap (λ (i : ℕ). i + 1) count in
     let sat : is_symbol (codes "sat") a ≡ true =
     sat_left (is_symbol (codes "sat") a) (is_symbol (codes "unsat") a) (is_symbol (codes "unknown") a) (is_symbol (codes "unsupported") a) (is_error a) h is in
     begun_goes s pairs a (s.count + 1) (length pairs + 1) is_k refl
-    (λ closed after. ap (λ (v : Option CheckAnswer). unchecked_line_or (checks_in pairs + 1) (length pairs + 1) v (cond (is_symbol (codes "sat") a) (lines_of_sat closed (checks_in pairs + 1) (length pairs + 1) (signature_after pairs) (assertions_after pairs) ((length pairs + 1) + 1) after) [])) is ∙ rw sat refl)
+    (λ closed after. ap (λ (v : Option CheckAnswer). unchecked_line_or (checks_in pairs + 1) (length pairs + 1) v (cond (is_symbol (codes "sat") a) (lines_of_sat closed (checks_in pairs + 1) (length pairs + 1) (signature_after pairs) (claims_after pairs) ((length pairs + 1) + 1) after) [])) is ∙ rw sat refl)
 
 -- ## Models
 
@@ -164,20 +163,20 @@ or_true true = refl
 or_true false = refl
 
 -- the lines of a pending check at one more model
-pending-model : (closed : Bool) (c : PendingCheck) (names : Signature) (assertions : List Assertion) (m : ℕ) (parts : Sexps) (after : List Pair) → is_effective_with (Some (Items parts)) ≡ true
-    → pending_lines closed (Some c) names assertions m (pair_of GetModel (Some (Items parts)) ∷ after)
-    ≡ sat_lines c.check c.command (option_or (line_of_judgement c.check c.command m (judgement_of names assertions parts)) (unconfirmed_line c.check c.command names assertions (models_from (m + 1) (window after)))) true (closed || list_any closes after)
-pending-model closed c names assertions m parts after h = rw (h, or_true) refl
+pending-model : (closed : Bool) (c : PendingCheck) (names : Signature) (claims : List Claimed) (m : ℕ) (parts : Sexps) (after : List Pair) → is_effective_with (Some (Items parts)) ≡ true
+    → pending_lines closed (Some c) names claims m (pair_of GetModel (Some (Items parts)) ∷ after)
+    ≡ sat_lines c.check c.command (option_or (line_of_judgement c.check c.command m (judgement_of names claims parts)) (unconfirmed_line c.check c.command names claims (models_from (m + 1) (window after)))) true (closed || list_any closes after)
+pending-model closed c names claims m parts after h = rw (h, or_true) refl
 
 -- what is added where the model has a line, and where it is confirmed
 model_line : (s : ChecksState) (pairs : List Pair) (c : PendingCheck) (parts : Sexps) (l : Option Line) → s.pending ≡ Some c → is_effective_with (Some (Items parts)) ≡ true
-    → line_of_judgement c.check c.command (length pairs + 1) (judgement_of (signature_after pairs) (assertions_after pairs) parts) ≡ l → GoesOn s pairs (pair_of GetModel (Some (Items parts))) (with_line s c l)
+    → line_of_judgement c.check c.command (length pairs + 1) (judgement_of (signature_after pairs) (claims_after pairs) parts) ≡ l → GoesOn s pairs (pair_of GetModel (Some (Items parts))) (with_line s c l)
 model_line s pairs c parts (Some line) is_pending h is = record {
   count = omega arith;
   lines = λ closed after.
-      ap (λ (o : Option PendingCheck). s.lines ++ (pending_lines closed o (signature_after pairs) (assertions_after pairs) (length pairs + 1) (pair_of GetModel (Some (Items parts)) ∷ after) ++ [])) is_pending
-      ∙ ap (λ (ls : List Line). s.lines ++ (ls ++ [])) (pending-model closed c (signature_after pairs) (assertions_after pairs) (length pairs + 1) parts after h)
-      ∙ ap (λ (l : Option Line). s.lines ++ (sat_lines c.check c.command (option_or l (unconfirmed_line c.check c.command (signature_after pairs) (assertions_after pairs) (models_from ((length pairs + 1) + 1) (window after)))) true (closed || list_any closes after) ++ [])) is
+      ap (λ (o : Option PendingCheck). s.lines ++ (pending_lines closed o (signature_after pairs) (claims_after pairs) (length pairs + 1) (pair_of GetModel (Some (Items parts)) ∷ after) ++ [])) is_pending
+      ∙ ap (λ (ls : List Line). s.lines ++ (ls ++ [])) (pending-model closed c (signature_after pairs) (claims_after pairs) (length pairs + 1) parts after h)
+      ∙ ap (λ (l : Option Line). s.lines ++ (sat_lines c.check c.command (option_or l (unconfirmed_line c.check c.command (signature_after pairs) (claims_after pairs) (models_from ((length pairs + 1) + 1) (window after)))) true (closed || list_any closes after) ++ [])) is
       ∙ sym (append-nil (s.lines ++ line ∷ []));
 }
 model_line s pairs c parts None is_pending h is =
@@ -186,10 +185,10 @@ model_line s pairs c parts None is_pending h is =
     record {
       count = omega arith;
       lines = λ closed after.
-          ap (λ (o : Option PendingCheck). s.lines ++ (pending_lines closed o (signature_after pairs) (assertions_after pairs) (length pairs + 1) (p ∷ after) ++ [])) is_pending
-          ∙ ap (λ (ls : List Line). s.lines ++ (ls ++ [])) (pending-model closed c (signature_after pairs) (assertions_after pairs) (length pairs + 1) parts after h)
-          ∙ ap (λ (l : Option Line). s.lines ++ (sat_lines c.check c.command (option_or l (unconfirmed_line c.check c.command (signature_after pairs) (assertions_after pairs) (models_from ((length pairs + 1) + 1) (window after)))) true (closed || list_any closes after) ++ [])) is
-          ∙ ap (λ (ls : List Line). s.lines ++ ls) (append-nil (pending_lines closed (Some noted) (signature_after pairs) (assertions_after pairs) ((length pairs + 1) + 1) after))
+          ap (λ (o : Option PendingCheck). s.lines ++ (pending_lines closed o (signature_after pairs) (claims_after pairs) (length pairs + 1) (p ∷ after) ++ [])) is_pending
+          ∙ ap (λ (ls : List Line). s.lines ++ (ls ++ [])) (pending-model closed c (signature_after pairs) (claims_after pairs) (length pairs + 1) parts after h)
+          ∙ ap (λ (l : Option Line). s.lines ++ (sat_lines c.check c.command (option_or l (unconfirmed_line c.check c.command (signature_after pairs) (claims_after pairs) (models_from ((length pairs + 1) + 1) (window after)))) true (closed || list_any closes after) ++ [])) is
+          ∙ ap (λ (ls : List Line). s.lines ++ ls) (append-nil (pending_lines closed (Some noted) (signature_after pairs) (claims_after pairs) ((length pairs + 1) + 1) after))
           ∙ ap (λ (ls : List Line). s.lines ++ ls) (pending-idle closed (Some noted) pairs p after (quiet_is_idle pairs p model_is_quiet));
     }
 
@@ -198,7 +197,7 @@ no_model : (s : ChecksState) (pairs : List Pair) (o : Option Sexp) → ((m : ℕ
 no_model s pairs o none = stays s pairs (pair_of GetModel o) refl refl none (quiet_is_idle pairs (pair_of GetModel o) model_is_quiet)
 
 model_goes : (s : ChecksState) (pairs : List Pair) (pending : Option PendingCheck) (e : Bool) (o : Option Sexp) → s.pending ≡ pending → is_effective_with o ≡ e
-    → GoesOn s pairs (pair_of GetModel o) (with_models s pending (signature_after pairs) (assertions_after pairs) (length pairs + 1) e o)
+    → GoesOn s pairs (pair_of GetModel o) (with_models s pending (signature_after pairs) (claims_after pairs) (length pairs + 1) e o)
 model_goes s pairs None e o is_pending is = record {
   count = omega arith;
   lines = λ closed after. rw is_pending refl;
@@ -208,19 +207,19 @@ model_goes s pairs (Some c) true None is_pending is = no_model s pairs None (λ 
 model_goes s pairs (Some c) true (Some (Atom kind x)) is_pending is = no_model s pairs (Some (Atom kind x)) (λ m. neither (is_effective_with (Some (Atom kind x))))
 model_goes s pairs (Some c) true (Some (Reserved w)) is_pending is = no_model s pairs (Some (Reserved w)) (λ m. neither (is_effective_with (Some (Reserved w))))
 model_goes s pairs (Some c) true (Some (Items parts)) is_pending is =
-    model_line s pairs c parts (line_of_judgement c.check c.command (length pairs + 1) (judgement_of (signature_after pairs) (assertions_after pairs) parts)) is_pending is refl
+    model_line s pairs c parts (line_of_judgement c.check c.command (length pairs + 1) (judgement_of (signature_after pairs) (claims_after pairs) parts)) is_pending is refl
 
 -- ## Every command
 
 -- what is in force behind a model is what was in force before it
 model_after : (s : ChecksState) (pairs : List Pair) (o : Option Sexp)
-    → with_models s s.pending (signature_after (pairs ++ pair_of GetModel o ∷ [])) (assertions_after (pairs ++ pair_of GetModel o ∷ [])) (length pairs + 1) (is_effective_with o) o
-    ≡ with_models s s.pending (signature_after pairs) (assertions_after pairs) (length pairs + 1) (is_effective_with o) o
+    → with_models s s.pending (signature_after (pairs ++ pair_of GetModel o ∷ [])) (claims_after (pairs ++ pair_of GetModel o ∷ [])) (length pairs + 1) (is_effective_with o) o
+    ≡ with_models s s.pending (signature_after pairs) (claims_after pairs) (length pairs + 1) (is_effective_with o) o
 model_after s pairs o =
     let new = pairs ++ pair_of GetModel o ∷ [] in
     let idle = quiet_is_idle pairs (pair_of GetModel o) model_is_quiet in
-    ap (λ (es : Signature). with_models s s.pending es (assertions_after new) (length pairs + 1) (is_effective_with o) o) idle.signature
-    ∙ ap (λ (es : List Assertion). with_models s s.pending (signature_after pairs) es (length pairs + 1) (is_effective_with o) o) idle.assertions
+    ap (λ (es : Signature). with_models s s.pending es (claims_after new) (length pairs + 1) (is_effective_with o) o) idle.signature
+    ∙ ap (λ (es : List Claimed). with_models s s.pending (signature_after pairs) es (length pairs + 1) (is_effective_with o) o) (ap claims_of idle.assertions)
 
 -- a command that never ends a window, prints no model and brings nothing
 passes : (s : ChecksState) (pairs : List Pair) (c : Command) (o : Option Sexp) → closes (pair_of c o) ≡ false → is_check c ≡ false → ((m : ℕ) → printed_by m c o ≡ []) → IsQuiet c → GoesOn s pairs (pair_of c o) s
@@ -231,7 +230,7 @@ some_same : {a b : Sexp} → ◌≡◌ {A = Option Sexp} (Some a) (Some b) → a
 some_same h = cc
 
 pub goes_on : (s : ChecksState) (pairs : List Pair) (c : Command) (o : Option Sexp) → IsAnswered (role_of c) o → s.count ≡ checks_in pairs
-    → GoesOn s pairs (pair_of c o) (checks_after (is_effective_with o) s (signature_after (pairs ++ pair_of c o ∷ [])) (assertions_after (pairs ++ pair_of c o ∷ [])) (length pairs + 1) (role_of c) o)
+    → GoesOn s pairs (pair_of c o) (checks_after (is_effective_with o) s (signature_after (pairs ++ pair_of c o ∷ [])) (claims_after (pairs ++ pair_of c o ∷ [])) (length pairs + 1) (role_of c) o)
 goes_on s pairs (SetLogic name) o h count = closes_if s pairs (pair_of (SetLogic name) o) (is_effective_with o) refl refl refl
 goes_on s pairs (SetPrintSuccess on) o h count = passes s pairs (SetPrintSuccess on) o refl refl (λ m. refl) (print_success_is_quiet on)
 goes_on s pairs (SetOption keyword value) o h count = passes s pairs (SetOption keyword value) o refl refl (λ m. refl) (option_is_quiet keyword value)
@@ -260,6 +259,6 @@ or_false true = refl
 or_false false = refl
 
 -- at the end the window that has not ended does
-pub pending-end : (o : Option PendingCheck) (names : Signature) (assertions : List Assertion) (m : ℕ) → pending_lines true o names assertions m [] ≡ closing_lines o
-pending-end None names assertions m = refl
-pending-end (Some c) names assertions m = ap (λ (b : Bool). confirmed_line c.check c.command b ∷ []) (or_false c.some_model)
+pub pending-end : (o : Option PendingCheck) (names : Signature) (claims : List Claimed) (m : ℕ) → pending_lines true o names claims m [] ≡ closing_lines o
+pending-end None names claims m = refl
+pending-end (Some c) names claims m = ap (λ (b : Bool). confirmed_line c.check c.command b ∷ []) (or_false c.some_model)

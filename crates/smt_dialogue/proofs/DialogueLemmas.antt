@@ -11,10 +11,11 @@ use Rattle.smt_script.specs.StackView.{last_of}
 use Rattle.smt_dialogue.proofs.ChecksLemmas.{GoesOn, goes_on, pending-end}
 use Rattle.smt_dialogue.proofs.PairLemmas.{answers_taken-append, checks_in-append, effective_commands-push, lines_in-append}
 use Rattle.smt_dialogue.specs.Answers.{is_effective_with}
-use Rattle.smt_dialogue.specs.InForce.{assertions_after, fault_of_pair, signature_after}
+use Rattle.smt_dialogue.specs.InForce.{fault_of_pair, signature_after}
+use Rattle.smt_dialogue.specs.Judgement.{claims_of}
 use Rattle.smt_dialogue.specs.Internal.ChecksState.{ChecksState, IsAnswered, checks_after, pending_lines, role_of, with_window_ended}
 use Rattle.smt_dialogue.specs.Internal.DialogueState.{State, StandsFor, fault_if}
-use Rattle.smt_dialogue.specs.Lines.{lines_in, lines_of_pair}
+use Rattle.smt_dialogue.specs.Lines.{claims_after, lines_in, lines_of_pair}
 use Rattle.smt_dialogue.specs.Pairs.{Pair, answer_count, effective_commands, is_effective, numbered_if, pair_of}
 use Rattle.smt_dialogue.specs.declared.window.Role.{Role}
 use Rattle.smt_report.specs.declared.line.Line.{Line}
@@ -32,18 +33,18 @@ stack_push s t pairs p count stack =
 
 -- the checks behind one more pair
 checks_push : (s t : State) (pairs : List Pair) (c : Command) (o : Option Sexp) → IsAnswered (role_of c) o → StandsFor s pairs → stacks.StandsFor t.stack (effective_commands (pairs ++ pair_of c o ∷ []))
-    → ((cs : List Numbered) → stacks.StandsFor t.stack cs → t.checks ≡ checks_after (is_effective_with o) s.checks (signature_in_force cs) (assertions_in_force cs) (s.commands + 1) (role_of c) o) → GoesOn s.checks pairs (pair_of c o) t.checks
+    → ((cs : List Numbered) → stacks.StandsFor t.stack cs → t.checks ≡ checks_after (is_effective_with o) s.checks (signature_in_force cs) (claims_of (assertions_in_force cs)) (s.commands + 1) (role_of c) o) → GoesOn s.checks pairs (pair_of c o) t.checks
 checks_push s t pairs c o h before stack is =
     let new = pairs ++ pair_of c o ∷ [] in
-    let same : t.checks ≡ checks_after (is_effective_with o) s.checks (signature_after new) (assertions_after new) (length pairs + 1) (role_of c) o =
+    let same : t.checks ≡ checks_after (is_effective_with o) s.checks (signature_after new) (claims_after new) (length pairs + 1) (role_of c) o =
     is (effective_commands new) stack
-    ∙ ap (λ (n : ℕ). checks_after (is_effective_with o) s.checks (signature_after new) (assertions_after new) (n + 1) (role_of c) o) before.commands in
+    ∙ ap (λ (n : ℕ). checks_after (is_effective_with o) s.checks (signature_after new) (claims_after new) (n + 1) (role_of c) o) before.commands in
     subst (GoesOn s.checks pairs (pair_of c o)) (sym same) (goes_on s.checks pairs c o h before.checks)
 
 -- t is s after one more pair
 pub accepted_stands : (s t : State) (pairs : List Pair) (c : Command) (o : Option Sexp) → IsAnswered (role_of c) o → StandsFor s pairs
     → stacks.StandsFor t.stack (effective_commands pairs ++ numbered_if (is_effective_with o) (s.commands + 1) c) → last_of t.stack ≤ s.commands + 1
-    → ((cs : List Numbered) → stacks.StandsFor t.stack cs → t.checks ≡ checks_after (is_effective_with o) s.checks (signature_in_force cs) (assertions_in_force cs) (s.commands + 1) (role_of c) o)
+    → ((cs : List Numbered) → stacks.StandsFor t.stack cs → t.checks ≡ checks_after (is_effective_with o) s.checks (signature_in_force cs) (claims_of (assertions_in_force cs)) (s.commands + 1) (role_of c) o)
     → t.commands ≡ s.commands + 1 → t.answers ≡ s.answers + answer_count o → StandsFor t (pairs ++ pair_of c o ∷ [])
 accepted_stands s t pairs c o h before applied last checks commands answers =
     let p = pair_of c o in
@@ -59,7 +60,7 @@ accepted_stands s t pairs c o h before applied last checks commands answers =
       lines = λ closed after.
           lines_in-push closed pairs p after
           ∙ ap (λ (ls : List Line). ls ++ lines_of_pair closed pairs p after) (before.lines closed (p ∷ after))
-          ∙ append_assoc s.checks.lines (pending_lines closed s.checks.pending (signature_after pairs) (assertions_after pairs) (length pairs + 1) (p ∷ after)) (lines_of_pair closed pairs p after)
+          ∙ append_assoc s.checks.lines (pending_lines closed s.checks.pending (signature_after pairs) (claims_after pairs) (length pairs + 1) (p ∷ after)) (lines_of_pair closed pairs p after)
           ∙ g.lines closed after;
     }
 
@@ -76,7 +77,7 @@ refused_stands s t pairs before stack last checks commands answers = record {
   answers = answers ∙ before.answers;
   checks = ap (λ (c : ChecksState). c.count) checks ∙ before.checks;
   lines = λ closed after. before.lines closed after
-      ∙ ap (λ (c : ChecksState). c.lines ++ pending_lines closed c.pending (signature_after pairs) (assertions_after pairs) (length pairs + 1) after) (sym checks);
+      ∙ ap (λ (c : ChecksState). c.lines ++ pending_lines closed c.pending (signature_after pairs) (claims_after pairs) (length pairs + 1) after) (sym checks);
 }
 
 -- so a refused command has the fault that the stack told, or there was no memory
@@ -88,7 +89,7 @@ refused_fault s t pairs c o e fault is before (inr told) after = inr (fault_same
 -- the same of a command, said of whether it took effect and of what it is for the window
 pub accepted : (s t : State) (pairs : List Pair) (c : Command) (o : Option Sexp) (e : Bool) (r : Role) → e ≡ is_effective_with o → r ≡ role_of c → IsAnswered (role_of c) o → StandsFor s pairs
     → (fault_if e (effective_commands pairs) (s.commands + 1) c ≡ None) × stacks.StandsFor t.stack (effective_commands pairs ++ numbered_if e (s.commands + 1) c) → last_of t.stack ≤ s.commands + 1
-    → ((cs : List Numbered) → stacks.StandsFor t.stack cs → t.checks ≡ checks_after e s.checks (signature_in_force cs) (assertions_in_force cs) (s.commands + 1) r o)
+    → ((cs : List Numbered) → stacks.StandsFor t.stack cs → t.checks ≡ checks_after e s.checks (signature_in_force cs) (claims_of (assertions_in_force cs)) (s.commands + 1) r o)
     → t.commands ≡ s.commands + 1 → t.answers ≡ s.answers + answer_count o → (fault_of_pair pairs (pair_of c o) ≡ None) × StandsFor t (pairs ++ pair_of c o ∷ [])
 accepted s t pairs c o e r is role h before applied last checks commands answers =
     let told = rw is at applied in
@@ -96,4 +97,4 @@ accepted s t pairs c o e r is role h before applied last checks commands answers
 
 -- at the end the window that has not ended does
 pub ended_lines : (s : State) (pairs : List Pair) → StandsFor s pairs → lines_in true [] pairs [] ≡ (with_window_ended s.checks).lines
-ended_lines s pairs before = before.lines true [] ∙ ap (λ (ls : List Line). s.checks.lines ++ ls) (pending-end s.checks.pending (signature_after pairs) (assertions_after pairs) (length pairs + 1))
+ended_lines s pairs before = before.lines true [] ∙ ap (λ (ls : List Line). s.checks.lines ++ ls) (pending-end s.checks.pending (signature_after pairs) (claims_after pairs) (length pairs + 1))

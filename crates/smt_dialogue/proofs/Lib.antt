@@ -11,5 +11,7 @@ pub mod ReportUnique
 pub mod ReportExists
 pub mod ConfirmedLemmas
 pub mod ValidityLemmas
+pub mod VerdictLawLemmas
+pub mod WindowLemmas
 pub mod StructureLemmas
 pub mod UnreadLemmas

@@ -21,12 +21,12 @@ use Rattle.smt_dialogue.specs.InForce.{AreFaultless, assertions_after, signature
 use Rattle.smt_dialogue.specs.Pairing.{IsPairing, IsPairingSoFar}
 use Rattle.smt_dialogue.specs.Pairs.{Pair, effective_commands}
 use Rattle.smt_script.specs.Stack.{Assertion}
-use Rattle.smt_dialogue.specs.Lines.{checks_in, is_empty, line_of_judgement, lines_in, lines_of_pair, lines_of_sat, sat_lines, unchecked_answer, unchecked_line_or, unconfirmed_line}
+use Rattle.smt_dialogue.specs.Lines.{checks_in, claims_after, is_empty, line_of_judgement, lines_in, lines_of_pair, lines_of_sat, sat_lines, unchecked_answer, unchecked_line_or, unconfirmed_line}
 use Rattle.smt_report.specs.Verdict.{IsVerdictOf, is_fault_line, is_refuted_line, is_undecided_line, tally_of, verdict_of, with_verdict}
 use Rattle.std.specs.Option.{option_or}
 use Rattle.smt_dialogue.specs.Internal.Steps.{IsJudged}
 use Rattle.smt_dialogue.specs.Window.{Printed, models_from, structure_at, window}
-use Rattle.smt_dialogue.specs.Judgement.{first_assertion, is_false_over, is_open_over, judged_in, judgement_of, open_or_confirmed, refuted_or}
+use Rattle.smt_dialogue.specs.Judgement.{Claimed, claims_of, first_claim, is_false_over, is_open_over, judged_in, judgement_of, open_or_confirmed, refuted_or}
 use Rattle.smt_values.specs.Element.{Element, Truth}
 use Rattle.smt_values.specs.Operations.{DivisionByZero}
 use Rattle.smt_eval.specs.CompleteModel.{IsModelOf}
@@ -39,6 +39,8 @@ use Rattle.smt_dialogue.specs.declared.judgement.Judgement.{Judgement}
 use Rattle.smt_dialogue.specs.declared.judgement.Judgement.TheVariants as judgements
 use Rattle.smt_eval.specs.declared.interpretation.ModelFault.{ModelFault}
 use Rattle.smt_eval.specs.declared.interpretation.ModelFault.TheVariants as faults
+use Rattle.smt_report.specs.declared.claim.Claim.{Claim}
+use Rattle.smt_report.specs.declared.claim.Claim.TheVariants as claims
 use Rattle.smt_report.specs.declared.line.CheckAnswer.{CheckAnswer}
 use Rattle.smt_report.specs.declared.line.Line.{Line}
 use Rattle.smt_report.specs.declared.line.Line.TheVariants as lines
@@ -156,7 +158,7 @@ answer_cases None false k n ls h = absurd (cc)
 -- a pair that has the line of a refuted model is a check that was answered sat
 pub record IsRefutedCheck (before : List Pair) (p : Pair) (after : List Pair) : Type 0 where
   pub sat : IsSatCheck p
-  pub line : list_any is_refuted_line (lines_of_sat true (checks_in before + 1) (length before + 1) (signature_after before) (assertions_after before) ((length before + 1) + 1) after) ≡ true
+  pub line : list_any is_refuted_line (lines_of_sat true (checks_in before + 1) (length before + 1) (signature_after before) (claims_after before) ((length before + 1) + 1) after) ≡ true
 
 refuted_check : (before : List Pair) (c : Command) (o : Option Sexp) (after : List Pair) → list_any is_refuted_line (lines_of_pair true before (record { command = c; answer = o }) after) ≡ true → IsRefutedCheck before (record { command = c; answer = o }) after
 refuted_check before (SetLogic name) o after h = absurd (cc)
@@ -178,7 +180,7 @@ refuted_check before (Get query) o after h = absurd (cc)
 refuted_check before GetModel o after h = absurd (cc)
 refuted_check before CheckSat None after h = absurd (cc)
 refuted_check before CheckSat (Some a) after h =
-    let cases = answer_cases (unchecked_answer a) (is_symbol (codes "sat") a) (checks_in before + 1) (length before + 1) (lines_of_sat true (checks_in before + 1) (length before + 1) (signature_after before) (assertions_after before) ((length before + 1) + 1) after) h in
+    let cases = answer_cases (unchecked_answer a) (is_symbol (codes "sat") a) (checks_in before + 1) (length before + 1) (lines_of_sat true (checks_in before + 1) (length before + 1) (signature_after before) (claims_after before) ((length before + 1) + 1) after) h in
     record {
       sat = record { check = refl; answer = a; answered = refl; sat = cases.0 };
       line = cases.1;
@@ -186,29 +188,29 @@ refuted_check before CheckSat (Some a) after h =
 
 -- the line of a refuted model
 pub record IsRefutedLine (k n g : ℕ) (j : Judgement) (line : Line) : Type 0 where
-  pub assertion : ℕ
-  pub found : j ≡ judgements.Refuted assertion
-  pub line_is : line ≡ lines.Refuted k n g assertion
+  pub claim : Claim
+  pub found : j ≡ judgements.Refuted claim
+  pub line_is : line ≡ lines.Refuted k n g claim
 
 some_line_same : {a b : Line} → ◌≡◌ {A = Option Line} (Some a) (Some b) → a ≡ b
 some_line_same h = cc
 
 refuted_judgement : (k n g : ℕ) (j : Judgement) (line : Line) → line_of_judgement k n g j ≡ Some line → is_refuted_line line ≡ true → IsRefutedLine k n g j line
-refuted_judgement k n g (judgements.Refuted a) line h r = record { assertion = a; found = refl; line_is = sym (some_line_same h) }
+refuted_judgement k n g (judgements.Refuted a) line h r = record { claim = a; found = refl; line_is = sym (some_line_same h) }
 refuted_judgement k n g (judgements.ItemFault i f) line h r = let e = ap is_refuted_line (some_line_same h) ∙ r in absurd (cc)
 refuted_judgement k n g (judgements.Lacks d) line h r = let e = ap is_refuted_line (some_line_same h) ∙ r in absurd (cc)
 refuted_judgement k n g (judgements.NotDecided a) line h r = let e = ap is_refuted_line (some_line_same h) ∙ r in absurd (cc)
 refuted_judgement k n g judgements.Confirmed line h r = absurd (cc)
 
 -- the model that has the line
-pub record HasModel (k n : ℕ) (names : Signature) (as' : List Assertion) (ms : List Printed) (line : Line) : Type 0 where
+pub record HasModel (k n : ℕ) (names : Signature) (as' : List Claimed) (ms : List Printed) (line : Line) : Type 0 where
   pub first : List Printed
   pub model : Printed
   pub last : List Printed
   pub place : ms ≡ first ++ model ∷ last
   pub refuted : IsRefutedLine k n model.command (judgement_of names as' model.parts) line
 
-first_model : (k n : ℕ) (names : Signature) (as' : List Assertion) (m : Printed) (ms : List Printed) (line : Line) (l : Option Line) → line_of_judgement k n m.command (judgement_of names as' m.parts) ≡ l → is_refuted_line line ≡ true → (unconfirmed_line k n names as' ms ≡ Some line → HasModel k n names as' ms line) → option_or l (unconfirmed_line k n names as' ms) ≡ Some line → HasModel k n names as' (m ∷ ms) line
+first_model : (k n : ℕ) (names : Signature) (as' : List Claimed) (m : Printed) (ms : List Printed) (line : Line) (l : Option Line) → line_of_judgement k n m.command (judgement_of names as' m.parts) ≡ l → is_refuted_line line ≡ true → (unconfirmed_line k n names as' ms ≡ Some line → HasModel k n names as' ms line) → option_or l (unconfirmed_line k n names as' ms) ≡ Some line → HasModel k n names as' (m ∷ ms) line
 first_model k n names as' m ms line None is r later h = let g = later h in record {
   first = m ∷ g.first;
   model = g.model;
@@ -224,7 +226,7 @@ first_model k n names as' m ms line (Some other) is r later h = record {
   refuted = refuted_judgement k n m.command (judgement_of names as' m.parts) line (is ∙ h) r;
 }
 
-refuted_model : (k n : ℕ) (names : Signature) (as' : List Assertion) (ms : List Printed) (line : Line) → is_refuted_line line ≡ true → unconfirmed_line k n names as' ms ≡ Some line → HasModel k n names as' ms line
+refuted_model : (k n : ℕ) (names : Signature) (as' : List Claimed) (ms : List Printed) (line : Line) → is_refuted_line line ≡ true → unconfirmed_line k n names as' ms ≡ Some line → HasModel k n names as' ms line
 refuted_model k n names as' [] line r h = absurd (cc)
 refuted_model k n names as' (m ∷ ms) line r h =
     first_model k n names as' m ms line (line_of_judgement k n m.command (judgement_of names as' m.parts)) refl r (refuted_model k n names as' ms line r) h
@@ -234,12 +236,12 @@ or_false_true true h = refl
 or_false_true false h = cc
 
 -- a check with the line of a refuted model
-pub record HasRefuted (k n : ℕ) (names : Signature) (as' : List Assertion) (ms : List Printed) (ls : List Line) : Type 0 where
+pub record HasRefuted (k n : ℕ) (names : Signature) (as' : List Claimed) (ms : List Printed) (ls : List Line) : Type 0 where
   pub line : Line
   pub model : HasModel k n names as' ms line
   pub lines_are : ls ≡ line ∷ []
 
-sat_refuted : (k n : ℕ) (names : Signature) (as' : List Assertion) (ms : List Printed) (some : Bool) (l : Option Line) → unconfirmed_line k n names as' ms ≡ l → list_any is_refuted_line (sat_lines k n l some true) ≡ true → HasRefuted k n names as' ms (sat_lines k n l some true)
+sat_refuted : (k n : ℕ) (names : Signature) (as' : List Claimed) (ms : List Printed) (some : Bool) (l : Option Line) → unconfirmed_line k n names as' ms ≡ l → list_any is_refuted_line (sat_lines k n l some true) ≡ true → HasRefuted k n names as' ms (sat_lines k n l some true)
 sat_refuted k n names as' ms some (Some line) is h = record {
   line = line;
   model = refuted_model k n names as' ms line (or_false_true (is_refuted_line line) h) is;
@@ -250,46 +252,46 @@ sat_refuted k n names as' ms false None is h = absurd (cc)
 
 -- ## What makes an assertion false
 
-pub record HasFirst (test : Sexp → Bool) (as' : List Assertion) (n : ℕ) : Type 0 where
+pub record HasFirst (test : Sexp → Bool) (as' : List Assertion) (claim : Claim) : Type 0 where
   pub first : List Assertion
   pub assertion : Assertion
   pub last : List Assertion
   pub place : as' ≡ first ++ assertion ∷ last
-  pub command : assertion.command ≡ n
+  pub claim_is : claims.Assertion assertion.command ≡ claim
   pub passes : test assertion.term ≡ true
 
-pick : (test : Sexp → Bool) (a : Assertion) (as' : List Assertion) (n : ℕ) (b : Bool) → test a.term ≡ b → (first_assertion test as' ≡ Some n → HasFirst test as' n) → cond b (Some a.command) (first_assertion test as') ≡ Some n → HasFirst test (a ∷ as') n
-pick test a as' n true is later h = record { first = []; assertion = a; last = as'; place = refl; command = cc; passes = is }
-pick test a as' n false is later h = let g = later h in record {
+pick : (test : Sexp → Bool) (a : Assertion) (as' : List Assertion) (claim : Claim) (b : Bool) → test a.term ≡ b → (first_claim test (claims_of as') ≡ Some claim → HasFirst test as' claim) → cond b (Some (claims.Assertion a.command)) (first_claim test (claims_of as')) ≡ Some claim → HasFirst test (a ∷ as') claim
+pick test a as' claim true is later h = record { first = []; assertion = a; last = as'; place = refl; claim_is = cc; passes = is }
+pick test a as' claim false is later h = let g = later h in record {
   first = a ∷ g.first;
   assertion = g.assertion;
   last = g.last;
   place = ap (λ (xs : List Assertion). a ∷ xs) g.place;
-  command = g.command;
+  claim_is = g.claim_is;
   passes = g.passes;
 }
 
-first_some : (test : Sexp → Bool) (as' : List Assertion) (n : ℕ) → first_assertion test as' ≡ Some n → HasFirst test as' n
-first_some test [] n h = absurd (cc)
-first_some test (a ∷ as') n h = pick test a as' n (test a.term) refl (first_some test as' n) h
+first_some : (test : Sexp → Bool) (as' : List Assertion) (claim : Claim) → first_claim test (claims_of as') ≡ Some claim → HasFirst test as' claim
+first_some test [] claim h = absurd (cc)
+first_some test (a ∷ as') claim h = pick test a as' claim (test a.term) refl (first_some test as' claim) h
 
-open_not_refuted : {P : Type 0} (o : Option ℕ) (n : ℕ) → open_or_confirmed o ≡ judgements.Refuted n → P
-open_not_refuted None n h = absurd (cc)
-open_not_refuted (Some m) n h = absurd (cc)
+open_not_refuted : {P : Type 0} (o : Option Claim) (claim : Claim) → open_or_confirmed o ≡ judgements.Refuted claim → P
+open_not_refuted None claim h = absurd (cc)
+open_not_refuted (Some m) claim h = absurd (cc)
 
-refuted_first : (f o : Option ℕ) (n : ℕ) → refuted_or f o ≡ judgements.Refuted n → f ≡ Some n
-refuted_first (Some m) o n h = cc
-refuted_first None o n h = open_not_refuted o n h
+refuted_first : (f o : Option Claim) (claim : Claim) → refuted_or f o ≡ judgements.Refuted claim → f ≡ Some claim
+refuted_first (Some m) o claim h = cc
+refuted_first None o claim h = open_not_refuted o claim h
 
 -- a model that is refuted has definitions over which the assertion is false
-refuted_over : (script : Signature) (as' : List Assertion) (r : Result Signature ModelFault) (n : ℕ) → judged_in script as' r ≡ judgements.Refuted n
-    → (d : Signature) × (r ≡ Ok d) × HasFirst (is_false_over (structure_of script d)) as' n
-refuted_over script as' (Ok d) n h =
+refuted_over : (script : Signature) (as' : List Assertion) (r : Result Signature ModelFault) (claim : Claim) → judged_in script (claims_of as') r ≡ judgements.Refuted claim
+    → (d : Signature) × (r ≡ Ok d) × HasFirst (is_false_over (structure_of script d)) as' claim
+refuted_over script as' (Ok d) claim h =
     let s = structure_of script d in
-    (d, refl, first_some (is_false_over s) as' n (refuted_first (first_assertion (is_false_over s) as') (first_assertion (is_open_over s) as') n h))
-refuted_over script as' (Err (faults.Item i f)) n h = absurd (cc)
-refuted_over script as' (Err (faults.Lacks m)) n h = absurd (cc)
-refuted_over script as' (Err faults.Memory) n h = absurd (cc)
+    (d, refl, first_some (is_false_over s) as' claim (refuted_first (first_claim (is_false_over s) (claims_of as')) (first_claim (is_open_over s) (claims_of as')) claim h))
+refuted_over script as' (Err (faults.Item i f)) claim h = absurd (cc)
+refuted_over script as' (Err (faults.Lacks m)) claim h = absurd (cc)
+refuted_over script as' (Err faults.Memory) claim h = absurd (cc)
 
 -- ## The meaning of an invalid verdict
 
@@ -312,25 +314,27 @@ invalid_means laws options script answers st at' ls v rs ra judged h =
     let n = length before + 1 in
     let names = signature_after before in
     let assertions = assertions_after before in
+    let claimed = claims_after before in
     let ms = models_from (n + 1) (window at_pair.last) in
-    let found = sat_refuted k n names assertions ms (not (is_empty ms)) (unconfirmed_line k n names assertions ms) refl check.line in
-    let over = refuted_over names assertions (model_in names found.model.model.parts) found.model.refuted.assertion found.model.refuted.found in
+    let found = sat_refuted k n names claimed ms (not (is_empty ms)) (unconfirmed_line k n names claimed ms) refl check.line in
+    let over = refuted_over names assertions (model_in names found.model.model.parts) found.model.refuted.claim found.model.refuted.found in
     let standing = laws.found (effective_commands before) over.2.first over.2.last over.2.assertion over.2.place in
     let source = comes_from before standing.0 standing.1 over.2.assertion standing.2 standing.3 standing.4 in
     let asserted = source.asserted in
     let q = asserted.pair in
     let l1 = lines_in true [] before ((p ∷ at_pair.last) ++ []) in
     let l2 = lines_in true (before ++ p ∷ []) at_pair.last [] in
-    let line = lines.Refuted k n found.model.model.command (length source.earlier + 1) in
-    let number : found.model.refuted.assertion ≡ length source.earlier + 1 = sym over.2.command ∙ source.number in
+    let claim = claims.Assertion (length source.earlier + 1) in
+    let line = lines.Refuted k n found.model.model.command claim in
+    let same : found.model.refuted.claim ≡ claim = sym over.2.claim_is ∙ ap claims.Assertion source.number in
     let far : j.pairs ≡ source.earlier ++ q ∷ (asserted.between ++ p ∷ at_pair.last) = at_pair.place ∙ ap (λ (b : List Pair). b ++ p ∷ at_pair.last) asserted.place ∙ append_assoc source.earlier (q ∷ asserted.between) (p ∷ at_pair.last) in
-    let here : lines_of_pair true before p at_pair.last ≡ line ∷ [] = lines_of_sat_at before at_pair.last p check.sat ∙ found.lines_are ∙ ap (λ (l : Line). l ∷ []) found.model.refuted.line_is ∙ ap (λ (i : ℕ). lines.Refuted k n found.model.model.command i ∷ []) number in
+    let here : lines_of_pair true before p at_pair.last ≡ line ∷ [] = lines_of_sat_at before at_pair.last p check.sat ∙ found.lines_are ∙ ap (λ (l : Line). l ∷ []) found.model.refuted.line_is ∙ ap (λ (c : Claim). lines.Refuted k n found.model.model.command c ∷ []) same in
     let end : List Line = lines.Verdict (verdict_of (mine ++ lines_of_end j.fault)) (tally_of (mine ++ lines_of_end j.fault)) ∷ [] in
     record {
       pairs = j.pairs;
       paired = whole.0;
       before = before;
-      pair = p;
+      check = p;
       after = at_pair.last;
       place = at_pair.place;
       sat = check.sat;
@@ -341,9 +345,10 @@ invalid_means laws options script answers st at' ls v rs ra judged h =
       definitions = over.0;
       model_of = laws.complete names found.model.model.parts over.0 over.1;
       structure = structure_behind laws.introduced laws.structures before (p ∷ at_pair.last) found.model.model.parts over.0 (subst (AreFaultless []) at_pair.place j.ends.paired.faultless) over.1;
+      claim = claim;
       earlier = source.earlier;
       term = over.2.assertion.term;
-      asserted = asserted;
+      claimed = (asserted, refl);
       sorted = asserted_formula source.earlier q over.2.assertion.term asserted.command asserted.effective (faultless_at [] source.earlier q (asserted.between ++ p ∷ at_pair.last) (subst (AreFaultless []) far j.ends.paired.faultless));
       false_in = λ z. closed_value laws z (structure_at over.0 before) over.2.assertion.term (Truth false) (is_false_value (known_over (structure_at over.0 before) over.2.assertion.term) over.2.passes);
       lines_before = l1;
@@ -352,36 +357,6 @@ invalid_means laws options script answers st at' ls v rs ra judged h =
           ∙ ap (λ (x : List Line). x ++ end) (no_fault ∙ ap (λ (ps : List Pair). lines_in true [] ps []) at_pair.place ∙ lines_at before p at_pair.last ∙ ap (λ (x : List Line). l1 ++ (x ++ l2)) here)
           ∙ line_place l1 l2 end line;
     }
-
--- ## Laws of the verdicts
-
--- the pairs of a valid dialogue are all its pairs
-valid_pairs : (options : Options) (script answers : List ℕ) (pairs : List Pair) → (v : IsValid options script answers) → IsFullyPaired options script answers pairs → v.pairs ≡ pairs
-valid_pairs options script answers pairs v w = sym (v.only pairs w.script_trees w.answer_trees Nil w.script_forest w.answers_forest w.pairing).0
-
-pub without_model : (options : Options) (script answers : List ℕ) (pairs before after : List Pair) (p : Pair) → IsFullyPaired options script answers pairs → pairs ≡ before ++ p ∷ after → IsSatCheck p → models_from (length before + 2) (window after) ≡ [] → IsValid options script answers → ⊥
-without_model options script answers pairs before after p whole place sat none v =
-    let confirmed = v.confirmed before after p (valid_pairs options script answers pairs v whole ∙ place) sat in
-    let bad : [] ≡ confirmed.first ∷ confirmed.others = sym none ∙ confirmed.models in
-    cc
-
-all_at : {A : Type 0} (P : A → Type 0) (xs : List A) (x : A) (ys : List A) → AllByRecursion P (xs ++ x ∷ ys) → P x
-all_at P [] x ys h = h.0
-all_at P (y ∷ xs) x ys h = all_at P xs x ys h.1
-
-not_both : (t : Element) → t ≡ Truth true → t ≡ Truth false → ⊥
-not_both t a b = let bad : Truth true ≡ Truth false = sym a ∙ b in let worse : true ≡ false = cc in cc
-
-pub with_false : (options : Options) (script answers : List ℕ) (pairs before after : List Pair) (p : Pair) (first last : List Printed) (m : Printed) (definitions : Signature) (earlier : List Pair) (term : Sexp) → IsFullyPaired options script answers pairs → pairs ≡ before ++ p ∷ after → IsSatCheck p
-    → models_from (length before + 2) (window after) ≡ first ++ m ∷ last → IsModelOf (signature_after before) m.parts definitions → IsAsserted before earlier term → ((z : DivisionByZero) → value_over z (structure_at definitions before) [] term ≡ Truth false) → IsValid options script answers → ⊥
-with_false options script answers pairs before after p first last m definitions earlier term whole place sat models of asserted is_false v =
-    let confirmed = v.confirmed before after p (valid_pairs options script answers pairs v whole ∙ place) sat in
-    let all = subst (AllByRecursion (λ (n : Printed). IsTrueModel before n.parts)) (sym confirmed.models ∙ models) confirmed.true_models in
-    let one = all_at (λ (n : Printed). IsTrueModel before n.parts) first m last all in
-    let both : ◌≡◌ {A = Result Signature ModelFault} (Ok one.definitions) (Ok definitions) = sym one.model.read ∙ of.read in
-    let same : one.definitions ≡ definitions = cc in
-    let z : DivisionByZero = record { quotients = []; remainders = [] } in
-    not_both (value_over z (structure_at definitions before) [] term) (ap (λ (d : Signature). value_over z (structure_at d before) [] term) (sym same) ∙ one.true_in z earlier term asserted) (is_false z)
 
 -- ## What a call answered
 

@@ -8,4 +8,5 @@ pub mod Lines
 pub mod FirstFault
 pub mod Report
 pub mod Validity
+pub mod VerdictLaws
 pub mod Internal

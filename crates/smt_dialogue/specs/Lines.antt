@@ -4,12 +4,11 @@ use Rattle.std.specs.List.{list_any}
 use Rattle.std.specs.Option.{option_or}
 use Rattle.smt_trees.specs.Sexp.{Sexp, is_symbol}
 use Rattle.smt_script.specs.Command.{Command, CheckSat}
-use Rattle.smt_script.specs.Stack.{Assertion}
 use Rattle.smt_dialogue.specs.InForce.{signature_after, assertions_after}
 use Rattle.smt_dialogue.specs.Answers.{is_error}
 use Rattle.smt_dialogue.specs.Pairs.{Pair}
 use Rattle.smt_dialogue.specs.Window.{Printed, closes, models_from, window}
-use Rattle.smt_dialogue.specs.Judgement.{judgement_of}
+use Rattle.smt_dialogue.specs.Judgement.{Claimed, claims_of, judgement_of}
 use Rattle.smt_terms.specs.Signature.{Signature}
 use Rattle.smt_dialogue.specs.declared.judgement.Judgement.{Judgement}
 use Rattle.smt_dialogue.specs.declared.judgement.Judgement.TheVariants as judgements
@@ -22,15 +21,15 @@ use Rattle.smt_report.specs.declared.line.Line.TheVariants as lines
 abbrev pub line_of_judgement : ℕ → ℕ → ℕ → Judgement → Option Line
 line_of_judgement k n g (judgements.ItemFault item fault) = Some (lines.ItemFault k n g item fault)
 line_of_judgement k n g (judgements.Lacks declaration) = Some (lines.Lacks k n g declaration)
-line_of_judgement k n g (judgements.Refuted assertion) = Some (lines.Refuted k n g assertion)
-line_of_judgement k n g (judgements.NotDecided assertion) = Some (lines.NotDecided k n g assertion)
+line_of_judgement k n g (judgements.Refuted claim) = Some (lines.Refuted k n g claim)
+line_of_judgement k n g (judgements.NotDecided claim) = Some (lines.NotDecided k n g claim)
 line_of_judgement k n g judgements.Confirmed = None
 
 -- the line of the first model that isn't confirmed
-abbrev pub unconfirmed_line : ℕ → ℕ → Signature → List Assertion → List Printed → Option Line
-unconfirmed_line k n names assertions [] = None
-unconfirmed_line k n names assertions (m ∷ ms) =
-    option_or (line_of_judgement k n m.command (judgement_of names assertions m.parts)) (unconfirmed_line k n names assertions ms)
+abbrev pub unconfirmed_line : ℕ → ℕ → Signature → List Claimed → List Printed → Option Line
+unconfirmed_line k n names claims [] = None
+unconfirmed_line k n names claims (m ∷ ms) =
+    option_or (line_of_judgement k n m.command (judgement_of names claims m.parts)) (unconfirmed_line k n names claims ms)
 
 abbrev pub is_empty : {A : Type 0} → List A → Bool
 is_empty [] = true
@@ -48,10 +47,10 @@ sat_lines k n None some_model closed = if closed then confirmed_line k n some_mo
 
 -- the lines of a check that was answered `sat`, the pairs `after` it beginning with command m. `closed` says that its window is closed
 -- behind these, whatever they are
-abbrev pub lines_of_sat : Bool → ℕ → ℕ → Signature → List Assertion → ℕ → List Pair → List Line
-lines_of_sat closed k n names assertions m after =
+abbrev pub lines_of_sat : Bool → ℕ → ℕ → Signature → List Claimed → ℕ → List Pair → List Line
+lines_of_sat closed k n names claims m after =
     let models = models_from m (window after) in
-    sat_lines k n (unconfirmed_line k n names assertions models) (not (is_empty models)) (closed || list_any closes after)
+    sat_lines k n (unconfirmed_line k n names claims models) (not (is_empty models)) (closed || list_any closes after)
 
 -- what a check was answered otherwise than `sat`
 abbrev pub unchecked_answer : Sexp → Option CheckAnswer
@@ -67,13 +66,17 @@ abbrev pub unchecked_line_or : ℕ → ℕ → Option CheckAnswer → List Line 
 unchecked_line_or k n (Some answer) others = lines.Unchecked k n answer ∷ []
 unchecked_line_or k n None others = others
 
+-- what a check behind pairs claims of its models: the assertions in force
+abbrev pub claims_after : List Pair → List Claimed
+claims_after pairs = claims_of (assertions_after pairs)
+
 -- the lines of a check with its answer
 abbrev pub lines_of_answer : Bool → List Pair → ℕ → Option Sexp → List Pair → List Line
 lines_of_answer closed before k None after = []
 lines_of_answer closed before k (Some answer) after =
     let n = length before + 1 in
     unchecked_line_or k n (unchecked_answer answer)
-    (if is_symbol (codes "sat") answer then lines_of_sat closed k n (signature_after before) (assertions_after before) (n + 1) after else [])
+    (if is_symbol (codes "sat") answer then lines_of_sat closed k n (signature_after before) (claims_after before) (n + 1) after else [])
 
 abbrev pub is_check : Command → Bool
 is_check CheckSat = true

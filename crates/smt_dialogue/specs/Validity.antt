@@ -18,6 +18,8 @@ use Rattle.smt_dialogue.specs.Pairing.{IsPairing}
 use Rattle.smt_dialogue.specs.Pairs.{Pair, is_effective}
 use Rattle.smt_dialogue.specs.declared.options.Options.{Options}
 use Rattle.smt_dialogue.specs.Window.{Printed, models_from, structure_at, window}
+use Rattle.smt_report.specs.declared.claim.Claim.{Claim}
+use Rattle.smt_report.specs.declared.claim.Claim.TheVariants.{Assertion}
 use Rattle.smt_report.specs.declared.line.Line.{Line}
 use Rattle.smt_report.specs.declared.line.Line.TheVariants.{Refuted}
 
@@ -47,22 +49,29 @@ pub record IsAsserted (before : List Pair) (earlier : List Pair) (term : Sexp) :
   pub no_reset : list_any removes_all between ≡ false
   pub levels : KeepLevels (levels_after (earlier ++ pair ∷ [])) (earlier ++ pair ∷ []) between
 
--- the parts are those of a model of the names in force, whose definitions and the script's behind them give a structure. And every
--- assertion in force is well sorted under the names in force before its command, and true in that structure, whatever division by
--- zero gives
-pub record IsTrueModel (before : List Pair) (parts : Sexps) : Type 0 where
+-- a check behind pairs claims the term of each of its models, the term having been read behind the earlier pairs: it is an assertion in
+-- force
+abbrev pub IsClaimed : (before : List Pair) (check : Pair) → Claim → (earlier : List Pair) (term : Sexp) → Type 0
+IsClaimed before check (Assertion command) earlier term = IsAsserted before earlier term × (command ≡ length earlier + 1)
+
+-- the parts are those of a model of the names in force, whose definitions and the script's behind them give a structure. And all that
+-- the check claims, every assertion in force, is well sorted under the names in force before its command, and true in that structure,
+-- whatever division by zero gives
+pub record IsTrueModel (before : List Pair) (check : Pair) (parts : Sexps) : Type 0 where
   pub definitions : Signature
   pub model : IsModelOf (signature_after before) parts definitions
   pub structure : IsStructure (structure_at definitions before)
-  pub sorted : (earlier : List Pair) (term : Sexp) → IsAsserted before earlier term → sort_in (in_assertion (names_of (signature_after earlier))) [] term ≡ Ok Boolean
-  pub true_in : (z : DivisionByZero) (earlier : List Pair) (term : Sexp) → IsAsserted before earlier term → value_over z (structure_at definitions before) [] term ≡ Truth true
+  pub sorted : (claim : Claim) (earlier : List Pair) (term : Sexp) → IsClaimed before check claim earlier term
+      → sort_in (in_assertion (names_of (signature_after earlier))) [] term ≡ Ok Boolean
+  pub true_in : (z : DivisionByZero) (claim : Claim) (earlier : List Pair) (term : Sexp) → IsClaimed before check claim earlier term
+      → value_over z (structure_at definitions before) [] term ≡ Truth true
 
 -- a check that was answered `sat`, behind the pairs before it, has a model in its window, and each model there is a true one
-pub record IsConfirmed (before after : List Pair) : Type 0 where
+pub record IsConfirmed (before : List Pair) (check : Pair) (after : List Pair) : Type 0 where
   pub first : Printed
   pub others : List Printed
   pub models : models_from (length before + 2) (window after) ≡ first ∷ others
-  pub true_models : AllByRecursion (λ (m : Printed). IsTrueModel before m.parts) (first ∷ others)
+  pub true_models : AllByRecursion (λ (m : Printed). IsTrueModel before check m.parts) (first ∷ others)
 
 -- what a valid verdict means. No other pairing of all commands exists, whatever answers it might leave
 pub record IsValid (options : Options) (script answers : List ℕ) : Type 0 where
@@ -70,19 +79,20 @@ pub record IsValid (options : Options) (script answers : List ℕ) : Type 0 wher
   pub paired : IsFullyPaired options script answers pairs
   pub only : (others : List Pair) (script_trees answer_trees rest : Sexps) → Forest limit script script_trees → Forest limit answers answer_trees
       → IsPairing options.print_success others script_trees Nil answer_trees rest → (others ≡ pairs) × (rest ≡ Nil)
-  pub confirmed : (before after : List Pair) (pair : Pair) → pairs ≡ before ++ pair ∷ after → IsSatCheck pair → IsConfirmed before after
+  pub confirmed : (before after : List Pair) (check : Pair) → pairs ≡ before ++ check ∷ after → IsSatCheck check
+      → IsConfirmed before check after
 
 -- what an invalid verdict means: in the window of a check that was answered `sat` stands a model of the names in force, which with the
--- script's definitions gives a structure that makes a well-sorted assertion in force false, whatever division by zero gives, and the
--- report has the line that says so
+-- script's definitions gives a structure that makes a claim of the check, a well-sorted assertion in force, false, whatever division by
+-- zero gives, and the report has the line that says so
 pub record IsInvalid (options : Options) (script answers : List ℕ) (ls : List Line) : Type 0 where
   pub pairs : List Pair
   pub paired : IsFullyPaired options script answers pairs
   pub before : List Pair
-  pub pair : Pair
+  pub check : Pair
   pub after : List Pair
-  pub place : pairs ≡ before ++ pair ∷ after
-  pub sat : IsSatCheck pair
+  pub place : pairs ≡ before ++ check ∷ after
+  pub sat : IsSatCheck check
   pub models_before : List Printed
   pub model : Printed
   pub models_after : List Printed
@@ -90,11 +100,12 @@ pub record IsInvalid (options : Options) (script answers : List ℕ) (ls : List 
   pub definitions : Signature
   pub model_of : IsModelOf (signature_after before) model.parts definitions
   pub structure : IsStructure (structure_at definitions before)
+  pub claim : Claim
   pub earlier : List Pair
   pub term : Sexp
-  pub asserted : IsAsserted before earlier term
+  pub claimed : IsClaimed before check claim earlier term
   pub sorted : sort_in (in_assertion (names_of (signature_after earlier))) [] term ≡ Ok Boolean
   pub false_in : (z : DivisionByZero) → value_over z (structure_at definitions before) [] term ≡ Truth false
   pub lines_before : List Line
   pub lines_after : List Line
-  pub line : ls ≡ lines_before ++ Refuted (checks_in before + 1) (length before + 1) model.command (length earlier + 1) ∷ lines_after
+  pub line : ls ≡ lines_before ++ Refuted (checks_in before + 1) (length before + 1) model.command claim ∷ lines_after

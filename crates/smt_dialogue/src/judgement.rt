@@ -11,9 +11,10 @@ ghost use Rattle.smt_eval.specs.Structure.{structure_of};
 ghost use Rattle.smt_script.specs.Stack as stacks;
 ghost use Rattle.smt_script.specs.Stack.{Numbered, assertions_in_force, signature_in_force};
 ghost use Rattle.smt_script.specs.StackView.{AreAssertions, StandsFor};
-ghost use Rattle.smt_dialogue.specs.Judgement.{judged_over, judgement_of};
+ghost use Rattle.smt_dialogue.specs.Judgement.{claims_of, judged_over, judgement_of};
 
 use smt_eval::{Interpretation, Memory, ModelFault, eval};
+use smt_report::Claim;
 use smt_script::{Assertion, Stack};
 use smt_terms::{Library, TermFault};
 use smt_trees::Trees;
@@ -26,18 +27,18 @@ pub enum Judgement {
     ItemFault { item: u64, fault: TermFault },
     /// The declaration of the first name that no item defines.
     Lacks { declaration: u64 },
-    /// The first assertion that is known to be false.
-    Refuted { assertion: u64 },
-    /// The first assertion that is open, where none is known to be false.
-    NotDecided { assertion: u64 },
-    /// Every assertion is known to be true.
+    /// The first claim that is known to be false.
+    Refuted { claim: Claim },
+    /// The first claim that is open, where none is known to be false.
+    NotDecided { claim: Claim },
+    /// Every claim is known to be true.
     Confirmed,
 }
 
 /// Judges a model under what is in force.
 pub(crate) fn judge(stack: &Stack, model: &Trees) -> Result<Judgement, Memory>
     requires { (commands : List Numbered) × StandsFor stack.now commands }
-    ensures { (commands : List Numbered) → StandsFor stack.now commands → IfOk result (λ j. j ≡ judgement_of (signature_in_force commands) (assertions_in_force commands) model.now) }
+    ensures { (commands : List Numbered) → StandsFor stack.now commands → IfOk result (λ j. j ≡ judgement_of (signature_in_force commands) (claims_of (assertions_in_force commands)) model.now) }
 {
     let library = stack.library();
     match Interpretation::read(library, model) {
@@ -57,7 +58,7 @@ pub(crate) fn judge(stack: &Stack, model: &Trees) -> Result<Judgement, Memory>
     }
 }
 
-// The first assertion that is false over the definitions of a model and the script's own, else the first that is open.
+// The first assertion that is false over the definitions of a model and the script's own, else the first that is open, as a claim.
 fn judge_assertions(
     library: &Library,
     interpretation: &Interpretation,
@@ -66,27 +67,27 @@ fn judge_assertions(
     requires terms { (all : List stacks.Assertion) × AreAssertions (contents_of library.now) assertions.now all }
     requires fits { Fits interpretation.now library.now }
     ensures { (script definitions : Signature) (all : List stacks.Assertion) → libraries.StandsFor library.now script → IsInterpretation interpretation.now script definitions
-        → AreAssertions (contents_of library.now) assertions.now all → IfOk result (λ j. j ≡ judged_over all (structure_of script definitions)) }
+        → AreAssertions (contents_of library.now) assertions.now all → IfOk result (λ j. j ≡ judged_over (claims_of all) (structure_of script definitions)) }
 {
     let mut first_open = None;
     let mut left = assertions;
     while let Some((assertion, rest)) = left.split_first() {
+        let claim = Claim::Assertion {
+            command: assertion.command,
+        };
         match truth_of(eval(library, interpretation, assertion.term)?) {
             Some(true) => {}
-            Some(false) => {
-                let assertion = assertion.command;
-                return Ok(Judgement::Refuted { assertion });
-            }
+            Some(false) => return Ok(Judgement::Refuted { claim }),
             None => {
                 if first_open.is_none() {
-                    first_open = Some(assertion.command);
+                    first_open = Some(claim);
                 }
             }
         }
         left = rest;
     }
     Ok(match first_open {
-        Some(assertion) => Judgement::NotDecided { assertion },
+        Some(claim) => Judgement::NotDecided { claim },
         None => Judgement::Confirmed,
     })
 }

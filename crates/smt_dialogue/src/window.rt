@@ -8,7 +8,7 @@ ghost use Rattle.smt_script.specs.StackView.{StandsFor};
 ghost use Rattle.smt_dialogue.specs.Lines as check_lines;
 ghost use Rattle.smt_dialogue.specs.Internal.ChecksState as state;
 ghost use Rattle.smt_dialogue.specs.Internal.ChecksState.{IsAnswered, checks_after, checks_state, with_check, with_line, with_models, with_window_ended};
-ghost use Rattle.smt_dialogue.specs.Judgement.{judgement_of};
+ghost use Rattle.smt_dialogue.specs.Judgement.{claims_of, judgement_of};
 ghost use Rattle.smt_dialogue.specs.Report.{lines_of_end};
 ghost use Rattle.smt_report.specs.Verdict.{verdict_of, with_verdict};
 
@@ -78,7 +78,7 @@ impl Checks {
         requires stands { (commands : List Numbered) × StandsFor stack.now commands }
         requires answered { IsAnswered role (option_map sexp_of answer.now) }
         ensures { OnOk result ((commands : List Numbered) → StandsFor stack.now commands → checks_state self.new
-            ≡ checks_after effective (checks_state self.old) (signature_in_force commands) (assertions_in_force commands) number role (option_map sexp_of answer.now)) }
+            ≡ checks_after effective (checks_state self.old) (signature_in_force commands) (claims_of (assertions_in_force commands)) number role (option_map sexp_of answer.now)) }
     {
         match role {
             Role::Check => match answer {
@@ -124,7 +124,7 @@ impl Checks {
     ) -> Result<(), Memory>
         requires { (commands : List Numbered) × StandsFor stack.now commands }
         ensures { OnOk result ((commands : List Numbered) → StandsFor stack.now commands
-            → checks_state self.new ≡ with_models (checks_state self.old) self.old.pending (signature_in_force commands) (assertions_in_force commands) number effective (option_map sexp_of answer.now)) }
+            → checks_state self.new ≡ with_models (checks_state self.old) self.old.pending (signature_in_force commands) (claims_of (assertions_in_force commands)) number effective (option_map sexp_of answer.now)) }
     {
         match (self.pending, answer) {
             (Some(pending), Some(Tree::List(model))) if effective => {
@@ -144,7 +144,7 @@ impl Checks {
     ) -> Result<(), Memory>
         requires { (commands : List Numbered) × StandsFor stack.now commands }
         ensures { OnOk result ((commands : List Numbered) → StandsFor stack.now commands → checks_state self.new
-            ≡ with_line (checks_state self.old) pending (check_lines.line_of_judgement pending.check pending.command number (judgement_of (signature_in_force commands) (assertions_in_force commands) model.now))) }
+            ≡ with_line (checks_state self.old) pending (check_lines.line_of_judgement pending.check pending.command number (judgement_of (signature_in_force commands) (claims_of (assertions_in_force commands)) model.now))) }
     {
         let judgement = judge(stack, model)?;
         match line_of_judgement(pending, number, judgement) {
@@ -242,17 +242,17 @@ fn line_of_judgement(pending: PendingCheck, model: u64, judgement: Judgement) ->
             model,
             declaration,
         }),
-        Judgement::Refuted { assertion } => Some(Line::Refuted {
+        Judgement::Refuted { claim } => Some(Line::Refuted {
             check,
             command,
             model,
-            assertion,
+            claim,
         }),
-        Judgement::NotDecided { assertion } => Some(Line::NotDecided {
+        Judgement::NotDecided { claim } => Some(Line::NotDecided {
             check,
             command,
             model,
-            assertion,
+            claim,
         }),
         Judgement::Confirmed => None,
     }

@@ -1,6 +1,8 @@
 -- The text of the report, which is this project's own. A line's end, byte 10, is no part of it.
 use Rattle.std.specs.Prelude.{ℕ, List, ◌++◌, codes}
 use Rattle.std.specs.Fmt.{decimal}
+use Rattle.smt_report.specs.declared.claim.Claim.{Claim}
+use Rattle.smt_report.specs.declared.claim.Claim.TheVariants.{Assertion}
 use Rattle.smt_report.specs.declared.line.CheckAnswer.{CheckAnswer}
 use Rattle.smt_report.specs.declared.line.CheckAnswer.TheVariants.{Unsat, Unknown, Unsupported, Error}
 use Rattle.smt_report.specs.declared.line.Line.{Line}
@@ -20,6 +22,9 @@ text_of_answer Unsat = codes "unsat"
 text_of_answer Unknown = codes "unknown"
 text_of_answer Unsupported = codes "unsupported"
 text_of_answer Error = codes "error"
+
+abbrev pub text_of_claim : Claim → List ℕ
+text_of_claim (Assertion command) = codes "assertion of command " ++ decimal command
 
 abbrev pub text_of_side : Side → List ℕ
 text_of_side Script = codes "script"
@@ -58,10 +63,8 @@ text_of (ItemFault check command model item fault) =
     model_line check command model (codes ": item " ++ (decimal item ++ (codes " " ++ text_of_term_fault fault)))
 text_of (Lacks check command model declaration) =
     model_line check command model (codes ": lacks the symbol of command " ++ decimal declaration)
-text_of (Refuted check command model assertion) =
-    model_line check command model (codes ": refuted by the assertion of command " ++ decimal assertion)
-text_of (NotDecided check command model assertion) =
-    model_line check command model (codes ": assertion of command " ++ (decimal assertion ++ codes " not decided"))
+text_of (Refuted check command model claim) = model_line check command model (codes ": refuted by the " ++ text_of_claim claim)
+text_of (NotDecided check command model claim) = model_line check command model (codes ": " ++ (text_of_claim claim ++ codes " not decided"))
 text_of (TextFault side kind place) =
     codes "fault " ++ text_of_kind kind ++ codes " in the " ++ text_of_side side ++ codes " at byte " ++ decimal place
 text_of (CommandFault command fault) =

@@ -6,10 +6,12 @@
 //! `verdict: valid, confirmed 1, refuted 0, undecided 0, unchecked 0`; with `fault P3 at answer 6` behind it the verdict is refused.
 #![tactic(auto)]
 
+mod claim;
 mod line;
 mod report;
 mod verdict;
 
+pub use claim::Claim;
 pub use line::{CheckAnswer, Line, Side, TextFaultKind};
 pub use report::Report;
 pub use verdict::{Tally, Verdict};

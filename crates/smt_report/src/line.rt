@@ -4,6 +4,7 @@ ghost use Rattle.std.specs.Prelude.{◌≡◌};
 ghost use Rattle.smt_report.specs.FaultLine.{text_line};
 ghost use Rattle.smt_report.specs.Verdict as verdicts;
 
+use crate::claim::Claim;
 use crate::verdict::{Tally, Verdict};
 use smt_faults::{CommandFault, TermFault, TextFault};
 use std::fmt;
@@ -70,19 +71,19 @@ pub enum Line {
         model: u64,
         declaration: u64,
     },
-    /// A `sat` with a complete model that makes the assertion of command `assertion` false.
+    /// A `sat` with a complete model that makes this claim false.
     Refuted {
         check: u64,
         command: u64,
         model: u64,
-        assertion: u64,
+        claim: Claim,
     },
-    /// A `sat` with a complete model in which the assertion of command `assertion` is open, and none is known to be false.
+    /// A `sat` with a complete model in which this claim is open, and none is known to be false.
     NotDecided {
         check: u64,
         command: u64,
         model: u64,
-        assertion: u64,
+        claim: Claim,
     },
     /// A text that is none of the language.
     TextFault {
@@ -320,14 +321,8 @@ impl fmt::Display for Finding<'_> {
                 f,
                 "lacks the symbol of command {declaration}"
             ),
-            Line::Refuted { assertion, .. } => write!(
-                f,
-                "refuted by the assertion of command {assertion}"
-            ),
-            Line::NotDecided { assertion, .. } => write!(
-                f,
-                "assertion of command {assertion} not decided"
-            ),
+            Line::Refuted { claim, .. } => write!(f, "refuted by the {claim}"),
+            Line::NotDecided { claim, .. } => write!(f, "{claim} not decided"),
             _ => Ok(()),
         }
     }

@@ -4,9 +4,8 @@ use Rattle.std.specs.List.{list_any}
 use Rattle.smt_trees.specs.Sexp.{Sexp, Items}
 use Rattle.smt_terms.specs.Signature.{Signature}
 use Rattle.smt_script.specs.Command.{Command, CheckSat, GetModel}
-use Rattle.smt_script.specs.Stack.{Assertion}
 use Rattle.smt_dialogue.specs.Answers.{has_form}
-use Rattle.smt_dialogue.specs.Judgement.{judgement_of}
+use Rattle.smt_dialogue.specs.Judgement.{Claimed, judgement_of}
 use Rattle.smt_dialogue.specs.Lines.{confirmed_line, is_empty, line_of_judgement, sat_lines, unchecked_answer, unconfirmed_line}
 use Rattle.smt_dialogue.specs.Pairs.{Pair}
 use Rattle.smt_dialogue.specs.Window.{closes, closes_by, models_from, window}
@@ -29,11 +28,11 @@ abbrev pub checks_state : Checks → ChecksState
 checks_state c = record { count = c.count; pending = c.pending; lines = c.lines.items }
 
 -- the lines of the check whose window has not ended, for the pairs after, which begin with command m
-abbrev pub pending_lines : Bool → Option PendingCheck → Signature → List Assertion → ℕ → List Pair → List Line
-pending_lines closed None names assertions m after = []
-pending_lines closed (Some c) names assertions m after =
+abbrev pub pending_lines : Bool → Option PendingCheck → Signature → List Claimed → ℕ → List Pair → List Line
+pending_lines closed None names claims m after = []
+pending_lines closed (Some c) names claims m after =
     let models = models_from m (window after) in
-    sat_lines c.check c.command (unconfirmed_line c.check c.command names assertions models) (c.some_model || not (is_empty models)) (closed || list_any closes after)
+    sat_lines c.check c.command (unconfirmed_line c.check c.command names claims models) (c.some_model || not (is_empty models)) (closed || list_any closes after)
 
 -- the line of a check whose window ends
 abbrev pub closing_lines : Option PendingCheck → List Line
@@ -59,9 +58,9 @@ with_line s c (Some line) = record s { pending = None; lines = s.lines ++ line �
 with_line s c None = record s { pending = Some (record c { some_model = true }) }
 
 -- the answer to a `get-model` at command n, which took effect or did not: a list in a window is a model
-abbrev pub with_models : ChecksState → Option PendingCheck → Signature → List Assertion → ℕ → Bool → Option Sexp → ChecksState
-with_models s (Some c) names assertions n true (Some (Items parts)) = with_line s c (line_of_judgement c.check c.command n (judgement_of names assertions parts))
-with_models s pending names assertions n effective answer = s
+abbrev pub with_models : ChecksState → Option PendingCheck → Signature → List Claimed → ℕ → Bool → Option Sexp → ChecksState
+with_models s (Some c) names claims n true (Some (Items parts)) = with_line s c (line_of_judgement c.check c.command n (judgement_of names claims parts))
+with_models s pending names claims n effective answer = s
 
 -- what a command is for the window of a check
 abbrev pub role_of : Command → Role
@@ -75,8 +74,8 @@ IsAnswered role.Check answer = (a : Sexp) × (answer ≡ Some a) × (has_form Ch
 IsAnswered _ answer = Unit {0}
 
 -- command n, by what it is for the window, with its answer, which says whether it took effect
-abbrev pub checks_after : Bool → ChecksState → Signature → List Assertion → ℕ → Role → Option Sexp → ChecksState
-checks_after effective s names assertions n role.Check (Some answer) = with_check s n answer
-checks_after effective s names assertions n role.Model answer = with_models s s.pending names assertions n effective answer
-checks_after effective s names assertions n role.Change answer = if effective then with_window_ended s else s
-checks_after effective s names assertions n _ answer = s
+abbrev pub checks_after : Bool → ChecksState → Signature → List Claimed → ℕ → Role → Option Sexp → ChecksState
+checks_after effective s names claims n role.Check (Some answer) = with_check s n answer
+checks_after effective s names claims n role.Model answer = with_models s s.pending names claims n effective answer
+checks_after effective s names claims n role.Change answer = if effective then with_window_ended s else s
+checks_after effective s names claims n _ answer = s

@@ -6,8 +6,8 @@ use Rattle.smt_script.specs.StackView as stacks
 use Rattle.smt_script.specs.StackView.{last_of}
 use Rattle.smt_faults.specs.declared.command_fault.CommandFault.{CommandFault}
 use Rattle.smt_script.specs.declared.stack.Stack.{Stack}
-use Rattle.smt_dialogue.specs.InForce.{assertions_after, signature_after}
-use Rattle.smt_dialogue.specs.Lines.{checks_in, lines_in}
+use Rattle.smt_dialogue.specs.InForce.{signature_after}
+use Rattle.smt_dialogue.specs.Lines.{checks_in, claims_after, lines_in}
 use Rattle.smt_dialogue.specs.Pairs.{Pair, answers_taken, effective_commands}
 use Rattle.smt_dialogue.specs.Internal.ChecksState.{ChecksState, checks_state, pending_lines}
 use Rattle.smt_dialogue.specs.declared.dialogue.Dialogue.{Dialogue}
@@ -35,4 +35,4 @@ pub record StandsFor (s : State) (pairs : List Pair) : Type 0 where
   pub answers : s.answers ≡ answers_taken pairs
   pub checks : s.checks.count ≡ checks_in pairs
   pub lines : (closed : Bool) (after : List Pair)
-      → lines_in closed [] pairs after ≡ s.checks.lines ++ pending_lines closed s.checks.pending (signature_after pairs) (assertions_after pairs) (length pairs + 1) after
+      → lines_in closed [] pairs after ≡ s.checks.lines ++ pending_lines closed s.checks.pending (signature_after pairs) (claims_after pairs) (length pairs + 1) after

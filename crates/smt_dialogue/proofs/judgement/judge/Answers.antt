@@ -3,7 +3,7 @@ use Rattle.std.proofs.lemmas.Result.{IfOk-weaker}
 use Rattle.smt_terms.specs.Contents.{contents_of}
 use Rattle.smt_script.specs.Stack.{assertions_in_force, signature_in_force}
 use Rattle.smt_script.specs.StackView.{AreAssertions}
-use Rattle.smt_dialogue.specs.Judgement.{judged_in, judgement_of}
+use Rattle.smt_dialogue.specs.Judgement.{claims_of, judged_in, judgement_of}
 use Rattle.smt_dialogue.proofs.judgement.judge.Goals as goal
 
 pub returns-in-Ok : goal.returns-in-Ok
@@ -13,7 +13,7 @@ returns-in-Ok c = λ commands stands.
     let names = c.library-library.ensures.stands commands stands in
     let read = c.in-Ok.ensures script names in
     let terms = subst (λ l. AreAssertions (contents_of l) c.assertions.result.now all) (sym c.library-library.ensures.view) (c.assertions.ensures commands stands) in
-    IfOk-weaker c.judge_assertions-judgement.result _ (λ j. j ≡ judgement_of script all c.args.model.now) (λ j h. h ∙ ap (judged_in script all) (sym read.1)) (c.judge_assertions-judgement.ensures script read.0 all names read.2 terms)
+    IfOk-weaker c.judge_assertions-judgement.result _ (λ j. j ≡ judgement_of script (claims_of all) c.args.model.now) (λ j h. h ∙ ap (judged_in script (claims_of all)) (sym read.1)) (c.judge_assertions-judgement.ensures script read.0 all names read.2 terms)
 
 pub judge_assertions-judgement-requires-clause-fits : goal.judge_assertions-judgement-requires-clause-fits
 judge_assertions-judgement-requires-clause-fits c =

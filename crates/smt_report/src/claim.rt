@@ -1,0 +1,23 @@
+//! What a check claims of a model: that these formulas are true in it.
+
+use std::fmt;
+
+/// A formula that a model of a check has to make true. Commands count from 1.
+#[derive(Clone, Copy)]
+pub enum Claim {
+    /// The assertion of a command.
+    Assertion { command: u64 },
+}
+
+impl fmt::Display for Claim {
+    ghost use Rattle.std.specs.Prelude.{Some};
+    ghost use Rattle.smt_report.specs.LineText.{text_of_claim};
+
+    ghost output = { λ x. Some (text_of_claim x) };
+
+    fn fmt<W: fmt::Write>(&self, f: &mut fmt::Formatter<W>) -> fmt::Result {
+        match self {
+            Claim::Assertion { command } => write!(f, "assertion of command {command}"),
+        }
+    }
+}
