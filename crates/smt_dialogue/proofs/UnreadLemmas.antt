@@ -1,7 +1,6 @@
 -- What comes next of a text, by what is read of all of it.
 use Rattle.std.proofs.Common.{◌≡◌, ◌≤◌, ◌+◌, ℕ, List, [], ◌++◌, length, take, drop, Option, Some, Result, Ok, Err, Bool, true, false, refl, sym, ap, ◌∙◌, arith, subst, ◌≢◌}
 use Rattle.std.proofs.lemmas.List.{append-nil, length-append, take-append-drop}
-use Rattle.smt_trees.proofs.SexpLemmas.{append_assoc, append_nil, count-append}
 use Rattle.smt_text.specs.Grammar.{limit}
 use Rattle.smt_text.specs.Reader.{Answers, bytes_fed, is_finished}
 use Rattle.smt_text.specs.Reader as readers
@@ -28,10 +27,22 @@ abbrev pub OneReading : Type 0
 OneReading = (limit : ℕ) (ended : Bool) (text : List ℕ) (xs ys : Sexps) (f g : Option TextFault) → Reads limit ended text xs f → Reads limit ended text ys g → (xs ≡ ys) × (f ≡ g)
 
 abbrev pub TreesStay : Type 0
-TreesStay = (limit : ℕ) (text more : List ℕ) (xs ys : Sexps) (f g : Option TextFault) → Reads limit false text xs f → Reads limit true (text ++ more) ys g → (later : Sexps) × (ys ≡ append xs later)
+TreesStay = (limit : ℕ) (ended : Bool) (text more : List ℕ) (xs ys : Sexps) (f g : Option TextFault) → Reads limit false text xs f → Reads limit ended (text ++ more) ys g → (later : Sexps) × (ys ≡ append xs later)
 
 abbrev pub FewTrees : Type 0
 FewTrees = (limit : ℕ) (text : List ℕ) (trees : Sexps) (f : Option TextFault) → Reads limit true text trees f → count trees ≤ length text
+
+append_nil : (xs : Sexps) → append xs Nil ≡ xs
+append_nil Nil = refl
+append_nil (Cons x xs) = ap (Cons x) (append_nil xs)
+
+append_assoc : (xs ys zs : Sexps) → append (append xs ys) zs ≡ append xs (append ys zs)
+append_assoc Nil ys zs = refl
+append_assoc (Cons x xs) ys zs = ap (Cons x) (append_assoc xs ys zs)
+
+count-append : (xs ys : Sexps) → count (append xs ys) ≡ count xs + count ys
+count-append Nil ys = omega arith
+count-append (Cons x xs) ys = omega (arith, count-append xs ys)
 
 same_behind : (xs : Sexps) {ys zs : Sexps} → append xs ys ≡ append xs zs → ys ≡ zs
 same_behind Nil h = h
@@ -51,7 +62,7 @@ first_left one stay true fed rest taken trees later t f g none a b =
     let r = one limit true fed (append taken trees) (append taken (Cons t later)) g f (subst (λ text. Reads limit true text (append taken trees) g) (whole (none refl)) b) a in
     (later, same_behind taken r.0)
 first_left one stay false fed rest taken trees later t f g none a b =
-    let r = stay limit fed rest (append taken (Cons t later)) (append taken trees) f g a b in
+    let r = stay limit true fed rest (append taken (Cons t later)) (append taken trees) f g a b in
     (append later r.0, same_behind taken (r.1 ∙ append_assoc taken (Cons t later) r.0))
 
 -- then the others are left

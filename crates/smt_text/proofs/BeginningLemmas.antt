@@ -3,9 +3,9 @@ use Rattle.std.proofs.Common.{◌≡◌, ◌≤◌, ◌+◌, ℕ, List, [], ◌�
 use Rattle.std.proofs.lemmas.List.{append_assoc, length-append}
 use Rattle.smt_text.proofs.PrefixLemmas.{runs_if_begins}
 use Rattle.smt_text.proofs.ReaderCompleteness.{reads-forest}
-use Rattle.smt_text.proofs.ReadingLemmas.{one_complete}
-use Rattle.smt_trees.proofs.SexpLemmas.{append_nil, count-append}
-use Rattle.smt_trees.proofs.SexpLemmas as sexps
+use Rattle.smt_text.proofs.ReadingLemmas.{complete_trees_stay, one_complete, read_faults_stay}
+use Rattle.smt_text.proofs.SexpLemmas.{append_nil, count-append}
+use Rattle.smt_text.proofs.SexpLemmas as sexps
 use Rattle.smt_text.proofs.WholeTreeLemmas.{complete_run, settled_more}
 use Rattle.smt_text.specs.Grammar.{OpenParenthesis, CloseParenthesis}
 use Rattle.smt_text.specs.Internal.Machine.{Levels, On, State, At, start, flush, act, add, add_if, atom_of, settle, lex, move, token_in, step, go_on, run, complete_of, top_of}
@@ -34,25 +34,24 @@ added None (On (parts ∷ lists) top) ys e = absurd (cc)
 added (Some x) (On [] top) ys e = let same : ys ≡ append top (Cons x Nil) = cc in (Cons x Nil, same)
 added (Some x) (On (parts ∷ lists) top) ys e = absurd (cc)
 
-ended : (s : State) (ys : Sexps) → flush s ≡ On [] ys → (later : Sexps) × (ys ≡ append (complete_of s) later)
-ended (At token bytes levels) ys e = added (atom_of token bytes) levels ys e
+at_end : (s : State) (ys : Sexps) → flush s ≡ On [] ys → (later : Sexps) × (ys ≡ append (complete_of s) later)
+at_end (At token bytes levels) ys e = added (atom_of token bytes) levels ys e
 
--- complete trees of a beginning are the first of those of the whole
-first_complete : (limit : ℕ) (text more : List ℕ) (xs ys : Sexps) (g : Option TextFault) → Begins limit text → AreComplete limit text xs → Reads limit true (text ++ more) ys g → (later : Sexps) × (ys ≡ append xs later)
-first_complete limit text more xs ys (Some g) begun a b =
+-- complete trees of a beginning are the first of those of the whole, and of those of every longer beginning
+first_complete : (limit : ℕ) (ended : Bool) (text more : List ℕ) (xs ys : Sexps) (g : Option TextFault) → Begins limit text → AreComplete limit text xs → Reads limit ended (text ++ more) ys g → (later : Sexps) × (ys ≡ append xs later)
+first_complete limit ended text more xs ys (Some g) begun a b =
     let p = beginning_of_prefix text more b.2.0 b.2.1 b.2.2.parts (b.2.2.longest text more refl begun) in
     b.2.3.most xs (subst (λ t. AreSettled limit t xs) (sym p.1) (settled_more limit text p.0 xs a.settled))
-first_complete limit text more xs ys None begun a b =
+first_complete limit true text more xs ys None begun a b =
     let r = reads-forest limit (text ++ more) ys b in
     let complete = (complete_run limit (text ++ more) r.next r.runs).most xs (settled_more limit text more xs a.settled) in
-    let last = ended r.next ys r.trees in
+    let last = at_end r.next ys r.trees in
     (append complete.0 last.0, last.1 ∙ ap (λ x. append x last.0) complete.1 ∙ sexps.append_assoc xs complete.0 last.0)
+first_complete limit false text more xs ys None begun a b = complete_trees_stay limit text more xs ys a b.1
 
-pub read_trees_stay : (limit : ℕ) (text more : List ℕ) (xs ys : Sexps) (f g : Option TextFault) → Reads limit false text xs f → Reads limit true (text ++ more) ys g → (later : Sexps) × (ys ≡ append xs later)
-read_trees_stay limit text more xs ys None g a b = first_complete limit text more xs ys g a.0 a.1 b
-read_trees_stay limit text more xs ys (Some f) g a b =
-    first_complete limit a.2.0 (a.2.1 ++ more) xs ys g a.2.2.begins a.2.3
-    (subst (λ t. Reads limit true t ys g) (ap (λ t. t ++ more) a.2.2.parts ∙ append_assoc a.2.0 a.2.1 more) b)
+pub read_trees_stay : (limit : ℕ) (ended : Bool) (text more : List ℕ) (xs ys : Sexps) (f g : Option TextFault) → Reads limit false text xs f → Reads limit ended (text ++ more) ys g → (later : Sexps) × (ys ≡ append xs later)
+read_trees_stay limit ended text more xs ys None g a b = first_complete limit ended text more xs ys g a.0 a.1 b
+read_trees_stay limit ended text more xs ys (Some f) g a b = (Nil, (read_faults_stay limit ended text more xs ys f g a b).0 ∙ sym (append_nil xs))
 
 -- trees at the top
 abbrev width_of : Levels → ℕ

@@ -1,3 +1,4 @@
+pub mod SexpLemmas
 mod BeginningLemmas
 pub mod ReservedLemmas
 pub mod ByteLemmas

@@ -2,7 +2,7 @@
 use Rattle.std.proofs.Common.{◌≡◌, ◌⊎◌, ◌<◌, ◌≤◌, ℕ, suc, zero, List, [], ◌∷◌, ◌++◌, length, Option, Some, None, Bool, true, false, ltb, cond, refl, sym, ap, ◌∙◌, inl, inr, arith, subst}
 use Rattle.std.proofs.lemmas.Bool.{cases_lt}
 use Rattle.std.proofs.lemmas.List.{append-nil, length-append}
-use Rattle.smt_trees.proofs.SexpLemmas.{append_nil, append_assoc as sexps_assoc}
+use Rattle.smt_text.proofs.SexpLemmas.{append_nil, append_assoc as sexps_assoc}
 use Rattle.smt_text.proofs.ReaderSoundness.{forest-read}
 use Rattle.smt_text.proofs.ReaderCompleteness.{step-at, run-cons, run-append, reads-forest, depth_of-add, may_be_ended_ends}
 use Rattle.smt_text.proofs.ByteLemmas.{MayBeEnded, lex_ended}
@@ -103,7 +103,7 @@ begins_if_runs limit prefix (At token bytes levels) e =
     (c.more ++ r.more, r.trees, forest-read limit (prefix ++ (c.more ++ r.more)) r.end r.trees (run-append limit start (At token bytes levels) prefix (c.more ++ r.more) e ∙ all) r.closed r.whole)
 
 -- what goes on past a place begins with the byte there
-prefix_past : (prefix longer : List ℕ) (b : ℕ) (rest other : List ℕ) → prefix ++ b ∷ rest ≡ longer ++ other → length prefix < length longer → (x : List ℕ) × (longer ≡ prefix ++ b ∷ x)
+pub prefix_past : (prefix longer : List ℕ) (b : ℕ) (rest other : List ℕ) → prefix ++ b ∷ rest ≡ longer ++ other → length prefix < length longer → (x : List ℕ) × (longer ≡ prefix ++ b ∷ x)
 prefix_past [] [] b rest other e h = absurd (omega arith)
 prefix_past [] (c ∷ longer) b rest other e h = let same : c ≡ b = cc in (longer, ap (λ x. x ∷ longer) same)
 prefix_past (a ∷ prefix) [] b rest other e h = absurd (omega arith)

@@ -5,7 +5,7 @@ use Rattle.std.proofs.lemmas.List.{append-nil, append_assoc}
 use Rattle.std.specs.List.{AllByRecursion, list_all}
 use Rattle.std.specs.Prelude.{if◌then◌else◌}
 use Rattle.smt_text.proofs.ByteLemmas.{MayBeEnded, lex_ended, white_ends, white_separates, push_digit, push_first_fraction, push_fraction, push_first_hex, push_hex, push_first_bin, push_bin, push_name, push_first_keyword, push_keyword, push_quoted, push_text, skip_comment, end_comment, letter_begins, digit_begins, letter_no_ender, digit_no_ender}
-use Rattle.smt_trees.proofs.SexpLemmas.{append_nil, append_assoc as sexps_assoc}
+use Rattle.smt_text.proofs.SexpLemmas.{append_nil, append_assoc as sexps_assoc}
 use Rattle.smt_text.proofs.ReservedLemmas.{word_named-spelling, find_word-some}
 use Rattle.smt_text.specs.Grammar.{Token, OpenParenthesis, CloseParenthesis, AtomToken, WordToken, ZeroOrMore, OneOrMore, IsNumeral, IsDecimal, IsSimpleSymbol, IsSpelling, IsComment, IsSeparator, IsGap, IsTextThen, IsTextEnd, EndsToken, IsApart, joined, doubled, barred, tokens_of, tokens_of_all, Forest}
 use Rattle.smt_text.specs.Lexical.{quote, bar, semicolon, point, zero_digit, is_white, is_digit, is_hexadecimal_digit, is_binary_digit, is_letter, is_symbol_byte, is_text_byte, is_quoted_byte, is_comment_byte, ends_token}

@@ -2,7 +2,7 @@
 use Rattle.std.proofs.Common.{◌≡◌, ◌≢◌, ◌⊎◌, ◌<◌, ◌+◌, ℕ, List, [], ◌∷◌, ◌++◌, length, drop, take, get_or, Option, Some, None, Result, Ok, Err, is_some, Bool, true, false, cond, ltb, refl, sym, ap, ◌∙◌, inl, inr, arith, subst}
 use Rattle.std.specs.Result.{result_err}
 use Rattle.std.proofs.lemmas.List.{append_assoc, length-append, length-take-le, take-append-drop, drop_more}
-use Rattle.smt_trees.proofs.SexpLemmas.{append_nil, append_assoc as sexps_assoc}
+use Rattle.smt_text.proofs.SexpLemmas.{append_nil, append_assoc as sexps_assoc}
 use Rattle.smt_text.proofs.ReadingLemmas.{stuck_reads, leaves_reads, ends_outside, ends_inside}
 use Rattle.smt_text.proofs.BuilderLemmas.{depth_of-flush}
 use Rattle.smt_text.proofs.ReaderCompleteness.{run-append}
@@ -10,7 +10,7 @@ use Rattle.smt_text.specs.Grammar.{OpenParenthesis, CloseParenthesis}
 use Rattle.smt_text.specs.Reader.{is_finished, bytes_fed, fault_of, trees_ready, Keeps, StandsFor, Answers}
 use Rattle.smt_text.specs.Internal.Machine.{Levels, On, State, At, start, add, atom_of, add_if, flush, act, settle, lex, move, may_end, token_in, step, go_on, run, depth_of, depth_in, top_of, complete_of, IsStuck, Leaves, blame}
 use Rattle.smt_text.specs.Reading.{Reads}
-use Rattle.smt_text.specs.Internal.ReaderState.{lists_of, state_of, under, after_taken, GoesThrough, Ends}
+use Rattle.smt_text.specs.Internal.ReaderState.{GoesOnFrom, lists_of, state_of, under, after_taken, GoesThrough, Ends}
 use Rattle.smt_trees.specs.Sexp.{Sexp, Sexps, Items, Nil, Cons, append}
 use Rattle.smt_trees.specs.Tree.{sexp_of, sexps_of}
 use Rattle.smt_faults.specs.declared.text_fault.TextFault.{TextFault}
@@ -79,7 +79,7 @@ unfinished reader fed taken h e = by h.1
   where
     by : (fault_of reader ≡ Some Memory) ⊎ Keeps (is_finished reader) reader fed taken → (fault_of reader ≡ Some Memory) ⊎ Leaves MAX_DEPTH fed (after_taken taken (state_of reader)) (fault_of reader)
     by (inl m) = inl m
-    by (inr k) = inr (subst (λ b. Keeps b reader fed taken) e k)
+    by (inr k) = inr (subst (λ b. Keeps b reader fed taken) e k).1
 
 runs_on : (reader : Reader) (fed : List ℕ) (taken : Sexps) → StandsFor reader fed taken → is_finished reader ≡ false → fault_of reader ≡ None → run MAX_DEPTH start fed ≡ Some (after_taken taken (state_of reader))
 runs_on reader fed taken h e n = by (unfinished reader fed taken h e)
@@ -90,7 +90,9 @@ runs_on reader fed taken h e n = by (unfinished reader fed taken h e)
 
 stands_if : (reader : Reader) (fed : List ℕ) (taken : Sexps) (fault : Option TextFault) → bytes_fed reader ≡ length fed → is_finished reader ≡ false → fault_of reader ≡ fault → Leaves MAX_DEPTH fed (after_taken taken (state_of reader)) fault → StandsFor reader fed taken
 stands_if reader fed taken fault count e f k =
-    (count, inr (subst (λ b. Keeps b reader fed taken) (sym e) (subst (λ x. Leaves MAX_DEPTH fed (after_taken taken (state_of reader)) x) (sym f) k)))
+    let all : Leaves MAX_DEPTH fed (after_taken taken (state_of reader)) (fault_of reader) = subst (λ x. Leaves MAX_DEPTH fed (after_taken taken (state_of reader)) x) (sym f) k in
+    let kept : Keeps false reader fed taken = (leaves_reads MAX_DEPTH fed (after_taken taken (state_of reader)) (fault_of reader) all, all) in
+    (count, inr (subst (λ b. Keeps b reader fed taken) (sym e) kept))
 
 -- before any byte
 pub stands_new : (reader : Reader) → bytes_fed reader ≡ 0 → is_finished reader ≡ false → fault_of reader ≡ None → state_of reader ≡ start → StandsFor reader [] Nil
@@ -176,7 +178,8 @@ not_whole taken s (inr e) trees f w = let both = ap may_end (token_after taken s
 
 stands_ended : (reader : Reader) (fed : List ℕ) (taken : Sexps) (fault : Option TextFault) → bytes_fed reader ≡ length fed → is_finished reader ≡ true → fault_of reader ≡ fault → Reads MAX_DEPTH true fed (append taken (trees_ready reader)) fault → StandsFor reader fed taken
 stands_ended reader fed taken fault count e f k =
-    (count, inr (subst (λ b. Keeps b reader fed taken) (sym e) (subst (λ x. Reads MAX_DEPTH true fed (append taken (trees_ready reader)) x) (sym f) k)))
+    let kept : Keeps true reader fed taken = (subst (λ x. Reads MAX_DEPTH true fed (append taken (trees_ready reader)) x) (sym f) k, tt) in
+    (count, inr (subst (λ b. Keeps b reader fed taken) (sym e) kept))
 
 pub stands_finish : (old new : Reader) (result : Result (Unit {0}) TextFault) (fed : List ℕ) (taken : Sexps) → is_finished old ≡ false → is_finished new ≡ true → fault_of old ≡ None → bytes_fed new ≡ bytes_fed old → fault_of new ≡ result_err result → Ends (state_of old) (bytes_fed old) result (state_of new) → StandsFor old fed taken → StandsFor new fed taken
 stands_finish old new (Ok done) fed taken e e' n count f ends h =
@@ -208,16 +211,12 @@ stands_stop old new fed taken e e' some count f same h =
     stopped old new fed taken (fault_of old) some refl e' (count ∙ h.0) f same (unfinished old fed taken h e)
 
 -- what is read, with the trees that are ready
-keeps_reads : (ended : Bool) (reader : Reader) (fed : List ℕ) (taken : Sexps) → Keeps ended reader fed taken → Reads MAX_DEPTH ended fed (append taken (trees_ready reader)) (fault_of reader)
-keeps_reads false reader fed taken k = leaves_reads MAX_DEPTH fed (after_taken taken (state_of reader)) (fault_of reader) k
-keeps_reads true reader fed taken k = k
-
 pub stands_reads : (reader : Reader) (fed : List ℕ) (taken : Sexps) → StandsFor reader fed taken → (fault_of reader ≡ Some Memory) ⊎ Reads MAX_DEPTH (is_finished reader) fed (append taken (trees_ready reader)) (fault_of reader)
 stands_reads reader fed taken h = by h.1
   where
     by : (fault_of reader ≡ Some Memory) ⊎ Keeps (is_finished reader) reader fed taken → (fault_of reader ≡ Some Memory) ⊎ Reads MAX_DEPTH (is_finished reader) fed (append taken (trees_ready reader)) (fault_of reader)
     by (inl m) = inl m
-    by (inr k) = inr (keeps_reads (is_finished reader) reader fed taken k)
+    by (inr k) = inr k.0
 
 -- where no tree is ready
 pub none_ready : (reader : Reader) (fed : List ℕ) (taken : Sexps) (fault : Option TextFault) → reader.builder.ready.items ≡ [] → fault_of reader ≡ fault → StandsFor reader fed taken → (fault ≡ Some Memory) ⊎ Reads MAX_DEPTH (is_finished reader) fed taken fault
@@ -258,10 +257,12 @@ answers_tree reader fed taken tree rest fine first h = by (stands_reads reader f
 
 -- a tree was handed out
 handed : (ended : Bool) (old new : Reader) (fed : List ℕ) (taken longer : Sexps) → fault_of new ≡ fault_of old → after_taken longer (state_of new) ≡ after_taken taken (state_of old) → append longer (trees_ready new) ≡ append taken (trees_ready old) → Keeps ended old fed taken → Keeps ended new fed longer
-handed false old new fed taken longer f same all k =
-    subst (λ x. Leaves MAX_DEPTH fed (after_taken longer (state_of new)) x) (sym f) (subst (λ s. Leaves MAX_DEPTH fed s (fault_of old)) (sym same) k)
-handed true old new fed taken longer f same all k =
-    subst (λ x. Reads MAX_DEPTH true fed (append longer (trees_ready new)) x) (sym f) (subst (λ xs. Reads MAX_DEPTH true fed xs (fault_of old)) (sym all) k)
+handed ended old new fed taken longer f same all k =
+    (subst (λ x. Reads MAX_DEPTH ended fed (append longer (trees_ready new)) x) (sym f) (subst (λ xs. Reads MAX_DEPTH ended fed xs (fault_of old)) (sym all) k.0), on ended k.1)
+  where
+    on : (b : Bool) → GoesOnFrom b old fed taken → GoesOnFrom b new fed longer
+    on false l = subst (λ x. Leaves MAX_DEPTH fed (after_taken longer (state_of new)) x) (sym f) (subst (λ s. Leaves MAX_DEPTH fed s (fault_of old)) (sym same) l)
+    on true l = tt
 
 pub stands_handed : (old new : Reader) (fed : List ℕ) (taken : Sexps) (tree : Tree) → bytes_fed new ≡ bytes_fed old → is_finished new ≡ is_finished old → fault_of new ≡ fault_of old → new.token ≡ old.token → new.bytes.items ≡ old.bytes.items → new.builder.lists.items ≡ old.builder.lists.items → old.builder.ready.items ≡ tree ∷ new.builder.ready.items → StandsFor old fed taken → StandsFor new fed (append taken (Cons (sexp_of tree) Nil))
 stands_handed old new fed taken tree count e f same_token same_bytes same_lists first h = (count ∙ h.0, by h.1)

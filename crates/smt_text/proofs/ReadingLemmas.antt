@@ -1,9 +1,9 @@
 -- What is read of a text, by its run: there is always one answer.
-use Rattle.std.proofs.Common.{◌≡◌, ◌⊎◌, ◌≤◌, ◌+◌, ℕ, suc, List, [], ◌∷◌, ◌++◌, length, Option, Some, None, Bool, true, false, ltb, cond, refl, sym, ap, ◌∙◌, inl, inr, arith, subst}
-use Rattle.std.proofs.lemmas.Bool.{ltb-true, lt-ltb}
+use Rattle.std.proofs.Common.{◌≡◌, ◌⊎◌, ◌<◌, ◌≤◌, ◌+◌, ℕ, suc, List, [], ◌∷◌, ◌++◌, length, Option, Some, None, Bool, true, false, ltb, cond, refl, sym, ap, ◌∙◌, inl, inr, arith, subst}
+use Rattle.std.proofs.lemmas.Bool.{cases_lt, ltb-true, lt-ltb}
 use Rattle.std.proofs.lemmas.List.{append-nil, append_assoc, length-append}
-use Rattle.smt_trees.proofs.SexpLemmas.{append_nil, count-append, nil_if_none}
-use Rattle.smt_text.proofs.PrefixLemmas.{runs_if_begins, begins_if_runs, stuck_prefix, complete_prefix}
+use Rattle.smt_text.proofs.SexpLemmas.{append_nil, count-append, nil_if_none}
+use Rattle.smt_text.proofs.PrefixLemmas.{prefix_past, runs_if_begins, begins_if_runs, stuck_prefix, complete_prefix}
 use Rattle.smt_text.proofs.ReaderSoundness.{forest-read}
 use Rattle.smt_text.proofs.WholeTreeLemmas.{complete_run, settled_more}
 use Rattle.smt_text.proofs.ReaderCompleteness.{step-at, run-cons, run-append, reads-forest}
@@ -278,3 +278,59 @@ one_reading limit ended text xs ys (Some f) (Some g) a b =
 -- complete trees stay, whatever comes
 pub complete_trees_stay : (limit : ℕ) (prefix more : List ℕ) (xs ys : Sexps) → AreComplete limit prefix xs → AreComplete limit (prefix ++ more) ys → (later : Sexps) × (ys ≡ append xs later)
 complete_trees_stay limit prefix more xs ys a b = b.most xs (settled_more limit prefix more xs a.settled)
+
+-- ## Faults stay
+
+-- what begins a text of trees does so at each beginning of it
+begins_shorter : (limit : ℕ) (prefix more : List ℕ) → Begins limit (prefix ++ more) → Begins limit prefix
+begins_shorter limit prefix more h = (more ++ h.0, h.1, subst (λ t. Forest limit t h.1) (append_assoc prefix more h.0) h.2)
+
+-- the longest prefix stays the longest where the text goes on behind a byte that ended it
+longest_stays : (limit : ℕ) (text more prefix : List ℕ) (b : ℕ) (rest : List ℕ) → LongestPrefix limit text prefix (b ∷ rest) → LongestPrefix limit (text ++ more) prefix (b ∷ (rest ++ more))
+longest_stays limit text more prefix b rest g = record {
+  parts = ap (λ t. t ++ more) g.parts ∙ append_assoc prefix (b ∷ rest) more;
+  begins = g.begins;
+  longest = λ longer other e h. by longer h (cases_lt (length prefix) (length longer)) (λ lt. prefix_past prefix longer b (rest ++ more) other (sym (append_assoc prefix (b ∷ rest) more) ∙ ap (λ t. t ++ more) (sym g.parts) ∙ e) lt);
+}
+  where
+    no_more : (x : List ℕ) → Begins limit (prefix ++ b ∷ x) → ⊥
+    no_more x h =
+        let one = begins_shorter limit (prefix ++ b ∷ []) x (subst (Begins limit) (sym (append_assoc prefix (b ∷ []) x)) h) in
+        let le = g.longest (prefix ++ b ∷ []) rest (g.parts ∙ sym (append_assoc prefix (b ∷ []) rest)) one in
+        omega (arith, le, length-append prefix (b ∷ []))
+
+    by : (longer : List ℕ) → Begins limit longer → (length prefix < length longer) ⊎ (length longer ≤ length prefix) → ((length prefix < length longer) → (x : List ℕ) × (longer ≡ prefix ++ b ∷ x)) → length longer ≤ length prefix
+    by longer h (inr le) past = le
+    by longer h (inl lt) past = let x = past lt in absurd (no_more x.0 (subst (Begins limit) x.1 h))
+
+-- a fault that was told before the end is one of every longer text
+fault_stays : (limit : ℕ) (text more : List ℕ) (f : TextFault) → IsTold false f → HasFault limit text f → HasFault limit (text ++ more) f
+fault_stays limit text more (End m) told h = absurd (cc)
+fault_stays limit text more (Byte m) told h = (h.0, h.1, h.2 ++ more, h.3, longest_stays limit text more h.0 h.1 h.2 h.4, h.5)
+fault_stays limit text more (Deep m) told h = (h.0, h.1, h.2 ++ more, h.3, longest_stays limit text more h.0 h.1 h.2 h.4, h.5)
+fault_stays limit text more Memory told h = absurd h
+
+-- the byte that ended it
+ends_at : (limit : ℕ) (text : List ℕ) (f : TextFault) → IsTold false f → HasFault limit text f → (prefix : List ℕ) × (b : ℕ) × (rest : List ℕ) × LongestPrefix limit text prefix (b ∷ rest)
+ends_at limit text (End m) told h = absurd (cc)
+ends_at limit text (Byte m) told h = (h.0, h.1, h.2, h.4)
+ends_at limit text (Deep m) told h = (h.0, h.1, h.2, h.4)
+ends_at limit text Memory told h = absurd h
+
+-- and it is told whether the end is or not
+always_told : (ended : Bool) (f : TextFault) → IsTold false f → IsTold ended f
+always_told ended (End m) told = absurd (cc)
+always_told ended (Byte m) told = tt
+always_told ended (Deep m) told = tt
+always_told ended Memory told = tt
+
+fault_is_read : (limit : ℕ) (ended : Bool) (text more : List ℕ) (xs : Sexps) (f : TextFault) → Reads limit false text xs (Some f) → Reads limit ended (text ++ more) xs (Some f)
+fault_is_read limit ended text more xs f a =
+    let at = ends_at limit text f a.1 a.0 in
+    let same = one_prefix limit text a.2.0 a.2.1 at.0 (at.1 ∷ at.2) a.2.2 at.3 in
+    let longest = longest_stays limit text more at.0 at.1 at.2 at.3 in
+    (fault_stays limit text more f a.1 a.0, always_told ended f a.1, (at.0, at.1 ∷ (at.2 ++ more), longest, subst (λ t. AreComplete limit t xs) same.0 a.2.3))
+
+pub read_faults_stay : (limit : ℕ) (ended : Bool) (text more : List ℕ) (xs ys : Sexps) (f : TextFault) (g : Option TextFault) → Reads limit false text xs (Some f) → Reads limit ended (text ++ more) ys g → (ys ≡ xs) × (g ≡ Some f)
+read_faults_stay limit ended text more xs ys f g a b =
+    one_reading limit ended (text ++ more) ys xs g (Some f) b (fault_is_read limit ended text more xs f a)

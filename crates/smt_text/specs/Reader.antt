@@ -1,8 +1,7 @@
 -- What a reader's value says of the text that it was fed and the trees that it handed out. These are this project's rules.
 use Rattle.std.specs.Prelude.{◌≡◌, ◌⊎◌, ℕ, List, ◌+◌, length, Bool, true, false, Option, Some, None}
-use Rattle.smt_text.specs.Internal.Machine.{Leaves}
 use Rattle.smt_text.specs.Reading.{Reads}
-use Rattle.smt_text.specs.Internal.ReaderState.{state_of, after_taken}
+use Rattle.smt_text.specs.Internal.ReaderState.{GoesOnFrom}
 use Rattle.smt_trees.specs.Sexp.{Sexps, Nil, Cons, append}
 use Rattle.smt_trees.specs.Tree.{sexp_of, sexps_of}
 use Rattle.smt_faults.specs.declared.text_fault.TextFault.{TextFault}
@@ -30,11 +29,10 @@ trees_ready reader = sexps_of reader.builder.ready.items
 abbrev pub trees_waiting : Reader → ℕ
 trees_waiting reader = length reader.builder.ready.items
 
--- while more may come: what the reader keeps is what these bytes leave after these trees
--- once the end was told: these trees and those that are ready, with the fault, are what is read of these bytes
+-- these trees and those that are ready, with the fault, are what is read of these bytes; and the reader goes on from what they leave
 abbrev pub Keeps : Bool → Reader → List ℕ → Sexps → Type 0
-Keeps false reader fed taken = Leaves MAX_DEPTH fed (after_taken taken (state_of reader)) (fault_of reader)
-Keeps true reader fed taken = Reads MAX_DEPTH true fed (append taken (trees_ready reader)) (fault_of reader)
+Keeps ended reader fed taken =
+    Reads MAX_DEPTH ended fed (append taken (trees_ready reader)) (fault_of reader) × GoesOnFrom ended reader fed taken
 
 -- the reader's value fits this history: these bytes were fed, and these trees were handed out
 abbrev pub StandsFor : Reader → List ℕ → Sexps → Type 0

@@ -2,7 +2,7 @@
 
 pub mod examples;
 
-ghost use Rattle.std.specs.Prelude.{◌≡◌, ◌≤◌, ℕ, List, ◌++◌, Bool, false, true, length, Option};
+ghost use Rattle.std.specs.Prelude.{◌≡◌, ◌≤◌, ℕ, List, ◌++◌, Bool, false, true, length, Option, Some};
 ghost use Rattle.smt_text.specs.Grammar.{Forest};
 ghost use Rattle.smt_text.specs.Reading.{Begins, AreComplete, Reads};
 ghost use Rattle.smt_trees.specs.Sexp.{Sexps, append, count};
@@ -28,9 +28,17 @@ pub fn complete_trees_stay()
     ensures stay { (limit : ℕ) (prefix more : List ℕ) (xs ys : Sexps) → Begins limit (prefix ++ more) → AreComplete limit prefix xs → AreComplete limit (prefix ++ more) ys → (later : Sexps) × (ys ≡ append xs later) }
 {}
 
-/// The trees that are read of the beginning of a text, while more of it may come, are the first that are read of the whole.
+/// The trees that are read of the beginning of a text, while more of it may come, are the first that are read of more of it, whether its end
+/// was told or not.
 pub fn read_trees_stay()
-    ensures stay { (limit : ℕ) (text more : List ℕ) (xs ys : Sexps) (f g : Option Fault) → Reads limit false text xs f → Reads limit true (text ++ more) ys g → (later : Sexps) × (ys ≡ append xs later) }
+    ensures stay { (limit : ℕ) (ended : Bool) (text more : List ℕ) (xs ys : Sexps) (f g : Option Fault)
+        → Reads limit false text xs f → Reads limit ended (text ++ more) ys g → (later : Sexps) × (ys ≡ append xs later) }
+{}
+
+/// A fault of the beginning of a text, which was found while more of it might come, is that of more of it, behind the same trees.
+pub fn read_faults_stay()
+    ensures stay { (limit : ℕ) (ended : Bool) (text more : List ℕ) (xs ys : Sexps) (f : Fault) (g : Option Fault)
+        → Reads limit false text xs (Some f) → Reads limit ended (text ++ more) ys g → (ys ≡ xs) × (g ≡ Some f) }
 {}
 
 /// A text has no more trees than bytes.

@@ -1,5 +1,5 @@
 -- The state that a reader's value is.
-use Rattle.std.specs.Prelude.{◌≡◌, ◌<◌, ◌≤◌, ◌+◌, ◌⊎◌, ℕ, length, take, get_or, List, [], ◌∷◌, true, false, Option, Some, None, Result, Ok, Err}
+use Rattle.std.specs.Prelude.{◌≡◌, ◌<◌, ◌≤◌, ◌+◌, ◌⊎◌, ℕ, length, take, get_or, List, [], ◌∷◌, Bool, true, false, Option, Some, None, Result, Ok, Err}
 use Rattle.smt_faults.specs.declared.text_fault.TextFault.{TextFault}
 use Rattle.smt_faults.specs.declared.text_fault.TextFault.TheVariants.{End, Memory}
 use Rattle.smt_text.specs.declared.refusal.Refusal.{Refusal}
@@ -7,7 +7,7 @@ use Rattle.smt_text.specs.declared.refusal.Refusal.TheVariants.{NoMemory}
 use Rattle.smt_text.specs.declared.reader.TheConstants.{MAX_DEPTH}
 use Rattle.std.specs.declared.alloc.Global.{Global}
 use Rattle.std.specs.declared.vec.Vec.{Vec}
-use Rattle.smt_text.specs.Internal.Machine.{Levels, On, State, At, blame, depth_in, finished, lex, may_end, refusal_of, run, step, token_in}
+use Rattle.smt_text.specs.Internal.Machine.{Leaves, Levels, On, State, At, blame, depth_in, finished, lex, may_end, refusal_of, run, step, token_in}
 use Rattle.smt_trees.specs.Sexp.{Sexps, append}
 use Rattle.smt_trees.specs.Tree.{sexps_of}
 use Rattle.smt_text.specs.declared.lexer.AtomState.TheVariants.{Nothing}
@@ -32,6 +32,11 @@ under taken (On lists top) = On lists (append taken top)
 
 abbrev pub after_taken : Sexps → State → State
 after_taken taken (At token bytes levels) = At token bytes (under taken levels)
+
+-- while more may come, the reader is in the state that these bytes leave, before which these trees were handed out
+abbrev pub GoesOnFrom : Bool → Reader → List ℕ → Sexps → Type 0
+GoesOnFrom false reader fed taken = Leaves MAX_DEPTH fed (after_taken taken (state_of reader)) reader.fault
+GoesOnFrom true reader fed taken = Unit {0}
 
 -- nothing but the state has changed
 abbrev pub IsBeside : Reader → Reader → Type 0
