@@ -5,14 +5,15 @@ use Rattle.std.specs.List.{list_any}
 use Rattle.std.specs.Option.{option_or}
 use Rattle.smt_trees.specs.Sexp.{Sexp, Sexps, Atom, Reserved, Items, is_symbol}
 use Rattle.smt_terms.specs.Signature.{Signature}
-use Rattle.smt_script.specs.Command.{Command, SetLogic, SetPrintSuccess, SetOption, SetInfo, DeclareConst, DeclareFun, DefineFun, DefineSort, Assert, Push, Pop, Reset, ResetAssertions, Exit, CheckSat, GetModel, Echo, Get}
-use Rattle.smt_dialogue.proofs.InForceLemmas.{IsQuiet, check_is_quiet, echo_is_quiet, exit_is_quiet, info_is_quiet, model_is_quiet, option_is_quiet, print_success_is_quiet, query_is_quiet}
+use Rattle.smt_script.specs.Command.{Command, SetLogic, SetPrintSuccess, SetGlobalDeclarations, SetOption, SetInfo, DeclareConst, DeclareFun, DefineFun, DefineSort, Assert, Push, Pop, Reset, ResetAssertions, Exit, CheckSat, GetModel, Echo, Get}
+use Rattle.smt_dialogue.proofs.InForceLemmas.{IsQuiet, check_is_quiet, echo_is_quiet, exit_is_quiet, global_is_quiet, info_is_quiet, model_is_quiet, option_is_quiet, print_success_is_quiet, query_is_quiet}
 use Rattle.smt_dialogue.proofs.PairLemmas.{IsIdle, quiet_is_idle, refused_is_idle}
 use Rattle.smt_dialogue.specs.Answers.{has_form, is_effective_with, is_error}
 use Rattle.smt_dialogue.specs.InForce.{signature_after}
 use Rattle.smt_dialogue.specs.Internal.ChecksState.{ChecksState, IsAnswered, checks_after, closing_lines, pending_lines, role_of, with_answer_of, with_line, with_models, with_window_ended}
 use Rattle.smt_dialogue.specs.Judgement.{Claimed, claims_of, judgement_of}
-use Rattle.smt_dialogue.specs.Lines.{checks_in, claims_after, confirmed_line, is_check, line_of_judgement, lines_of_pair, lines_of_sat, sat_lines, unchecked_answer, unchecked_line_or, unconfirmed_line}
+use Rattle.smt_dialogue.specs.Lines.{checks_in, claims_after, confirmed_line, line_of_judgement, lines_of_pair, lines_of_sat, sat_lines, unchecked_answer, unchecked_line_or, unconfirmed_line}
+use Rattle.smt_script.specs.Command.{is_check}
 use Rattle.smt_dialogue.specs.Pairs.{Pair, is_effective, pair_of}
 use Rattle.smt_dialogue.specs.Window.{Printed, closes, models_from, printed_by, window}
 use Rattle.smt_dialogue.specs.declared.answer.AnswerForm.TheVariants.{Check}
@@ -233,6 +234,7 @@ pub goes_on : (s : ChecksState) (pairs : List Pair) (c : Command) (o : Option Se
     → GoesOn s pairs (pair_of c o) (checks_after (is_effective_with o) s (signature_after (pairs ++ pair_of c o ∷ [])) (claims_after (pairs ++ pair_of c o ∷ [])) (length pairs + 1) (role_of c) o)
 goes_on s pairs (SetLogic name) o h count = closes_if s pairs (pair_of (SetLogic name) o) (is_effective_with o) refl refl refl
 goes_on s pairs (SetPrintSuccess on) o h count = passes s pairs (SetPrintSuccess on) o refl refl (λ m. refl) (print_success_is_quiet on)
+goes_on s pairs (SetGlobalDeclarations on) o h count = passes s pairs (SetGlobalDeclarations on) o refl refl (λ m. refl) (global_is_quiet on)
 goes_on s pairs (SetOption keyword value) o h count = passes s pairs (SetOption keyword value) o refl refl (λ m. refl) (option_is_quiet keyword value)
 goes_on s pairs (SetInfo keyword value) o h count = passes s pairs (SetInfo keyword value) o refl refl (λ m. refl) (info_is_quiet keyword value)
 goes_on s pairs (DeclareConst x sort) o h count = closes_if s pairs (pair_of (DeclareConst x sort) o) (is_effective_with o) refl refl refl

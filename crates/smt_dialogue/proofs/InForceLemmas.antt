@@ -9,8 +9,8 @@ use Rattle.smt_theory.specs.declared.sort.Sort.{Sort}
 use Rattle.smt_theory.specs.declared.theories.Theories.{Theories}
 use Rattle.smt_terms.specs.Signature.{Entry, Signature}
 use Rattle.smt_trees.specs.Sexp.{Sexp}
-use Rattle.smt_script.specs.Command.{Command, Query, SetPrintSuccess, SetOption, SetInfo, Exit, CheckSat, GetModel, Echo, Get}
-use Rattle.smt_script.specs.Stack.{Brought, Numbered, abbreviations_by, abbreviations_of, all_theories, assertions_by, assertions_in_force, assertions_of, brought_by, brought_from, depth_after, depth_in_force, entries_by, entries_of, history, in_force, is_reset, signature_in_force, signature_of, stands_after, theories_after, theories_in_force}
+use Rattle.smt_script.specs.Command.{Command, Query, SetPrintSuccess, SetGlobalDeclarations, SetOption, SetInfo, Exit, CheckSat, GetModel, Echo, Get}
+use Rattle.smt_script.specs.Stack.{Brought, Numbered, abbreviations_by, abbreviations_of, all_theories, assertions_by, assertions_in_force, assertions_of, brought_by, brought_from, depth_after, depth_in_force, entries_by, entries_of, history, in_force, names_stand, assertions_stand, resets, is_reset, signature_in_force, signature_of, stands_after, theories_after, theories_in_force}
 
 -- a command that changes no level and no theories, and brings nothing
 pub record IsQuiet (c : Command) : Type 0 where
@@ -42,6 +42,9 @@ query_is_quiet query = quiet (λ d. refl) refl (λ t. refl) (λ s n. refl) (λ s
 
 pub print_success_is_quiet : (on : Bool) → IsQuiet (SetPrintSuccess on)
 print_success_is_quiet on = quiet (λ d. refl) refl (λ t. refl) (λ s n. refl) (λ s. refl) (λ n. refl)
+
+pub global_is_quiet : (on : Bool) → IsQuiet (SetGlobalDeclarations on)
+global_is_quiet on = quiet (λ d. refl) refl (λ t. refl) (λ s n. refl) (λ s. refl) (λ n. refl)
 
 pub option_is_quiet : (keyword : List ℕ) (value : Option Sexp) → IsQuiet (SetOption keyword value)
 option_is_quiet keyword value = quiet (λ d. refl) refl (λ t. refl) (λ s n. refl) (λ s. refl) (λ n. refl)
@@ -83,7 +86,7 @@ within_last [] b = (λ h. omega arith, tt)
 within_last (x ∷ xs) b = (
   λ h.
       let last = and_true (list_all (stands_after x.level) xs) (stands_after x.level b) (sym (all-append (stands_after x.level) xs b) ∙ h) in
-      le_of x.level b.level (and_true (not b.resets) (nat_le x.level b.level) last.1).1,
+      le_of x.level b.level (and_true (not (resets b.removes)) (nat_le x.level b.level) last.1).1,
   within_last xs b,
 )
 
@@ -114,21 +117,21 @@ both : (a b : Bool) → a ≡ false → b ≡ true → not a && b ≡ true
 both a b h k = rw (h, k) refl
 
 -- all that stands does so behind what resets nothing and leaves as many levels
-stands-push : (xs : List Brought) (b : Brought) → b.resets ≡ false → IsWithin b.level xs → in_force (xs ++ b ∷ []) ≡ in_force xs ++ b ∷ []
-stands-push [] b resets within = refl
-stands-push (x ∷ xs) b resets within =
+stands-push : (xs : List Brought) (b : Brought) → resets b.removes ≡ false → IsWithin b.level xs → (in_force names_stand) (xs ++ b ∷ []) ≡ (in_force names_stand) xs ++ b ∷ []
+stands-push [] b keeps within = refl
+stands-push (x ∷ xs) b keeps within =
     let all = list_all (stands_after x.level) xs in
     let same : list_all (stands_after x.level) (xs ++ b ∷ []) ≡ all =
-    all-append (stands_after x.level) xs b ∙ absorbs all (stands_after x.level b) (λ h. both b.resets (nat_le x.level b.level) resets (le_true x.level b.level (within.0 h))) in
-    ap (λ (t : Bool). cond t (x ∷ []) [] ++ in_force (xs ++ b ∷ [])) same
-    ∙ ap (λ (l : List Brought). cond all (x ∷ []) [] ++ l) (stands-push xs b resets within.1)
-    ∙ sym (append_assoc (cond all (x ∷ []) []) (in_force xs) (b ∷ []))
+    all-append (stands_after x.level) xs b ∙ absorbs all (stands_after x.level b) (λ h. both (resets b.removes) (nat_le x.level b.level) keeps (le_true x.level b.level (within.0 h))) in
+    ap (λ (t : Bool). cond t (x ∷ []) [] ++ (in_force names_stand) (xs ++ b ∷ [])) same
+    ∙ ap (λ (l : List Brought). cond all (x ∷ []) [] ++ l) (stands-push xs b keeps within.1)
+    ∙ sym (append_assoc (cond all (x ∷ []) []) ((in_force names_stand) xs) (b ∷ []))
 
-in_force-push : (cs : List Numbered) (c : Numbered) → IsQuiet c.command → in_force (history (cs ++ c ∷ [])) ≡ in_force (history cs) ++ brought_by cs (history cs) c ∷ []
+in_force-push : (cs : List Numbered) (c : Numbered) → IsQuiet c.command → (in_force names_stand) (history (cs ++ c ∷ [])) ≡ (in_force names_stand) (history cs) ++ brought_by cs (history cs) c ∷ []
 in_force-push cs c quiet =
     let b = brought_by cs (history cs) c in
     let within : IsWithin b.level (history cs) = subst (λ (d : ℕ). IsWithin d (history cs)) (sym (quiet.level (depth_in_force cs))) (within_from [] [] cs tt) in
-    ap in_force (brought-append [] [] cs (c ∷ [])) ∙ stands-push (history cs) b quiet.resets within
+    ap (in_force names_stand) (brought-append [] [] cs (c ∷ [])) ∙ stands-push (history cs) b quiet.resets within
 
 -- what brings nothing adds nothing
 brings_none : {A : Type 0} (f : Brought → List A) (xs : List Brought) (b : Brought) → f b ≡ [] → flat_map f (xs ++ b ∷ []) ≡ flat_map f xs
@@ -137,18 +140,18 @@ brings_none {A} f xs b none =
 
 pub assertions-quiet : (cs : List Numbered) (c : Numbered) → IsQuiet c.command → assertions_in_force (cs ++ c ∷ []) ≡ assertions_in_force cs
 assertions-quiet cs c quiet =
-    ap assertions_of (in_force-push cs c quiet) ∙ brings_none (λ (b : Brought). b.assertions) (in_force (history cs)) (brought_by cs (history cs) c) (quiet.assertions c.number)
+    ap assertions_of (in_force-push cs c quiet) ∙ brings_none (λ (b : Brought). b.assertions) ((in_force names_stand) (history cs)) (brought_by cs (history cs) c) (quiet.assertions c.number)
 
 pub signature-quiet : (cs : List Numbered) (c : Numbered) → IsQuiet c.command → signature_in_force (cs ++ c ∷ []) ≡ signature_in_force cs
 signature-quiet cs c quiet =
-    let old = in_force (history cs) in
+    let old = (in_force names_stand) (history cs) in
     let b = brought_by cs (history cs) c in
     let s = signature_of (theories_in_force cs) old in
     let theories : theories_in_force (cs ++ c ∷ []) ≡ theories_in_force cs =
     fold-append (λ (t : Theories) (x : Numbered). theories_after t x.command) all_theories cs (c ∷ []) ∙ quiet.theories (theories_in_force cs) in
     let entries : entries_of (old ++ b ∷ []) ≡ entries_of old = brings_none (λ (x : Brought). x.entries) old b (quiet.entries s c.number) in
     let abbreviations : abbreviations_of (old ++ b ∷ []) ≡ abbreviations_of old = brings_none (λ (x : Brought). x.abbreviations) old b (quiet.abbreviations s) in
-    ap (λ (t : Theories). signature_of t (in_force (history (cs ++ c ∷ [])))) theories
+    ap (λ (t : Theories). signature_of t ((in_force names_stand) (history (cs ++ c ∷ [])))) theories
     ∙ ap (λ (l : List Brought). signature_of (theories_in_force cs) l) (in_force-push cs c quiet)
     ∙ ap (λ (es : List Entry). record { theories = theories_in_force cs; abbreviations = abbreviations_of (old ++ b ∷ []); entries = es }) entries
     ∙ ap (λ (as' : List (List ℕ × Sort)). record { theories = theories_in_force cs; abbreviations = as'; entries = entries_of old }) abbreviations

@@ -4,13 +4,14 @@ use Rattle.std.proofs.lemmas.List.{append-nil}
 use Rattle.smt_trees.specs.Sexp.{Sexp, Sexps, Atom, Reserved, Items, is_symbol}
 use Rattle.smt_trees.specs.Sexp as sexp
 use Rattle.smt_terms.proofs.NameLemmas.{same_name}
-use Rattle.smt_script.specs.Command.{Command, SetLogic, SetPrintSuccess, SetOption, SetInfo, DeclareConst, DeclareFun, DefineFun, DefineSort, Assert, Push, Pop, Reset, ResetAssertions, Exit, CheckSat, GetModel, Echo, Get}
+use Rattle.smt_script.specs.Command.{Command, SetLogic, SetPrintSuccess, SetGlobalDeclarations, SetOption, SetInfo, DeclareConst, DeclareFun, DefineFun, DefineSort, Assert, Push, Pop, Reset, ResetAssertions, Exit, CheckSat, GetModel, Echo, Get}
 use Rattle.smt_script.specs.Stack.{Numbered, assertions_in_force, signature_in_force}
 use Rattle.smt_dialogue.proofs.InForceLemmas.{IsQuiet, assertions-quiet, signature-quiet}
 use Rattle.smt_dialogue.specs.Answers.{Takes, Unfit, has_form, need_of, taken}
 use Rattle.smt_dialogue.specs.InForce.{AreFaultless, assertions_after, fault_of_pair, has_exited_after, need_after, signature_after}
 use Rattle.smt_dialogue.specs.Internal.ChecksState.{IsAnswered, role_of}
-use Rattle.smt_dialogue.specs.Lines.{checks_in, is_check, lines_in, lines_of_pair}
+use Rattle.smt_dialogue.specs.Lines.{checks_in, lines_in, lines_of_pair}
+use Rattle.smt_script.specs.Command.{is_check}
 use Rattle.smt_dialogue.specs.Pairing.{AllTake}
 use Rattle.smt_dialogue.specs.Pairs.{Pair, answer_count, answers_taken, answers_then, effective_commands, effective_from, is_effective, next_of, numbered_if, with_answer}
 use Rattle.smt_dialogue.specs.declared.answer.AnswerForm.{AnswerForm}
@@ -45,6 +46,7 @@ needed_takes told form (Some a) answer h = by (has_form form a) refl h
 pub check_answered : (told on : Bool) (c : Command) (next answer : Option Sexp) → taken told (need_of on c) next ≡ Takes answer → IsAnswered (role_of c) answer
 check_answered told on (SetLogic name) next answer h = tt
 check_answered told on (SetPrintSuccess value) next answer h = tt
+check_answered told on (SetGlobalDeclarations value) next answer h = tt
 check_answered told on (SetOption keyword value) next answer h = tt
 check_answered told on (SetInfo keyword value) next answer h = tt
 check_answered told on (DeclareConst x sort) next answer h = tt

@@ -19,7 +19,7 @@ use Rattle.smt_dialogue.specs.declared.answer.Need.TheVariants.{Nothing, Optiona
 use Rattle.smt_report.specs.FaultLine.{text_line}
 use Rattle.smt_dialogue.specs.Report.{IsReport, lines_at_end}
 use Rattle.smt_text.specs.Grammar.{limit}
-use Rattle.smt_dialogue.specs.Lines.{is_check}
+use Rattle.smt_script.specs.Command.{is_check}
 use Rattle.smt_dialogue.specs.declared.options.Options.{Options}
 use Rattle.smt_report.specs.declared.line.Line.{Line}
 use Rattle.smt_report.specs.declared.line.Line.TheVariants as lines

@@ -12,7 +12,7 @@ use Rattle.smt_dialogue.proofs.AssertedLemmas.{comes_from}
 use Rattle.smt_dialogue.proofs.StructureLemmas.{structure_behind}
 use Rattle.smt_dialogue.proofs.PairingUnique.{all_commands, one_pairing}
 use Rattle.smt_dialogue.proofs.ConfirmedLemmas.{Laws, asserted_formula, closed_value, confirmed_at, faultless_at, is_false_value, lines_at, lines_of_sat_at}
-use Rattle.smt_script.specs.Command.{Command, SetLogic, SetPrintSuccess, SetOption, SetInfo, DeclareConst, DeclareFun, DefineFun, DefineSort, Assert, Push, Pop, Reset, ResetAssertions, Exit, CheckSat, GetModel, Echo, Get}
+use Rattle.smt_script.specs.Command.{Command, SetLogic, SetPrintSuccess, SetGlobalDeclarations, SetOption, SetInfo, DeclareConst, DeclareFun, DefineFun, DefineSort, Assert, Push, Pop, Reset, ResetAssertions, Exit, CheckSat, GetModel, Echo, Get}
 use Rattle.smt_dialogue.specs.FirstFault.{TextSoFar, is_over}
 use Rattle.smt_dialogue.specs.Report.{AreLinesOf, IsRead, IsReport, lines_of_end}
 use Rattle.smt_dialogue.specs.declared.options.Options.{Options}
@@ -163,6 +163,7 @@ pub record IsRefutedCheck (before : List Pair) (p : Pair) (after : List Pair) : 
 refuted_check : (before : List Pair) (c : Command) (o : Option Sexp) (after : List Pair) → list_any is_refuted_line (lines_of_pair true before (record { command = c; answer = o }) after) ≡ true → IsRefutedCheck before (record { command = c; answer = o }) after
 refuted_check before (SetLogic name) o after h = absurd (cc)
 refuted_check before (SetPrintSuccess on) o after h = absurd (cc)
+refuted_check before (SetGlobalDeclarations on) o after h = absurd (cc)
 refuted_check before (SetOption keyword value) o after h = absurd (cc)
 refuted_check before (SetInfo keyword value) o after h = absurd (cc)
 refuted_check before (DeclareConst x sort) o after h = absurd (cc)

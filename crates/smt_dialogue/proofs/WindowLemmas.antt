@@ -3,12 +3,12 @@ use Rattle.std.proofs.Common.{◌≡◌, ◌+◌, ℕ, Bool, true, false, cond, 
 use Rattle.std.proofs.lemmas.List.{append-nil}
 use Rattle.std.specs.List.{AllByRecursion}
 use Rattle.smt_trees.specs.Sexp.{Sexp}
-use Rattle.smt_script.specs.Command.{Command, SetLogic, SetPrintSuccess, SetOption, SetInfo, DeclareConst, DeclareFun, DefineFun, DefineSort, Assert, Push, Pop, Reset, ResetAssertions, Exit, CheckSat, GetModel, Echo, Get}
+use Rattle.smt_script.specs.Command.{Command, SetLogic, SetPrintSuccess, SetGlobalDeclarations, SetOption, SetInfo, DeclareConst, DeclareFun, DefineFun, DefineSort, Assert, Push, Pop, Reset, ResetAssertions, Exit, CheckSat, GetModel, Echo, Get}
 use Rattle.smt_script.specs.Stack.{Assertion}
 use Rattle.smt_terms.specs.Signature.{Signature}
-use Rattle.smt_dialogue.proofs.InForceLemmas.{check_is_quiet, echo_is_quiet, exit_is_quiet, info_is_quiet, model_is_quiet, option_is_quiet, print_success_is_quiet, query_is_quiet}
+use Rattle.smt_dialogue.proofs.InForceLemmas.{check_is_quiet, echo_is_quiet, exit_is_quiet, global_is_quiet, info_is_quiet, model_is_quiet, option_is_quiet, print_success_is_quiet, query_is_quiet}
 use Rattle.smt_dialogue.proofs.PairLemmas.{IsIdle, quiet_is_idle, refused_is_idle}
-use Rattle.smt_dialogue.specs.Lines.{is_check}
+use Rattle.smt_script.specs.Command.{is_check}
 use Rattle.smt_dialogue.specs.InForce.{assertions_after, signature_after}
 use Rattle.smt_dialogue.specs.Pairs.{Pair, pair_of}
 use Rattle.smt_dialogue.specs.Window.{closes, window}
@@ -26,6 +26,7 @@ open_is_idle pairs (Pop levels) o h = refused_is_idle pairs (pair_of (Pop levels
 open_is_idle pairs Reset o h = refused_is_idle pairs (pair_of Reset o) h
 open_is_idle pairs ResetAssertions o h = refused_is_idle pairs (pair_of ResetAssertions o) h
 open_is_idle pairs (SetPrintSuccess value) o h = quiet_is_idle pairs (pair_of (SetPrintSuccess value) o) (print_success_is_quiet value)
+open_is_idle pairs (SetGlobalDeclarations value) o h = quiet_is_idle pairs (pair_of (SetGlobalDeclarations value) o) (global_is_quiet value)
 open_is_idle pairs (SetOption keyword value) o h = quiet_is_idle pairs (pair_of (SetOption keyword value) o) (option_is_quiet keyword value)
 open_is_idle pairs (SetInfo keyword value) o h = quiet_is_idle pairs (pair_of (SetInfo keyword value) o) (info_is_quiet keyword value)
 open_is_idle pairs Exit o h = quiet_is_idle pairs (pair_of Exit o) exit_is_quiet
@@ -39,6 +40,7 @@ check_is_idle : (pairs : List Pair) (c : Command) (o : Option Sexp) → is_check
 check_is_idle pairs CheckSat o h = quiet_is_idle pairs (pair_of CheckSat o) check_is_quiet
 check_is_idle pairs (SetLogic name) o h = absurd (cc)
 check_is_idle pairs (SetPrintSuccess value) o h = absurd (cc)
+check_is_idle pairs (SetGlobalDeclarations value) o h = absurd (cc)
 check_is_idle pairs (SetOption keyword value) o h = absurd (cc)
 check_is_idle pairs (SetInfo keyword value) o h = absurd (cc)
 check_is_idle pairs (DeclareConst x sort) o h = absurd (cc)

@@ -2,7 +2,7 @@
 -- commands take an answer only where it fits is this project's rule, for what solvers print.
 use Rattle.std.specs.Prelude.{Bool, true, false, not, ◌||◌, Option, Some, None, codes, if◌then◌else◌}
 use Rattle.smt_trees.specs.Sexp.{Sexp, Atom, Items, Nil, Cons, Text, is_symbol}
-use Rattle.smt_script.specs.Command.{Command, SetPrintSuccess, SetOption, SetInfo, Exit, CheckSat, GetModel, Echo, Get}
+use Rattle.smt_script.specs.Command.{Command, SetPrintSuccess, SetGlobalDeclarations, SetOption, SetInfo, Exit, CheckSat, GetModel, Echo, Get}
 use Rattle.smt_dialogue.specs.declared.answer.AnswerForm.{AnswerForm}
 use Rattle.smt_dialogue.specs.declared.answer.AnswerForm.TheVariants as forms
 use Rattle.smt_dialogue.specs.declared.answer.Need.{Need}
@@ -57,6 +57,7 @@ need_of on (Echo text) = Needed forms.Echo
 need_of on (Get query) = Needed forms.Other
 need_of on Exit = Optional forms.Success
 need_of on (SetPrintSuccess value) = if value then general_need else Optional forms.General
+need_of on (SetGlobalDeclarations value) = if on then general_need else Optional forms.Unsupported
 need_of on (SetOption keyword value) = if on then general_need else Optional forms.Unsupported
 need_of on (SetInfo keyword value) = if on then general_need else Optional forms.Unsupported
 need_of on command = if on then general_need else Nothing

@@ -8,7 +8,7 @@ use Rattle.smt_faults.specs.declared.command_fault.CommandFault.TheVariants.{Aft
 use Rattle.smt_dialogue.specs.Answers as answers
 use Rattle.smt_dialogue.specs.Answers.{Taken, Takes, Missing, Unfit, taken}
 use Rattle.smt_dialogue.specs.InForce.{fault_of_pair, has_exited_after, need_after}
-use Rattle.smt_dialogue.specs.Lines.{is_check}
+use Rattle.smt_script.specs.Command.{is_check}
 use Rattle.smt_dialogue.specs.Pairs.{Pair, answers_taken, next_of, pair_of}
 use Rattle.smt_report.specs.FaultLine.{text_line}
 use Rattle.smt_report.specs.declared.line.Line.{Line}

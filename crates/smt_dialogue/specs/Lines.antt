@@ -3,7 +3,7 @@ use Rattle.std.specs.Prelude.{ℕ, ◌+◌, List, [], ◌∷◌, ◌++◌, lengt
 use Rattle.std.specs.List.{list_any}
 use Rattle.std.specs.Option.{option_or}
 use Rattle.smt_trees.specs.Sexp.{Sexp, is_symbol}
-use Rattle.smt_script.specs.Command.{Command, CheckSat}
+use Rattle.smt_script.specs.Command.{is_check}
 use Rattle.smt_dialogue.specs.InForce.{signature_after, assertions_after}
 use Rattle.smt_dialogue.specs.Answers.{is_error}
 use Rattle.smt_dialogue.specs.Pairs.{Pair}
@@ -77,10 +77,6 @@ lines_of_answer closed before k (Some answer) after =
     let n = length before + 1 in
     unchecked_line_or k n (unchecked_answer answer)
     (if is_symbol (codes "sat") answer then lines_of_sat closed k n (signature_after before) (claims_after before) (n + 1) after else [])
-
-abbrev pub is_check : Command → Bool
-is_check CheckSat = true
-is_check _ = false
 
 -- how many checks there are among pairs
 abbrev pub checks_in : List Pair → ℕ

@@ -114,7 +114,9 @@ pub(crate) fn need_of(print_success: bool, command: &Command) -> Need
         Command::Get { .. } => Need::Needed(AnswerForm::Other),
         Command::Exit => Need::Optional(AnswerForm::Success),
         Command::SetPrintSuccess { on } => needed_or(*on, Need::Optional(AnswerForm::General)),
-        Command::SetOption { .. } | Command::SetInfo { .. } => {
+        Command::SetGlobalDeclarations { .. }
+        | Command::SetOption { .. }
+        | Command::SetInfo { .. } => {
             needed_or(print_success, Need::Optional(AnswerForm::Unsupported))
         }
         Command::SetLogic { .. } | Command::DeclareConst { .. } => {

@@ -203,8 +203,8 @@ pub(crate) fn role_of(command: &Command) -> Role
         Command::DefineSort { .. } | Command::Assert { .. } => Role::Change,
         Command::Push { .. } | Command::Pop { .. } => Role::Change,
         Command::Reset | Command::ResetAssertions => Role::Change,
-        Command::SetPrintSuccess { .. } | Command::SetOption { .. } => Role::Other,
-        Command::SetInfo { .. } | Command::Exit => Role::Other,
+        Command::SetPrintSuccess { .. } | Command::SetGlobalDeclarations { .. } => Role::Other,
+        Command::SetOption { .. } | Command::SetInfo { .. } | Command::Exit => Role::Other,
         Command::Echo { .. } | Command::Get { .. } => Role::Other,
     }
 }

@@ -18,17 +18,18 @@ use Rattle.smt_faults.specs.declared.term_fault.TermFault.{TermFault}
 use Rattle.smt_faults.specs.declared.term_fault.TermFault.TheVariants as terms
 use Rattle.smt_terms.specs.declared.library.Library.{Library}
 use Rattle.smt_terms.proofs.ContentsLemmas.{mark_kept, mark_within, term_kept}
-use Rattle.smt_script.specs.Command.{Command, Query, SetLogic, SetPrintSuccess, SetOption, SetInfo, DeclareConst, DeclareFun, DefineFun, DefineSort, Assert, Exit, CheckSat, GetModel, Echo, Get}
+use Rattle.smt_script.specs.Command.{Command, Query, SetLogic, SetPrintSuccess, SetGlobalDeclarations, SetOption, SetInfo, DeclareConst, DeclareFun, DefineFun, DefineSort, Assert, Exit, CheckSat, GetModel, Echo, Get}
 use Rattle.smt_script.specs.Stack as spec
-use Rattle.smt_script.specs.Stack.{Brought, Numbered, abbreviations_by, abbreviations_of, assertions_by, assertions_in_force, assertions_of, brought_by, depth_after, depth_in_force, entries_by, entries_of, fault_of, fault_of_effect, has_exited, history, in_force, is_exit, is_fixed_after, is_logic_fixed, is_reset, one_or_none, print_success_after, print_success_in_force, signature_in_force, signature_of, theories_after, theories_in_force, theories_or}
+use Rattle.smt_script.specs.Stack.{Brought, Numbered, abbreviations_by, abbreviations_of, assertions_by, assertions_in_force, assertions_of, brought_by, depth_after, depth_in_force, entries_by, entries_of, fault_of, fault_of_effect, has_exited, history, in_force, names_stand, is_exit, is_reset, one_or_none, print_success_after, print_success_in_force, signature_in_force, signature_of, theories_after, theories_in_force, theories_or, assertions_stand, is_logic_set, is_too_late}
 use Rattle.smt_script.specs.StackView.{AreAssertions, IsLevel, StandsFor, to_level}
-use Rattle.smt_script.specs.Internal.Effect.{HasEffect, IsUnchanged, noted}
+use Rattle.smt_script.specs.Internal.Effect.{HasEffect, IsUnchanged, noted, logic_after}
 use Rattle.smt_faults.specs.declared.command_fault.CommandFault.{CommandFault}
 use Rattle.smt_faults.specs.declared.command_fault.CommandFault.TheVariants.{Term, Memory}
 use Rattle.smt_script.specs.declared.stack.Assertion.{Assertion}
+use Rattle.smt_script.specs.declared.stack.LogicState.{LogicState}
 use Rattle.smt_script.specs.declared.stack.levels.Level.{Level}
 use Rattle.smt_script.specs.declared.stack.Stack.{Stack}
-use Rattle.smt_script.proofs.HistoryLemmas.{abbreviations-push, assertions-push, entries-push, exited-push, fixed-push, in_force-grow, print-push, theories-push, to_level-push, unfixed_is_empty}
+use Rattle.smt_script.proofs.HistoryLemmas.{abbreviations-push, assertions-push, entries-push, exited-push, logic-push, in_force-grow, print-push, theories-push, to_level-push, unfixed_is_empty}
 use Rattle.smt_script.proofs.StandingLemmas.{depth-push}
 
 -- ---- assertions
@@ -82,19 +83,19 @@ pub signature-add : (cs : List Numbered) (c : Numbered) → Keeps c.command → 
 signature-add cs c adds =
     let b = brought_by cs (history cs) c in
     let grow = in_force-grow cs c adds.no_reset (adds.level (depth_in_force cs)) in
-    ap (λ (t : Theories). signature_of t (in_force (history (cs ++ c ∷ [])))) (theories-push cs c ∙ adds.theories (theories_in_force cs))
+    ap (λ (t : Theories). signature_of t ((in_force names_stand) (history (cs ++ c ∷ [])))) (theories-push cs c ∙ adds.theories (theories_in_force cs))
     ∙ ap (λ (l : List Brought). signature_of (theories_in_force cs) l) grow
-    ∙ ap (λ (es : List Entry). record { theories = theories_in_force cs; abbreviations = abbreviations_of (in_force (history cs) ++ b ∷ []); entries = es }) (entries-push (in_force (history cs)) b)
-    ∙ ap (λ (as' : List (List ℕ × Sort)). record { theories = theories_in_force cs; abbreviations = as'; entries = entries_of (in_force (history cs)) ++ b.entries }) (abbreviations-push (in_force (history cs)) b)
+    ∙ ap (λ (es : List Entry). record { theories = theories_in_force cs; abbreviations = abbreviations_of ((in_force names_stand) (history cs) ++ b ∷ []); entries = es }) (entries-push ((in_force names_stand) (history cs)) b)
+    ∙ ap (λ (as' : List (List ℕ × Sort)). record { theories = theories_in_force cs; abbreviations = as'; entries = entries_of ((in_force names_stand) (history cs)) ++ b.entries }) (abbreviations-push ((in_force names_stand) (history cs)) b)
 
 pub assertions-add : (cs : List Numbered) (c : Numbered) → Keeps c.command → assertions_in_force (cs ++ c ∷ []) ≡ assertions_in_force cs ++ assertions_by c.number c.command
 assertions-add cs c adds =
     let b = brought_by cs (history cs) c in
     let grow = in_force-grow cs c adds.no_reset (adds.level (depth_in_force cs)) in
-    ap assertions_of grow ∙ assertions-push (in_force (history cs)) b
+    ap assertions_of grow ∙ assertions-push ((in_force names_stand) (history cs)) b
 
 -- a level stays as the contents and the assertions grow
-pub level_stays : (c d : Contents) (as' more : List Assertion) (l : Level) (t : Theories) (b : List Brought) → Extends c d → IsLevel c as' l t b → IsLevel d (as' ++ more) l t b
+pub level_stays : (c d : Contents) (as' more : List Assertion) (l : Level) (t : Theories) (b : List Brought) → Extends c d → IsLevel c as' l t b b → IsLevel d (as' ++ more) l t b b
 level_stays c d as' more l t b grown h = record {
   within = mark_within l.mark c d h.within grown;
   count = (let e = length-append as' more in let m = h.count in omega arith);
@@ -106,12 +107,12 @@ level_stays c d as' more l t b grown h = record {
 
 -- a stack after a command that adds to what is in force
 pub added : (old new : Stack) (more : List Assertion) (cs : List Numbered) (n : ℕ) (command : Command) → StandsFor old cs → Adds command
-    → new.levels.items ≡ old.levels.items → new.fixed ≡ old.fixed → new.print_success ≡ old.print_success → new.exited ≡ old.exited → new.start ≡ old.start
+    → new.levels.items ≡ old.levels.items → new.logic ≡ old.logic → new.print_success ≡ old.print_success → new.exited ≡ old.exited → new.start ≡ old.start
     → Extends (contents_of old.library) (contents_of new.library) → new.assertions.items ≡ old.assertions.items ++ more
     → library.StandsFor new.library (with_brought (signature_in_force cs) n command)
     → AreAssertions (contents_of new.library) new.assertions.items (assertions_in_force cs ++ assertions_by n command)
     → StandsFor (noted command new) (cs ++ record { number = n; command = command } ∷ [])
-added old new more cs n command h adds levels fixed print exited start grown asserted names assertions =
+added old new more cs n command h adds levels logic print exited start grown asserted names assertions =
     let c : Numbered = record { number = n; command = command } in
     let b = brought_by cs (history cs) c in
     let grow = in_force-grow cs c adds.no_reset (let e = adds.level (depth_in_force cs) in omega arith) in
@@ -123,13 +124,13 @@ added old new more cs n command h adds levels fixed print exited start grown ass
       levels = λ k l at.
           let there : slice_get old.levels.items k ≡ Some l = ap (λ (xs : List Level). slice_get xs k) (sym levels) ∙ at in
           let inside : k + 1 ≤ b.level = (let m = within old.levels.items k l there in let e = h.depth in let f = adds.level (depth_in_force cs) in omega arith) in
-          subst (λ (t : Theories). IsLevel (contents_of new.library) new.assertions.items l t (to_level k (in_force (history (cs ++ c ∷ []))))) (sym theories)
-          (subst (λ (x : List Brought). IsLevel (contents_of new.library) new.assertions.items l (theories_in_force cs) x) (sym (ap (to_level k) grow ∙ to_level-push k (in_force (history cs)) b inside))
-          (subst (λ (x : List Assertion). IsLevel (contents_of new.library) x l (theories_in_force cs) (to_level k (in_force (history cs)))) (sym asserted)
-          (level_stays (contents_of old.library) (contents_of new.library) old.assertions.items more l (theories_in_force cs) (to_level k (in_force (history cs))) grown (h.levels k l there))));
+          subst (λ (t : Theories). IsLevel (contents_of new.library) new.assertions.items l t (to_level k ((in_force names_stand) (history (cs ++ c ∷ [])))) (to_level k ((in_force assertions_stand) (history (cs ++ c ∷ []))))) (sym theories)
+          (subst (λ (x : List Brought). IsLevel (contents_of new.library) new.assertions.items l (theories_in_force cs) x x) (sym (ap (to_level k) grow ∙ to_level-push k ((in_force names_stand) (history cs)) b inside))
+          (subst (λ (x : List Assertion). IsLevel (contents_of new.library) x l (theories_in_force cs) (to_level k ((in_force names_stand) (history cs))) (to_level k ((in_force assertions_stand) (history cs)))) (sym asserted)
+          (level_stays (contents_of old.library) (contents_of new.library) old.assertions.items more l (theories_in_force cs) (to_level k ((in_force names_stand) (history cs))) grown (h.levels k l there))));
       ordered = λ j k l m le at there.
           h.ordered j k l m le (ap (λ (xs : List Level). slice_get xs j) (sym levels) ∙ at) (ap (λ (xs : List Level). slice_get xs k) (sym levels) ∙ there);
-      fixed = ap (λ (x : Bool). is_fixed_after x command) (fixed ∙ h.fixed) ∙ sym (fixed-push cs c);
+      logic = ap (λ (x : LogicState). logic_after x command) (logic ∙ h.logic) ∙ sym (logic-push cs c);
       print_success =
           ap (λ (x : Bool). print_success_after new.start x command) (print ∙ h.print_success)
           ∙ ap (λ (x : Bool). print_success_after new.start (print_success_in_force x cs) command) (sym start) ∙ sym (print-push new.start cs c);
@@ -189,6 +190,9 @@ exit_idle = record { adds = adds_nothing Exit refl (λ d. refl) (λ t. refl); en
 
 pub print_idle : (on : Bool) → Idle (SetPrintSuccess on)
 print_idle on = record { adds = adds_nothing (SetPrintSuccess on) refl (λ d. refl) (λ t. refl); entries = λ s n. refl; abbreviations = λ s. refl; assertions = λ n. refl; faultless = λ cs n. refl }
+
+pub global_idle : (on : Bool) → Idle (SetGlobalDeclarations on)
+global_idle on = record { adds = adds_nothing (SetGlobalDeclarations on) refl (λ d. refl) (λ t. refl); entries = λ s n. refl; abbreviations = λ s. refl; assertions = λ n. refl; faultless = λ cs n. refl }
 
 pub option_idle : (k : List ℕ) (v : Option Sexp) → Idle (SetOption k v)
 option_idle k v = record { adds = adds_nothing (SetOption k v) refl (λ d. refl) (λ t. refl); entries = λ s n. refl; abbreviations = λ s. refl; assertions = λ n. refl; faultless = λ cs n. refl }
@@ -337,10 +341,10 @@ unchanged_by old l as' names grown same = record {
         (assertions_stay (contents_of old.library) (contents_of l) grown old.assertions.items (assertions_in_force cs) h.assertions);
     depth = h.depth;
     levels = λ k level at.
-        subst (λ (xs : List Assertion). IsLevel (contents_of l) xs level (theories_in_force cs) (to_level k (in_force (history cs)))) (append-nil old.assertions.items ∙ sym same)
-        (level_stays (contents_of old.library) (contents_of l) old.assertions.items [] level (theories_in_force cs) (to_level k (in_force (history cs))) grown (h.levels k level at));
+        subst (λ (xs : List Assertion). IsLevel (contents_of l) xs level (theories_in_force cs) (to_level k ((in_force names_stand) (history cs))) (to_level k ((in_force assertions_stand) (history cs)))) (append-nil old.assertions.items ∙ sym same)
+        (level_stays (contents_of old.library) (contents_of l) old.assertions.items [] level (theories_in_force cs) (to_level k ((in_force names_stand) (history cs))) grown (h.levels k level at));
     ordered = h.ordered;
-    fixed = h.fixed;
+    logic = h.logic;
     print_success = h.print_success;
     exited = h.exited;
   };
@@ -357,15 +361,18 @@ pub none_of_any : (c d : Contents) (as' : List Assertion) → AreAssertions c as
 none_of_any c d [] h = tt
 none_of_any c d (a ∷ as') h = h
 
-pub logic_effect : (old : Stack) (l : Library) (theories : Theories) (name : List ℕ) → old.fixed ≡ false → theories_named name ≡ Some theories → library.StandsFor l (no_names theories)
+not_fixed : (old : Stack) (cs : List Numbered) → StandsFor old cs → (old.logic.set || old.logic.late) ≡ false → (is_logic_set cs || is_too_late cs) ≡ false
+not_fixed old cs h free = sym (ap (λ (l : LogicState). l.set || l.late) h.logic) ∙ free
+
+pub logic_effect : (old : Stack) (l : Library) (theories : Theories) (name : List ℕ) → (old.logic.set || old.logic.late) ≡ false → theories_named name ≡ Some theories → library.StandsFor l (no_names theories)
     → (n : ℕ) → HasEffect old (record old { library = l }) n (SetLogic name)
 logic_effect old l theories name free named fresh n = record {
-  faultless = λ cs h. rw (sym h.fixed ∙ free, named);
+  faultless = λ cs h. rw (not_fixed old cs h free, named);
   stands = λ cs h.
       let c : Numbered = record { number = n; command = SetLogic name } in
       let b = brought_by cs (history cs) c in
-      let B = in_force (history cs) in
-      let empty = unfixed_is_empty cs (sym h.fixed ∙ free) in
+      let B = (in_force names_stand) (history cs) in
+      let empty = unfixed_is_empty cs (not_fixed old cs h free) in
       let grow = in_force-grow cs c refl (omega arith) in
       let entries : entries_of (B ++ b ∷ []) ≡ [] = entries-push B b ∙ append-nil (entries_of B) ∙ empty.0.entries in
       let abbreviations : abbreviations_of (B ++ b ∷ []) ≡ [] = abbreviations-push B b ∙ append-nil (abbreviations_of B) ∙ empty.0.abbreviations in
@@ -373,7 +380,7 @@ logic_effect old l theories name free named fresh n = record {
       let t : theories_in_force (cs ++ c ∷ []) ≡ theories = theories-push cs c ∙ ap (λ (o : Option Theories). theories_or (theories_in_force cs) o) named in
       let deep : depth_in_force (cs ++ c ∷ []) ≡ 0 = depth-push cs c ∙ empty.1 in
       let s : signature_in_force (cs ++ c ∷ []) ≡ no_names theories =
-      ap (λ (x : Theories). signature_of x (in_force (history (cs ++ c ∷ [])))) t
+      ap (λ (x : Theories). signature_of x ((in_force names_stand) (history (cs ++ c ∷ [])))) t
       ∙ ap (λ (x : List Brought). signature_of theories x) grow
       ∙ ap (λ (x : List Entry). record { theories = theories; abbreviations = abbreviations_of (B ++ b ∷ []); entries = x }) entries
       ∙ ap (λ (x : List (List ℕ × Sort)). record { theories = theories; abbreviations = x; entries = [] }) abbreviations in
@@ -384,7 +391,7 @@ logic_effect old l theories name free named fresh n = record {
         depth = h.depth ∙ empty.1 ∙ sym deep;
         levels = λ k level at. absurd (no_levels old cs h empty.1 k level at);
         ordered = h.ordered;
-        fixed = ap (λ (x : Bool). is_fixed_after x (SetLogic name)) h.fixed ∙ sym (fixed-push cs c);
+        logic = ap (λ (x : LogicState). logic_after x (SetLogic name)) h.logic ∙ sym (logic-push cs c);
         print_success = ap (λ (x : Bool). print_success_after old.start x (SetLogic name)) h.print_success ∙ sym (print-push old.start cs c);
         exited = ap (λ (x : Bool). x || is_exit (SetLogic name)) h.exited ∙ sym (exited-push cs c);
       };
@@ -401,7 +408,7 @@ with_last s n cs h = record {
   depth = h.depth;
   levels = h.levels;
   ordered = h.ordered;
-  fixed = h.fixed;
+  logic = h.logic;
   print_success = h.print_success;
   exited = h.exited;
 }

@@ -11,9 +11,11 @@ use Rattle.std.proofs.lemmas.Grind.{flat_map-append}
 use Rattle.smt_theory.specs.declared.sort.Sort.{Sort}
 use Rattle.smt_theory.specs.declared.theories.Theories.{Theories}
 use Rattle.smt_terms.specs.Signature.{Entry, Signature}
-use Rattle.smt_script.specs.Command.{Command, SetLogic, SetPrintSuccess, SetOption, SetInfo, DeclareConst, DeclareFun, DefineFun, DefineSort, Assert, Push, Pop, Reset, ResetAssertions, Exit, CheckSat, GetModel, Echo, Get}
-use Rattle.smt_script.specs.Stack.{Assertion, Brought, Numbered, abbreviations_by, abbreviations_of, all_theories, assertions_by, assertions_of, brought_by, brought_from, depth_after, depth_in_force, entries_by, entries_of, has_exited, history, in_force, is_exit, is_fixed_after, is_logic_fixed, is_reset, print_success_after, print_success_in_force, signature_in_force, signature_of, stands_after, theories_after, theories_in_force}
-use Rattle.smt_script.specs.StackView.{to_level}
+use Rattle.smt_script.specs.Command.{Command, SetLogic, SetPrintSuccess, SetGlobalDeclarations, SetOption, SetInfo, DeclareConst, DeclareFun, DefineFun, DefineSort, Assert, Push, Pop, Reset, ResetAssertions, Exit, CheckSat, GetModel, Echo, Get}
+use Rattle.smt_script.specs.Stack.{Assertion, Brought, Numbered, abbreviations_by, abbreviations_of, all_theories, assertions_by, assertions_of, brought_by, brought_from, depth_after, depth_in_force, entries_by, entries_of, has_exited, history, in_force, names_stand, is_exit, is_reset, print_success_after, print_success_in_force, signature_in_force, signature_of, stands_after, theories_after, theories_in_force, is_late_after, is_logic_set, is_set_after, is_too_late, resets}
+use Rattle.smt_script.specs.StackView.{logic_state, to_level}
+use Rattle.smt_script.specs.Internal.Effect.{logic_after}
+use Rattle.smt_script.specs.declared.stack.LogicState.{LogicState}
 use Rattle.smt_script.proofs.StandingLemmas.{and_true, depth-push, le_of, le_true, steps, steps-append, steps-from}
 
 -- ---- the notes after one more command
@@ -21,8 +23,16 @@ use Rattle.smt_script.proofs.StandingLemmas.{and_true, depth-push, le_of, le_tru
 pub theories-push : (cs : List Numbered) (c : Numbered) → theories_in_force (cs ++ c ∷ []) ≡ theories_after (theories_in_force cs) c.command
 theories-push cs c = fold-append (λ (t : Theories) (d : Numbered). theories_after t d.command) all_theories cs (c ∷ [])
 
-pub fixed-push : (cs : List Numbered) (c : Numbered) → is_logic_fixed (cs ++ c ∷ []) ≡ is_fixed_after (is_logic_fixed cs) c.command
-fixed-push cs c = fold-append (λ (b : Bool) (d : Numbered). is_fixed_after b d.command) false cs (c ∷ [])
+set-push : (cs : List Numbered) (c : Numbered) → is_logic_set (cs ++ c ∷ []) ≡ is_set_after (is_logic_set cs) c.command
+set-push cs c = fold-append (λ (b : Bool) (d : Numbered). is_set_after b d.command) false cs (c ∷ [])
+
+late-push : (cs : List Numbered) (c : Numbered) → is_too_late (cs ++ c ∷ []) ≡ is_late_after (is_too_late cs) c.command
+late-push cs c = fold-append (λ (b : Bool) (d : Numbered). is_late_after b d.command) false cs (c ∷ [])
+
+pub logic-push : (cs : List Numbered) (c : Numbered) → logic_state (cs ++ c ∷ []) ≡ logic_after (logic_state cs) c.command
+logic-push cs c =
+    ap (λ (b : Bool). record { set = b; late = is_too_late (cs ++ c ∷ []) }) (set-push cs c)
+    ∙ ap (λ (b : Bool). record { set = is_set_after (is_logic_set cs) c.command; late = b }) (late-push cs c)
 
 pub print-push : (start : Bool) (cs : List Numbered) (c : Numbered) → print_success_in_force start (cs ++ c ∷ []) ≡ print_success_after start (print_success_in_force start cs) c.command
 print-push start cs c = fold-append (λ (b : Bool) (d : Numbered). print_success_after start b d.command) start cs (c ∷ [])
@@ -50,15 +60,15 @@ and_truth : (b : Bool) → (b && true) ≡ b
 and_truth true = refl
 and_truth false = refl
 
-pub in_force-push : (brought : List Brought) (b : Brought) → in_force (brought ++ b ∷ []) ≡ still b (in_force brought) ++ b ∷ []
+pub in_force-push : (brought : List Brought) (b : Brought) → (in_force names_stand) (brought ++ b ∷ []) ≡ still b ((in_force names_stand) brought) ++ b ∷ []
 in_force-push [] b = refl
 in_force-push (a ∷ brought) b =
     let t = list_all (stands_after a.level) brought in
     let all : list_all (stands_after a.level) (brought ++ b ∷ []) ≡ (t && stands_after a.level b) =
     list_all-append (stands_after a.level) brought (b ∷ []) ∙ ap (λ (u : Bool). t && u) (and_truth (stands_after a.level b)) in
-    ap (λ (u : Bool). cond u (a ∷ []) [] ++ in_force (brought ++ b ∷ [])) all
+    ap (λ (u : Bool). cond u (a ∷ []) [] ++ (in_force names_stand) (brought ++ b ∷ [])) all
     ∙ ap (λ (l : List Brought). cond (t && stands_after a.level b) (a ∷ []) [] ++ l) (in_force-push brought b)
-    ∙ stand_step t (stands_after a.level b) a b (in_force brought) refl
+    ∙ stand_step t (stands_after a.level b) a b ((in_force names_stand) brought) refl
 
 -- what came at so many levels at most
 abbrev pub AtMost : ℕ → List Brought → Type 0
@@ -67,7 +77,7 @@ AtMost d (b ∷ bs) = (b.level ≤ d) × AtMost d bs
 
 at_most_by : (a b : Brought) (brought : List Brought) → AtMost b.level (still b brought) → (u : Bool) → stands_after a.level b ≡ u → AtMost b.level (cond u (a ∷ still b brought) (still b brought))
 at_most_by a b brought rest false is = rest
-at_most_by a b brought rest true is = (le_of a.level b.level (and_true (not b.resets) (nat_le a.level b.level) is).1, rest)
+at_most_by a b brought rest true is = (le_of a.level b.level (and_true (not (resets b.removes)) (nat_le a.level b.level) is).1, rest)
 
 pub still_at_most : (b : Brought) (brought : List Brought) → AtMost b.level (still b brought)
 still_at_most b [] = tt
@@ -92,21 +102,21 @@ pub kept_by_all : (P : List Numbered → List Brought → Type 0) → P [] [] �
 kept_by_all P start keep cs = kept_from P keep [] [] cs start
 
 abbrev Bounded : List Numbered → List Brought → Type 0
-Bounded before brought = AtMost (depth_in_force before) (in_force brought)
+Bounded before brought = AtMost (depth_in_force before) ((in_force names_stand) brought)
 
 bound_step : Kept Bounded
 bound_step before brought c h =
     let b = brought_by before brought c in
-    let all : AtMost b.level (still b (in_force brought) ++ b ∷ []) = at_most-append b.level (still b (in_force brought)) b (still_at_most b (in_force brought)) (omega arith) in
+    let all : AtMost b.level (still b ((in_force names_stand) brought) ++ b ∷ []) = at_most-append b.level (still b ((in_force names_stand) brought)) b (still_at_most b ((in_force names_stand) brought)) (omega arith) in
     subst (λ (l : List Brought). AtMost (depth_in_force (before ++ c ∷ [])) l) (sym (in_force-push brought b))
-    (subst (λ (d : ℕ). AtMost d (still b (in_force brought) ++ b ∷ [])) (sym (depth-push before c)) all)
+    (subst (λ (d : ℕ). AtMost d (still b ((in_force names_stand) brought) ++ b ∷ [])) (sym (depth-push before c)) all)
 
 -- nothing in force came at more levels than there are
-pub levels_bound : (cs : List Numbered) → AtMost (depth_in_force cs) (in_force (history cs))
+pub levels_bound : (cs : List Numbered) → AtMost (depth_in_force cs) ((in_force names_stand) (history cs))
 levels_bound cs = kept_by_all Bounded tt bound_step cs
 
 -- where a later one neither resets nor leaves fewer levels, all stands
-pub all_still : (b : Brought) (d : ℕ) (brought : List Brought) → b.resets ≡ false → d ≤ b.level → AtMost d brought → still b brought ≡ brought
+pub all_still : (b : Brought) (d : ℕ) (brought : List Brought) → resets b.removes ≡ false → d ≤ b.level → AtMost d brought → still b brought ≡ brought
 all_still b d [] keeps h all = refl
 all_still b d (a ∷ brought) keeps h all =
     let fits : nat_le a.level b.level ≡ true = le_true a.level b.level (let m = all.0 in omega arith) in
@@ -114,14 +124,14 @@ all_still b d (a ∷ brought) keeps h all =
     ap (λ (u : Bool). cond u (a ∷ still b brought) (still b brought)) here ∙ ap (λ (l : List Brought). a ∷ l) (all_still b d brought keeps h all.1)
 
 -- where it resets, nothing does
-pub none_still : (b : Brought) (brought : List Brought) → b.resets ≡ true → still b brought ≡ []
+pub none_still : (b : Brought) (brought : List Brought) → resets b.removes ≡ true → still b brought ≡ []
 none_still b [] resets = refl
 none_still b (a ∷ brought) resets =
     let here : stands_after a.level b ≡ false = ap (λ (r : Bool). not r && nat_le a.level b.level) resets in
     ap (λ (u : Bool). cond u (a ∷ still b brought) (still b brought)) here ∙ none_still b brought resets
 
 -- where it only leaves some levels, what came at these does
-pub levels_still : (b : Brought) (brought : List Brought) → b.resets ≡ false → still b brought ≡ to_level b.level brought
+pub levels_still : (b : Brought) (brought : List Brought) → resets b.removes ≡ false → still b brought ≡ to_level b.level brought
 levels_still b [] keeps = refl
 levels_still b (a ∷ brought) keeps =
     let here : stands_after a.level b ≡ nat_le a.level b.level = ap (λ (r : Bool). not r && nat_le a.level b.level) keeps in
@@ -129,10 +139,10 @@ levels_still b (a ∷ brought) keeps =
 
 -- what is in force after a command that neither resets nor leaves fewer levels
 pub in_force-grow : (cs : List Numbered) (c : Numbered) → is_reset c.command ≡ false → depth_in_force cs ≤ depth_after (depth_in_force cs) c.command
-    → in_force (history (cs ++ c ∷ [])) ≡ in_force (history cs) ++ brought_by cs (history cs) c ∷ []
+    → (in_force names_stand) (history (cs ++ c ∷ [])) ≡ (in_force names_stand) (history cs) ++ brought_by cs (history cs) c ∷ []
 in_force-grow cs c keeps h =
     let b = brought_by cs (history cs) c in
-    ap in_force (history-push cs c) ∙ in_force-push (history cs) b ∙ ap (λ (l : List Brought). l ++ b ∷ []) (all_still b (depth_in_force cs) (in_force (history cs)) keeps h (levels_bound cs))
+    ap (in_force names_stand) (history-push cs c) ∙ in_force-push (history cs) b ∙ ap (λ (l : List Brought). l ++ b ∷ []) (all_still b (depth_in_force cs) ((in_force names_stand) (history cs)) keeps h (levels_bound cs))
 
 -- ---- the parts of what was brought
 
@@ -184,7 +194,7 @@ pub record Nothing (brought : List Brought) : Type 0 where
   pub assertions : assertions_of brought ≡ []
 
 abbrev Unfixed : List Numbered → List Brought → Type 0
-Unfixed before brought = Bounded before brought × (is_logic_fixed before ≡ false → Nothing (in_force brought) × (depth_in_force before ≡ 0))
+Unfixed before brought = Bounded before brought × ((is_logic_set before || is_too_late before) ≡ false → Nothing ((in_force names_stand) brought) × (depth_in_force before ≡ 0))
 
 -- a command after which a logic may be set removes all, or changes nothing
 pub data Unfixing (fixed : Bool) (command : Command) : Type 0 where
@@ -192,59 +202,64 @@ pub data Unfixing (fixed : Bool) (command : Command) : Type 0 where
   Idles : (fixed ≡ false) → ((s : Signature) (n : ℕ) → entries_by s n command ≡ []) → ((s : Signature) → abbreviations_by s command ≡ []) → ((n : ℕ) → assertions_by n command ≡ [])
       → is_reset command ≡ false → ((d : ℕ) → depth_after d command ≡ d) → Unfixing fixed command
 
-free : (b : Bool) → (b || false) ≡ false → b ≡ false
-free b h = sym (or-false b) ∙ h
+-- where neither was, and the command makes it neither
+free : (set late : Bool) → (set || (late || false)) ≡ false → (set || late) ≡ false
+free true late h = absurd (cc)
+free false late h = sym (or-false late) ∙ h
 
-or_true : (b : Bool) → (b || true) ≡ false → ⊥
-or_true true h = absurd (cc)
-or_true false h = absurd (cc)
+-- it is too late behind a command that makes it so
+late_there : (set late : Bool) → (set || (late || true)) ≡ false → ⊥
+late_there true late h = absurd (cc)
+late_there false true h = absurd (cc)
+late_there false false h = absurd (cc)
 
-unfixing : (fixed : Bool) (command : Command) → is_fixed_after fixed command ≡ false → Unfixing fixed command
-unfixing fixed Reset h = Resets refl
-unfixing fixed (SetPrintSuccess on) h = Idles (free fixed h) (λ s n. refl) (λ s. refl) (λ n. refl) refl (λ d. refl)
-unfixing fixed (SetOption k v) h = Idles (free fixed h) (λ s n. refl) (λ s. refl) (λ n. refl) refl (λ d. refl)
-unfixing fixed (SetInfo k v) h = Idles (free fixed h) (λ s n. refl) (λ s. refl) (λ n. refl) refl (λ d. refl)
-unfixing fixed Exit h = Idles (free fixed h) (λ s n. refl) (λ s. refl) (λ n. refl) refl (λ d. refl)
-unfixing fixed GetModel h = Idles (free fixed h) (λ s n. refl) (λ s. refl) (λ n. refl) refl (λ d. refl)
-unfixing fixed (Echo t) h = Idles (free fixed h) (λ s n. refl) (λ s. refl) (λ n. refl) refl (λ d. refl)
-unfixing fixed (Get q) h = Idles (free fixed h) (λ s n. refl) (λ s. refl) (λ n. refl) refl (λ d. refl)
-unfixing fixed (SetLogic x) h = absurd (or_true fixed h)
-unfixing fixed (DeclareConst x s) h = absurd (or_true fixed h)
-unfixing fixed (DeclareFun x ps s) h = absurd (or_true fixed h)
-unfixing fixed (DefineFun x ps s t) h = absurd (or_true fixed h)
-unfixing fixed (DefineSort x s) h = absurd (or_true fixed h)
-unfixing fixed (Assert t) h = absurd (or_true fixed h)
-unfixing fixed (Push n) h = absurd (or_true fixed h)
-unfixing fixed (Pop n) h = absurd (or_true fixed h)
-unfixing fixed ResetAssertions h = absurd (or_true fixed h)
-unfixing fixed CheckSat h = absurd (or_true fixed h)
+unfixing : (set late : Bool) (command : Command) → (is_set_after set command || is_late_after late command) ≡ false → Unfixing (set || late) command
+unfixing set late Reset h = Resets refl
+unfixing set late (SetLogic x) h = absurd (cc)
+unfixing set late (SetPrintSuccess on) h = Idles (free set late h) (λ s n. refl) (λ s. refl) (λ n. refl) refl (λ d. refl)
+unfixing set late (SetGlobalDeclarations on) h = Idles (free set late h) (λ s n. refl) (λ s. refl) (λ n. refl) refl (λ d. refl)
+unfixing set late (SetOption k v) h = Idles (free set late h) (λ s n. refl) (λ s. refl) (λ n. refl) refl (λ d. refl)
+unfixing set late (SetInfo k v) h = Idles (free set late h) (λ s n. refl) (λ s. refl) (λ n. refl) refl (λ d. refl)
+unfixing set late Exit h = Idles (free set late h) (λ s n. refl) (λ s. refl) (λ n. refl) refl (λ d. refl)
+unfixing set late GetModel h = Idles (free set late h) (λ s n. refl) (λ s. refl) (λ n. refl) refl (λ d. refl)
+unfixing set late (Echo t) h = Idles (free set late h) (λ s n. refl) (λ s. refl) (λ n. refl) refl (λ d. refl)
+unfixing set late (Get q) h = Idles (free set late h) (λ s n. refl) (λ s. refl) (λ n. refl) refl (λ d. refl)
+unfixing set late (DeclareConst x s) h = absurd (late_there set late h)
+unfixing set late (DeclareFun x ps s) h = absurd (late_there set late h)
+unfixing set late (DefineFun x ps s t) h = absurd (late_there set late h)
+unfixing set late (DefineSort x s) h = absurd (late_there set late h)
+unfixing set late (Assert t) h = absurd (late_there set late h)
+unfixing set late (Push n) h = absurd (late_there set late h)
+unfixing set late (Pop n) h = absurd (late_there set late h)
+unfixing set late ResetAssertions h = absurd (late_there set late h)
+unfixing set late CheckSat h = absurd (late_there set late h)
 
 abbrev AfterStep : List Numbered → List Brought → Numbered → Type 0
-AfterStep before brought c = Nothing (still (brought_by before brought c) (in_force brought) ++ brought_by before brought c ∷ []) × (depth_after (depth_in_force before) c.command ≡ 0)
+AfterStep before brought c = Nothing (still (brought_by before brought c) ((in_force names_stand) brought) ++ brought_by before brought c ∷ []) × (depth_after (depth_in_force before) c.command ≡ 0)
 
-unfixed_by : (before : List Numbered) (brought : List Brought) (c : Numbered) → Unfixed before brought → Unfixing (is_logic_fixed before) c.command → AfterStep before brought c
+unfixed_by : (before : List Numbered) (brought : List Brought) (c : Numbered) → Unfixed before brought → Unfixing (is_logic_set before || is_too_late before) c.command → AfterStep before brought c
 unfixed_by before brought c h (Resets is) =
     let b = brought_by before brought c in
-    let gone : still b (in_force brought) ≡ [] = none_still b (in_force brought) (ap is_reset is) in
-    let s = signature_of (theories_in_force before) (in_force brought) in
+    let gone : still b ((in_force names_stand) brought) ≡ [] = none_still b ((in_force names_stand) brought) (ap is_reset is) in
+    let s = signature_of (theories_in_force before) ((in_force names_stand) brought) in
     let P : Command → Type 0 = λ d. (entries_by s c.number d ≡ []) × (abbreviations_by s d ≡ []) × (assertions_by c.number d ≡ []) in
     let none : P c.command = subst P (sym is) (refl, refl, refl) in (
       record {
-        entries = entries-push (still b (in_force brought)) b ∙ ap (λ (l : List Brought). entries_of l ++ b.entries) gone ∙ none.0;
-        abbreviations = abbreviations-push (still b (in_force brought)) b ∙ ap (λ (l : List Brought). abbreviations_of l ++ b.abbreviations) gone ∙ none.1;
-        assertions = assertions-push (still b (in_force brought)) b ∙ ap (λ (l : List Brought). assertions_of l ++ b.assertions) gone ∙ none.2;
+        entries = entries-push (still b ((in_force names_stand) brought)) b ∙ ap (λ (l : List Brought). entries_of l ++ b.entries) gone ∙ none.0;
+        abbreviations = abbreviations-push (still b ((in_force names_stand) brought)) b ∙ ap (λ (l : List Brought). abbreviations_of l ++ b.abbreviations) gone ∙ none.1;
+        assertions = assertions-push (still b ((in_force names_stand) brought)) b ∙ ap (λ (l : List Brought). assertions_of l ++ b.assertions) gone ∙ none.2;
       },
       ap (λ (d : Command). depth_after (depth_in_force before) d) is,
     )
 unfixed_by before brought c h (Idles unfixed entries abbreviations assertions keeps depth) =
     let b = brought_by before brought c in
     let was = h.1 unfixed in
-    let stays : still b (in_force brought) ≡ in_force brought = all_still b (depth_in_force before) (in_force brought) keeps (let e = depth (depth_in_force before) in omega arith) h.0 in
-    let s = signature_of (theories_in_force before) (in_force brought) in (
+    let stays : still b ((in_force names_stand) brought) ≡ (in_force names_stand) brought = all_still b (depth_in_force before) ((in_force names_stand) brought) keeps (let e = depth (depth_in_force before) in omega arith) h.0 in
+    let s = signature_of (theories_in_force before) ((in_force names_stand) brought) in (
       record {
-        entries = entries-push (still b (in_force brought)) b ∙ ap (λ (l : List Brought). entries_of l ++ b.entries) stays ∙ ap (λ (l : List Entry). l ++ b.entries) was.0.entries ∙ entries s c.number;
-        abbreviations = abbreviations-push (still b (in_force brought)) b ∙ ap (λ (l : List Brought). abbreviations_of l ++ b.abbreviations) stays ∙ ap (λ (l : List (List ℕ × Sort)). l ++ b.abbreviations) was.0.abbreviations ∙ abbreviations s;
-        assertions = assertions-push (still b (in_force brought)) b ∙ ap (λ (l : List Brought). assertions_of l ++ b.assertions) stays ∙ ap (λ (l : List Assertion). l ++ b.assertions) was.0.assertions ∙ assertions c.number;
+        entries = entries-push (still b ((in_force names_stand) brought)) b ∙ ap (λ (l : List Brought). entries_of l ++ b.entries) stays ∙ ap (λ (l : List Entry). l ++ b.entries) was.0.entries ∙ entries s c.number;
+        abbreviations = abbreviations-push (still b ((in_force names_stand) brought)) b ∙ ap (λ (l : List Brought). abbreviations_of l ++ b.abbreviations) stays ∙ ap (λ (l : List (List ℕ × Sort)). l ++ b.abbreviations) was.0.abbreviations ∙ abbreviations s;
+        assertions = assertions-push (still b ((in_force names_stand) brought)) b ∙ ap (λ (l : List Brought). assertions_of l ++ b.assertions) stays ∙ ap (λ (l : List Assertion). l ++ b.assertions) was.0.assertions ∙ assertions c.number;
       },
       depth (depth_in_force before) ∙ was.1,
     )
@@ -254,10 +269,10 @@ unfixed_step before brought c h = (
   bound_step before brought c h.0,
   λ is.
       let b = brought_by before brought c in
-      let after = unfixed_by before brought c h (unfixing (is_logic_fixed before) c.command (sym (fixed-push before c) ∙ is)) in
+      let after = unfixed_by before brought c h (unfixing (is_logic_set before) (is_too_late before) c.command (sym (ap (λ (l : LogicState). l.set || l.late) (logic-push before c)) ∙ is)) in
       (subst Nothing (sym (in_force-push brought b)) after.0, depth-push before c ∙ after.1),
 )
 
 -- while a logic may be set nothing is in force, and there are no levels
-pub unfixed_is_empty : (cs : List Numbered) → is_logic_fixed cs ≡ false → Nothing (in_force (history cs)) × (depth_in_force cs ≡ 0)
+pub unfixed_is_empty : (cs : List Numbered) → (is_logic_set cs || is_too_late cs) ≡ false → Nothing ((in_force names_stand) (history cs)) × (depth_in_force cs ≡ 0)
 unfixed_is_empty cs h = (kept_by_all Unfixed (tt, λ is. (record { entries = refl; abbreviations = refl; assertions = refl }, refl)) unfixed_step cs).1 h

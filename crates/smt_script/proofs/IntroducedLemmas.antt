@@ -15,8 +15,8 @@ use Rattle.smt_terms.specs.Signature.{Entry, Names, Origin, Declared, Defined, R
 use Rattle.smt_terms.specs.WellSorted.{AreIntroduced, IsIntroduced, IsSortedIfDefined, IsWellSorted, IsWellSortedFrom}
 use Rattle.smt_faults.specs.declared.term_fault.TermFault.{TermFault}
 use Rattle.smt_faults.specs.declared.term_fault.TermFault.TheVariants as terms
-use Rattle.smt_script.specs.Command.{Command, SetLogic, SetPrintSuccess, SetOption, SetInfo, DeclareConst, DeclareFun, DefineFun, DefineSort, Assert, Push, Pop, Reset, ResetAssertions, Exit, CheckSat, GetModel, Echo, Get}
-use Rattle.smt_script.specs.Stack.{Brought, HaveNoFault, Numbered, all_or_none, brought_by, depth_after, depth_in_force, entries_by, entries_of, fault_of, fault_of_effect, fault_of_logic, history, in_force, is_logic_fixed, is_reset, one_or_none, signature_in_force, signature_of, theories_after, theories_in_force}
+use Rattle.smt_script.specs.Command.{Command, SetLogic, SetPrintSuccess, SetGlobalDeclarations, SetOption, SetInfo, DeclareConst, DeclareFun, DefineFun, DefineSort, Assert, Push, Pop, Reset, ResetAssertions, Exit, CheckSat, GetModel, Echo, Get}
+use Rattle.smt_script.specs.Stack.{Brought, HaveNoFault, Numbered, all_or_none, brought_by, depth_after, depth_in_force, entries_by, entries_of, fault_of, fault_of_effect, fault_of_logic, history, in_force, names_stand, is_reset, one_or_none, signature_in_force, signature_of, theories_after, theories_in_force, is_logic_set, is_too_late}
 use Rattle.smt_script.specs.StackView.{to_level}
 use Rattle.smt_script.proofs.EffectLemmas.{Keeps, signature-add}
 use Rattle.smt_script.proofs.HistoryLemmas.{AtMost, Kept, entries-push, history-push, in_force-grow, in_force-push, kept_by_all, levels_still, none_still, still, still_at_most, theories-push, unfixed_is_empty}
@@ -57,14 +57,14 @@ sorted-push [] b all h = (tt, tt)
 sorted-push (x ∷ bs) b all h = (at_least-push x.level bs b all.0 h.0, sorted-push bs b all.1 h.1)
 
 abbrev Ordered : List Numbered → List Brought → Type 0
-Ordered before brought = Sorted (in_force brought)
+Ordered before brought = Sorted ((in_force names_stand) brought)
 
 ordered_step : Kept Ordered
 ordered_step before brought c h =
     let b = brought_by before brought c in
-    subst Sorted (sym (in_force-push brought b)) (sorted-push (still b (in_force brought)) b (filter_sorted _ (in_force brought) h) (still_at_most b (in_force brought)))
+    subst Sorted (sym (in_force-push brought b)) (sorted-push (still b ((in_force names_stand) brought)) b (filter_sorted _ ((in_force names_stand) brought) h) (still_at_most b ((in_force names_stand) brought)))
 
-in_force_sorted : (cs : List Numbered) → Sorted (in_force (history cs))
+in_force_sorted : (cs : List Numbered) → Sorted ((in_force names_stand) (history cs))
 in_force_sorted cs = kept_by_all Ordered tt ordered_step cs
 
 above : (m k : ℕ) → nat_le m k ≡ false → k + 1 ≤ m
@@ -185,9 +185,10 @@ module _ (law : NamesAreIntroduced) where
   keeps_all : (command : Command) → is_reset command ≡ false → ((d : ℕ) → depth_after d command ≡ d) → ((t : Theories) → theories_after t command ≡ t) → Keeps command
   keeps_all command a b c = record { no_reset = a; level = λ d. (let e = b d in omega arith); theories = c }
 
-  unfixed : (fixed : Bool) (theories : Option Theories) → fault_of_logic fixed theories ≡ None → fixed ≡ false
-  unfixed true theories h = absurd (cc)
-  unfixed false theories h = refl
+  unfixed : (set late : Bool) (theories : Option Theories) → fault_of_logic set late theories ≡ None → (set || late) ≡ false
+  unfixed true late theories h = absurd (cc)
+  unfixed false true theories h = absurd (cc)
+  unfixed false false theories h = refl
 
   -- no names in any theories
   no_entries : (s : Signature) → s.entries ≡ [] → IsWell s
@@ -197,21 +198,21 @@ module _ (law : NamesAreIntroduced) where
   sets_logic cs n x h =
       let c : Numbered = record { number = n; command = SetLogic x } in
       let b = brought_by cs (history cs) c in
-      let empty = unfixed_is_empty cs (unfixed (is_logic_fixed cs) (theories_named x) h) in
+      let empty = unfixed_is_empty cs (unfixed (is_logic_set cs) (is_too_late cs) (theories_named x) h) in
       no_entries (signature_in_force (cs ++ c ∷ []))
-      (ap entries_of (in_force-grow cs c refl (omega arith)) ∙ entries-push (in_force (history cs)) b ∙ append-nil (entries_of (in_force (history cs))) ∙ empty.0.entries)
+      (ap entries_of (in_force-grow cs c refl (omega arith)) ∙ entries-push ((in_force names_stand) (history cs)) b ∙ append-nil (entries_of ((in_force names_stand) (history cs))) ∙ empty.0.entries)
 
   pops : (cs : List Numbered) (n m : ℕ) → IsWell (signature_in_force cs) → IsWell (signature_in_force (cs ++ record { number = n; command = Pop m } ∷ []))
   pops cs n m all =
       let c : Numbered = record { number = n; command = Pop m } in
       let b = brought_by cs (history cs) c in
-      let B = in_force (history cs) in
+      let B = (in_force names_stand) (history cs) in
       let first = beginning b.level B (in_force_sorted cs) in
-      let now : entries_of (in_force (history (cs ++ c ∷ []))) ≡ entries_of (to_level b.level B) =
-      ap (λ (h : List Brought). entries_of (in_force h)) (history-push cs c) ∙ ap entries_of (in_force-push (history cs) b)
+      let now : entries_of ((in_force names_stand) (history (cs ++ c ∷ []))) ≡ entries_of (to_level b.level B) =
+      ap (λ (h : List Brought). entries_of ((in_force names_stand) h)) (history-push cs c) ∙ ap entries_of (in_force-push (history cs) b)
       ∙ entries-push (still b B) b ∙ append-nil (entries_of (still b B)) ∙ ap entries_of (levels_still b B refl) in
       let split : entries_of B ≡ entries_of (to_level b.level B) ++ entries_of first.0 = ap entries_of first.1 ∙ flat_map-append (λ (x : Brought). x.entries) (to_level b.level B) first.0 in
-      subst (λ (t : Theories). AreIntroduced t [] (entries_of (in_force (history (cs ++ c ∷ []))))) (sym (theories-push cs c))
+      subst (λ (t : Theories). AreIntroduced t [] (entries_of ((in_force names_stand) (history (cs ++ c ∷ []))))) (sym (theories-push cs c))
       (subst (λ (es : List Entry). AreIntroduced (theories_in_force cs) [] es) (sym now)
       (fewer_names (theories_in_force cs) [] (entries_of (to_level b.level B)) (entries_of first.0) (subst (λ (es : List Entry). AreIntroduced (theories_in_force cs) [] es) split all)))
 
@@ -219,8 +220,8 @@ module _ (law : NamesAreIntroduced) where
   resets cs c all none =
       let b = brought_by cs (history cs) c in
       no_entries (signature_in_force (cs ++ c ∷ []))
-      (ap (λ (h : List Brought). entries_of (in_force h)) (history-push cs c) ∙ ap entries_of (in_force-push (history cs) b)
-      ∙ entries-push (still b (in_force (history cs))) b ∙ ap (λ (l : List Brought). entries_of l ++ b.entries) (none_still b (in_force (history cs)) all) ∙ none (signature_in_force cs) c.number)
+      (ap (λ (h : List Brought). entries_of ((in_force names_stand) h)) (history-push cs c) ∙ ap entries_of (in_force-push (history cs) b)
+      ∙ entries-push (still b ((in_force names_stand) (history cs))) b ∙ ap (λ (l : List Brought). entries_of l ++ b.entries) (none_still b ((in_force names_stand) (history cs)) all) ∙ none (signature_in_force cs) c.number)
 
   -- one more command
   step : (cs : List Numbered) (n : ℕ) (command : Command) → IsWell (signature_in_force cs) → fault_of_effect cs n command ≡ None → IsWell (signature_in_force (cs ++ record { number = n; command = command } ∷ []))
@@ -235,6 +236,7 @@ module _ (law : NamesAreIntroduced) where
   step cs n Reset all h = resets cs (record { number = n; command = Reset }) refl (λ s k. refl)
   step cs n ResetAssertions all h = resets cs (record { number = n; command = ResetAssertions }) refl (λ s k. refl)
   step cs n (SetPrintSuccess on) all h = adds cs (record { number = n; command = SetPrintSuccess on }) (keeps_all (SetPrintSuccess on) refl (λ d. refl) (λ t. refl)) all tt
+  step cs n (SetGlobalDeclarations on) all h = adds cs (record { number = n; command = SetGlobalDeclarations on }) (keeps_all (SetGlobalDeclarations on) refl (λ d. refl) (λ t. refl)) all tt
   step cs n (SetOption k v) all h = adds cs (record { number = n; command = SetOption k v }) (keeps_all (SetOption k v) refl (λ d. refl) (λ t. refl)) all tt
   step cs n (SetInfo k v) all h = adds cs (record { number = n; command = SetInfo k v }) (keeps_all (SetInfo k v) refl (λ d. refl) (λ t. refl)) all tt
   step cs n Exit all h = adds cs (record { number = n; command = Exit }) (keeps_all Exit refl (λ d. refl) (λ t. refl)) all tt

@@ -14,15 +14,16 @@ use Rattle.smt_terms.specs.declared.library.marks.Mark.{Mark}
 use Rattle.smt_terms.proofs.ContentsLemmas.{earlier_kept, earlier_within}
 use Rattle.smt_script.specs.Command.{Command, Push, Pop, Reset, ResetAssertions}
 use Rattle.smt_script.specs.Stack as spec
-use Rattle.smt_script.specs.Stack.{Brought, Numbered, abbreviations_by, abbreviations_of, all_theories, assertions_by, assertions_in_force, assertions_of, brought_by, depth_after, depth_in_force, entries_by, entries_of, fault_of_effect, has_exited, history, in_force, is_exit, is_fixed_after, is_logic_fixed, is_reset, limit, print_success_after, print_success_in_force, signature_in_force, signature_of, theories_after, theories_in_force}
+use Rattle.smt_script.specs.Stack.{Brought, Numbered, abbreviations_by, abbreviations_of, all_theories, assertions_by, assertions_in_force, assertions_of, brought_by, depth_after, depth_in_force, entries_by, entries_of, fault_of_effect, has_exited, history, in_force, names_stand, is_exit, is_reset, limit, print_success_after, print_success_in_force, signature_in_force, signature_of, theories_after, theories_in_force, assertions_stand}
 use Rattle.smt_script.specs.StackView.{AreAssertions, IsLevel, IsOuter, StandsFor, to_level}
-use Rattle.smt_script.specs.Internal.Effect.{HasEffect, IsCut, IsEmpty, IsUnchanged, NotesAll, copies, noted}
+use Rattle.smt_script.specs.Internal.Effect.{HasEffect, IsCut, IsEmpty, IsUnchanged, NotesAll, copies, noted, logic_after}
 use Rattle.smt_faults.specs.declared.command_fault.CommandFault.TheVariants.{TooDeep, NoLevel}
 use Rattle.smt_script.specs.declared.stack.Assertion.{Assertion}
+use Rattle.smt_script.specs.declared.stack.LogicState.{LogicState}
 use Rattle.smt_script.specs.declared.stack.levels.Level.{Level}
 use Rattle.smt_script.specs.declared.stack.Stack.{Stack}
 use Rattle.smt_script.proofs.EffectLemmas.{Keeps, assertions-add, nothing_brought, signature-add, within}
-use Rattle.smt_script.proofs.HistoryLemmas.{abbreviations-push, all_to_level, assertions-push, entries-push, exited-push, fixed-push, history-push, in_force-grow, in_force-push, levels_bound, levels_still, none_still, print-push, still, theories-push, to_fewer, to_level-push}
+use Rattle.smt_script.proofs.HistoryLemmas.{abbreviations-push, all_to_level, assertions-push, entries-push, exited-push, logic-push, history-push, in_force-grow, in_force-push, levels_bound, levels_still, none_still, print-push, still, theories-push, to_fewer, to_level-push}
 use Rattle.smt_script.proofs.StandingLemmas.{depth-push}
 
 -- ---- lists
@@ -78,10 +79,10 @@ push_keeps : (m : ℕ) → Keeps (Push m)
 push_keeps m = record { no_reset = refl; level = λ d. omega arith; theories = λ t. refl }
 
 note_is_level : (s : Stack) (l : Level) (cs : List Numbered) (k : ℕ) → StandsFor s cs → NotesAll s l → depth_in_force cs ≤ k
-    → IsLevel (contents_of s.library) s.assertions.items l (theories_in_force cs) (to_level k (in_force (history cs)))
+    → IsLevel (contents_of s.library) s.assertions.items l (theories_in_force cs) (to_level k ((in_force names_stand) (history cs))) (to_level k ((in_force assertions_stand) (history cs)))
 note_is_level s l cs k h notes le =
-    let same = all_to_level k (depth_in_force cs) (in_force (history cs)) le (levels_bound cs) in
-    subst (λ (b : List Brought). IsLevel (contents_of s.library) s.assertions.items l (theories_in_force cs) b) (sym same) (record {
+    let same = all_to_level k (depth_in_force cs) ((in_force names_stand) (history cs)) le (levels_bound cs) in
+    subst (λ (b : List Brought). IsLevel (contents_of s.library) s.assertions.items l (theories_in_force cs) b b) (sym same) (record {
       within = notes.within;
       count = (let e = notes.assertions in omega arith);
       holds = subst (λ (c : Contents). Holds c (signature_in_force cs)) (sym notes.all) h.library;
@@ -91,10 +92,10 @@ note_is_level s l cs k h notes le =
     })
 
 push_level : (s : Stack) (l : Level) (cs : List Numbered) (k : ℕ) (x : Level) → StandsFor s cs → NotesAll s l → Behind s.levels.items l k x
-    → IsLevel (contents_of s.library) s.assertions.items x (theories_in_force cs) (to_level k (in_force (history cs)))
+    → IsLevel (contents_of s.library) s.assertions.items x (theories_in_force cs) (to_level k ((in_force names_stand) (history cs))) (to_level k ((in_force assertions_stand) (history cs)))
 push_level s l cs k x h notes (Before at) = h.levels k x at
 push_level s l cs k x h notes (Copy is le) =
-    subst (λ (y : Level). IsLevel (contents_of s.library) s.assertions.items y (theories_in_force cs) (to_level k (in_force (history cs)))) (sym is)
+    subst (λ (y : Level). IsLevel (contents_of s.library) s.assertions.items y (theories_in_force cs) (to_level k ((in_force names_stand) (history cs))) (to_level k ((in_force assertions_stand) (history cs)))) (sym is)
     (note_is_level s l cs k h notes (let e = h.depth in omega arith))
 
 push_ordered : (s : Stack) (l : Level) (cs : List Numbered) (j k : ℕ) (x y : Level) → StandsFor s cs → NotesAll s l → j ≤ k → Behind s.levels.items l j x → Behind s.levels.items l k y → IsOuter x y
@@ -125,12 +126,12 @@ push_effect old v l m notes pushed fits n = record {
         levels = λ k x at.
             let behind = one_behind old.levels.items m l k x (ap (λ (xs : List Level). slice_get xs k) (sym pushed) ∙ at) in
             let inside : k + 1 ≤ b.level = (let i = within v.items k x at in omega arith) in
-            subst (λ (t : Theories). IsLevel (contents_of old.library) old.assertions.items x t (to_level k (in_force (history (cs ++ c ∷ []))))) (sym (theories-push cs c))
-            (subst (λ (y : List Brought). IsLevel (contents_of old.library) old.assertions.items x (theories_in_force cs) y) (sym (ap (to_level k) grow ∙ to_level-push k (in_force (history cs)) b inside))
+            subst (λ (t : Theories). IsLevel (contents_of old.library) old.assertions.items x t (to_level k ((in_force names_stand) (history (cs ++ c ∷ [])))) (to_level k ((in_force assertions_stand) (history (cs ++ c ∷ []))))) (sym (theories-push cs c))
+            (subst (λ (y : List Brought). IsLevel (contents_of old.library) old.assertions.items x (theories_in_force cs) y y) (sym (ap (to_level k) grow ∙ to_level-push k ((in_force names_stand) (history cs)) b inside))
             (push_level old l cs k x h notes behind));
         ordered = λ j k x y le at there.
             push_ordered old l cs j k x y h notes le (one_behind old.levels.items m l j x (ap (λ (xs : List Level). slice_get xs j) (sym pushed) ∙ at)) (one_behind old.levels.items m l k y (ap (λ (xs : List Level). slice_get xs k) (sym pushed) ∙ there));
-        fixed = ap (λ (x : Bool). is_fixed_after x (Push m)) h.fixed ∙ sym (fixed-push cs c);
+        logic = ap (λ (x : LogicState). logic_after x (Push m)) h.logic ∙ sym (logic-push cs c);
         print_success = h.print_success ∙ sym (print-push old.start cs c);
         exited = ap (λ (x : Bool). x || false) h.exited ∙ sym (exited-push cs c);
       };
@@ -146,22 +147,22 @@ push_refused s m over cs h n = rw (too_many (depth_in_force cs + m) (λ le. over
 -- ---- pop
 
 -- what is in force after levels are removed
-in_force-pop : (cs : List Numbered) (c : Numbered) → is_reset c.command ≡ false → in_force (history (cs ++ c ∷ [])) ≡ to_level (depth_after (depth_in_force cs) c.command) (in_force (history cs)) ++ brought_by cs (history cs) c ∷ []
+in_force-pop : (cs : List Numbered) (c : Numbered) → is_reset c.command ≡ false → (in_force names_stand) (history (cs ++ c ∷ [])) ≡ to_level (depth_after (depth_in_force cs) c.command) ((in_force names_stand) (history cs)) ++ brought_by cs (history cs) c ∷ []
 in_force-pop cs c keeps =
     let b = brought_by cs (history cs) c in
-    ap in_force (history-push cs c) ∙ in_force-push (history cs) b ∙ ap (λ (l : List Brought). l ++ b ∷ []) (levels_still b (in_force (history cs)) keeps)
+    ap (in_force names_stand) (history-push cs c) ∙ in_force-push (history cs) b ∙ ap (λ (l : List Brought). l ++ b ∷ []) (levels_still b ((in_force names_stand) (history cs)) keeps)
 
 cut_level : (old new : Stack) (d : ℕ) (cs : List Numbered) → StandsFor old cs → (cut : IsCut old new d) → (k : ℕ) (x : Level) → slice_get new.levels.items k ≡ Some x
-    → IsLevel (contents_of new.library) new.assertions.items x (theories_in_force cs) (to_level k (in_force (history cs)))
+    → IsLevel (contents_of new.library) new.assertions.items x (theories_in_force cs) (to_level k ((in_force names_stand) (history cs))) (to_level k ((in_force assertions_stand) (history cs)))
 cut_level old new d cs h cut k x at =
     let there = taken d old.levels.items k x (ap (λ (xs : List Level). slice_get xs k) (sym cut.levels) ∙ at) in
     let outer = h.ordered k d x cut.level (let m = there.1 in omega arith) there.0 cut.at in
     let level = h.levels k x there.0 in
     let whole = h.levels d cut.level cut.at in
     let c = contents_of old.library in
-    let B = to_level k (in_force (history cs)) in
-    subst (λ (y : Contents). IsLevel y new.assertions.items x (theories_in_force cs) B) (sym cut.library)
-    (subst (λ (xs : List Assertion). IsLevel (first_of cut.level.mark c) xs x (theories_in_force cs) B) (sym cut.assertions) (record {
+    let B = to_level k ((in_force names_stand) (history cs)) in
+    subst (λ (y : Contents). IsLevel y new.assertions.items x (theories_in_force cs) B B) (sym cut.library)
+    (subst (λ (xs : List Assertion). IsLevel (first_of cut.level.mark c) xs x (theories_in_force cs) B B) (sym cut.assertions) (record {
       within = earlier_within x.mark cut.level.mark c outer.mark whole.within;
       count = (let e = take_length cut.level.assertions old.assertions.items whole.count in let o = outer.assertions in omega arith);
       holds = subst (λ (y : Contents). Holds y (signature_of (theories_in_force cs) B)) (sym (earlier_kept x.mark cut.level.mark c outer.mark)) level.holds;
@@ -176,18 +177,18 @@ signature-pop t xs b entries abbreviations =
     ∙ ap (λ (as' : List (List ℕ × Sort)). record { theories = t; abbreviations = as'; entries = entries_of xs }) (abbreviations-push xs b ∙ ap (λ (l : List (List ℕ × Sort)). abbreviations_of xs ++ l) abbreviations ∙ append-nil (abbreviations_of xs))
 
 pub pop_effect : (old new : Stack) (m d : ℕ) → IsCut old new d → d + m ≡ length old.levels.items
-    → new.fixed ≡ old.fixed → new.print_success ≡ old.print_success → new.exited ≡ old.exited → new.start ≡ old.start → (n : ℕ) → HasEffect old new n (Pop m)
-pop_effect old new m d cut sum fixed print exited start n = record {
+    → new.logic ≡ old.logic → new.print_success ≡ old.print_success → new.exited ≡ old.exited → new.start ≡ old.start → (n : ℕ) → HasEffect old new n (Pop m)
+pop_effect old new m d cut sum logic print exited start n = record {
   faultless = λ cs h. rw (enough cs h) refl;
   stands = λ cs h.
       let c : Numbered = record { number = n; command = Pop m } in
       let b = brought_by cs (history cs) c in
-      let B = in_force (history cs) in
+      let B = (in_force names_stand) (history cs) in
       let deep : depth_in_force cs - m ≡ d = (let e = h.depth in omega arith) in
-      let now : in_force (history (cs ++ c ∷ [])) ≡ to_level d B ++ b ∷ [] = in_force-pop cs c refl ∙ ap (λ (k : ℕ). to_level k B ++ b ∷ []) deep in
+      let now : (in_force names_stand) (history (cs ++ c ∷ [])) ≡ to_level d B ++ b ∷ [] = in_force-pop cs c refl ∙ ap (λ (k : ℕ). to_level k B ++ b ∷ []) deep in
       let whole = h.levels d cut.level cut.at in
       let signature : signature_in_force (cs ++ c ∷ []) ≡ signature_of (theories_in_force cs) (to_level d B) =
-      ap (λ (t : Theories). signature_of t (in_force (history (cs ++ c ∷ [])))) (theories-push cs c)
+      ap (λ (t : Theories). signature_of t ((in_force names_stand) (history (cs ++ c ∷ [])))) (theories-push cs c)
       ∙ ap (λ (x : List Brought). signature_of (theories_in_force cs) x) now ∙ signature-pop (theories_in_force cs) (to_level d B) b refl refl in
       let asserted : assertions_in_force (cs ++ c ∷ []) ≡ assertions_of (to_level d B) = ap assertions_of now ∙ assertions-push (to_level d B) b ∙ append-nil (assertions_of (to_level d B)) in
       record {
@@ -200,12 +201,12 @@ pop_effect old new m d cut sum fixed print exited start n = record {
         levels = λ k x at.
             let there = taken d old.levels.items k x (ap (λ (xs : List Level). slice_get xs k) (sym cut.levels) ∙ at) in
             let inside : k + 1 ≤ b.level = (let i = there.1 in let e = deep in omega arith) in
-            let same : to_level k (in_force (history (cs ++ c ∷ []))) ≡ to_level k B = ap (to_level k) now ∙ to_level-push k (to_level d B) b inside ∙ to_fewer k d B (let i = there.1 in omega arith) in
-            subst (λ (t : Theories). IsLevel (contents_of new.library) new.assertions.items x t (to_level k (in_force (history (cs ++ c ∷ []))))) (sym (theories-push cs c))
-            (subst (λ (y : List Brought). IsLevel (contents_of new.library) new.assertions.items x (theories_in_force cs) y) (sym same) (cut_level old new d cs h cut k x at));
+            let same : to_level k ((in_force names_stand) (history (cs ++ c ∷ []))) ≡ to_level k B = ap (to_level k) now ∙ to_level-push k (to_level d B) b inside ∙ to_fewer k d B (let i = there.1 in omega arith) in
+            subst (λ (t : Theories). IsLevel (contents_of new.library) new.assertions.items x t (to_level k ((in_force names_stand) (history (cs ++ c ∷ [])))) (to_level k ((in_force assertions_stand) (history (cs ++ c ∷ []))))) (sym (theories-push cs c))
+            (subst (λ (y : List Brought). IsLevel (contents_of new.library) new.assertions.items x (theories_in_force cs) y y) (sym same) (cut_level old new d cs h cut k x at));
         ordered = λ j k x y le at there.
             h.ordered j k x y le (taken d old.levels.items j x (ap (λ (xs : List Level). slice_get xs j) (sym cut.levels) ∙ at)).0 (taken d old.levels.items k y (ap (λ (xs : List Level). slice_get xs k) (sym cut.levels) ∙ there)).0;
-        fixed = ap (λ (x : Bool). is_fixed_after x (Pop m)) (fixed ∙ h.fixed) ∙ sym (fixed-push cs c);
+        logic = ap (λ (x : LogicState). logic_after x (Pop m)) (logic ∙ h.logic) ∙ sym (logic-push cs c);
         print_success = print ∙ h.print_success ∙ ap (λ (x : Bool). print_success_in_force x cs) (sym start) ∙ sym (print-push new.start cs c);
         exited = ap (λ (x : Bool). x || false) (exited ∙ h.exited) ∙ sym (exited-push cs c);
       };
@@ -233,10 +234,10 @@ pop_none s n = record {
         depth = h.depth ∙ sym same ∙ sym (depth-push cs c);
         levels = λ k x at.
             let inside : k + 1 ≤ b.level = (let i = within s.levels.items k x at in let e = h.depth in omega arith) in
-            subst (λ (t : Theories). IsLevel (contents_of s.library) s.assertions.items x t (to_level k (in_force (history (cs ++ c ∷ []))))) (sym (theories-push cs c))
-            (subst (λ (y : List Brought). IsLevel (contents_of s.library) s.assertions.items x (theories_in_force cs) y) (sym (ap (to_level k) grow ∙ to_level-push k (in_force (history cs)) b inside)) (h.levels k x at));
+            subst (λ (t : Theories). IsLevel (contents_of s.library) s.assertions.items x t (to_level k ((in_force names_stand) (history (cs ++ c ∷ [])))) (to_level k ((in_force assertions_stand) (history (cs ++ c ∷ []))))) (sym (theories-push cs c))
+            (subst (λ (y : List Brought). IsLevel (contents_of s.library) s.assertions.items x (theories_in_force cs) y y) (sym (ap (to_level k) grow ∙ to_level-push k ((in_force names_stand) (history cs)) b inside)) (h.levels k x at));
         ordered = h.ordered;
-        fixed = ap (λ (x : Bool). is_fixed_after x (Pop 0)) h.fixed ∙ sym (fixed-push cs c);
+        logic = ap (λ (x : LogicState). logic_after x (Pop 0)) h.logic ∙ sym (logic-push cs c);
         print_success = h.print_success ∙ sym (print-push s.start cs c);
         exited = ap (λ (x : Bool). x || false) h.exited ∙ sym (exited-push cs c);
       };
@@ -258,23 +259,23 @@ abbrev pub ResetsAll : Command → Type 0
 ResetsAll command = (is_reset command ≡ true) × ((d : ℕ) → depth_after d command ≡ 0) × ((s : Signature) (n : ℕ) → entries_by s n command ≡ []) × ((s : Signature) → abbreviations_by s command ≡ []) × ((n : ℕ) → assertions_by n command ≡ [])
 
 pub emptied : (old new : Stack) (cs : List Numbered) (n : ℕ) (command : Command) → StandsFor old cs → ResetsAll command → IsEmpty new (theories_after (theories_in_force cs) command)
-    → new.fixed ≡ old.fixed → new.print_success ≡ old.print_success → new.exited ≡ old.exited → new.start ≡ old.start → StandsFor (noted command new) (cs ++ record { number = n; command = command } ∷ [])
-emptied old new cs n command h resets empty fixed print exited start =
+    → new.logic ≡ old.logic → new.print_success ≡ old.print_success → new.exited ≡ old.exited → new.start ≡ old.start → StandsFor (noted command new) (cs ++ record { number = n; command = command } ∷ [])
+emptied old new cs n command h removes empty logic print exited start =
     let c : Numbered = record { number = n; command = command } in
     let b = brought_by cs (history cs) c in
-    let now : in_force (history (cs ++ c ∷ [])) ≡ b ∷ [] = ap in_force (history-push cs c) ∙ in_force-push (history cs) b ∙ ap (λ (l : List Brought). l ++ b ∷ []) (none_still b (in_force (history cs)) resets.0) in
+    let now : (in_force names_stand) (history (cs ++ c ∷ [])) ≡ b ∷ [] = ap (in_force names_stand) (history-push cs c) ∙ in_force-push (history cs) b ∙ ap (λ (l : List Brought). l ++ b ∷ []) (none_still b ((in_force names_stand) (history cs)) removes.0) in
     let signature : signature_in_force (cs ++ c ∷ []) ≡ no_names (theories_after (theories_in_force cs) command) =
-    ap (λ (t : Theories). signature_of t (in_force (history (cs ++ c ∷ [])))) (theories-push cs c)
+    ap (λ (t : Theories). signature_of t ((in_force names_stand) (history (cs ++ c ∷ [])))) (theories-push cs c)
     ∙ ap (λ (x : List Brought). signature_of (theories_after (theories_in_force cs) command) x) now
-    ∙ signature-pop (theories_after (theories_in_force cs) command) [] b (resets.2 (signature_in_force cs) n) (resets.3 (signature_in_force cs)) in
-    let asserted : assertions_in_force (cs ++ c ∷ []) ≡ [] = ap assertions_of now ∙ assertions-push [] b ∙ resets.4 n in
+    ∙ signature-pop (theories_after (theories_in_force cs) command) [] b (removes.2 (signature_in_force cs) n) (removes.3 (signature_in_force cs)) in
+    let asserted : assertions_in_force (cs ++ c ∷ []) ≡ [] = ap assertions_of now ∙ assertions-push [] b ∙ removes.4 n in
     record {
       library = subst (λ (s : Signature). library.StandsFor new.library s) (sym signature) empty.library;
       assertions = subst (λ (bs : List spec.Assertion). AreAssertions (contents_of new.library) new.assertions.items bs) (sym asserted) (subst (λ (xs : List Assertion). AreAssertions (contents_of new.library) xs []) (sym empty.assertions) tt);
-      depth = ap length empty.levels ∙ sym (depth-push cs c ∙ resets.1 (depth_in_force cs));
+      depth = ap length empty.levels ∙ sym (depth-push cs c ∙ removes.1 (depth_in_force cs));
       levels = λ k x at. absurd (nothing_at k x (ap (λ (xs : List Level). slice_get xs k) (sym empty.levels) ∙ at));
       ordered = λ j k x y le at there. absurd (nothing_at j x (ap (λ (xs : List Level). slice_get xs j) (sym empty.levels) ∙ at));
-      fixed = ap (λ (x : Bool). is_fixed_after x command) (fixed ∙ h.fixed) ∙ sym (fixed-push cs c);
+      logic = ap (λ (x : LogicState). logic_after x command) (logic ∙ h.logic) ∙ sym (logic-push cs c);
       print_success =
           ap (λ (x : Bool). print_success_after new.start x command) (print ∙ h.print_success)
           ∙ ap (λ (x : Bool). print_success_after new.start (print_success_in_force x cs) command) (sym start) ∙ sym (print-push new.start cs c);
@@ -284,18 +285,18 @@ emptied old new cs n command h resets empty fixed print exited start =
     nothing_at : (k : ℕ) (x : Level) → slice_get {X = Level} [] k ≡ Some x → ⊥
     nothing_at k x at = absurd (cc)
 
-pub reset_effect : (old new : Stack) → IsEmpty new all_theories → new.fixed ≡ old.fixed → new.print_success ≡ old.print_success → new.exited ≡ old.exited → new.start ≡ old.start → (n : ℕ) → HasEffect old new n Reset
-reset_effect old new empty fixed print exited start n = record {
+pub reset_effect : (old new : Stack) → IsEmpty new all_theories → new.logic ≡ old.logic → new.print_success ≡ old.print_success → new.exited ≡ old.exited → new.start ≡ old.start → (n : ℕ) → HasEffect old new n Reset
+reset_effect old new empty logic print exited start n = record {
   faultless = λ cs h. refl;
-  stands = λ cs h. emptied old new cs n Reset h (refl, λ d. refl, λ s k. refl, λ s. refl, λ k. refl) empty fixed print exited start;
+  stands = λ cs h. emptied old new cs n Reset h (refl, λ d. refl, λ s k. refl, λ s. refl, λ k. refl) empty logic print exited start;
   start = start;
 }
 
-pub reset_assertions_effect : (old new : Stack) → ((cs : List Numbered) → StandsFor old cs → IsEmpty new (theories_in_force cs)) → new.fixed ≡ old.fixed → new.print_success ≡ old.print_success → new.exited ≡ old.exited → new.start ≡ old.start
+pub reset_assertions_effect : (old new : Stack) → ((cs : List Numbered) → StandsFor old cs → IsEmpty new (theories_in_force cs)) → new.logic ≡ old.logic → new.print_success ≡ old.print_success → new.exited ≡ old.exited → new.start ≡ old.start
     → (n : ℕ) → HasEffect old new n ResetAssertions
-reset_assertions_effect old new empty fixed print exited start n = record {
+reset_assertions_effect old new empty logic print exited start n = record {
   faultless = λ cs h. refl;
-  stands = λ cs h. emptied old new cs n ResetAssertions h (refl, λ d. refl, λ s k. refl, λ s. refl, λ k. refl) (empty cs h) fixed print exited start;
+  stands = λ cs h. emptied old new cs n ResetAssertions h (refl, λ d. refl, λ s k. refl, λ s. refl, λ k. refl) (empty cs h) logic print exited start;
   start = start;
 }
 
@@ -318,7 +319,7 @@ levels_unchanged old v same = record {
     depth = ap length same ∙ h.depth;
     levels = λ k x at. h.levels k x (ap (λ (xs : List Level). slice_get xs k) (sym same) ∙ at);
     ordered = λ j k x y le at there. h.ordered j k x y le (ap (λ (xs : List Level). slice_get xs j) (sym same) ∙ at) (ap (λ (xs : List Level). slice_get xs k) (sym same) ∙ there);
-    fixed = h.fixed;
+    logic = h.logic;
     print_success = h.print_success;
     exited = h.exited;
   };

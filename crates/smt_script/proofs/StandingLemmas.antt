@@ -5,8 +5,8 @@ use Rattle.std.specs.List.{flat_map, list_all, list_any}
 use Rattle.std.proofs.lemmas.List.{append-nil}
 use Rattle.std.proofs.lemmas.List.Sums.{fold-append}
 use Rattle.smt_trees.specs.Sexp.{Sexp}
-use Rattle.smt_script.specs.Command.{Command, SetLogic, SetPrintSuccess, SetOption, SetInfo, DeclareConst, DeclareFun, DefineFun, DefineSort, Assert, Push, Pop, Reset, ResetAssertions, Exit, CheckSat, GetModel, Echo, Get}
-use Rattle.smt_script.specs.Stack.{Assertion, Brought, KeepLevels, Numbered, Stands, assertions_by, assertions_in_force, assertions_of, brought_by, brought_from, depth_after, depth_in_force, history, in_force, is_reset, stands_after}
+use Rattle.smt_script.specs.Command.{Command, SetLogic, SetPrintSuccess, SetGlobalDeclarations, SetOption, SetInfo, DeclareConst, DeclareFun, DefineFun, DefineSort, Assert, Push, Pop, Reset, ResetAssertions, Exit, CheckSat, GetModel, Echo, Get}
+use Rattle.smt_script.specs.Stack.{Assertion, Brought, KeepLevels, Numbered, Stands, assertions_by, assertions_in_force, assertions_of, brought_by, brought_from, depth_after, depth_in_force, history, in_force, names_stand, is_reset, stands_after}
 
 -- what commands bring, behind those before them
 abbrev pub steps : List Numbered → List Brought → List Numbered → List Brought
@@ -38,11 +38,11 @@ abbrev pub kept : List Brought → List Brought → List Brought
 kept [] tail = []
 kept (x ∷ xs) tail = cond (list_all (stands_after x.level) (xs ++ tail)) (x ∷ []) [] ++ kept xs tail
 
-in_force-append : (xs tail : List Brought) → in_force (xs ++ tail) ≡ kept xs tail ++ in_force tail
+in_force-append : (xs tail : List Brought) → (in_force names_stand) (xs ++ tail) ≡ kept xs tail ++ (in_force names_stand) tail
 in_force-append [] tail = refl
 in_force-append (x ∷ xs) tail =
     let here = cond (list_all (stands_after x.level) (xs ++ tail)) (x ∷ []) [] in
-    ap (λ (l : List Brought). here ++ l) (in_force-append xs tail) ∙ sym (append_assoc here (kept xs tail) (in_force tail))
+    ap (λ (l : List Brought). here ++ l) (in_force-append xs tail) ∙ sym (append_assoc here (kept xs tail) ((in_force names_stand) tail))
 
 assertions-append : (xs ys : List Brought) → assertions_of (xs ++ ys) ≡ assertions_of xs ++ assertions_of ys
 assertions-append [] ys = refl
@@ -112,13 +112,13 @@ standing commands earlier c term s is =
     let stays : list_all (stands_after b.level) later ≡ true =
     ap (λ (l : ℕ). list_all (stands_after l) later) level ∙ all_stand (depth_in_force (earlier ++ c ∷ [])) (earlier ++ c ∷ []) (old ++ b ∷ []) s.later s.no_reset s.levels in
     let first = assertions_of (kept old (b ∷ later)) in
-    let last = assertions_of (in_force later) in (
+    let last = assertions_of ((in_force names_stand) later) in (
       first,
       last,
-      ap (λ (l : List Brought). assertions_of (in_force l)) all
+      ap (λ (l : List Brought). assertions_of ((in_force names_stand) l)) all
           ∙ ap assertions_of (in_force-append old (b ∷ later))
-          ∙ assertions-append (kept old (b ∷ later)) (in_force (b ∷ later))
-          ∙ ap (λ (t : Bool). first ++ assertions_of (cond t (b ∷ []) [] ++ in_force later)) stays
+          ∙ assertions-append (kept old (b ∷ later)) ((in_force names_stand) (b ∷ later))
+          ∙ ap (λ (t : Bool). first ++ assertions_of (cond t (b ∷ []) [] ++ (in_force names_stand) later)) stays
           ∙ ap (λ (d : Command). first ++ (assertions_by c.number d ++ last)) is,
     )
 
@@ -132,6 +132,7 @@ assertion_or_not : (n : ℕ) (command : Command) → IsAssertion n command
 assertion_or_not n (Assert term) = Yes term refl
 assertion_or_not n (SetLogic x) = No refl
 assertion_or_not n (SetPrintSuccess on) = No refl
+assertion_or_not n (SetGlobalDeclarations on) = No refl
 assertion_or_not n (SetOption k v) = No refl
 assertion_or_not n (SetInfo k v) = No refl
 assertion_or_not n (DeclareConst x s) = No refl
@@ -161,12 +162,12 @@ later_found before cs c a f = subst (λ (l : List Numbered). Found l a) (append_
 
 -- where the first of commands stands, its assertion is the one that is looked for, or a later one is
 abbrev pub Later : List Numbered → List Brought → List Numbered → Assertion → Type 0
-Later before brought cs a = (first last : List Assertion) → assertions_of (in_force (steps before brought cs)) ≡ first ++ a ∷ last → Found (before ++ cs) a
+Later before brought cs a = (first last : List Assertion) → assertions_of ((in_force names_stand) (steps before brought cs)) ≡ first ++ a ∷ last → Found (before ++ cs) a
 
 first_or_later : (before : List Numbered) (brought : List Brought) (c : Numbered) (cs : List Numbered) (term : Sexp) (first last : List Assertion) (a : Assertion)
     → c.command ≡ Assert term → Keeps (depth_in_force (before ++ c ∷ [])) (before ++ c ∷ []) cs
     → Later (before ++ c ∷ []) (brought ++ brought_by before brought c ∷ []) cs a
-    → record { command = c.number; term = term } ∷ assertions_of (in_force (steps (before ++ c ∷ []) (brought ++ brought_by before brought c ∷ []) cs)) ≡ first ++ a ∷ last
+    → record { command = c.number; term = term } ∷ assertions_of ((in_force names_stand) (steps (before ++ c ∷ []) (brought ++ brought_by before brought c ∷ []) cs)) ≡ first ++ a ∷ last
     → Found (before ++ c ∷ cs) a
 first_or_later before brought c cs term [] last a is keep later h =
     let here : ◌≡◌ {A = Assertion} (record { command = c.number; term = term }) a = cc in
@@ -184,21 +185,21 @@ found_step : (before : List Numbered) (brought : List Brought) (c : Numbered) (c
     → Later (before ++ c ∷ []) (brought ++ brought_by before brought c ∷ []) cs a
     → (t : Bool) → list_all (stands_after (brought_by before brought c).level) (steps (before ++ c ∷ []) (brought ++ brought_by before brought c ∷ []) cs) ≡ t
     → IsAssertion c.number c.command
-    → assertions_of (cond t (brought_by before brought c ∷ []) [] ++ in_force (steps (before ++ c ∷ []) (brought ++ brought_by before brought c ∷ []) cs)) ≡ first ++ a ∷ last
+    → assertions_of (cond t (brought_by before brought c ∷ []) [] ++ (in_force names_stand) (steps (before ++ c ∷ []) (brought ++ brought_by before brought c ∷ []) cs)) ≡ first ++ a ∷ last
     → Found (before ++ c ∷ cs) a
 found_step before brought c cs first last a later false e k h = later_found before cs c a (later first last h)
 found_step before brought c cs first last a later true e (No none) h =
-    let rest = in_force (steps (before ++ c ∷ []) (brought ++ brought_by before brought c ∷ []) cs) in
+    let rest = (in_force names_stand) (steps (before ++ c ∷ []) (brought ++ brought_by before brought c ∷ []) cs) in
     later_found before cs c a (later first last (ap (λ (l : List Assertion). l ++ assertions_of rest) (sym none) ∙ h))
 found_step before brought c cs first last a later true e (Yes term is) h =
     let rest = steps (before ++ c ∷ []) (brought ++ brought_by before brought c ∷ []) cs in
     first_or_later before brought c cs term first last a is
     (keeps (depth_in_force (before ++ c ∷ [])) (before ++ c ∷ []) (brought ++ brought_by before brought c ∷ []) cs (ap (λ (l : ℕ). list_all (stands_after l) rest) (depth-push before c) ∙ e))
     later
-    (ap (λ (d : Command). assertions_by c.number d ++ assertions_of (in_force rest)) (sym is) ∙ h)
+    (ap (λ (d : Command). assertions_by c.number d ++ assertions_of ((in_force names_stand) rest)) (sym is) ∙ h)
 
 pub found : (before : List Numbered) (brought : List Brought) (cs : List Numbered) (first last : List Assertion) (a : Assertion)
-    → assertions_of (in_force (steps before brought cs)) ≡ first ++ a ∷ last → Found (before ++ cs) a
+    → assertions_of ((in_force names_stand) (steps before brought cs)) ≡ first ++ a ∷ last → Found (before ++ cs) a
 found before brought [] [] last a h = cc
 found before brought [] (x ∷ first) last a h = cc
 found before brought (c ∷ cs) first last a h =
@@ -208,4 +209,4 @@ found before brought (c ∷ cs) first last a h =
 
 pub assertion_found : (commands : List Numbered) (first last : List Assertion) (a : Assertion) → assertions_in_force commands ≡ first ++ a ∷ last → Found commands a
 assertion_found commands first last a h =
-    found [] [] commands first last a (sym (ap (λ (l : List Brought). assertions_of (in_force l)) (steps-from [] [] commands)) ∙ h)
+    found [] [] commands first last a (sym (ap (λ (l : List Brought). assertions_of ((in_force names_stand) l)) (steps-from [] [] commands)) ∙ h)

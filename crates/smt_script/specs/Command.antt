@@ -21,6 +21,7 @@ pub data Query : Type 0 where
 pub data Command : Type 0 where
   SetLogic : (name : List ℕ) → Command
   SetPrintSuccess : (on : Bool) → Command
+  SetGlobalDeclarations : (on : Bool) → Command
   SetOption : (keyword : List ℕ) → (value : Option Sexp) → Command
   SetInfo : (keyword : List ℕ) → (value : Option Sexp) → Command
   DeclareConst : (name : List ℕ) → (sort : Sexp) → Command
@@ -46,16 +47,16 @@ is_print_success keyword = bytes_eq keyword (codes "print-success")
 abbrev pub is_global_declarations : List ℕ → Bool
 is_global_declarations keyword = bytes_eq keyword (codes "global-declarations")
 
--- an option whose value has to be a truth value, and may be `false` alone
-abbrev pub if_false : Command → Option Bool → Option Command
-if_false command (Some false) = Some command
-if_false command _ = None
+-- declarations may be set to be no longer global, as they are at the start; that they are global is not supported
+abbrev pub global_setting : Option Bool → Option Command
+global_setting (Some false) = Some (SetGlobalDeclarations false)
+global_setting _ = None
 
 -- the command that sets an option to a value, or to none
 abbrev pub option_setting : List ℕ × Option Sexp → Option Command
 option_setting p =
     if is_print_success p.0 then option_map SetPrintSuccess (truth_of_value p.1)
-    else if is_global_declarations p.0 then if_false (SetOption p.0 p.1) (truth_of_value p.1)
+    else if is_global_declarations p.0 then global_setting (truth_of_value p.1)
     else Some (SetOption p.0 p.1)
 
 -- ---- commands
@@ -123,3 +124,24 @@ refusal _ parts = Form
 abbrev pub command_of : Sexp → Result Command CommandFault
 command_of (Items (Cons (Reserved word) parts)) = ok_or (command_with word parts) (refusal word parts)
 command_of _ = Err Form
+
+-- ---- what commands are
+
+-- a command that asks whether the assertions in force are satisfiable
+abbrev pub is_check : Command → Bool
+is_check CheckSat = true
+is_check _ = false
+
+-- a command whose effect changes what is in force. (A logic is set before every check; so in a script without a fault it ends no window.)
+abbrev pub closes_window : Command → Bool
+closes_window (SetLogic name) = true
+closes_window (DeclareConst x sort) = true
+closes_window (DeclareFun x parameters sort) = true
+closes_window (DefineFun x parameters sort body) = true
+closes_window (DefineSort x sort) = true
+closes_window (Assert term) = true
+closes_window (Push levels) = true
+closes_window (Pop levels) = true
+closes_window Reset = true
+closes_window ResetAssertions = true
+closes_window _ = false

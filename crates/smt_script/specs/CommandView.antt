@@ -5,7 +5,7 @@ use Rattle.smt_trees.specs.Tree.{sexp_of}
 use Rattle.smt_forms.specs.Bindings.{named_trees}
 use Rattle.smt_script.specs.Command as spec
 use Rattle.smt_script.specs.declared.command.Command.{Command}
-use Rattle.smt_script.specs.declared.command.Command.TheVariants.{SetLogic, SetPrintSuccess, SetOption, SetInfo, DeclareConst, DeclareFun, DefineFun, DefineSort, Assert, Push, Pop, Reset, ResetAssertions, Exit, CheckSat, GetModel, Echo, Get}
+use Rattle.smt_script.specs.declared.command.Command.TheVariants.{SetLogic, SetPrintSuccess, SetGlobalDeclarations, SetOption, SetInfo, DeclareConst, DeclareFun, DefineFun, DefineSort, Assert, Push, Pop, Reset, ResetAssertions, Exit, CheckSat, GetModel, Echo, Get}
 use Rattle.smt_script.specs.declared.command.Query.{Query}
 use Rattle.smt_script.specs.declared.command.Query.TheVariants.{Values, Info, Setting, Assertions, Assignment, Proof, UnsatCore, UnsatAssumptions}
 
@@ -23,6 +23,7 @@ query_view UnsatAssumptions = spec.UnsatAssumptions
 abbrev pub command_view : Command → spec.Command
 command_view (SetLogic name) = spec.SetLogic name
 command_view (SetPrintSuccess on) = spec.SetPrintSuccess on
+command_view (SetGlobalDeclarations on) = spec.SetGlobalDeclarations on
 command_view (SetOption keyword value) = spec.SetOption keyword (option_map sexp_of value)
 command_view (SetInfo keyword value) = spec.SetInfo keyword (option_map sexp_of value)
 command_view (DeclareConst name sort) = spec.DeclareConst name (sexp_of sort)

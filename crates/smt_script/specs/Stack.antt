@@ -78,23 +78,41 @@ has_exited commands = list_any (λ c. is_exit c.command) commands
 
 -- ---- what each command brought
 
--- what a command brought: names, abbreviations and assertions; the level at which they came; and whether the command removed all that
--- there was before
+-- what a command removes of what there was before it
+pub data Removes : Type 0 where
+  Nothing : Removes
+  AllButOptions : Removes
+  Everything : Removes
+
+-- whether that is all names, abbreviations and assertions
+abbrev pub resets : Removes → Bool
+resets Nothing = false
+resets AllButOptions = true
+resets Everything = true
+
+-- what a command brought: names, abbreviations and assertions; the level at which they came; and what it removed
 pub record Brought : Type 0 where
   pub level : ℕ
-  pub resets : Bool
+  pub removes : Removes
   pub entries : List Entry
   pub abbreviations : List (List ℕ × Sort)
   pub assertions : List Assertion
 
 -- whether what came at a level stands after a later command, which left so many levels: that did not remove all, and left as many
 abbrev pub stands_after : ℕ → Brought → Bool
-stands_after level later = not later.resets && nat_le level later.level
+stands_after level later = not (resets later.removes) && nat_le level later.level
 
--- what is in force of all that was brought: what stands after every later command
-abbrev pub in_force : List Brought → List Brought
-in_force [] = []
-in_force (b ∷ later) = (if list_all (stands_after b.level) later then b ∷ [] else []) ++ in_force later
+-- whether names and abbreviations stand that were brought before these, and whether assertions do
+abbrev pub names_stand : Brought → List Brought → Bool
+names_stand b later = list_all (stands_after b.level) later
+
+abbrev pub assertions_stand : Brought → List Brought → Bool
+assertions_stand b later = list_all (stands_after b.level) later
+
+-- what is in force of all that was brought: what stands after all that was brought later
+abbrev pub in_force : (Brought → List Brought → Bool) → List Brought → List Brought
+in_force stands [] = []
+in_force stands (b ∷ later) = (if stands b later then b ∷ [] else []) ++ in_force stands later
 
 abbrev pub entries_of : List Brought → List Entry
 entries_of brought = flat_map (λ b. b.entries) brought
@@ -141,19 +159,23 @@ abbrev pub assertions_by : ℕ → Command → List Assertion
 assertions_by n (Assert term) = record { command = n; term = term } ∷ []
 assertions_by n _ = []
 
--- whether a command removes all that there is
+-- what a command removes
+abbrev pub removed_by : Command → Removes
+removed_by Reset = Everything
+removed_by ResetAssertions = AllButOptions
+removed_by _ = Nothing
+
+-- whether it removes all names, abbreviations and assertions
 abbrev pub is_reset : Command → Bool
-is_reset Reset = true
-is_reset ResetAssertions = true
-is_reset _ = false
+is_reset command = resets (removed_by command)
 
 -- what a command brings, behind the commands before it and what they brought
 abbrev pub brought_by : List Numbered → List Brought → Numbered → Brought
 brought_by before brought c =
-    let s = signature_of (theories_in_force before) (in_force brought) in
+    let s = signature_of (theories_in_force before) (in_force names_stand brought) in
     record {
       level = depth_after (depth_in_force before) c.command;
-      resets = is_reset c.command;
+      removes = removed_by c.command;
       entries = entries_by s c.number c.command;
       abbreviations = abbreviations_by s c.command;
       assertions = assertions_by c.number c.command;
@@ -172,11 +194,11 @@ history commands = brought_from [] [] commands
 
 -- the theories, abbreviations and names in force after commands that took effect
 abbrev pub signature_in_force : List Numbered → Signature
-signature_in_force commands = signature_of (theories_in_force commands) (in_force (history commands))
+signature_in_force commands = signature_of (theories_in_force commands) (in_force names_stand (history commands))
 
 -- the assertions in force after commands that took effect, in their order
 abbrev pub assertions_in_force : List Numbered → List Assertion
-assertions_in_force commands = assertions_of (in_force (history commands))
+assertions_in_force commands = assertions_of (in_force assertions_stand (history commands))
 
 -- commands behind others leave so many levels, each of them
 abbrev pub KeepLevels : ℕ → List Numbered → List Numbered → Type 0
@@ -190,28 +212,36 @@ pub record Stands (commands earlier : List Numbered) (c : Numbered) : Type 0 whe
   pub no_reset : list_any (λ d. is_reset d.command) later ≡ false
   pub levels : KeepLevels (depth_in_force (earlier ++ c ∷ [])) (earlier ++ c ∷ []) later
 
--- whether no logic may be set after the command: one is set once, and before every declaration, definition, assertion, change of level
--- and check since the start or the last reset
-abbrev pub fixes_logic : Command → Bool
-fixes_logic (SetLogic name) = true
-fixes_logic (DeclareConst x sort) = true
-fixes_logic (DeclareFun x parameters sort) = true
-fixes_logic (DefineFun x parameters sort body) = true
-fixes_logic (DefineSort x sort) = true
-fixes_logic (Assert term) = true
-fixes_logic (Push levels) = true
-fixes_logic (Pop levels) = true
-fixes_logic ResetAssertions = true
-fixes_logic CheckSat = true
-fixes_logic _ = false
+-- whether a logic is set after a command, by whether one was before
+abbrev pub is_set_after : Bool → Command → Bool
+is_set_after set (SetLogic name) = true
+is_set_after set Reset = false
+is_set_after set _ = set
 
-abbrev pub is_fixed_after : Bool → Command → Bool
-is_fixed_after fixed Reset = false
-is_fixed_after fixed command = fixed || fixes_logic command
+-- whether a logic is set: since the start or the last reset
+abbrev pub is_logic_set : List Numbered → Bool
+is_logic_set commands = fold (λ set c. is_set_after set c.command) false commands
 
--- whether no logic may be set after these commands
-abbrev pub is_logic_fixed : List Numbered → Bool
-is_logic_fixed commands = fold (λ fixed c. is_fixed_after fixed c.command) false commands
+-- whether it is too late to set a logic behind the command: a declaration, definition, assertion, change of level or check
+abbrev pub makes_late : Command → Bool
+makes_late (DeclareConst x sort) = true
+makes_late (DeclareFun x parameters sort) = true
+makes_late (DefineFun x parameters sort body) = true
+makes_late (DefineSort x sort) = true
+makes_late (Assert term) = true
+makes_late (Push levels) = true
+makes_late (Pop levels) = true
+makes_late ResetAssertions = true
+makes_late CheckSat = true
+makes_late _ = false
+
+abbrev pub is_late_after : Bool → Command → Bool
+is_late_after late Reset = false
+is_late_after late command = late || makes_late command
+
+-- whether it is too late to set a logic: one of these came since the start or the last reset
+abbrev pub is_too_late : List Numbered → Bool
+is_too_late commands = fold (λ late c. is_late_after late c.command) false commands
 
 -- ---- faults of effects
 
@@ -220,9 +250,9 @@ abbrev pub fault_of : {A : Type 0} → Result A TermFault → Option CommandFaul
 fault_of (Ok x) = None
 fault_of (Err fault) = Some (Term fault)
 
--- the fault of setting a logic that has these theories, if it is one that is taken
-abbrev pub fault_of_logic : Bool → Option Theories → Option CommandFault
-fault_of_logic is_fixed theories = if is_fixed || not (is_some theories) then Some Logic else None
+-- the fault of setting a logic that has these theories, if it is one that is taken: where one is set, or it is too late
+abbrev pub fault_of_logic : (set late : Bool) → Option Theories → Option CommandFault
+fault_of_logic set late theories = if (set || late) || not (is_some theories) then Some Logic else None
 
 -- the greatest number of levels
 abbrev pub limit : ℕ
@@ -230,7 +260,7 @@ limit = 10000
 
 -- the fault of the effect of command n after the commands that took effect before it
 abbrev pub fault_of_effect : List Numbered → ℕ → Command → Option CommandFault
-fault_of_effect before n (SetLogic name) = fault_of_logic (is_logic_fixed before) (theories_named name)
+fault_of_effect before n (SetLogic name) = fault_of_logic (is_logic_set before) (is_too_late before) (theories_named name)
 fault_of_effect before n (DeclareConst x sort) = fault_of (declared_in (signature_in_force before) n x Nil sort)
 fault_of_effect before n (DeclareFun x parameters sort) = fault_of (declared_in (signature_in_force before) n x parameters sort)
 fault_of_effect before n (DefineFun x parameters sort body) = fault_of (defined_in (signature_in_force before) x parameters sort body)

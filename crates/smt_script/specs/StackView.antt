@@ -7,8 +7,9 @@ use Rattle.smt_terms.specs.Library as library
 use Rattle.smt_terms.specs.Library.{Holds, IsTermOf}
 use Rattle.smt_terms.specs.declared.library.Library.{Library}
 use Rattle.smt_script.specs.Stack as spec
-use Rattle.smt_script.specs.Stack.{Brought, Numbered, assertions_in_force, assertions_of, depth_in_force, has_exited, history, in_force, is_logic_fixed, print_success_in_force, signature_in_force, signature_of, theories_in_force}
+use Rattle.smt_script.specs.Stack.{Brought, Numbered, assertions_in_force, assertions_of, depth_in_force, has_exited, history, in_force, is_logic_set, is_too_late, names_stand, assertions_stand, print_success_in_force, signature_in_force, signature_of, theories_in_force}
 use Rattle.smt_script.specs.declared.stack.Assertion.{Assertion}
+use Rattle.smt_script.specs.declared.stack.LogicState.{LogicState}
 use Rattle.smt_script.specs.declared.stack.levels.Level.{Level}
 use Rattle.smt_script.specs.declared.stack.Stack.{Stack}
 
@@ -34,17 +35,21 @@ AreAssertions terms _ _ = ⊥
 abbrev pub to_level : ℕ → List Brought → List Brought
 to_level k brought = filter (λ b. nat_le b.level k) brought
 
--- the first so many of the terms, names and assertions as a level notes are what was brought
-pub record IsLevel (contents : Contents) (assertions : List Assertion) (level : Level) (theories : Theories) (brought : List Brought) : Type 0 where
+-- the first so many of the terms and names as a level notes are what was brought, and so are the first so many of the assertions
+pub record IsLevel (contents : Contents) (assertions : List Assertion) (level : Level) (theories : Theories) (names asserted : List Brought) : Type 0 where
   pub within : IsWithin level.mark contents
   pub count : level.assertions ≤ length assertions
-  pub holds : Holds (first_of level.mark contents) (signature_of theories brought)
-  pub assertions_are : AreAssertions (first_of level.mark contents) (take level.assertions assertions) (assertions_of brought)
+  pub holds : Holds (first_of level.mark contents) (signature_of theories names)
+  pub assertions_are : AreAssertions (first_of level.mark contents) (take level.assertions assertions) (assertions_of asserted)
 
 -- an inner level notes as much as an outer one, or more
 pub record IsOuter (level inner : Level) : Type 0 where
   pub mark : IsBelow level.mark inner.mark
   pub assertions : level.assertions ≤ inner.assertions
+
+-- what is noted of the logic behind commands
+abbrev pub logic_state : List Numbered → LogicState
+logic_state commands = record { set = is_logic_set commands; late = is_too_late commands }
 
 -- the stack holds exactly what is in force after these commands; and each of its levels notes what of it came outside that level
 pub record StandsFor (stack : Stack) (commands : List Numbered) : Type 0 where
@@ -52,8 +57,9 @@ pub record StandsFor (stack : Stack) (commands : List Numbered) : Type 0 where
   pub assertions : AreAssertions (contents_of (library_of stack)) stack.assertions.items (assertions_in_force commands)
   pub depth : length stack.levels.items ≡ depth_in_force commands
   pub levels : (k : ℕ) (level : Level) → slice_get stack.levels.items k ≡ Some level
-      → IsLevel (contents_of (library_of stack)) stack.assertions.items level (theories_in_force commands) (to_level k (in_force (history commands)))
+      → IsLevel (contents_of (library_of stack)) stack.assertions.items level (theories_in_force commands)
+      (to_level k (in_force names_stand (history commands))) (to_level k (in_force assertions_stand (history commands)))
   pub ordered : (j k : ℕ) (level inner : Level) → j ≤ k → slice_get stack.levels.items j ≡ Some level → slice_get stack.levels.items k ≡ Some inner → IsOuter level inner
-  pub fixed : stack.fixed ≡ is_logic_fixed commands
+  pub logic : stack.logic ≡ logic_state commands
   pub print_success : stack.print_success ≡ print_success_in_force stack.start commands
   pub exited : stack.exited ≡ has_exited commands

@@ -1,5 +1,9 @@
 //! Commands.
 
+ghost use Rattle.std.specs.Prelude.{◌≡◌};
+ghost use Rattle.smt_script.specs.Command as commands;
+ghost use Rattle.smt_script.specs.CommandView.{command_view};
+
 use smt_trees::{Bytes, Tree, Trees};
 
 /// A command (SMT-LIB 2.6, section 4.2). Names are without bars, and keywords without their colon.
@@ -13,7 +17,12 @@ pub enum Command {
     SetPrintSuccess {
         on: bool,
     },
-    /// `(set-option keyword value)` for any other option, with a value or without (section 4.1.7). `:global-declarations` has `false`.
+    /// `(set-option :global-declarations false)` (section 4.1.7): declarations go with their levels, as from the start. `read_command`
+    /// refuses `true` as not supported, and on the stack neither changes anything.
+    SetGlobalDeclarations {
+        on: bool,
+    },
+    /// `(set-option keyword value)` for any other option, with a value or without (section 4.1.7).
     SetOption {
         keyword: Bytes,
         value: Option<Tree>,
@@ -76,6 +85,32 @@ pub enum Command {
     Get {
         query: Query,
     },
+}
+
+impl Command {
+    /// Whether it asks if the assertions in force are satisfiable (section 4.2.5).
+    pub fn is_check(&self) -> bool
+        ensures { result ≡ commands.is_check (command_view self.now) }
+    {
+        matches!(self, Command::CheckSat)
+    }
+
+    /// Whether its effect changes what is in force, and so ends the window of an earlier check.
+    pub fn closes_window(&self) -> bool
+        ensures { result ≡ commands.closes_window (command_view self.now) }
+    {
+        match self {
+            Command::SetLogic { .. } | Command::DeclareConst { .. } => true,
+            Command::DeclareFun { .. } | Command::DefineFun { .. } => true,
+            Command::DefineSort { .. } | Command::Assert { .. } => true,
+            Command::Push { .. } | Command::Pop { .. } => true,
+            Command::Reset | Command::ResetAssertions => true,
+            Command::SetPrintSuccess { .. } | Command::SetGlobalDeclarations { .. } => false,
+            Command::SetOption { .. } | Command::SetInfo { .. } => false,
+            Command::Exit | Command::CheckSat | Command::GetModel => false,
+            Command::Echo { .. } | Command::Get { .. } => false,
+        }
+    }
 }
 
 /// What a solver is asked for, beside models (SMT-LIB 2.6, sections 4.1.7 and 4.2.6).

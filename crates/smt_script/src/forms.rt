@@ -1,6 +1,6 @@
 //! The trees that are commands.
 
-ghost use Rattle.std.specs.Prelude.{◌≡◌, Ok, Err, MatchResult, option_map, bytes_eq, if◌then◌else◌};
+ghost use Rattle.std.specs.Prelude.{◌≡◌, Some, Ok, Err, MatchResult, option_map, bytes_eq, if◌then◌else◌};
 ghost use Rattle.smt_trees.specs.Tree.{sexp_of, sexps_of};
 ghost use Rattle.smt_script.specs.Command as commands;
 ghost use Rattle.smt_script.specs.CommandView.{command_view, query_view};
@@ -103,10 +103,21 @@ fn option(parts: Parts) -> Option<Command>
         let on = truth_of_value(&value)?;
         return Some(Command::SetPrintSuccess { on });
     }
-    if is_global_declarations(&keyword) && truth_of_value(&value) != Some(false) {
-        return None;
+    if is_global_declarations(&keyword) {
+        return global_setting(truth_of_value(&value)?);
     }
     Some(Command::SetOption { keyword, value })
+}
+
+// That declarations are global is not supported.
+fn global_setting(on: bool) -> Option<Command>
+    ensures { option_map command_view result ≡ commands.global_setting (Some on) }
+{
+    if on {
+        None
+    } else {
+        Some(Command::SetGlobalDeclarations { on })
+    }
 }
 
 fn is_print_success(keyword: &Bytes) -> bool

@@ -1,6 +1,6 @@
 //! The stack: what is in force after the commands that took effect.
 
-ghost use Rattle.std.specs.Prelude.{◌≡◌, ◌<◌, ◌++◌, ◌∷◌, ◌⊎◌, ℕ, List, [], None, Some, IfErr, OnOk, OnErr};
+ghost use Rattle.std.specs.Prelude.{◌≡◌, ◌<◌, ◌++◌, ◌∷◌, ◌⊎◌, ◌||◌, ℕ, List, [], None, Some, IfErr, OnOk, OnErr};
 ghost use Rattle.smt_terms.specs.Contents.{contents_of};
 ghost use Rattle.smt_terms.specs.Library as terms;
 ghost use Rattle.smt_script.specs.CommandView.{command_view};
@@ -26,6 +26,24 @@ pub struct Assertion {
     pub term: TermId,
 }
 
+/// What is noted of the logic, since the start or the last `Reset` (SMT-LIB 2.6, sections 4.1.1 and 4.2.1).
+#[derive(Clone, Copy)]
+pub struct LogicState {
+    /// Whether one is set.
+    pub(crate) set: bool,
+    /// Whether it is too late to set one: a command came that declares, defines, asserts, changes levels or checks.
+    pub(crate) late: bool,
+}
+
+impl LogicState {
+    // Whether no logic may be set any more.
+    fn is_fixed(self) -> bool
+        ensures { result ≡ (self.set || self.late) }
+    {
+        self.set || self.late
+    }
+}
+
 /// What is in force after commands that took effect: theories, names, assertions and assertion levels (SMT-LIB 2.6, sections 4.1.1 and
 /// 4.1.4).
 #[derive(Drop)]
@@ -35,8 +53,7 @@ pub struct Stack {
     assertions: Vec<Assertion>,
     /// For each level, what came outside it.
     levels: Vec<Level>,
-    /// Whether no logic may be set any more.
-    fixed: bool,
+    logic: LogicState,
     /// Whether `success` is printed: now, and at the start.
     print_success: bool,
     start: bool,
@@ -67,7 +84,10 @@ impl Stack {
             library: Library::new(alloc, all_theories()),
             assertions: Vec::new(alloc),
             levels: Vec::new(alloc),
-            fixed: false,
+            logic: LogicState {
+                set: false,
+                late: false,
+            },
             print_success: start,
             start,
             exited: false,

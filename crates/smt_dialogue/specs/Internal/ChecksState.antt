@@ -3,12 +3,12 @@ use Rattle.std.specs.Prelude.{◌≡◌, ℕ, ◌+◌, List, [], ◌∷◌, ◌+
 use Rattle.std.specs.List.{list_any}
 use Rattle.smt_trees.specs.Sexp.{Sexp, Items}
 use Rattle.smt_terms.specs.Signature.{Signature}
-use Rattle.smt_script.specs.Command.{Command, CheckSat, GetModel}
+use Rattle.smt_script.specs.Command.{Command, CheckSat, GetModel, closes_window}
 use Rattle.smt_dialogue.specs.Answers.{has_form}
 use Rattle.smt_dialogue.specs.Judgement.{Claimed, judgement_of}
 use Rattle.smt_dialogue.specs.Lines.{confirmed_line, is_empty, line_of_judgement, sat_lines, unchecked_answer, unconfirmed_line}
 use Rattle.smt_dialogue.specs.Pairs.{Pair}
-use Rattle.smt_dialogue.specs.Window.{closes, closes_by, models_from, window}
+use Rattle.smt_dialogue.specs.Window.{closes, models_from, window}
 use Rattle.smt_report.specs.declared.line.CheckAnswer.{CheckAnswer}
 use Rattle.smt_report.specs.declared.line.Line.{Line}
 use Rattle.smt_report.specs.declared.line.Line.TheVariants as lines
@@ -66,7 +66,7 @@ with_models s pending names claims n effective answer = s
 abbrev pub role_of : Command → Role
 role_of CheckSat = role.Check
 role_of GetModel = role.Model
-role_of command = if closes_by true command then role.Change else role.Other
+role_of command = if closes_window command then role.Change else role.Other
 
 -- a check has one of the answers of checks
 abbrev pub IsAnswered : Role → Option Sexp → Type 0

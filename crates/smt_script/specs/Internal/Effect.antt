@@ -6,17 +6,22 @@ use Rattle.smt_terms.specs.Library as library
 use Rattle.smt_terms.specs.Signature.{no_names}
 use Rattle.smt_terms.specs.declared.library.marks.Mark.{Mark}
 use Rattle.smt_script.specs.Command.{Command}
-use Rattle.smt_script.specs.Stack.{Numbered, fault_of_effect, is_exit, is_fixed_after, print_success_after}
+use Rattle.smt_script.specs.Stack.{Numbered, fault_of_effect, is_exit, is_late_after, is_set_after, print_success_after}
 use Rattle.smt_script.specs.StackView.{StandsFor, last_of, start_of}
 use Rattle.smt_faults.specs.declared.command_fault.CommandFault.{CommandFault}
 use Rattle.smt_faults.specs.declared.command_fault.CommandFault.TheVariants.{Memory}
+use Rattle.smt_script.specs.declared.stack.LogicState.{LogicState}
 use Rattle.smt_script.specs.declared.stack.levels.Level.{Level}
 use Rattle.smt_script.specs.declared.stack.Stack.{Stack}
+
+-- what is noted of the logic, once a command took effect
+abbrev pub logic_after : LogicState → Command → LogicState
+logic_after logic command = record { set = is_set_after logic.set command; late = is_late_after logic.late command }
 
 -- the stack once this is noted
 abbrev pub noted : Command → Stack → Stack
 noted command stack = record stack {
-  fixed = is_fixed_after stack.fixed command;
+  logic = logic_after stack.logic command;
   print_success = print_success_after stack.start stack.print_success command;
   exited = stack.exited || is_exit command;
 }
@@ -60,7 +65,7 @@ pub record IsCut (old new : Stack) (depth : ℕ) : Type 0 where
 
 -- what is noted of the commands is the same
 pub record HasNotesOf (old new : Stack) : Type 0 where
-  pub fixed : new.fixed ≡ old.fixed
+  pub logic : new.logic ≡ old.logic
   pub print_success : new.print_success ≡ old.print_success
   pub start : new.start ≡ old.start
   pub exited : new.exited ≡ old.exited

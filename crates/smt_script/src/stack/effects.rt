@@ -13,7 +13,7 @@ ghost use Rattle.smt_script.specs.StackView.{last_of, start_of};
 ghost use Rattle.smt_script.specs.Internal.Effect.{HasEffect, IsRefused, IsUnchanged, noted};
 
 use crate::command::Command;
-use crate::stack::{Assertion, Stack, all_theories};
+use crate::stack::{Assertion, LogicState, Stack, all_theories};
 use smt_faults::CommandFault;
 use smt_forms::params_of;
 use smt_terms::Library;
@@ -51,6 +51,7 @@ impl Stack {
             Command::Reset => self.reset(),
             Command::ResetAssertions => self.reset_assertions(),
             Command::SetPrintSuccess { .. } => Ok(()),
+            Command::SetGlobalDeclarations { .. } => Ok(()),
             Command::SetOption { .. } => Ok(()),
             Command::SetInfo { .. } => Ok(()),
             Command::Exit => Ok(()),
@@ -65,7 +66,10 @@ impl Stack {
     pub(super) fn note(&mut self, command: &Command)
         ensures { self.new ≡ noted (command_view command.now) self.old }
     {
-        self.fixed = is_fixed_after(self.fixed, command);
+        self.logic = LogicState {
+            set: is_set_after(self.logic.set, command),
+            late: is_late_after(self.logic.late, command),
+        };
         self.print_success = print_success_after(self.start, self.print_success, command);
         self.exited |= is_exit(command);
     }
@@ -74,7 +78,7 @@ impl Stack {
     pub(super) fn note_assertion(&mut self)
         ensures { (term : Sexp) → self.new ≡ noted (Assert term) self.old }
     {
-        self.fixed = true;
+        self.logic.late = true;
     }
 
     // A logic is set while nothing is in force and there are no levels.
@@ -83,7 +87,7 @@ impl Stack {
         ensures refused { IfErr result (λ fault. (number : ℕ) → IsRefused self.old number (SetLogic name.now) fault) }
         ensures unchanged { OnErr result (IsUnchanged self.old self.new) }
     {
-        if self.fixed {
+        if self.logic.is_fixed() {
             return Err(CommandFault::Logic);
         }
         let Some(theories) = theories_of(name) else {
@@ -171,20 +175,38 @@ impl Stack {
     }
 }
 
-// Whether no logic may be set after a command, by whether one might before.
-fn is_fixed_after(fixed: bool, command: &Command) -> bool
-    ensures { result ≡ stack.is_fixed_after fixed (command_view command.now) }
+// Whether a logic is set after a command, by whether one was before.
+fn is_set_after(set: bool, command: &Command) -> bool
+    ensures { result ≡ stack.is_set_after set (command_view command.now) }
+{
+    match command {
+        Command::SetLogic { .. } => true,
+        Command::Reset => false,
+        Command::DeclareConst { .. } | Command::DeclareFun { .. } => set,
+        Command::DefineFun { .. } | Command::DefineSort { .. } | Command::Assert { .. } => set,
+        Command::Push { .. } | Command::Pop { .. } | Command::ResetAssertions => set,
+        Command::SetPrintSuccess { .. } | Command::SetGlobalDeclarations { .. } => set,
+        Command::SetOption { .. } | Command::SetInfo { .. } => set,
+        Command::Exit | Command::CheckSat | Command::GetModel => set,
+        Command::Echo { .. } | Command::Get { .. } => set,
+    }
+}
+
+// Whether it is too late to set a logic after a command, by whether it was before.
+fn is_late_after(late: bool, command: &Command) -> bool
+    ensures { result ≡ stack.is_late_after late (command_view command.now) }
 {
     match command {
         Command::Reset => false,
-        Command::SetLogic { .. } | Command::DeclareConst { .. } => true,
-        Command::DeclareFun { .. } | Command::DefineFun { .. } => true,
-        Command::DefineSort { .. } | Command::Assert { .. } => true,
+        Command::DeclareConst { .. } | Command::DeclareFun { .. } => true,
+        Command::DefineFun { .. } | Command::DefineSort { .. } | Command::Assert { .. } => true,
         Command::Push { .. } | Command::Pop { .. } => true,
         Command::ResetAssertions | Command::CheckSat => true,
-        Command::SetPrintSuccess { .. } | Command::SetOption { .. } => fixed,
-        Command::SetInfo { .. } | Command::Exit | Command::GetModel => fixed,
-        Command::Echo { .. } | Command::Get { .. } => fixed,
+        Command::SetLogic { .. } => late,
+        Command::SetPrintSuccess { .. } | Command::SetGlobalDeclarations { .. } => late,
+        Command::SetOption { .. } | Command::SetInfo { .. } => late,
+        Command::Exit | Command::GetModel => late,
+        Command::Echo { .. } | Command::Get { .. } => late,
     }
 }
 
@@ -195,6 +217,7 @@ fn print_success_after(start: bool, before: bool, command: &Command) -> bool
     match command {
         Command::SetPrintSuccess { on } => *on,
         Command::Reset => start,
+        Command::SetGlobalDeclarations { .. } => before,
         Command::SetLogic { .. } | Command::DeclareConst { .. } => before,
         Command::DeclareFun { .. } | Command::DefineFun { .. } => before,
         Command::DefineSort { .. } | Command::Assert { .. } => before,
@@ -216,8 +239,8 @@ fn is_exit(command: &Command) -> bool
         Command::DefineSort { .. } | Command::Assert { .. } => false,
         Command::Push { .. } | Command::Pop { .. } => false,
         Command::Reset | Command::ResetAssertions | Command::CheckSat => false,
-        Command::SetPrintSuccess { .. } | Command::SetOption { .. } => false,
-        Command::SetInfo { .. } | Command::GetModel => false,
+        Command::SetPrintSuccess { .. } | Command::SetGlobalDeclarations { .. } => false,
+        Command::SetOption { .. } | Command::SetInfo { .. } | Command::GetModel => false,
         Command::Echo { .. } | Command::Get { .. } => false,
     }
 }

@@ -7,7 +7,7 @@ use Rattle.smt_script.specs.CommandView.{command_view}
 use Rattle.smt_script.specs.Internal.Effect.{HasEffect, IsRefused}
 use Rattle.smt_faults.specs.declared.command_fault.CommandFault.{CommandFault}
 use Rattle.smt_script.specs.declared.stack.Stack.{Stack}
-use Rattle.smt_script.proofs.EffectLemmas.{check_idle, echo_idle, exit_idle, get_idle, idle_effect, info_idle, model_idle, option_idle, print_idle}
+use Rattle.smt_script.proofs.EffectLemmas.{check_idle, echo_idle, exit_idle, get_idle, global_idle, idle_effect, info_idle, model_idle, option_idle, print_idle}
 use Rattle.smt_script.proofs.stack.Stack.take_effect.Goals as goal
 
 refused_at : (r : Result (Unit {0}) CommandFault) (old : Stack) (given command : Command) (n : ℕ) → command ≡ given
@@ -105,6 +105,9 @@ returns-in-GetModel-clause-effect c = rw (ap command_view c.in-GetModel.is) (idl
 
 pub returns-in-SetPrintSuccess-clause-effect : goal.returns-in-SetPrintSuccess-clause-effect
 returns-in-SetPrintSuccess-clause-effect c = rw (ap command_view c.in-SetPrintSuccess.is) (idle_effect c.args.self.now c.args.number _ (print_idle c.in-SetPrintSuccess.on))
+
+pub returns-in-SetGlobalDeclarations-clause-effect : goal.returns-in-SetGlobalDeclarations-clause-effect
+returns-in-SetGlobalDeclarations-clause-effect c = rw (ap command_view c.in-SetGlobalDeclarations.is) (idle_effect c.args.self.now c.args.number _ (global_idle c.in-SetGlobalDeclarations.on))
 
 pub returns-in-SetOption-clause-effect : goal.returns-in-SetOption-clause-effect
 returns-in-SetOption-clause-effect c = rw (ap command_view c.in-SetOption.is) (idle_effect c.args.self.now c.args.number _ (option_idle _ _))
