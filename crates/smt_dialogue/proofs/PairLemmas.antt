@@ -10,10 +10,10 @@ use Rattle.smt_dialogue.proofs.InForceLemmas.{IsQuiet, assertions-quiet, signatu
 use Rattle.smt_dialogue.specs.Answers.{Takes, Unfit, has_form, need_of, taken}
 use Rattle.smt_dialogue.specs.InForce.{AreFaultless, assertions_after, fault_of_pair, has_exited_after, need_after, signature_after}
 use Rattle.smt_dialogue.specs.Internal.ChecksState.{IsAnswered, role_of}
-use Rattle.smt_dialogue.specs.Lines.{checks_in, lines_in, lines_of_pair}
+use Rattle.smt_dialogue.specs.Lines.{lines_in, lines_of_pair}
 use Rattle.smt_script.specs.Command.{is_check}
 use Rattle.smt_dialogue.specs.Pairing.{AllTake}
-use Rattle.smt_dialogue.specs.Pairs.{Pair, answer_count, answers_taken, answers_then, effective_commands, effective_from, is_effective, next_of, numbered_if, with_answer}
+use Rattle.smt_dialogue.specs.Pairs.{Pair, answer_count, answers_taken, answers_then, checks_in, effective_commands, effective_from, is_effective, next_of, numbered_if, with_answer}
 use Rattle.smt_dialogue.specs.declared.answer.AnswerForm.{AnswerForm}
 use Rattle.smt_dialogue.specs.declared.answer.AnswerForm.TheVariants.{Check}
 use Rattle.smt_dialogue.specs.declared.answer.Need.TheVariants.{Needed}
