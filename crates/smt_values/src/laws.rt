@@ -42,6 +42,15 @@ pub fn division_is_by_the_law()
         → (q ≡ quotient z a n) × (r ≡ remainder z a n) }
 {}
 
+/// What `div` and `mod` give by 0 is free: for any one dividend it may be any integer, whatever it is for the others and for the other
+/// of the two (SMT-LIB 2.6, theory Ints).
+pub fn division_by_zero_is_free()
+    ensures quotient { (z : DivisionByZero) (a r : ℤ) → (y : DivisionByZero) × (quotient y a (pos 0) ≡ r)
+        × ((b n : ℤ) → b ≢ a → quotient y b n ≡ quotient z b n) × ((b n : ℤ) → remainder y b n ≡ remainder z b n) }
+    ensures remainder { (z : DivisionByZero) (a r : ℤ) → (y : DivisionByZero) × (remainder y a (pos 0) ≡ r)
+        × ((b n : ℤ) → b ≢ a → remainder y b n ≡ remainder z b n) × ((b n : ℤ) → quotient y b n ≡ quotient z b n) }
+{}
+
 /// Of two bit vectors of one width the first is less exactly where it is not at least the second, as numbers and read as signed.
 pub fn comparisons_are_opposites()
     ensures unsigned { (m s t : ℕ) → compares_bits UnsignedLess m s t ≡ not (compares_bits UnsignedAtLeast m s t) }
