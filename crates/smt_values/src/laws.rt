@@ -1,10 +1,13 @@
 //! What holds of the definitions that the contracts name. Nothing here does anything: each contract is a law, and
 //! a body but calls the laws that it rests on.
 
-ghost use Rattle.std.specs.Prelude.{◌≡◌, ◌≢◌, not, ℕ, ◌≤ℤ◌, ◌<ℤ◌, ℤ, pos, ◌+ℤ◌, ◌*ℤ◌, unsigned_abs, List, Option};
+ghost use Rattle.std.specs.Prelude.{◌≡◌, ◌≢◌, not, ℕ, ◌≤ℤ◌, ◌<ℤ◌, ℤ, pos, ◌+ℤ◌, ◌*ℤ◌, unsigned_abs, All, IsSome, List, map, Option, Some};
 ghost use Rattle.smt_theory.specs.Ranks.{HasRank};
+ghost use Rattle.smt_theory.specs.declared.op.CoreOp.{CoreOp};
 ghost use Rattle.smt_theory.specs.declared.op.Op.{Op};
+ghost use Rattle.smt_theory.specs.declared.op.Op.TheVariants.{Core};
 ghost use Rattle.smt_theory.specs.declared.sort.Sort.{Sort};
+ghost use Rattle.smt_theory.specs.declared.sort.Sort.TheVariants.{Int};
 ghost use Rattle.smt_theory.specs.declared.op.BitsComparison.TheVariants.{SignedAtLeast, SignedLess, UnsignedAtLeast, UnsignedLess};
 ghost use Rattle.smt_values.specs.BitOperations.{compares_bits};
 ghost use Rattle.smt_values.specs.Element.{Agrees, AllAgree, AreOfSorts, Element, IsOfSort};
@@ -18,6 +21,18 @@ use smt_bits::laws::{arithmetic, bitwise, parts, signed};
 pub fn known_results_are_true()
     ensures { (z : DivisionByZero) (op : Op) (knowns : List (Option Element)) (args : List Element)
         → AllAgree knowns args → Agrees (known_step op knowns) (operate z op args) }
+{}
+
+/// Over arguments that are all known, of sorts that the operator has a rank for, only an integer may stay open, and only of operators
+/// of theory Ints: every result of another sort is known, every one of arguments without an integer, and every one of theory Core.
+pub fn known_arguments_give_known_results()
+    ensures other_sorts { (op : Op) (sorts : List Sort) (sort : Sort) (args : List Element)
+        → HasRank op sorts sort → AreOfSorts sorts args → sort ≢ Int → IsSome (known_step op (map Some args)) }
+    ensures without_integers { (op : Op) (sorts : List Sort) (sort : Sort) (args : List Element)
+        → HasRank op sorts sort → AreOfSorts sorts args → All (λ s. s ≢ Int) sorts
+        → IsSome (known_step op (map Some args)) }
+    ensures core { (op : CoreOp) (sorts : List Sort) (sort : Sort) (args : List Element)
+        → HasRank (Core op) sorts sort → AreOfSorts sorts args → IsSome (known_step (Core op) (map Some args)) }
 {}
 
 /// An operator that has a rank gives an element of the rank's sort for arguments of the rank's sorts.
