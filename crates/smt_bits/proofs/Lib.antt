@@ -2,6 +2,7 @@ pub mod ArithmeticLemmas
 pub mod BitwiseLemmas
 pub mod LiteralLemmas
 pub mod PartLemmas
+pub mod PlaceLemmas
 pub mod ShiftLemmas
 pub mod SignedDivisionLemmas
 pub mod SignedLawLemmas

@@ -9,10 +9,10 @@ use Rattle.std.specs.Prelude.{unsigned_abs}
 use Rattle.smt_bits.specs.BitVector.{modulo, signed}
 use lib.Signed.{mag}
 
-signed_low : (m s : ℕ) → 2 * s < 2 ^ m → signed m s ≡ pos s
+pub signed_low : (m s : ℕ) → 2 * s < 2 ^ m → signed m s ≡ pos s
 signed_low m s low = ap (λ b. cond b (pos s -ℤ pos (2 ^ m)) (pos s)) (lt-leb (2 ^ m) (2 * s) low)
 
-signed_high : (m s k : ℕ) → s + suc k ≡ 2 ^ m → 2 ^ m ≤ 2 * s → signed m s ≡ negsuc k
+pub signed_high : (m s k : ℕ) → s + suc k ≡ 2 ^ m → 2 ^ m ≤ 2 * s → signed m s ≡ negsuc k
 signed_high m s k sum high =
     let is : pos s -ℤ pos (2 ^ m) ≡ negsuc k = omega (arith, ints) in
     ap (λ b. cond b (pos s -ℤ pos (2 ^ m)) (pos s)) (le-leb (2 ^ m) (2 * s) high) ∙ is

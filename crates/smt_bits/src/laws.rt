@@ -4,4 +4,5 @@ pub mod arithmetic;
 pub mod bitwise;
 pub mod literals;
 pub mod parts;
+pub mod shifts;
 pub mod signed;

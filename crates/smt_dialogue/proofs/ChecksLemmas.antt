@@ -12,9 +12,9 @@ use Rattle.smt_dialogue.specs.Answers.{has_form, is_effective_with, is_error}
 use Rattle.smt_dialogue.specs.InForce.{signature_after}
 use Rattle.smt_dialogue.specs.Internal.ChecksState.{ChecksState, IsAnswered, checks_after, closing_lines, pending_lines, role_of, with_answer_of, with_line, with_models, with_window_ended}
 use Rattle.smt_dialogue.specs.Judgement.{Claimed, claims_of, judgement_of}
-use Rattle.smt_dialogue.specs.Lines.{checks_in, claims_after, confirmed_line, line_of_judgement, lines_of_pair, lines_of_sat, sat_lines, unchecked_answer, unchecked_line_or, unconfirmed_line}
+use Rattle.smt_dialogue.specs.Lines.{claims_after, confirmed_line, line_of_judgement, lines_of_pair, lines_of_sat, sat_lines, unchecked_answer, unchecked_line_or, unconfirmed_line}
 use Rattle.smt_script.specs.Command.{is_check}
-use Rattle.smt_dialogue.specs.Pairs.{Pair, is_effective, pair_of}
+use Rattle.smt_dialogue.specs.Pairs.{Pair, checks_in, is_effective, pair_of}
 use Rattle.smt_dialogue.specs.Window.{Printed, closes, models_from, printed_by, window}
 use Rattle.smt_dialogue.specs.declared.answer.AnswerForm.TheVariants.{Check}
 use Rattle.smt_report.specs.declared.line.CheckAnswer.{CheckAnswer}

@@ -11,9 +11,9 @@ use Rattle.smt_dialogue.proofs.AssertedLemmas.{AssertionsAreFound, AssertionsSta
 use Rattle.smt_script.specs.Command.{Assert}
 use Rattle.smt_dialogue.specs.Validity.{IsAsserted, IsClaimed, IsConfirmed, IsSatCheck, IsTrueModel}
 use Rattle.smt_dialogue.specs.InForce.{AreFaultless, assertions_after, fault_of_pair, signature_after}
-use Rattle.smt_dialogue.specs.Pairs.{Pair, effective_commands, is_effective}
+use Rattle.smt_dialogue.specs.Pairs.{Pair, checks_in, effective_commands, is_effective}
 use Rattle.smt_script.specs.Stack.{Assertion, fault_of}
-use Rattle.smt_dialogue.specs.Lines.{checks_in, claims_after, is_empty, line_of_judgement, lines_in, lines_of_answer, lines_of_pair, lines_of_sat, sat_lines, unconfirmed_line}
+use Rattle.smt_dialogue.specs.Lines.{claims_after, is_empty, line_of_judgement, lines_in, lines_of_answer, lines_of_pair, lines_of_sat, sat_lines, unconfirmed_line}
 use Rattle.smt_report.specs.Verdict.{is_refuted_line, is_undecided_line}
 use Rattle.std.specs.Option.{option_or}
 use Rattle.smt_dialogue.specs.Window.{Printed, models_from, structure_at, window}

@@ -3,17 +3,17 @@ use Rattle.std.proofs.Common.{◌≡◌, ◌≤◌, ◌+◌, ℕ, suc, Bool, tru
 use Rattle.std.proofs.lemmas.List.{append-nil}
 use Rattle.smt_trees.specs.Sexp.{Sexp, Sexps, Atom, Reserved, Items, is_symbol}
 use Rattle.smt_trees.specs.Sexp as sexp
-use Rattle.smt_terms.proofs.NameLemmas.{same_name}
+use Rattle.std.specs.Cmp.Lexicographic.{same_text}
 use Rattle.smt_script.specs.Command.{Command, SetLogic, SetPrintSuccess, SetGlobalDeclarations, SetOption, SetInfo, DeclareConst, DeclareFun, DefineFun, DefineSort, Assert, Push, Pop, Reset, ResetAssertions, Exit, CheckSat, GetModel, Echo, Get}
 use Rattle.smt_script.specs.Stack.{Numbered, assertions_in_force, signature_in_force}
 use Rattle.smt_dialogue.proofs.InForceLemmas.{IsQuiet, assertions-quiet, signature-quiet}
 use Rattle.smt_dialogue.specs.Answers.{Takes, Unfit, has_form, need_of, taken}
 use Rattle.smt_dialogue.specs.InForce.{AreFaultless, assertions_after, fault_of_pair, has_exited_after, need_after, signature_after}
 use Rattle.smt_dialogue.specs.Internal.ChecksState.{IsAnswered, role_of}
-use Rattle.smt_dialogue.specs.Lines.{checks_in, lines_in, lines_of_pair}
+use Rattle.smt_dialogue.specs.Lines.{lines_in, lines_of_pair}
 use Rattle.smt_script.specs.Command.{is_check}
 use Rattle.smt_dialogue.specs.Pairing.{AllTake}
-use Rattle.smt_dialogue.specs.Pairs.{Pair, answer_count, answers_taken, answers_then, effective_commands, effective_from, is_effective, next_of, numbered_if, with_answer}
+use Rattle.smt_dialogue.specs.Pairs.{Pair, answer_count, answers_taken, answers_then, checks_in, effective_commands, effective_from, is_effective, next_of, numbered_if, with_answer}
 use Rattle.smt_dialogue.specs.declared.answer.AnswerForm.{AnswerForm}
 use Rattle.smt_dialogue.specs.declared.answer.AnswerForm.TheVariants.{Check}
 use Rattle.smt_dialogue.specs.declared.answer.Need.TheVariants.{Needed}
@@ -22,7 +22,7 @@ use Rattle.smt_report.specs.declared.line.Line.{Line}
 -- ## What answers are
 
 pub is_word : (word : List ℕ) (a : Sexp) → is_symbol word a ≡ true → (x : List ℕ) × (a ≡ Atom sexp.Symbol x) × (x ≡ word)
-is_word word (Atom sexp.Symbol x) h = (x, refl, same_name x word h)
+is_word word (Atom sexp.Symbol x) h = (x, refl, same_text x word (sym h))
 is_word word (Atom sexp.Numeral x) h = cc
 is_word word (Atom sexp.Decimal x) h = cc
 is_word word (Atom sexp.Hexadecimal x) h = cc

@@ -19,9 +19,9 @@ use Rattle.smt_dialogue.specs.declared.options.Options.{Options}
 use Rattle.smt_dialogue.specs.Validity.{IsAsserted, IsFullyPaired, IsInvalid, IsSatCheck, IsTrueModel, IsValid}
 use Rattle.smt_dialogue.specs.InForce.{AreFaultless, assertions_after, signature_after}
 use Rattle.smt_dialogue.specs.Pairing.{IsPairing, IsPairingSoFar}
-use Rattle.smt_dialogue.specs.Pairs.{Pair, effective_commands}
+use Rattle.smt_dialogue.specs.Pairs.{Pair, checks_in, effective_commands}
 use Rattle.smt_script.specs.Stack.{Assertion}
-use Rattle.smt_dialogue.specs.Lines.{checks_in, claims_after, is_empty, line_of_judgement, lines_in, lines_of_pair, lines_of_sat, sat_lines, unchecked_answer, unchecked_line_or, unconfirmed_line}
+use Rattle.smt_dialogue.specs.Lines.{claims_after, is_empty, line_of_judgement, lines_in, lines_of_pair, lines_of_sat, sat_lines, unchecked_answer, unchecked_line_or, unconfirmed_line}
 use Rattle.smt_report.specs.Verdict.{IsVerdictOf, is_fault_line, is_refuted_line, is_undecided_line, tally_of, verdict_of, with_verdict}
 use Rattle.std.specs.Option.{option_or}
 use Rattle.smt_dialogue.specs.Internal.Steps.{IsJudged}

@@ -17,8 +17,7 @@ use Rattle.smt_eval.specs.Structure.{IsStructure}
 use Rattle.smt_eval.specs.declared.interpretation.ModelFault.{ModelFault}
 use Rattle.smt_dialogue.proofs.ConfirmedLemmas.{asserted_by}
 use Rattle.smt_dialogue.specs.InForce.{signature_after}
-use Rattle.smt_dialogue.specs.Lines.{checks_in}
-use Rattle.smt_dialogue.specs.Pairs.{Pair}
+use Rattle.smt_dialogue.specs.Pairs.{Pair, checks_in}
 use Rattle.smt_dialogue.specs.Validity.{IsAsserted, IsClaimed, IsConfirmed, IsFullyPaired, IsInvalid, IsSatCheck, IsTrueModel, IsValid}
 use Rattle.smt_dialogue.specs.VerdictLaws.{IsModelIn, IsSatOf}
 use Rattle.smt_dialogue.specs.Window.{Printed, models_from, structure_at, window}

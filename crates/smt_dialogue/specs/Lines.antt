@@ -6,7 +6,7 @@ use Rattle.smt_trees.specs.Sexp.{Sexp, is_symbol}
 use Rattle.smt_script.specs.Command.{is_check}
 use Rattle.smt_dialogue.specs.InForce.{signature_after, assertions_after}
 use Rattle.smt_dialogue.specs.Answers.{is_error}
-use Rattle.smt_dialogue.specs.Pairs.{Pair}
+use Rattle.smt_dialogue.specs.Pairs.{Pair, checks_in}
 use Rattle.smt_dialogue.specs.Window.{Printed, closes, models_from, window}
 use Rattle.smt_dialogue.specs.Judgement.{Claimed, claims_of, judgement_of}
 use Rattle.smt_terms.specs.Signature.{Signature}
@@ -77,11 +77,6 @@ lines_of_answer closed before k (Some answer) after =
     let n = length before + 1 in
     unchecked_line_or k n (unchecked_answer answer)
     (if is_symbol (codes "sat") answer then lines_of_sat closed k n (signature_after before) (claims_after before) (n + 1) after else [])
-
--- how many checks there are among pairs
-abbrev pub checks_in : List Pair → ℕ
-checks_in [] = 0
-checks_in (pair ∷ pairs) = (if is_check pair.command then 1 else 0) + checks_in pairs
 
 -- the lines that a pair has, for what stands before and after it: a check has one, once it is decided
 abbrev pub lines_of_pair : Bool → List Pair → Pair → List Pair → List Line

@@ -1,7 +1,7 @@
 -- SMT-LIB 2.6, section 4.1: pairs of a command with the answer that it took. Commands count from 1.
 use Rattle.std.specs.Prelude.{ℕ, ◌+◌, List, [], ◌∷◌, ◌++◌, Bool, Option, Some, None, if◌then◌else◌}
 use Rattle.smt_trees.specs.Sexp.{Sexp, Sexps, Nil, Cons}
-use Rattle.smt_script.specs.Command.{Command}
+use Rattle.smt_script.specs.Command.{Command, is_check}
 use Rattle.smt_script.specs.Stack.{Numbered}
 use Rattle.smt_dialogue.specs.Answers.{is_effective_with}
 
@@ -51,3 +51,8 @@ answer_count (Some answer) = 1
 abbrev pub answers_taken : List Pair → ℕ
 answers_taken [] = 0
 answers_taken (pair ∷ pairs) = answer_count pair.answer + answers_taken pairs
+
+-- how many checks there are among pairs
+abbrev pub checks_in : List Pair → ℕ
+checks_in [] = 0
+checks_in (pair ∷ pairs) = (if is_check pair.command then 1 else 0) + checks_in pairs

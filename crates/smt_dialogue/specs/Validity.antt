@@ -13,10 +13,9 @@ use Rattle.smt_eval.specs.Meaning.{value_over}
 use Rattle.smt_eval.specs.Structure.{IsStructure}
 use Rattle.smt_script.specs.Command.{Assert}
 use Rattle.smt_dialogue.specs.InForce.{KeepLevels, levels_after, removes_all, signature_after}
-use Rattle.smt_dialogue.specs.Lines.{checks_in}
 use Rattle.smt_script.specs.Command.{is_check}
 use Rattle.smt_dialogue.specs.Pairing.{IsPairing}
-use Rattle.smt_dialogue.specs.Pairs.{Pair, is_effective}
+use Rattle.smt_dialogue.specs.Pairs.{Pair, checks_in, is_effective}
 use Rattle.smt_dialogue.specs.declared.options.Options.{Options}
 use Rattle.smt_dialogue.specs.Window.{Printed, models_from, structure_at, window}
 use Rattle.smt_report.specs.declared.claim.Claim.{Claim}

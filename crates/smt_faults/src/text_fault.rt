@@ -9,7 +9,7 @@ pub enum TextFault {
     Byte { place: u64 },
     /// The byte at this place opens a list deeper than lists may nest.
     Deep { place: u64 },
-    /// The text ends, at this place, inside a list.
+    /// The text ends, at this place, inside a list, or inside a token that is not whole yet.
     End { place: u64 },
     /// Memory was refused.
     Memory,

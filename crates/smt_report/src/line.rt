@@ -33,7 +33,7 @@ pub enum TextFaultKind {
     Byte,
     /// A list deeper than 1,000 (`X2`).
     Deep,
-    /// A text that ends inside a list (`X3`).
+    /// A text that ends inside a list, or inside a token that is not whole yet (`X3`).
     End,
 }
 

@@ -104,7 +104,7 @@ extended_own symbol indexes make op each h =
     let found = map-some make (only_number indexes) op h in
     subst (IsFound symbol indexes) found.2 (subst (λ is. IsFound symbol is (make found.0)) (sym (only_number-own indexes found.0 found.1)) (each found.0))
 
-constant_digits-own : (symbol digits : List ℕ) → constant_digits symbol ≡ Some digits → (symbol ≡ codes "bv" ++ digits) × IsTrue (is_numeral digits)
+pub constant_digits-own : (symbol digits : List ℕ) → constant_digits symbol ≡ Some digits → (symbol ≡ codes "bv" ++ digits) × IsTrue (is_numeral digits)
 constant_digits-own [] digits h = cc
 constant_digits-own (b ∷ []) digits h = cc
 constant_digits-own (b ∷ v ∷ rest) digits h = by (b == 98) (v == 118) (is_numeral rest) (search rules) (search rules) (λ e. e) h

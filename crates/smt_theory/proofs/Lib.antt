@@ -1,6 +1,7 @@
 mod FindLemmas
 pub mod BitsOperatorLemmas
 pub mod OperatorLemmas
+pub mod OperatorFaultLemmas
 pub mod DigitLemmas
 pub mod RankLemmas
 pub mod BitsRankLemmas

@@ -1,5 +1,5 @@
 -- SMT-LIB 2.6, theories Core, Ints and FixedSizeBitVectors, and logic QF_BV: the operators by name and indexes.
-use Rattle.std.specs.Prelude.{ℕ, ◌≡◌, ◌<◌, List, [], ◌∷◌, Bool, ◌&&◌, IsTrue, Option, Some, None, Result, Ok, Err, is_some, option_map, ok_or, nat_lt, find, bytes_eq, codes, if◌then◌else◌}
+use Rattle.std.specs.Prelude.{ℕ, ◌≡◌, ◌≢◌, ◌<◌, List, [], ◌∷◌, Bool, ◌&&◌, IsTrue, Option, Some, None, Result, Ok, Err, is_some, option_map, ok_or, nat_lt, find, bytes_eq, codes, if◌then◌else◌}
 use Rattle.std.specs.Option.{option_or}
 use Rattle.smt_theory.specs.BitsOperators.{AreInRange, IsBitsName, bits_indexes, bits_named, indexed_bits}
 use Rattle.smt_theory.specs.Index.{IndexView, Number}
@@ -102,3 +102,22 @@ IsOperatorOf theories (Core op) = Unit {0}
 IsOperatorOf theories (Ints (Divisible n)) = IsTrue theories.ints × (0 < n)
 IsOperatorOf theories (Ints op) = IsTrue theories.ints
 IsOperatorOf theories (Bits op) = IsTrue theories.bits × AreInRange op
+
+-- the symbol with these indexes is this operator of the theories
+abbrev pub IsOperatorBy : Theories → List ℕ → List IndexView → Op → Type 0
+IsOperatorBy theories symbol indexes op = IsOperatorOf theories op × IsNameOf op symbol × (indexes ≡ indexes_of op)
+
+-- ---- names, whatever the indexes are
+
+-- the operator is one of a theory that there is, whether or not its indexes are in range
+abbrev pub IsOfTheories : Theories → Op → Type 0
+IsOfTheories theories (Core op) = Unit {0}
+IsOfTheories theories (Ints op) = IsTrue theories.ints
+IsOfTheories theories (Bits op) = IsTrue theories.bits
+
+-- some operator of the theories that takes no indexes, or that takes some, has this name
+abbrev pub IsPlainName : Theories → List ℕ → Type 0
+IsPlainName theories symbol = (op : Op) × IsOfTheories theories op × IsNameOf op symbol × (indexes_of op ≡ [])
+
+abbrev pub IsIndexedName : Theories → List ℕ → Type 0
+IsIndexedName theories symbol = (op : Op) × IsOfTheories theories op × IsNameOf op symbol × (indexes_of op ≢ [])

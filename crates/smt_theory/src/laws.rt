@@ -1,11 +1,12 @@
 //! What holds of the definitions that the contracts name. Nothing here does anything: each contract is a law.
 
-ghost use Rattle.std.specs.Prelude.{◌≡◌, ◌↔◌, ℕ, List, IsTrue, Ok, Some};
-ghost use Rattle.smt_theory.specs.Operators.{IsNameOf, IsOperatorOf, indexes_of, op_by};
+ghost use Rattle.std.specs.Prelude.{◌≡◌, ◌≢◌, ◌↔◌, ℕ, List, [], ◌∷◌, IsTrue, Ok, Err, Some};
+ghost use Rattle.smt_theory.specs.Operators.{IsIndexedName, IsOperatorBy, IsPlainName, op_by};
 ghost use Rattle.smt_theory.specs.Ranks.{HasRank, rank_of};
 ghost use Rattle.smt_theory.specs.Sort.{is_same_sort};
 ghost use Rattle.smt_theory.specs.Index.{IndexView};
 ghost use Rattle.smt_theory.specs.declared.op.Op.{Op};
+ghost use Rattle.smt_theory.specs.declared.op.OpFault.TheVariants.{Index, Unknown};
 ghost use Rattle.smt_theory.specs.declared.sort.Sort.{Sort};
 ghost use Rattle.smt_theory.specs.declared.theories.Theories.{Theories};
 
@@ -19,7 +20,20 @@ pub fn ranks_are_the_table()
 /// operator is one of the theories.
 pub fn operators_are_found_by_their_names()
     ensures { (theories : Theories) (symbol : List ℕ) (indexes : List IndexView) (op : Op)
-        → (op_by theories symbol indexes ≡ Ok op) ↔ (IsOperatorOf theories op × IsNameOf op symbol × (indexes ≡ indexes_of op)) }
+        → (op_by theories symbol indexes ≡ Ok op) ↔ IsOperatorBy theories symbol indexes op }
+{}
+
+/// The indexes are at fault exactly where there are some, the symbol is the name of an indexed operator of the theories, and none of
+/// that name has these. The symbol is unknown exactly where no operator of the theories has the name: no plain one, or, with indexes,
+/// no indexed one. A name is one whatever the operator's indexes are, so `bvX` is for each numeral X (SMT-LIB 2.6, logic QF_BV).
+pub fn faults_of_operators_are_told_apart()
+    ensures index { (theories : Theories) (symbol : List ℕ) (indexes : List IndexView)
+        → (op_by theories symbol indexes ≡ Err Index)
+        ↔ ((indexes ≢ []) × IsIndexedName theories symbol × ((op : Op) → ¬ IsOperatorBy theories symbol indexes op)) }
+    ensures plain { (theories : Theories) (symbol : List ℕ)
+        → (op_by theories symbol [] ≡ Err Unknown) ↔ ¬ IsPlainName theories symbol }
+    ensures indexed { (theories : Theories) (symbol : List ℕ) (first : IndexView) (rest : List IndexView)
+        → (op_by theories symbol (first ∷ rest) ≡ Err Unknown) ↔ ¬ IsIndexedName theories symbol }
 {}
 
 /// Two sorts are the same exactly where the test says so.

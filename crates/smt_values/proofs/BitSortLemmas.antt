@@ -86,43 +86,44 @@ binary_fits_by fit ShiftRightSigned m s t some below = fit.ashr m s t
 -- ---- arguments
 
 -- an element of a sort of bit vectors
-vector_is : (m : ℕ) (e : Element) → IsOfSort (BitsSort m) e → ((vector_of e).width ≡ m) × IsVector (vector_of e)
+pub vector_is : (m : ℕ) (e : Element) → IsOfSort (BitsSort m) e → ((vector_of e).width ≡ m) × IsVector (vector_of e)
 vector_is m (Truth b) h = absurd h
 vector_is m (Integer z) h = absurd h
 vector_is m (Vector v) h = h
 
-record One (m : ℕ) (es : List Element) : Type 0 where
-  v : BitVector
-  is : map vector_of es ≡ v ∷ []
-  width : v.width ≡ m
-  some : 1 ≤ v.width
-  below : v.number < 2 ^ v.width
+pub record One (m : ℕ) (es : List Element) : Type 0 where
+  pub v : BitVector
+  pub is : map vector_of es ≡ v ∷ []
+  pub width : v.width ≡ m
+  pub some : 1 ≤ v.width
+  pub below : v.number < 2 ^ v.width
 
-one : (m : ℕ) (es : List Element) → AreOfSorts (BitsSort m ∷ []) es → One m es
+pub one : (m : ℕ) (es : List Element) → AreOfSorts (BitsSort m ∷ []) es → One m es
 one m [] h = absurd h
 one m (e ∷ f ∷ es) h = absurd h.1
 one m (e ∷ []) h = let d = vector_is m e h.0 in record { v = vector_of e; is = refl; width = d.0; some = d.1.0; below = d.1.1 }
 
-record Two (m : ℕ) (es : List Element) : Type 0 where
-  v : BitVector
-  w : BitVector
-  is : map vector_of es ≡ v ∷ w ∷ []
-  width : v.width ≡ m
-  some : 1 ≤ v.width
-  below : v.number < 2 ^ v.width
+pub record Two (m : ℕ) (es : List Element) : Type 0 where
+  pub v : BitVector
+  pub w : BitVector
+  pub is : map vector_of es ≡ v ∷ w ∷ []
+  pub width : v.width ≡ m
+  pub same : w.width ≡ m
+  pub some : 1 ≤ v.width
+  pub below : v.number < 2 ^ v.width
 
-two : (m : ℕ) (es : List Element) → AreOfSorts (BitsSort m ∷ BitsSort m ∷ []) es → Two m es
+pub two : (m : ℕ) (es : List Element) → AreOfSorts (BitsSort m ∷ BitsSort m ∷ []) es → Two m es
 two m [] h = absurd h
 two m (e ∷ []) h = absurd h.1
 two m (e ∷ f ∷ g ∷ es) h = absurd h.1.1
-two m (e ∷ f ∷ []) h = let d = vector_is m e h.0 in record { v = vector_of e; w = vector_of f; is = refl; width = d.0; some = d.1.0; below = d.1.1 }
+two m (e ∷ f ∷ []) h = let d = vector_is m e h.0 in record { v = vector_of e; w = vector_of f; is = refl; width = d.0; same = (vector_is m f h.1.0).0; some = d.1.0; below = d.1.1 }
 
 -- ---- results
 
 wider : (m i s : ℕ) → s < 2 ^ m → s < 2 ^ (m + i)
 wider m i s h = let more : 2 ^ m ≤ 2 ^ (m + i) = pow_mono (omega arith) in omega arith
 
-sum-cons : (m : ℕ) (widths : List ℕ) → sum (m ∷ widths) ≡ m + sum widths
+pub sum-cons : (m : ℕ) (widths : List ℕ) → sum (m ∷ widths) ≡ m + sum widths
 sum-cons m widths = sum_by-cons (λ n. n) m widths
 
 module _ (fits : ResultsFit) where

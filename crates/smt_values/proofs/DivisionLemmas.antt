@@ -1,5 +1,5 @@
--- The quotient and the remainder are the only ones.
-use Rattle.std.proofs.Common.{◌≡◌, ◌≢◌, ℕ, zero, suc, ◌+◌, ◌-◌, ◌*◌, ◌%◌, ◌<◌, ℤ, pos, negsuc, ◌+ℤ◌, ◌*ℤ◌, neg_ℤ, ◌≤ℤ◌, ◌<ℤ◌, Bool, true, false, cond, refl, sym, ap, ◌∙◌, arith}
+-- The quotient and the remainder are the only ones, and those by 0 are free.
+use Rattle.std.proofs.Common.{◌≡◌, ◌≢◌, ℕ, zero, suc, ◌+◌, ◌-◌, ◌*◌, ◌%◌, ◌<◌, ℤ, pos, negsuc, ◌+ℤ◌, ◌*ℤ◌, neg_ℤ, ◌≤ℤ◌, ◌<ℤ◌, Bool, true, false, cond, List, ◌∷◌, refl, sym, ap, ◌∙◌, arith}
 use Rattle.std.proofs.lemmas.Int.{ints}
 use Rattle.std.proofs.lemmas.Nat.{div-mul-add, mod-mul-add}
 use Rattle.std.proofs.lemmas.Bool.Decides.{Decides-int_eq}
@@ -49,3 +49,38 @@ division_one z a n q (pos k) h e low high =
         → (q ≡ cond b (at_zero z.quotients a) (int_div_euclid a n)) × (pos k ≡ cond b (at_zero z.remainders a) (int_rem_euclid a n))
     by true f one = absurd (h (f refl))
     by false f one = one
+
+-- ---- by 0
+
+-- what a table gives with one more row
+at_row : (table : List (ℤ × ℤ)) (a r : ℤ) → at_zero ((a, r) ∷ table) a ≡ r
+at_row table a r = by (int_eq a a) ((Decides-int_eq a a).1 refl)
+  where
+    by : (b : Bool) → b ≡ true → cond b r (at_zero table a) ≡ r
+    by true e = refl
+    by false e = cc
+
+beside_row : (table : List (ℤ × ℤ)) (a r b : ℤ) → b ≢ a → at_zero ((a, r) ∷ table) b ≡ at_zero table b
+beside_row table a r b other = by (int_eq b a) (Decides-int_eq b a).0
+  where
+    by : (c : Bool) → (c ≡ true → b ≡ a) → cond c r (at_zero table b) ≡ at_zero table b
+    by true same = absurd (other (same refl))
+    by false same = refl
+
+pub quotient_free : (z : DivisionByZero) (a r : ℤ) → (y : DivisionByZero) × (quotient y a (pos 0) ≡ r)
+    × ((b n : ℤ) → b ≢ a → quotient y b n ≡ quotient z b n) × ((b n : ℤ) → remainder y b n ≡ remainder z b n)
+quotient_free z a r = (
+  record z { quotients = (a, r) ∷ z.quotients },
+  at_row z.quotients a r,
+  λ b n other. ap (λ x. cond (int_eq n (pos 0)) x (int_div_euclid b n)) (beside_row z.quotients a r b other),
+  λ b n. refl,
+)
+
+pub remainder_free : (z : DivisionByZero) (a r : ℤ) → (y : DivisionByZero) × (remainder y a (pos 0) ≡ r)
+    × ((b n : ℤ) → b ≢ a → remainder y b n ≡ remainder z b n) × ((b n : ℤ) → quotient y b n ≡ quotient z b n)
+remainder_free z a r = (
+  record z { remainders = (a, r) ∷ z.remainders },
+  at_row z.remainders a r,
+  λ b n other. ap (λ x. cond (int_eq n (pos 0)) x (int_rem_euclid b n)) (beside_row z.remainders a r b other),
+  λ b n. refl,
+)

@@ -2,6 +2,7 @@ pub mod DivisionLemmas
 pub mod KnownLemmas
 pub mod BitKnownLemmas
 pub mod BitSortLemmas
+pub mod AllKnownLemmas
 pub mod BitMeaningLemmas
 pub mod MeaningLemmas
 pub mod SortLemmas

@@ -1,10 +1,13 @@
 //! What holds of the definitions that the contracts name. Nothing here does anything: each contract is a law, and
 //! a body but calls the laws that it rests on.
 
-ghost use Rattle.std.specs.Prelude.{◌≡◌, ◌≢◌, not, ℕ, ◌≤ℤ◌, ◌<ℤ◌, ℤ, pos, ◌+ℤ◌, ◌*ℤ◌, unsigned_abs, List, Option};
+ghost use Rattle.std.specs.Prelude.{◌≡◌, ◌≢◌, not, ℕ, ◌≤ℤ◌, ◌<ℤ◌, ℤ, pos, ◌+ℤ◌, ◌*ℤ◌, unsigned_abs, All, IsSome, List, map, Option, Some};
 ghost use Rattle.smt_theory.specs.Ranks.{HasRank};
+ghost use Rattle.smt_theory.specs.declared.op.CoreOp.{CoreOp};
 ghost use Rattle.smt_theory.specs.declared.op.Op.{Op};
+ghost use Rattle.smt_theory.specs.declared.op.Op.TheVariants.{Core};
 ghost use Rattle.smt_theory.specs.declared.sort.Sort.{Sort};
+ghost use Rattle.smt_theory.specs.declared.sort.Sort.TheVariants.{Int};
 ghost use Rattle.smt_theory.specs.declared.op.BitsComparison.TheVariants.{SignedAtLeast, SignedLess, UnsignedAtLeast, UnsignedLess};
 ghost use Rattle.smt_values.specs.BitOperations.{compares_bits};
 ghost use Rattle.smt_values.specs.Element.{Agrees, AllAgree, AreOfSorts, Element, IsOfSort};
@@ -18,6 +21,18 @@ use smt_bits::laws::{arithmetic, bitwise, parts, signed};
 pub fn known_results_are_true()
     ensures { (z : DivisionByZero) (op : Op) (knowns : List (Option Element)) (args : List Element)
         → AllAgree knowns args → Agrees (known_step op knowns) (operate z op args) }
+{}
+
+/// Over arguments that are all known, of sorts that the operator has a rank for, only an integer may stay open, and only of operators
+/// of theory Ints: every result of another sort is known, every one of arguments without an integer, and every one of theory Core.
+pub fn known_arguments_give_known_results()
+    ensures other_sorts { (op : Op) (sorts : List Sort) (sort : Sort) (args : List Element)
+        → HasRank op sorts sort → AreOfSorts sorts args → sort ≢ Int → IsSome (known_step op (map Some args)) }
+    ensures without_integers { (op : Op) (sorts : List Sort) (sort : Sort) (args : List Element)
+        → HasRank op sorts sort → AreOfSorts sorts args → All (λ s. s ≢ Int) sorts
+        → IsSome (known_step op (map Some args)) }
+    ensures core { (op : CoreOp) (sorts : List Sort) (sort : Sort) (args : List Element)
+        → HasRank (Core op) sorts sort → AreOfSorts sorts args → IsSome (known_step (Core op) (map Some args)) }
 {}
 
 /// An operator that has a rank gives an element of the rank's sort for arguments of the rank's sorts.
@@ -40,6 +55,15 @@ pub fn division_is_by_the_law()
     ensures high { (z : DivisionByZero) (a n : ℤ) → n ≢ pos 0 → remainder z a n <ℤ pos (unsigned_abs n) }
     ensures one { (z : DivisionByZero) (a n q r : ℤ) → n ≢ pos 0 → a ≡ n *ℤ q +ℤ r → pos 0 ≤ℤ r → r <ℤ pos (unsigned_abs n)
         → (q ≡ quotient z a n) × (r ≡ remainder z a n) }
+{}
+
+/// What `div` and `mod` give by 0 is free: for any one dividend it may be any integer, whatever it is for the others and for the other
+/// of the two (SMT-LIB 2.6, theory Ints).
+pub fn division_by_zero_is_free()
+    ensures quotient { (z : DivisionByZero) (a r : ℤ) → (y : DivisionByZero) × (quotient y a (pos 0) ≡ r)
+        × ((b n : ℤ) → b ≢ a → quotient y b n ≡ quotient z b n) × ((b n : ℤ) → remainder y b n ≡ remainder z b n) }
+    ensures remainder { (z : DivisionByZero) (a r : ℤ) → (y : DivisionByZero) × (remainder y a (pos 0) ≡ r)
+        × ((b n : ℤ) → b ≢ a → remainder y b n ≡ remainder z b n) × ((b n : ℤ) → quotient y b n ≡ quotient z b n) }
 {}
 
 /// Of two bit vectors of one width the first is less exactly where it is not at least the second, as numbers and read as signed.

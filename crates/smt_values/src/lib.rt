@@ -24,4 +24,6 @@ mod value;
 
 pub use literals::{bin, hex, numeral};
 pub use operations::apply;
+pub use smt_bits::Bits;
+pub use smt_theory::Width;
 pub use value::Value;

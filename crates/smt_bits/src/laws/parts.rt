@@ -1,8 +1,10 @@
 //! Laws of the parts of bit vectors.
 
-ghost use Rattle.std.specs.Prelude.{◌≡◌, ℕ, ◌+◌, ◌-◌, ◌*◌, ◌^◌, ◌<◌, ◌≤◌};
-ghost use Rattle.smt_bits.specs.BitVector.{signed};
+ghost use Rattle.std.specs.Prelude.{◌≡◌, ℕ, ◌+◌, ◌-◌, ◌*◌, ◌%◌, ◌^◌, ◌<◌, ◌≤◌, Some};
+ghost use Rattle.std.specs.Int.{bit_at};
+ghost use Rattle.smt_bits.specs.BitVector.{BitVector, IsVector, signed};
 ghost use Rattle.smt_bits.specs.Operators as meaning;
+ghost use Rattle.smt_bits.specs.Parts.{zero_extension};
 
 /// A bit vector that is cut in two and put together again is the same.
 pub fn a_vector_is_its_parts()
@@ -19,6 +21,35 @@ pub fn rotations_are_inverse()
 /// A bit vector that is extended by its sign stands for the same integer.
 pub fn sign_extension_keeps_the_integer()
     ensures { (i m s : ℕ) → 1 ≤ m → s < 2 ^ m → signed (m + i) (meaning.sign_extend i m s) ≡ signed m s }
+{}
+
+/// The bits of what is cut out, put together or repeated are those of the vectors that it is made of, in their order, the bit of
+/// place 0 being the lowest (SMT-LIB 2.6, theory FixedSizeBitVectors and logic QF_BV).
+pub fn parts_have_their_bits()
+    ensures concat_low { (n s t k : ℕ) → k < n → bit_at (meaning.concat n s t) k ≡ bit_at t k }
+    ensures concat_high { (n s t k : ℕ) → t < 2 ^ n → bit_at (meaning.concat n s t) (n + k) ≡ bit_at s k }
+    ensures extract { (i j s k : ℕ) → k ≤ i - j → bit_at (meaning.extract i j s) k ≡ bit_at s (j + k) }
+    ensures repeat { (i m s k : ℕ) → s < 2 ^ m → k < i * m → bit_at (meaning.repeat i m s) k ≡ bit_at s (k % m) }
+{}
+
+/// A rotation to the left by i takes the bit of place k to place k + i, and one to the right that of place k + i to place k, around the
+/// width (SMT-LIB 2.6, logic QF_BV).
+pub fn rotations_move_bits_around()
+    ensures left { (i m s k : ℕ) → s < 2 ^ m → k < m
+        → bit_at (meaning.rotate_left i m s) ((k + i) % m) ≡ bit_at s k }
+    ensures right { (i m s k : ℕ) → s < 2 ^ m → k < m
+        → bit_at (meaning.rotate_right i m s) k ≡ bit_at s ((k + i) % m) }
+{}
+
+/// An extension keeps the bits, and past them it has zeros, or copies of the highest one (SMT-LIB 2.6, logic QF_BV).
+pub fn extensions_keep_bits()
+    ensures zero_extend { (i k : ℕ) (v w : BitVector) → zero_extension i v ≡ Some w
+        → bit_at w.number k ≡ bit_at v.number k }
+    ensures zeros { (i k : ℕ) (v w : BitVector) → IsVector v → zero_extension i v ≡ Some w
+        → v.width ≤ k → bit_at w.number k ≡ 0 }
+    ensures sign_extend { (i m s k : ℕ) → s < 2 ^ m → k < m → bit_at (meaning.sign_extend i m s) k ≡ bit_at s k }
+    ensures signs { (i m s k : ℕ) → s < 2 ^ m → m ≤ k → k < m + i
+        → bit_at (meaning.sign_extend i m s) k ≡ bit_at s (m - 1) }
 {}
 
 /// Each result is a number of as many bits as its sort says (SMT-LIB 2.6, theory FixedSizeBitVectors and logic QF_BV).

@@ -7,8 +7,8 @@ use Rattle.smt_script.specs.StackView.{last_of}
 use Rattle.smt_faults.specs.declared.command_fault.CommandFault.{CommandFault}
 use Rattle.smt_script.specs.declared.stack.Stack.{Stack}
 use Rattle.smt_dialogue.specs.InForce.{signature_after}
-use Rattle.smt_dialogue.specs.Lines.{checks_in, claims_after, lines_in}
-use Rattle.smt_dialogue.specs.Pairs.{Pair, answers_taken, effective_commands}
+use Rattle.smt_dialogue.specs.Lines.{claims_after, lines_in}
+use Rattle.smt_dialogue.specs.Pairs.{Pair, answers_taken, checks_in, effective_commands}
 use Rattle.smt_dialogue.specs.Internal.ChecksState.{ChecksState, checks_state, pending_lines}
 use Rattle.smt_dialogue.specs.declared.dialogue.Dialogue.{Dialogue}
 

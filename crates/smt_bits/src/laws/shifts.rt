@@ -1,0 +1,26 @@
+//! Laws of the shifts.
+
+ghost use Rattle.std.specs.Prelude.{◌≡◌, ℕ, ◌+◌, ◌-◌, ◌^◌, ◌<◌, ◌≤◌};
+ghost use Rattle.std.specs.Int.{bit_at};
+ghost use Rattle.smt_bits.specs.Operators.{bvashr, bvlshr, bvshl};
+
+/// A shift to the left by t takes the bit of place k to place t + k, and has zeros below t.
+pub fn shifts_left_move_bits()
+    ensures moved { (m s t k : ℕ) → t + k < m → bit_at (bvshl m s t) (t + k) ≡ bit_at s k }
+    ensures zeros { (m s t k : ℕ) → k < t → bit_at (bvshl m s t) k ≡ 0 }
+{}
+
+/// A shift to the right by t takes the bit of place t + k to place k, and zeros from past the width.
+pub fn shifts_right_move_bits()
+    ensures moved { (m s t k : ℕ) → bit_at (bvlshr m s t) k ≡ bit_at s (t + k) }
+    ensures zeros { (m s t k : ℕ) → s < 2 ^ m → m ≤ t + k → bit_at (bvlshr m s t) k ≡ 0 }
+{}
+
+/// An arithmetic shift to the right by t takes the bit of place t + k to place k, and copies of the highest bit from past the width: all
+/// zeros or all ones where t is the width or more.
+pub fn arithmetic_shifts_keep_the_sign()
+    ensures moved { (m s t k : ℕ) → s < 2 ^ m → t + k < m → bit_at (bvashr m s t) k ≡ bit_at s (t + k) }
+    ensures signs { (m s t k : ℕ) → s < 2 ^ m → k < m → m ≤ t + k → bit_at (bvashr m s t) k ≡ bit_at s (m - 1) }
+    ensures all_zeros { (m s t : ℕ) → s < 2 ^ m → m ≤ t → bit_at s (m - 1) ≡ 0 → bvashr m s t ≡ 0 }
+    ensures all_ones { (m s t : ℕ) → s < 2 ^ m → m ≤ t → bit_at s (m - 1) ≡ 1 → bvashr m s t ≡ 2 ^ m - 1 }
+{}
