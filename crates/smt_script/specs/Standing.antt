@@ -1,4 +1,4 @@
--- The words in which the laws say what is in force after commands that took effect: which one brought or set it.
+-- The words in which laws say what is in force after commands that took effect: which one brought or set it.
 use Rattle.std.specs.Prelude.{◌≡◌, ◌⊎◌, ℕ, ◌+◌, List, [], ◌∷◌, ◌++◌, Bool, true, false, is_some}
 use Rattle.std.specs.List.{list_any}
 use Rattle.smt_theory.specs.Theories.{theories_named}

@@ -48,8 +48,8 @@ pub fn commands_bring_names()
         → abbreviations_of_command earlier (numbered n (DefineSort x tree)) ≡ (x, sort) ∷ [] }
 {}
 
-/// The names in force are those of the commands that stand, in the order of the commands: that were followed by
-/// no reset, and by no fewer levels (SMT-LIB 2.6, section 4.1.4).
+/// The names in force are those of the commands that stand, in the order of the commands: of those that were
+/// followed by no reset, and by no fewer levels (SMT-LIB 2.6, section 4.1.4).
 pub fn names_in_force_stand()
     ensures stands { (commands earlier : List Numbered) (c : Numbered) → Stands commands earlier c
         → AreAmong (names_of_command earlier c) (signature_in_force commands).entries }
