@@ -17,12 +17,11 @@ use Rattle.smt_faults.specs.Faults.{command_fault}
 use Rattle.smt_faults.specs.declared.term_fault.TermFault.{TermFault}
 use Rattle.smt_faults.specs.declared.term_fault.TermFault.TheVariants as terms
 use Rattle.smt_terms.specs.declared.library.Library.{Library}
-use Rattle.smt_terms.proofs.ContentsLemmas.{mark_kept, mark_within, term_kept}
 use Rattle.smt_script.specs.Command.{Command, Query, SetLogic, SetPrintSuccess, SetGlobalDeclarations, SetOption, SetInfo, DeclareConst, DeclareFun, DefineFun, DefineSort, Assert, Exit, CheckSat, GetModel, Echo, Get}
 use Rattle.smt_script.specs.Stack as spec
 use Rattle.smt_script.specs.Stack.{Brought, Numbered, abbreviations_by, abbreviations_of, assertions_by, assertions_in_force, assertions_of, brought_by, depth_after, depth_in_force, entries_by, entries_of, fault_of, fault_of_effect, has_exited, history, in_force, names_stand, is_exit, is_reset, one_or_none, print_success_after, print_success_in_force, signature_in_force, signature_of, theories_after, theories_in_force, theories_or, assertions_stand, is_logic_set, is_too_late}
 use Rattle.smt_script.specs.StackView.{AreAssertions, IsLevel, StandsFor, to_level}
-use Rattle.smt_script.specs.Internal.Effect.{HasEffect, IsUnchanged, noted, logic_after}
+use Rattle.smt_script.specs.Internal.Effect.{ContentsAreKept, HasEffect, IsUnchanged, noted, logic_after}
 use Rattle.smt_faults.specs.declared.command_fault.CommandFault.{CommandFault}
 use Rattle.smt_faults.specs.declared.command_fault.CommandFault.TheVariants.{Term, Memory}
 use Rattle.smt_script.specs.declared.stack.Assertion.{Assertion}
@@ -34,11 +33,11 @@ use Rattle.smt_script.proofs.StandingLemmas.{depth-push}
 
 -- ---- assertions
 
-assertions_stay : (c d : Contents) → Extends c d → (as' : List Assertion) (bs : List spec.Assertion) → AreAssertions c as' bs → AreAssertions d as' bs
-assertions_stay c d more [] [] h = tt
-assertions_stay c d more (a ∷ as') (b ∷ bs) h = (h.0, term_kept c d a.term b.term more h.1, assertions_stay c d more as' bs h.2)
-assertions_stay c d more [] (b ∷ bs) h = h
-assertions_stay c d more (a ∷ as') [] h = h
+assertions_stay : ContentsAreKept → (c d : Contents) → Extends c d → (as' : List Assertion) (bs : List spec.Assertion) → AreAssertions c as' bs → AreAssertions d as' bs
+assertions_stay law c d more [] [] h = tt
+assertions_stay law c d more (a ∷ as') (b ∷ bs) h = (h.0, law.terms c d a.term b.term more h.1, assertions_stay law c d more as' bs h.2)
+assertions_stay law c d more [] (b ∷ bs) h = h
+assertions_stay law c d more (a ∷ as') [] h = h
 
 one_more_assertion : (c : Contents) (as' : List Assertion) (bs : List spec.Assertion) (a : Assertion) (b : spec.Assertion) → AreAssertions c as' bs → a.command ≡ b.command → IsTermOf c a.term b.term → AreAssertions c (as' ++ a ∷ []) (bs ++ b ∷ [])
 one_more_assertion c [] [] a b h command term = (command, term, tt)
@@ -95,24 +94,24 @@ assertions-add cs c adds =
     ap assertions_of grow ∙ assertions-push ((in_force names_stand) (history cs)) b
 
 -- a level stays as the contents and the assertions grow
-pub level_stays : (c d : Contents) (as' more : List Assertion) (l : Level) (t : Theories) (b : List Brought) → Extends c d → IsLevel c as' l t b b → IsLevel d (as' ++ more) l t b b
-level_stays c d as' more l t b grown h = record {
-  within = mark_within l.mark c d h.within grown;
+pub level_stays : ContentsAreKept → (c d : Contents) (as' more : List Assertion) (l : Level) (t : Theories) (b : List Brought) → Extends c d → IsLevel c as' l t b b → IsLevel d (as' ++ more) l t b b
+level_stays law c d as' more l t b grown h = record {
+  within = law.within l.mark c d h.within grown;
   count = (let e = length-append as' more in let m = h.count in omega arith);
-  holds = subst (λ (x : Contents). Holds x (signature_of t b)) (sym (mark_kept l.mark c d h.within grown)) h.holds;
+  holds = subst (λ (x : Contents). Holds x (signature_of t b)) (sym (law.first l.mark c d h.within grown)) h.holds;
   assertions_are =
-      subst (λ (x : Contents). AreAssertions x (take l.assertions (as' ++ more)) (assertions_of b)) (sym (mark_kept l.mark c d h.within grown))
+      subst (λ (x : Contents). AreAssertions x (take l.assertions (as' ++ more)) (assertions_of b)) (sym (law.first l.mark c d h.within grown))
       (subst (λ (x : List Assertion). AreAssertions (first_of l.mark c) x (assertions_of b)) (sym (take_before l.assertions as' more h.count)) h.assertions_are);
 }
 
 -- a stack after a command that adds to what is in force
-pub added : (old new : Stack) (more : List Assertion) (cs : List Numbered) (n : ℕ) (command : Command) → StandsFor old cs → Adds command
+pub added : ContentsAreKept → (old new : Stack) (more : List Assertion) (cs : List Numbered) (n : ℕ) (command : Command) → StandsFor old cs → Adds command
     → new.levels.items ≡ old.levels.items → new.logic ≡ old.logic → new.print_success ≡ old.print_success → new.exited ≡ old.exited → new.start ≡ old.start
     → Extends (contents_of old.library) (contents_of new.library) → new.assertions.items ≡ old.assertions.items ++ more
     → library.StandsFor new.library (with_brought (signature_in_force cs) n command)
     → AreAssertions (contents_of new.library) new.assertions.items (assertions_in_force cs ++ assertions_by n command)
     → StandsFor (noted command new) (cs ++ record { number = n; command = command } ∷ [])
-added old new more cs n command h adds levels logic print exited start grown asserted names assertions =
+added law old new more cs n command h adds levels logic print exited start grown asserted names assertions =
     let c : Numbered = record { number = n; command = command } in
     let b = brought_by cs (history cs) c in
     let grow = in_force-grow cs c adds.no_reset (let e = adds.level (depth_in_force cs) in omega arith) in
@@ -127,7 +126,7 @@ added old new more cs n command h adds levels logic print exited start grown ass
           subst (λ (t : Theories). IsLevel (contents_of new.library) new.assertions.items l t (to_level k ((in_force names_stand) (history (cs ++ c ∷ [])))) (to_level k ((in_force assertions_stand) (history (cs ++ c ∷ []))))) (sym theories)
           (subst (λ (x : List Brought). IsLevel (contents_of new.library) new.assertions.items l (theories_in_force cs) x x) (sym (ap (to_level k) grow ∙ to_level-push k ((in_force names_stand) (history cs)) b inside))
           (subst (λ (x : List Assertion). IsLevel (contents_of new.library) x l (theories_in_force cs) (to_level k ((in_force names_stand) (history cs))) (to_level k ((in_force assertions_stand) (history cs)))) (sym asserted)
-          (level_stays (contents_of old.library) (contents_of new.library) old.assertions.items more l (theories_in_force cs) (to_level k ((in_force names_stand) (history cs))) grown (h.levels k l there))));
+          (level_stays law (contents_of old.library) (contents_of new.library) old.assertions.items more l (theories_in_force cs) (to_level k ((in_force names_stand) (history cs))) grown (h.levels k l there))));
       ordered = λ j k l m le at there.
           h.ordered j k l m le (ap (λ (xs : List Level). slice_get xs j) (sym levels) ∙ at) (ap (λ (xs : List Level). slice_get xs k) (sym levels) ∙ there);
       logic = ap (λ (x : LogicState). logic_after x command) (logic ∙ h.logic) ∙ sym (logic-push cs c);
@@ -137,8 +136,9 @@ added old new more cs n command h adds levels logic print exited start grown ass
       exited = ap (λ (x : Bool). x || is_exit command) (exited ∙ h.exited) ∙ sym (exited-push cs c);
     }
 
-same_contents : (c : Contents) → Extends c c
-same_contents c = record {
+-- contents extend themselves
+pub extends_itself : (c : Contents) → Extends c c
+extends_itself c = record {
   theories = refl;
   abbreviations = ([], sym (append-nil c.abbreviations));
   ranks = ([], sym (append-nil c.ranks));
@@ -165,12 +165,12 @@ pub record Idle (command : Command) : Type 0 where
   pub assertions : (n : ℕ) → assertions_by n command ≡ []
   pub faultless : (cs : List Numbered) (n : ℕ) → fault_of_effect cs n command ≡ None
 
-pub idle_effect : (s : Stack) (n : ℕ) (command : Command) → Idle command → HasEffect s s n command
-idle_effect s n command idle = record {
+pub idle_effect : ContentsAreKept → (s : Stack) (n : ℕ) (command : Command) → Idle command → HasEffect s s n command
+idle_effect law s n command idle = record {
   faultless = λ cs h. idle.faultless cs n;
   stands = λ cs h.
       let P : List spec.Assertion → Type 0 = λ bs. AreAssertions (contents_of s.library) s.assertions.items (assertions_in_force cs ++ bs) in
-      added s s [] cs n command h idle.adds refl refl refl refl refl (same_contents (contents_of s.library)) (sym (append-nil s.assertions.items))
+      added law s s [] cs n command h idle.adds refl refl refl refl refl (extends_itself (contents_of s.library)) (sym (append-nil s.assertions.items))
       (nothing_brought s.library (signature_in_force cs) n command (idle.abbreviations (signature_in_force cs)) (idle.entries (signature_in_force cs) n) h.library)
       (subst P (sym (idle.assertions n)) (subst (λ (bs : List spec.Assertion). AreAssertions (contents_of s.library) s.assertions.items bs) (sym (append-nil (assertions_in_force cs))) h.assertions));
   start = refl;
@@ -215,15 +215,15 @@ pub record BringsNames (old new : Library) (n : ℕ) (command : Command) : Type 
   pub assertions : assertions_by n command ≡ []
   pub names : (cs : List Numbered) → library.StandsFor old (signature_in_force cs) → (fault_of_effect cs n command ≡ None) × library.StandsFor new (with_brought (signature_in_force cs) n command)
 
-pub names_effect : (old : Stack) (l : Library) (n : ℕ) (command : Command) → BringsNames old.library l n command → HasEffect old (record old { library = l }) n command
-names_effect old l n command brings = record {
+pub names_effect : ContentsAreKept → (old : Stack) (l : Library) (n : ℕ) (command : Command) → BringsNames old.library l n command → HasEffect old (record old { library = l }) n command
+names_effect law old l n command brings = record {
   faultless = λ cs h. (brings.names cs h.library).0;
   stands = λ cs h.
       let P : List spec.Assertion → Type 0 = λ bs. AreAssertions (contents_of l) old.assertions.items (assertions_in_force cs ++ bs) in
-      added old (record old { library = l }) [] cs n command h brings.adds refl refl refl refl refl brings.grown (sym (append-nil old.assertions.items)) (brings.names cs h.library).1
+      added law old (record old { library = l }) [] cs n command h brings.adds refl refl refl refl refl brings.grown (sym (append-nil old.assertions.items)) (brings.names cs h.library).1
       (subst P (sym brings.assertions)
       (subst (λ (bs : List spec.Assertion). AreAssertions (contents_of l) old.assertions.items bs) (sym (append-nil (assertions_in_force cs)))
-      (assertions_stay (contents_of old.library) (contents_of l) brings.grown old.assertions.items (assertions_in_force cs) h.assertions)));
+      (assertions_stay law (contents_of old.library) (contents_of l) brings.grown old.assertions.items (assertions_in_force cs) h.assertions)));
   start = refl;
 }
 
@@ -239,10 +239,10 @@ abbrev pub DeclaresIn : Library → Library → ℕ → List ℕ → Sexps → S
 DeclaresIn old new n x parameters sort =
     (s : Signature) → library.StandsFor old s → (e : Entry) × (declared_in s n x parameters sort ≡ Ok e) × library.StandsFor new (with_entry s e)
 
-pub declare_const_effect : (old : Stack) (l : Library) (n : ℕ) (x : List ℕ) (sort : Sexp) → DeclaresIn old.library l n x Nil sort → Extends (contents_of old.library) (contents_of l)
+pub declare_const_effect : ContentsAreKept → (old : Stack) (l : Library) (n : ℕ) (x : List ℕ) (sort : Sexp) → DeclaresIn old.library l n x Nil sort → Extends (contents_of old.library) (contents_of l)
     → HasEffect old (record old { library = l }) n (DeclareConst x sort)
-declare_const_effect old l n x sort declares grown =
-    names_effect old l n (DeclareConst x sort) (record {
+declare_const_effect law old l n x sort declares grown =
+    names_effect law old l n (DeclareConst x sort) (record {
       adds = adds_nothing (DeclareConst x sort) refl (λ d. refl) (λ t. refl);
       grown = grown;
       assertions = refl;
@@ -251,10 +251,10 @@ declare_const_effect old l n x sort declares grown =
           (ap fault_of made.1, one_entry l (signature_in_force cs) n (DeclareConst x sort) made.0 refl (ap one_or_none made.1) made.2);
     })
 
-pub declare_fun_effect : (old : Stack) (l : Library) (n : ℕ) (x : List ℕ) (parameters : Sexps) (sort : Sexp) → DeclaresIn old.library l n x parameters sort → Extends (contents_of old.library) (contents_of l)
+pub declare_fun_effect : ContentsAreKept → (old : Stack) (l : Library) (n : ℕ) (x : List ℕ) (parameters : Sexps) (sort : Sexp) → DeclaresIn old.library l n x parameters sort → Extends (contents_of old.library) (contents_of l)
     → HasEffect old (record old { library = l }) n (DeclareFun x parameters sort)
-declare_fun_effect old l n x parameters sort declares grown =
-    names_effect old l n (DeclareFun x parameters sort) (record {
+declare_fun_effect law old l n x parameters sort declares grown =
+    names_effect law old l n (DeclareFun x parameters sort) (record {
       adds = adds_nothing (DeclareFun x parameters sort) refl (λ d. refl) (λ t. refl);
       grown = grown;
       assertions = refl;
@@ -267,10 +267,10 @@ abbrev pub DefinesIn : Library → Library → List ℕ → List (List ℕ × Se
 DefinesIn old new x parameters sort body =
     (s : Signature) → library.StandsFor old s → (e : Entry) × (defined_in s x parameters sort body ≡ Ok e) × library.StandsFor new (with_entry s e)
 
-pub define_effect : (old : Stack) (l : Library) (n : ℕ) (x : List ℕ) (parameters : List (List ℕ × Sexp)) (sort body : Sexp) → DefinesIn old.library l x parameters sort body → Extends (contents_of old.library) (contents_of l)
+pub define_effect : ContentsAreKept → (old : Stack) (l : Library) (n : ℕ) (x : List ℕ) (parameters : List (List ℕ × Sexp)) (sort body : Sexp) → DefinesIn old.library l x parameters sort body → Extends (contents_of old.library) (contents_of l)
     → HasEffect old (record old { library = l }) n (DefineFun x parameters sort body)
-define_effect old l n x parameters sort body defines grown =
-    names_effect old l n (DefineFun x parameters sort body) (record {
+define_effect law old l n x parameters sort body defines grown =
+    names_effect law old l n (DefineFun x parameters sort body) (record {
       adds = adds_nothing (DefineFun x parameters sort body) refl (λ d. refl) (λ t. refl);
       grown = grown;
       assertions = refl;
@@ -290,10 +290,10 @@ one_abbreviation l s n command x sort abbreviations entries h =
     ∙ ap (λ (es : List Entry). record { theories = s.theories; abbreviations = s.abbreviations ++ (x, sort) ∷ []; entries = s.entries ++ es }) entries
     ∙ ap (λ (es : List Entry). record { theories = s.theories; abbreviations = s.abbreviations ++ (x, sort) ∷ []; entries = es }) (append-nil s.entries))) h
 
-pub define_sort_effect : (old : Stack) (l : Library) (n : ℕ) (x : List ℕ) (sort : Sexp) → AbbreviatesIn old.library l x sort → Extends (contents_of old.library) (contents_of l)
+pub define_sort_effect : ContentsAreKept → (old : Stack) (l : Library) (n : ℕ) (x : List ℕ) (sort : Sexp) → AbbreviatesIn old.library l x sort → Extends (contents_of old.library) (contents_of l)
     → HasEffect old (record old { library = l }) n (DefineSort x sort)
-define_sort_effect old l n x sort abbreviates grown =
-    names_effect old l n (DefineSort x sort) (record {
+define_sort_effect law old l n x sort abbreviates grown =
+    names_effect law old l n (DefineSort x sort) (record {
       adds = adds_nothing (DefineSort x sort) refl (λ d. refl) (λ t. refl);
       grown = grown;
       assertions = refl;
@@ -315,34 +315,34 @@ some_entries l s n command es abbreviations entries h =
     ∙ ap (λ (ds : List Entry). record { theories = s.theories; abbreviations = s.abbreviations ++ []; entries = s.entries ++ ds }) entries
     ∙ ap (λ (as' : List (List ℕ × Sort)). record { theories = s.theories; abbreviations = as'; entries = s.entries ++ es }) (append-nil s.abbreviations))) h
 
-pub assert_effect : (old : Stack) (l : Library) (as' : Vec Assertion) (a : Assertion) (term : Sexp) → AssertsIn old.library l term → IsTermOf (contents_of l) a.term term → Extends (contents_of old.library) (contents_of l)
+pub assert_effect : ContentsAreKept → (old : Stack) (l : Library) (as' : Vec Assertion) (a : Assertion) (term : Sexp) → AssertsIn old.library l term → IsTermOf (contents_of l) a.term term → Extends (contents_of old.library) (contents_of l)
     → as'.items ≡ old.assertions.items ++ a ∷ [] → HasEffect old (record old { library = l; assertions = as' }) a.command (Assert term)
-assert_effect old l as' a term asserts stored grown pushed = record {
+assert_effect law old l as' a term asserts stored grown pushed = record {
   faultless = λ cs h. ap fault_of (asserts (signature_in_force cs) h.library).1;
   stands = λ cs h.
       let made = asserts (signature_in_force cs) h.library in
       let P : List Assertion → Type 0 = λ xs. AreAssertions (contents_of l) xs (assertions_in_force cs ++ record { command = a.command; term = term } ∷ []) in
-      added old (record old { library = l; assertions = as' }) (a ∷ []) cs a.command (Assert term) h (adds_nothing (Assert term) refl (λ d. refl) (λ t. refl)) refl refl refl refl refl grown pushed
+      added law old (record old { library = l; assertions = as' }) (a ∷ []) cs a.command (Assert term) h (adds_nothing (Assert term) refl (λ d. refl) (λ t. refl)) refl refl refl refl refl grown pushed
       (some_entries l (signature_in_force cs) a.command (Assert term) made.0 refl (ap spec.all_or_none made.1) made.2)
       (subst P (sym pushed)
       (one_more_assertion (contents_of l) old.assertions.items (assertions_in_force cs) a (record { command = a.command; term = term })
-      (assertions_stay (contents_of old.library) (contents_of l) grown old.assertions.items (assertions_in_force cs) h.assertions) refl stored));
+      (assertions_stay law (contents_of old.library) (contents_of l) grown old.assertions.items (assertions_in_force cs) h.assertions) refl stored));
   start = refl;
 }
 
 -- a library that stands for the same and has more terms changes nothing
-pub unchanged_by : (old : Stack) (l : Library) (as' : Vec Assertion) → ((s : Signature) → library.StandsFor old.library s → library.StandsFor l s) → Extends (contents_of old.library) (contents_of l) → as'.items ≡ old.assertions.items
+pub unchanged_by : ContentsAreKept → (old : Stack) (l : Library) (as' : Vec Assertion) → ((s : Signature) → library.StandsFor old.library s → library.StandsFor l s) → Extends (contents_of old.library) (contents_of l) → as'.items ≡ old.assertions.items
     → IsUnchanged old (record old { library = l; assertions = as' })
-unchanged_by old l as' names grown same = record {
+unchanged_by law old l as' names grown same = record {
   stands = λ cs h. record {
     library = names (signature_in_force cs) h.library;
     assertions =
         subst (λ (xs : List Assertion). AreAssertions (contents_of l) xs (assertions_in_force cs)) (sym same)
-        (assertions_stay (contents_of old.library) (contents_of l) grown old.assertions.items (assertions_in_force cs) h.assertions);
+        (assertions_stay law (contents_of old.library) (contents_of l) grown old.assertions.items (assertions_in_force cs) h.assertions);
     depth = h.depth;
     levels = λ k level at.
         subst (λ (xs : List Assertion). IsLevel (contents_of l) xs level (theories_in_force cs) (to_level k ((in_force names_stand) (history cs))) (to_level k ((in_force assertions_stand) (history cs)))) (append-nil old.assertions.items ∙ sym same)
-        (level_stays (contents_of old.library) (contents_of l) old.assertions.items [] level (theories_in_force cs) (to_level k ((in_force names_stand) (history cs))) grown (h.levels k level at));
+        (level_stays law (contents_of old.library) (contents_of l) old.assertions.items [] level (theories_in_force cs) (to_level k ((in_force names_stand) (history cs))) grown (h.levels k level at));
     ordered = h.ordered;
     logic = h.logic;
     print_success = h.print_success;

@@ -1,7 +1,7 @@
 -- What one more command brings into force, and at which levels.
-use Rattle.std.proofs.Common.{◌≡◌, ◌≤◌, ℕ, ◌+◌, Bool, true, false, cond, not, ◌&&◌, ◌||◌, List, [], ◌∷◌, ◌++◌, Option, refl, ap, sym, ◌∙◌, subst, arith, append_assoc}
+use Rattle.std.proofs.Common.{◌≡◌, ◌≤◌, ℕ, ◌+◌, Bool, true, false, cond, not, ◌&&◌, ◌||◌, List, [], ◌∷◌, ◌++◌, refl, ap, sym, ◌∙◌, subst, arith, append_assoc}
 use Rattle.std.specs.Prelude.{nat_le}
-use Rattle.std.specs.List.{filter, flat_map, list_all, list_any}
+use Rattle.std.specs.List.{filter, list_all}
 use Rattle.std.proofs.Math.Bool.{or-false}
 use Rattle.std.proofs.lemmas.List.{append-nil}
 use Rattle.std.proofs.lemmas.List.Elements.{filter-append}
@@ -12,11 +12,11 @@ use Rattle.smt_theory.specs.declared.sort.Sort.{Sort}
 use Rattle.smt_theory.specs.declared.theories.Theories.{Theories}
 use Rattle.smt_terms.specs.Signature.{Entry, Signature}
 use Rattle.smt_script.specs.Command.{Command, SetLogic, SetPrintSuccess, SetGlobalDeclarations, SetOption, SetInfo, DeclareConst, DeclareFun, DefineFun, DefineSort, Assert, Push, Pop, Reset, ResetAssertions, Exit, CheckSat, GetModel, Echo, Get}
-use Rattle.smt_script.specs.Stack.{Assertion, Brought, Numbered, abbreviations_by, abbreviations_of, all_theories, assertions_by, assertions_of, brought_by, brought_from, depth_after, depth_in_force, entries_by, entries_of, has_exited, history, in_force, names_stand, is_exit, is_reset, print_success_after, print_success_in_force, signature_in_force, signature_of, stands_after, theories_after, theories_in_force, is_late_after, is_logic_set, is_set_after, is_too_late, resets}
+use Rattle.smt_script.specs.Stack.{Assertion, Brought, Numbered, abbreviations_by, abbreviations_of, all_theories, assertions_by, assertions_of, brought_by, brought_from, depth_after, depth_in_force, entries_by, entries_of, has_exited, history, in_force, names_stand, is_exit, is_reset, print_success_after, print_success_in_force, signature_of, stands_after, theories_after, theories_in_force, is_late_after, is_logic_set, is_set_after, is_too_late, resets}
 use Rattle.smt_script.specs.StackView.{logic_state, to_level}
 use Rattle.smt_script.specs.Internal.Effect.{logic_after}
 use Rattle.smt_script.specs.declared.stack.LogicState.{LogicState}
-use Rattle.smt_script.proofs.StandingLemmas.{and_true, depth-push, le_of, le_true, steps, steps-append, steps-from}
+use Rattle.smt_script.proofs.StandingLemmas.{and_true, depth-push, le_of, le_true, steps-append, steps-from}
 
 -- ---- the notes after one more command
 

@@ -1,5 +1,5 @@
 -- The names that commands without a fault brought.
-use Rattle.std.proofs.Common.{◌≡◌, ◌≤◌, ◌<◌, ℕ, ◌+◌, Bool, true, false, cond, List, [], ◌∷◌, ◌++◌, ◌||◌, Option, Some, None, is_some, Result, Ok, Err, refl, ap, sym, ◌∙◌, subst, arith, append_assoc, append-nil}
+use Rattle.std.proofs.Common.{◌≡◌, ◌≤◌, ℕ, ◌+◌, Bool, true, false, cond, List, [], ◌∷◌, ◌++◌, ◌||◌, Option, Some, None, is_some, Result, Ok, Err, refl, ap, sym, ◌∙◌, subst, arith, append_assoc, append-nil}
 use Rattle.std.specs.Prelude.{bytes_eq, nat_le}
 use Rattle.std.specs.List.{filter}
 use Rattle.std.proofs.lemmas.Grind.{flat_map-append}
@@ -11,16 +11,15 @@ use Rattle.smt_theory.specs.declared.sort.Sort.{Sort}
 use Rattle.smt_theory.specs.declared.theories.Theories.{Theories}
 use Rattle.smt_terms.specs.Assertions.{asserted_in}
 use Rattle.smt_terms.specs.Definitions.{defined_in}
-use Rattle.smt_terms.specs.Signature.{Entry, Names, Origin, Declared, Defined, Rank, Signature, declaration, declared_in, entry_named, is_taken, names_of, no_names, rank_named, rank_of_entry, ranks_of, sort_names_of, unlabelled_over}
+use Rattle.smt_terms.specs.Signature.{Entry, Names, Origin, Declared, Defined, Rank, Signature, declaration, declared_in, entry_named, is_taken, names_of, rank_named, rank_of_entry, ranks_of, sort_names_of, unlabelled_over}
 use Rattle.smt_terms.specs.WellSorted.{AreIntroduced, IsIntroduced, IsSortedIfDefined, IsWellSorted, IsWellSortedFrom}
 use Rattle.smt_faults.specs.declared.term_fault.TermFault.{TermFault}
 use Rattle.smt_faults.specs.declared.term_fault.TermFault.TheVariants as terms
 use Rattle.smt_script.specs.Command.{Command, SetLogic, SetPrintSuccess, SetGlobalDeclarations, SetOption, SetInfo, DeclareConst, DeclareFun, DefineFun, DefineSort, Assert, Push, Pop, Reset, ResetAssertions, Exit, CheckSat, GetModel, Echo, Get}
-use Rattle.smt_script.specs.Stack.{Brought, HaveNoFault, Numbered, all_or_none, brought_by, depth_after, depth_in_force, entries_by, entries_of, fault_of, fault_of_effect, fault_of_logic, history, in_force, names_stand, is_reset, one_or_none, signature_in_force, signature_of, theories_after, theories_in_force, is_logic_set, is_too_late}
+use Rattle.smt_script.specs.Stack.{Brought, HaveNoFault, Numbered, all_or_none, brought_by, depth_after, entries_by, entries_of, fault_of, fault_of_effect, fault_of_logic, history, in_force, names_stand, is_reset, one_or_none, signature_in_force, theories_after, theories_in_force, is_logic_set, is_too_late}
 use Rattle.smt_script.specs.StackView.{to_level}
 use Rattle.smt_script.proofs.EffectLemmas.{Keeps, signature-add}
 use Rattle.smt_script.proofs.HistoryLemmas.{AtMost, Kept, entries-push, history-push, in_force-grow, in_force-push, kept_by_all, levels_still, none_still, still, still_at_most, theories-push, unfixed_is_empty}
-use Rattle.smt_script.proofs.StandingLemmas.{depth-push}
 
 -- ---- what is in force stands in the order of its levels
 

@@ -1,5 +1,5 @@
 -- What the commands do that change levels.
-use Rattle.std.proofs.Common.{◌≡◌, ◌≤◌, ◌<◌, ℕ, ◌+◌, ◌-◌, zero, suc, List, [], ◌∷◌, ◌++◌, ◌⊎◌, inl, inr, Bool, true, false, cond, ◌||◌, Option, None, Some, length, slice_get, take, refl, ap, sym, subst, ◌∙◌, arith}
+use Rattle.std.proofs.Common.{◌≡◌, ◌≤◌, ℕ, ◌+◌, ◌-◌, zero, suc, List, [], ◌∷◌, ◌++◌, Bool, true, false, ◌||◌, Some, length, slice_get, take, refl, ap, sym, subst, ◌∙◌, arith}
 use Rattle.std.specs.Prelude.{nat_lt}
 use Rattle.std.proofs.lemmas.List.{append-nil, length-append}
 use Rattle.std.specs.Global.{Vec}
@@ -9,9 +9,7 @@ use Rattle.smt_terms.specs.Contents.{Contents, IsBelow, IsWithin, contents_of, f
 use Rattle.smt_terms.specs.Library as library
 use Rattle.smt_terms.specs.Library.{Holds}
 use Rattle.smt_terms.specs.Signature.{Entry, Signature, no_names}
-use Rattle.smt_terms.specs.declared.library.Library.{Library}
 use Rattle.smt_terms.specs.declared.library.marks.Mark.{Mark}
-use Rattle.smt_terms.proofs.ContentsLemmas.{earlier_kept, earlier_within}
 use Rattle.smt_script.specs.Command.{Command, Push, Pop, Reset, ResetAssertions}
 use Rattle.smt_script.specs.Stack as spec
 use Rattle.smt_script.specs.Stack.{Brought, Numbered, abbreviations_by, abbreviations_of, all_theories, assertions_by, assertions_in_force, assertions_of, brought_by, depth_after, depth_in_force, entries_by, entries_of, fault_of_effect, has_exited, history, in_force, names_stand, is_exit, is_reset, limit, print_success_after, print_success_in_force, signature_in_force, signature_of, theories_after, theories_in_force, assertions_stand}
@@ -23,7 +21,7 @@ use Rattle.smt_script.specs.declared.stack.LogicState.{LogicState}
 use Rattle.smt_script.specs.declared.stack.levels.Level.{Level}
 use Rattle.smt_script.specs.declared.stack.Stack.{Stack}
 use Rattle.smt_script.proofs.EffectLemmas.{Keeps, assertions-add, nothing_brought, signature-add, within}
-use Rattle.smt_script.proofs.HistoryLemmas.{abbreviations-push, all_to_level, assertions-push, entries-push, exited-push, logic-push, history-push, in_force-grow, in_force-push, levels_bound, levels_still, none_still, print-push, still, theories-push, to_fewer, to_level-push}
+use Rattle.smt_script.proofs.HistoryLemmas.{abbreviations-push, all_to_level, assertions-push, entries-push, exited-push, logic-push, history-push, in_force-grow, in_force-push, levels_bound, levels_still, none_still, print-push, theories-push, to_fewer, to_level-push}
 use Rattle.smt_script.proofs.StandingLemmas.{depth-push}
 
 -- ---- lists
@@ -152,9 +150,14 @@ in_force-pop cs c keeps =
     let b = brought_by cs (history cs) c in
     ap (in_force names_stand) (history-push cs c) ∙ in_force-push (history cs) b ∙ ap (λ (l : List Brought). l ++ b ∷ []) (levels_still b ((in_force names_stand) (history cs)) keeps)
 
-cut_level : (old new : Stack) (d : ℕ) (cs : List Numbered) → StandsFor old cs → (cut : IsCut old new d) → (k : ℕ) (x : Level) → slice_get new.levels.items k ≡ Some x
+-- what a mark counts is the same in contents that are cut to a later one
+pub record CutsAreKept : Type 0 where
+  pub first : (mark later : Mark) (c : Contents) → IsBelow mark later → first_of mark (first_of later c) ≡ first_of mark c
+  pub within : (mark later : Mark) (c : Contents) → IsBelow mark later → IsWithin later c → IsWithin mark (first_of later c)
+
+cut_level : CutsAreKept → (old new : Stack) (d : ℕ) (cs : List Numbered) → StandsFor old cs → (cut : IsCut old new d) → (k : ℕ) (x : Level) → slice_get new.levels.items k ≡ Some x
     → IsLevel (contents_of new.library) new.assertions.items x (theories_in_force cs) (to_level k ((in_force names_stand) (history cs))) (to_level k ((in_force assertions_stand) (history cs)))
-cut_level old new d cs h cut k x at =
+cut_level law old new d cs h cut k x at =
     let there = taken d old.levels.items k x (ap (λ (xs : List Level). slice_get xs k) (sym cut.levels) ∙ at) in
     let outer = h.ordered k d x cut.level (let m = there.1 in omega arith) there.0 cut.at in
     let level = h.levels k x there.0 in
@@ -163,11 +166,11 @@ cut_level old new d cs h cut k x at =
     let B = to_level k ((in_force names_stand) (history cs)) in
     subst (λ (y : Contents). IsLevel y new.assertions.items x (theories_in_force cs) B B) (sym cut.library)
     (subst (λ (xs : List Assertion). IsLevel (first_of cut.level.mark c) xs x (theories_in_force cs) B B) (sym cut.assertions) (record {
-      within = earlier_within x.mark cut.level.mark c outer.mark whole.within;
+      within = law.within x.mark cut.level.mark c outer.mark whole.within;
       count = (let e = take_length cut.level.assertions old.assertions.items whole.count in let o = outer.assertions in omega arith);
-      holds = subst (λ (y : Contents). Holds y (signature_of (theories_in_force cs) B)) (sym (earlier_kept x.mark cut.level.mark c outer.mark)) level.holds;
+      holds = subst (λ (y : Contents). Holds y (signature_of (theories_in_force cs) B)) (sym (law.first x.mark cut.level.mark c outer.mark)) level.holds;
       assertions_are =
-          subst (λ (y : Contents). AreAssertions y (take x.assertions (take cut.level.assertions old.assertions.items)) (assertions_of B)) (sym (earlier_kept x.mark cut.level.mark c outer.mark))
+          subst (λ (y : Contents). AreAssertions y (take x.assertions (take cut.level.assertions old.assertions.items)) (assertions_of B)) (sym (law.first x.mark cut.level.mark c outer.mark))
           (subst (λ (xs : List Assertion). AreAssertions (first_of x.mark c) xs (assertions_of B)) (sym (take_fewer x.assertions cut.level.assertions old.assertions.items outer.assertions)) level.assertions_are);
     }))
 
@@ -176,9 +179,9 @@ signature-pop t xs b entries abbreviations =
     ap (λ (es : List Entry). record { theories = t; abbreviations = abbreviations_of (xs ++ b ∷ []); entries = es }) (entries-push xs b ∙ ap (λ (es : List Entry). entries_of xs ++ es) entries ∙ append-nil (entries_of xs))
     ∙ ap (λ (as' : List (List ℕ × Sort)). record { theories = t; abbreviations = as'; entries = entries_of xs }) (abbreviations-push xs b ∙ ap (λ (l : List (List ℕ × Sort)). abbreviations_of xs ++ l) abbreviations ∙ append-nil (abbreviations_of xs))
 
-pub pop_effect : (old new : Stack) (m d : ℕ) → IsCut old new d → d + m ≡ length old.levels.items
+pub pop_effect : CutsAreKept → (old new : Stack) (m d : ℕ) → IsCut old new d → d + m ≡ length old.levels.items
     → new.logic ≡ old.logic → new.print_success ≡ old.print_success → new.exited ≡ old.exited → new.start ≡ old.start → (n : ℕ) → HasEffect old new n (Pop m)
-pop_effect old new m d cut sum logic print exited start n = record {
+pop_effect law old new m d cut sum logic print exited start n = record {
   faultless = λ cs h. rw (enough cs h) refl;
   stands = λ cs h.
       let c : Numbered = record { number = n; command = Pop m } in
@@ -203,7 +206,7 @@ pop_effect old new m d cut sum logic print exited start n = record {
             let inside : k + 1 ≤ b.level = (let i = there.1 in let e = deep in omega arith) in
             let same : to_level k ((in_force names_stand) (history (cs ++ c ∷ []))) ≡ to_level k B = ap (to_level k) now ∙ to_level-push k (to_level d B) b inside ∙ to_fewer k d B (let i = there.1 in omega arith) in
             subst (λ (t : Theories). IsLevel (contents_of new.library) new.assertions.items x t (to_level k ((in_force names_stand) (history (cs ++ c ∷ [])))) (to_level k ((in_force assertions_stand) (history (cs ++ c ∷ []))))) (sym (theories-push cs c))
-            (subst (λ (y : List Brought). IsLevel (contents_of new.library) new.assertions.items x (theories_in_force cs) y y) (sym same) (cut_level old new d cs h cut k x at));
+            (subst (λ (y : List Brought). IsLevel (contents_of new.library) new.assertions.items x (theories_in_force cs) y y) (sym same) (cut_level law old new d cs h cut k x at));
         ordered = λ j k x y le at there.
             h.ordered j k x y le (taken d old.levels.items j x (ap (λ (xs : List Level). slice_get xs j) (sym cut.levels) ∙ at)).0 (taken d old.levels.items k y (ap (λ (xs : List Level). slice_get xs k) (sym cut.levels) ∙ there)).0;
         logic = ap (λ (x : LogicState). logic_after x (Pop m)) (logic ∙ h.logic) ∙ sym (logic-push cs c);

@@ -1,6 +1,6 @@
 -- SMT-LIB 2.6, section 4.2: the trees that are commands. Which commands are supported is this project's choice.
-use Rattle.std.specs.Prelude.{ℕ, List, Bool, true, false, not, ◌&&◌, Option, Some, None, is_some, option_map, option_and_then, Result, Ok, Err, ok_or, bytes_eq, codes, if◌then◌else◌}
-use Rattle.smt_trees.specs.Sexp.{Sexp, Sexps, Atom, Reserved, Items, Nil, Cons, Symbol}
+use Rattle.std.specs.Prelude.{ℕ, List, Bool, true, false, ◌&&◌, Option, Some, None, is_some, option_map, option_and_then, Result, Err, ok_or, bytes_eq, codes, if◌then◌else◌}
+use Rattle.smt_trees.specs.Sexp.{Sexp, Sexps, Atom, Reserved, Items, Cons, Symbol}
 use Rattle.smt_trees.specs.declared.reserved.Word.{Word}
 use Rattle.smt_trees.specs.declared.reserved.Word.TheVariants as words
 use Rattle.smt_script.specs.Parts.{is_none, keyword_and_value, list_and_tree, name_and_abbreviated, name_and_definition, name_and_rank, name_and_sort, one_keyword, one_list, one_numeral, one_symbol, one_text, one_tree, truth_of_value}

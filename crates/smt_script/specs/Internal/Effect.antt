@@ -1,9 +1,12 @@
 -- What a command did to a stack, before it was noted whether a logic may be set, whether `success` is printed, and that it was applied.
 use Rattle.std.specs.Prelude.{◌≡◌, ℕ, zero, suc, List, [], ◌∷◌, ◌++◌, ◌⊎◌, ◌||◌, None, Some, length, slice_get, take}
+use Rattle.smt_trees.specs.Sexp.{Sexp}
 use Rattle.smt_theory.specs.declared.theories.Theories.{Theories}
-use Rattle.smt_terms.specs.Contents.{IsBelow, IsWithin, contents_of, first_of}
+use Rattle.smt_terms.specs.Contents.{Contents, Extends, IsBelow, IsWithin, contents_of, first_of}
 use Rattle.smt_terms.specs.Library as library
+use Rattle.smt_terms.specs.Library.{IsTermOf}
 use Rattle.smt_terms.specs.Signature.{no_names}
+use Rattle.smt_terms.specs.declared.library.TermId.{TermId}
 use Rattle.smt_terms.specs.declared.library.marks.Mark.{Mark}
 use Rattle.smt_script.specs.Command.{Command}
 use Rattle.smt_script.specs.Stack.{Numbered, fault_of_effect, is_exit, is_late_after, is_set_after, print_success_after}
@@ -17,6 +20,12 @@ use Rattle.smt_script.specs.declared.stack.Stack.{Stack}
 -- what is noted of the logic, once a command took effect
 abbrev pub logic_after : LogicState → Command → LogicState
 logic_after logic command = record { set = is_set_after logic.set command; late = is_late_after logic.late command }
+
+-- what a mark counts, and each term, is the same in longer contents
+pub record ContentsAreKept : Type 0 where
+  pub first : (mark : Mark) (c d : Contents) → IsWithin mark c → Extends c d → first_of mark d ≡ first_of mark c
+  pub within : (mark : Mark) (c d : Contents) → IsWithin mark c → Extends c d → IsWithin mark d
+  pub terms : (c d : Contents) (i : TermId) (t : Sexp) → Extends c d → IsTermOf c i t → IsTermOf d i t
 
 -- the stack once this is noted
 abbrev pub noted : Command → Stack → Stack

@@ -10,16 +10,24 @@ ghost use Rattle.smt_script.specs.Command.{SetLogic, DeclareConst, DeclareFun, D
 ghost use Rattle.smt_script.specs.CommandView.{command_view};
 ghost use Rattle.smt_script.specs.Stack as stack;
 ghost use Rattle.smt_script.specs.StackView.{last_of, start_of};
-ghost use Rattle.smt_script.specs.Internal.Effect.{HasEffect, IsRefused, IsUnchanged, noted};
+ghost use Rattle.smt_script.specs.Internal.Effect.{ContentsAreKept, HasEffect, IsRefused, IsUnchanged, noted};
 
 use crate::command::Command;
 use crate::stack::{Assertion, LogicState, Stack, all_theories};
 use smt_faults::CommandFault;
 use smt_forms::params_of;
 use smt_terms::Library;
-use smt_terms::laws::faults_are_no_memory;
+use smt_terms::laws::{faults_are_no_memory, marks_are_kept, terms_are_kept};
 use smt_theory::theories_of;
 use smt_trees::Tree;
+
+// What a mark counts, and each term, is the same in longer contents.
+fn contents_are_kept()
+    ensures { ContentsAreKept }
+{
+    marks_are_kept();
+    terms_are_kept();
+}
 
 impl Stack {
     // What a command does, but for what is noted of it.
@@ -28,6 +36,7 @@ impl Stack {
         ensures refused { IfErr result (λ fault. IsRefused self.old number (command_view command.now) fault) }
         ensures unchanged { OnErr result (IsUnchanged self.old self.new) }
     {
+        contents_are_kept();
         match command {
             Command::SetLogic { name } => self.set_logic(name.as_slice()),
             Command::DeclareConst { name, sort } => self.declare_const(
@@ -103,6 +112,7 @@ impl Stack {
         ensures unchanged { OnErr result (IsUnchanged self.old self.new) }
     {
         faults_are_no_memory();
+        contents_are_kept();
         Ok(self.library.declare(number, name, &[], sort)?)
     }
 
@@ -118,6 +128,7 @@ impl Stack {
         ensures unchanged { OnErr result (IsUnchanged self.old self.new) }
     {
         faults_are_no_memory();
+        contents_are_kept();
         Ok(self.library.declare(number, name, params, sort)?)
     }
 
@@ -133,6 +144,7 @@ impl Stack {
         ensures unchanged { OnErr result (IsUnchanged self.old self.new) }
     {
         faults_are_no_memory();
+        contents_are_kept();
         let params = params_of(self.alloc, params)?;
         Ok(self.library.define(name, params.as_slice(), sort, body)?)
     }
@@ -143,6 +155,7 @@ impl Stack {
         ensures unchanged { OnErr result (IsUnchanged self.old self.new) }
     {
         faults_are_no_memory();
+        contents_are_kept();
         Ok(self.library.abbreviate(name, sort)?)
     }
 
@@ -162,6 +175,7 @@ impl Stack {
         ensures unchanged { OnErr result (IsUnchanged self.old self.new) }
     {
         faults_are_no_memory();
+        contents_are_kept();
         let mark = self.library.mark();
         let term = self.library.assert(term)?;
         let command = number;

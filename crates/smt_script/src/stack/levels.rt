@@ -7,6 +7,7 @@ ghost use Rattle.smt_faults.specs.declared.command_fault.CommandFault.TheVariant
 
 use crate::stack::{Stack, all_theories};
 use smt_faults::CommandFault;
+use smt_terms::laws::earlier_marks_are_kept;
 use smt_terms::{Library, Mark};
 use smt_theory::number;
 
@@ -61,6 +62,7 @@ impl Stack {
         ensures refused { IfErr result (λ fault. (n : ℕ) → IsRefused self.old n (Pop (digits_value 10 digits.now)) fault) }
         ensures unchanged { OnErr result (IsUnchanged self.old self.new) }
     {
+        earlier_marks_are_kept();
         let depth = self.levels.len();
         let Some(count) = count_to(depth, digits) else {
             return Err(CommandFault::NoLevel);

@@ -5,9 +5,8 @@ use Rattle.smt_terms.specs.Assertions.{asserted_in}
 use Rattle.smt_terms.specs.Contents.{Contents, Extends, contents_of}
 use Rattle.smt_terms.specs.Library.{Holds}
 use Rattle.smt_terms.specs.Signature.{names_of}
-use Rattle.smt_terms.proofs.ContentsLemmas.{extends_itself, mark_kept}
 use Rattle.smt_script.specs.Stack.{signature_in_force}
-use Rattle.smt_script.proofs.EffectLemmas.{assert_effect, refused_by, unchanged_by}
+use Rattle.smt_script.proofs.EffectLemmas.{assert_effect, extends_itself, refused_by, unchanged_by}
 use Rattle.smt_script.proofs.stack.Stack.assert.Goals as goal
 
 pub returns-in_err-term-clause-refused : goal.returns-in_err-term-clause-refused
@@ -23,16 +22,16 @@ returns-in_err-term-clause-refused c =
 pub returns-in_err-term-clause-unchanged : goal.returns-in_err-term-clause-unchanged
 returns-in_err-term-clause-unchanged c =
     let p = err_from_is_err_and c.from_residual.result c.from_residual.ensures.1 in
-    rw p.1 (unchanged_by c.args.self.now c.assert.new.self c.args.self.now.assertions c.in_err-term.ensures.unchanged c.in_err-term.ensures.grown refl)
+    rw p.1 (unchanged_by c.contents_are_kept.ensures c.args.self.now c.assert.new.self c.args.self.now.assertions c.in_err-term.ensures.unchanged c.in_err-term.ensures.grown refl)
 
 pub returns-in-Ok-clause-effect : goal.returns-in-Ok-clause-effect
 returns-in-Ok-clause-effect c =
-    assert_effect c.args.self.now c.assert.new.self c.push.new.self (record { command = c.args.number; term = c.in_ok-term.term }) (sexp_of c.args.term)
+    assert_effect c.contents_are_kept.ensures c.args.self.now c.assert.new.self c.push.new.self (record { command = c.args.number; term = c.in_ok-term.term }) (sexp_of c.args.term)
     c.in_ok-term.ensures.asserted c.in_ok-term.ensures.term c.in_ok-term.ensures.grown c.in-Ok.ensures.items
 
 pub returns-in-Err-clause-unchanged : goal.returns-in-Err-clause-unchanged
 returns-in-Err-clause-unchanged c =
     let before = contents_of c.args.self.now.library in
     let after = contents_of c.assert.new.self in
-    let same = c.cut.ensures ∙ mark_kept c.mark-mark.result before after c.mark-mark.ensures.within c.in_ok-term.ensures.grown ∙ c.mark-mark.ensures.all in
-    unchanged_by c.args.self.now c.cut.new.self c.push.new.self (λ s stands. subst (λ (x : Contents). Holds x s) (sym same) stands) (subst (λ (x : Contents). Extends before x) (sym same) (extends_itself before)) c.in-Err.ensures.items
+    let same = c.cut.ensures ∙ c.contents_are_kept.ensures.first c.mark-mark.result before after c.mark-mark.ensures.within c.in_ok-term.ensures.grown ∙ c.mark-mark.ensures.all in
+    unchanged_by c.contents_are_kept.ensures c.args.self.now c.cut.new.self c.push.new.self (λ s stands. subst (λ (x : Contents). Holds x s) (sym same) stands) (subst (λ (x : Contents). Extends before x) (sym same) (extends_itself before)) c.in-Err.ensures.items

@@ -29,12 +29,12 @@ returns-in_err-define-clause-refused c =
 pub returns-in_err-define-clause-unchanged : goal.returns-in_err-define-clause-unchanged
 returns-in_err-define-clause-unchanged c =
     let p = err_from_is_err_and c.from_residual-in_err-define.result c.from_residual-in_err-define.ensures.1 in
-    rw p.1 (unchanged_by c.args.self.now c.define.new.self c.args.self.now.assertions c.in_err-define.ensures.unchanged c.in_err-define.ensures.grown refl)
+    rw p.1 (unchanged_by c.contents_are_kept.ensures c.args.self.now c.define.new.self c.args.self.now.assertions c.in_err-define.ensures.unchanged c.in_err-define.ensures.grown refl)
 
 pub returns-clause-effect : goal.returns-clause-effect
 returns-clause-effect c =
     let P : List (List ℕ × Sexp) → Type 0 = λ ps. DefinesIn c.args.self.now.library c.define.new.self c.args.name.now ps (sexp_of c.args.sort.now) (sexp_of c.args.body.now) in
     let named = ap (λ qs. map param_view qs) c.as_slice.ensures.value ∙ c.in_ok-params.ensures.params in
     λ n.
-    define_effect c.args.self.now c.define.new.self n c.args.name.now (named_trees (sexps_of c.args.params.now)) (sexp_of c.args.sort.now) (sexp_of c.args.body.now)
+    define_effect c.contents_are_kept.ensures c.args.self.now c.define.new.self n c.args.name.now (named_trees (sexps_of c.args.params.now)) (sexp_of c.args.sort.now) (sexp_of c.args.body.now)
     (subst P named c.in_ok-define.ensures.defined) c.in_ok-define.ensures.grown

@@ -21,8 +21,8 @@ returns-in_err-abbreviate-clause-refused c =
 pub returns-in_err-abbreviate-clause-unchanged : goal.returns-in_err-abbreviate-clause-unchanged
 returns-in_err-abbreviate-clause-unchanged c =
     let p = err_from_is_err_and c.from_residual.result c.from_residual.ensures.1 in
-    rw p.1 (unchanged_by c.args.self.now c.abbreviate.new.self c.args.self.now.assertions c.in_err-abbreviate.ensures.unchanged c.in_err-abbreviate.ensures.grown refl)
+    rw p.1 (unchanged_by c.contents_are_kept.ensures c.args.self.now c.abbreviate.new.self c.args.self.now.assertions c.in_err-abbreviate.ensures.unchanged c.in_err-abbreviate.ensures.grown refl)
 
 pub returns-clause-effect : goal.returns-clause-effect
 returns-clause-effect c = λ n.
-    define_sort_effect c.args.self.now c.abbreviate.new.self n c.args.name.now (sexp_of c.args.sort.now) c.in_ok-abbreviate.ensures.abbreviated c.in_ok-abbreviate.ensures.grown
+    define_sort_effect c.contents_are_kept.ensures c.args.self.now c.abbreviate.new.self n c.args.name.now (sexp_of c.args.sort.now) c.in_ok-abbreviate.ensures.abbreviated c.in_ok-abbreviate.ensures.grown

@@ -1,8 +1,7 @@
-use Rattle.std.proofs.Common.{◌≡◌, ◌≤◌, ◌+◌, ℕ, List, ◌++◌, length, ap, ◌∙◌, arith}
+use Rattle.std.proofs.Common.{◌≤◌, ◌+◌, ℕ, ◌++◌, length, ap, ◌∙◌, arith}
 use Rattle.std.specs.Str.Parse.{digits_value}
 use Rattle.smt_script.specs.Internal.Effect.{copies}
 use Rattle.smt_script.specs.Stack.{limit}
-use Rattle.smt_script.specs.declared.stack.levels.Level.{Level}
 use Rattle.smt_script.proofs.LevelLemmas.{levels_unchanged, push_effect}
 use Rattle.smt_script.proofs.stack.Stack.push.Goals as goal
 

@@ -95,28 +95,28 @@ returns-in-ResetAssertions-clause-refused c =
     (ap command_view c.in-ResetAssertions.is) c.reset_assertions.ensures.refused
 
 pub returns-in-Exit-clause-effect : goal.returns-in-Exit-clause-effect
-returns-in-Exit-clause-effect c = rw (ap command_view c.in-Exit.is) (idle_effect c.args.self.now c.args.number _ exit_idle)
+returns-in-Exit-clause-effect c = rw (ap command_view c.in-Exit.is) (idle_effect c.contents_are_kept.ensures c.args.self.now c.args.number _ exit_idle)
 
 pub returns-in-CheckSat-clause-effect : goal.returns-in-CheckSat-clause-effect
-returns-in-CheckSat-clause-effect c = rw (ap command_view c.in-CheckSat.is) (idle_effect c.args.self.now c.args.number _ check_idle)
+returns-in-CheckSat-clause-effect c = rw (ap command_view c.in-CheckSat.is) (idle_effect c.contents_are_kept.ensures c.args.self.now c.args.number _ check_idle)
 
 pub returns-in-GetModel-clause-effect : goal.returns-in-GetModel-clause-effect
-returns-in-GetModel-clause-effect c = rw (ap command_view c.in-GetModel.is) (idle_effect c.args.self.now c.args.number _ model_idle)
+returns-in-GetModel-clause-effect c = rw (ap command_view c.in-GetModel.is) (idle_effect c.contents_are_kept.ensures c.args.self.now c.args.number _ model_idle)
 
 pub returns-in-SetPrintSuccess-clause-effect : goal.returns-in-SetPrintSuccess-clause-effect
-returns-in-SetPrintSuccess-clause-effect c = rw (ap command_view c.in-SetPrintSuccess.is) (idle_effect c.args.self.now c.args.number _ (print_idle c.in-SetPrintSuccess.on))
+returns-in-SetPrintSuccess-clause-effect c = rw (ap command_view c.in-SetPrintSuccess.is) (idle_effect c.contents_are_kept.ensures c.args.self.now c.args.number _ (print_idle c.in-SetPrintSuccess.on))
 
 pub returns-in-SetGlobalDeclarations-clause-effect : goal.returns-in-SetGlobalDeclarations-clause-effect
-returns-in-SetGlobalDeclarations-clause-effect c = rw (ap command_view c.in-SetGlobalDeclarations.is) (idle_effect c.args.self.now c.args.number _ (global_idle c.in-SetGlobalDeclarations.on))
+returns-in-SetGlobalDeclarations-clause-effect c = rw (ap command_view c.in-SetGlobalDeclarations.is) (idle_effect c.contents_are_kept.ensures c.args.self.now c.args.number _ (global_idle c.in-SetGlobalDeclarations.on))
 
 pub returns-in-SetOption-clause-effect : goal.returns-in-SetOption-clause-effect
-returns-in-SetOption-clause-effect c = rw (ap command_view c.in-SetOption.is) (idle_effect c.args.self.now c.args.number _ (option_idle _ _))
+returns-in-SetOption-clause-effect c = rw (ap command_view c.in-SetOption.is) (idle_effect c.contents_are_kept.ensures c.args.self.now c.args.number _ (option_idle _ _))
 
 pub returns-in-SetInfo-clause-effect : goal.returns-in-SetInfo-clause-effect
-returns-in-SetInfo-clause-effect c = rw (ap command_view c.in-SetInfo.is) (idle_effect c.args.self.now c.args.number _ (info_idle _ _))
+returns-in-SetInfo-clause-effect c = rw (ap command_view c.in-SetInfo.is) (idle_effect c.contents_are_kept.ensures c.args.self.now c.args.number _ (info_idle _ _))
 
 pub returns-in-Echo-clause-effect : goal.returns-in-Echo-clause-effect
-returns-in-Echo-clause-effect c = rw (ap command_view c.in-Echo.is) (idle_effect c.args.self.now c.args.number _ (echo_idle _))
+returns-in-Echo-clause-effect c = rw (ap command_view c.in-Echo.is) (idle_effect c.contents_are_kept.ensures c.args.self.now c.args.number _ (echo_idle _))
 
 pub returns-in-Get-clause-effect : goal.returns-in-Get-clause-effect
-returns-in-Get-clause-effect c = rw (ap command_view c.in-Get.is) (idle_effect c.args.self.now c.args.number _ (get_idle _))
+returns-in-Get-clause-effect c = rw (ap command_view c.in-Get.is) (idle_effect c.contents_are_kept.ensures c.args.self.now c.args.number _ (get_idle _))

@@ -1,0 +1,97 @@
+-- The words in which the laws say what is in force after commands that took effect: which command brought it, or set it last.
+use Rattle.std.specs.Prelude.{◌≡◌, ◌⊎◌, ℕ, ◌+◌, List, [], ◌∷◌, ◌++◌, Bool, true, false, is_some}
+use Rattle.std.specs.List.{list_any}
+use Rattle.smt_theory.specs.Theories.{theories_named}
+use Rattle.smt_theory.specs.declared.sort.Sort.{Sort}
+use Rattle.smt_terms.specs.Signature.{Entry}
+use Rattle.smt_script.specs.Command.{Command, SetLogic, SetPrintSuccess, Push, Pop, Reset}
+use Rattle.smt_script.specs.Stack.{Assertion, Numbered, Stands, abbreviations_by, assertions_by, entries_by, signature_in_force}
+
+-- ---- what commands brought
+
+-- the names, the abbreviations and the assertions that a command brings behind the earlier ones
+abbrev pub names_of_command : List Numbered → Numbered → List Entry
+names_of_command earlier c = entries_by (signature_in_force earlier) c.number c.command
+
+abbrev pub abbreviations_of_command : List Numbered → Numbered → List (List ℕ × Sort)
+abbreviations_of_command earlier c = abbreviations_by (signature_in_force earlier) c.command
+
+abbrev pub assertions_of_command : List Numbered → Numbered → List Assertion
+assertions_of_command earlier c = assertions_by c.number c.command
+
+-- it is one of these, and these stand side by side among those
+abbrev pub IsAmong : {A : Type 0} → A → List A → Type 0
+IsAmong {A} x xs = (first last : List A) × (xs ≡ first ++ x ∷ last)
+
+abbrev pub AreAmong : {A : Type 0} → List A → List A → Type 0
+AreAmong {A} some xs = (first last : List A) × (xs ≡ first ++ (some ++ last))
+
+-- one of the commands stands, and brings it
+pub record IsBrought {A : Type 0} (brings : List Numbered → Numbered → List A) (commands : List Numbered) (x : A) : Type 0 where
+  pub earlier : List Numbered
+  pub command : Numbered
+  pub stands : Stands commands earlier command
+  pub among : IsAmong x (brings earlier command)
+
+-- these are, in order, what each of the later commands brings that stands, and nothing of the others
+abbrev pub AreBrought : {A : Type 0} → (List Numbered → Numbered → List A) → (commands earlier later : List Numbered) → List A → Type 0
+AreBrought brings commands earlier [] xs = xs ≡ []
+AreBrought {A} brings commands earlier (c ∷ later) xs =
+    (Stands commands earlier c × (rest : List A) × (xs ≡ brings earlier c ++ rest)
+    × AreBrought brings commands (earlier ++ c ∷ []) later rest)
+    ⊎ ((Stands commands earlier c → ⊥) × AreBrought brings commands (earlier ++ c ∷ []) later xs)
+
+-- ---- what commands set
+
+abbrev pub Never : (Command → Bool) → List Numbered → Type 0
+Never test commands = list_any (λ c. test c.command) commands ≡ false
+
+-- the last of commands that is such
+pub record IsLast (test : Command → Bool) (commands : List Numbered) (command : Command) : Type 0 where
+  pub earlier : List Numbered
+  pub number : ℕ
+  pub later : List Numbered
+  pub place : commands ≡ earlier ++ record { number = number; command = command } ∷ later
+  pub is : test command ≡ true
+  pub none : Never test later
+
+-- the commands since the last that is such, or since the start
+pub data AreSince (test : Command → Bool) (commands since : List Numbered) : Type 0 where
+  Start : (commands ≡ since) → Never test since → AreSince test commands since
+  Behind : (earlier : List Numbered) → (c : Numbered) → (commands ≡ earlier ++ c ∷ since) → (test c.command ≡ true) → Never test since
+      → AreSince test commands since
+
+abbrev pub is_whole_reset : Command → Bool
+is_whole_reset Reset = true
+is_whole_reset _ = false
+
+abbrev pub sets_logic : Command → Bool
+sets_logic (SetLogic name) = true
+sets_logic _ = false
+
+-- it sets a logic that is taken
+abbrev pub sets_theories : Command → Bool
+sets_theories (SetLogic name) = is_some (theories_named name)
+sets_theories _ = false
+
+abbrev pub sets_print_success : Command → Bool
+sets_print_success (SetPrintSuccess on) = true
+sets_print_success _ = false
+
+-- how many levels a command adds, and how many it removes
+abbrev pub pushed_by : Command → ℕ
+pushed_by (Push levels) = levels
+pushed_by _ = 0
+
+abbrev pub popped_by : Command → ℕ
+popped_by (Pop levels) = levels
+popped_by _ = 0
+
+-- how many levels commands add, and how many they remove
+abbrev pub pushed : List Numbered → ℕ
+pushed [] = 0
+pushed (c ∷ commands) = pushed_by c.command + pushed commands
+
+abbrev pub popped : List Numbered → ℕ
+popped [] = 0
+popped (c ∷ commands) = popped_by c.command + popped commands
