@@ -46,7 +46,8 @@ is_value k value = not (is_label k) || is_symbol_tree value
 -- trees are attributes: each a keyword, with its value or without one. A label has one
 pub data AreAttributes : Sexps → Type 0 where
   NoMore : AreAttributes Nil
-  Bare : (k : List ℕ) (rest : Sexps) → is_label k ≡ false → AreAttributes rest → AreAttributes (Cons (Atom Keyword k) rest)
+  Bare : (k : List ℕ) (rest : Sexps) → is_label k ≡ false → AreAttributes rest
+      → AreAttributes (Cons (Atom Keyword k) rest)
   Valued : (k : List ℕ) (value : Sexp) (rest : Sexps) → is_value k value ≡ true → AreAttributes rest
       → AreAttributes (Cons (Atom Keyword k) (Cons value rest))
 
