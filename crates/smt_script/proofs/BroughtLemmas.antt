@@ -4,14 +4,14 @@ use Rattle.std.specs.List.{flat_map, list_all, list_any}
 use Rattle.std.proofs.lemmas.List.{append-nil, append_cancel_left}
 use Rattle.smt_script.specs.Command.{Command, Assert}
 use Rattle.smt_script.specs.Stack.{Assertion, Brought, KeepLevels, Numbered, Stands, assertions_by, brought_by, depth_in_force, history, in_force, is_reset, names_stand, stands_after}
-use Rattle.smt_script.specs.Standing.{AreAmong, AreBrought, IsAmong, IsBrought}
+use Rattle.smt_script.specs.Standing.{AreAmong, AreBrought, Brings, IsAmong, IsBrought}
 use Rattle.smt_script.proofs.HistoryLemmas.{history-push}
 use Rattle.smt_script.proofs.StandingLemmas.{IsAssertion, Yes, No, all_stand, depth-push, keeps, steps, steps-from}
 
 -- ---- in order
 
 -- a part of what a command brought behind the earlier ones
-abbrev pub part_by : {A : Type 0} → (Brought → List A) → List Numbered → Numbered → List A
+abbrev pub part_by : {A : Type 0} → (Brought → List A) → Brings A
 part_by part earlier c = part (brought_by earlier (history earlier) c)
 
 -- what later commands brought, behind the earlier ones and one more
@@ -62,8 +62,9 @@ brought_in_order part commands =
 
 -- ---- what a command brought that stands is in force
 
-module _ {A : Type 0} (brings : List Numbered → Numbered → List A) (commands : List Numbered) where
-  first_stands : (before : List Numbered) (c : Numbered) (later : List Numbered) (xs : List A) → AreBrought brings commands before (c ∷ later) xs → Stands commands before c → AreAmong (brings before c) xs
+module _ {A : Type 0} (brings : Brings A) (commands : List Numbered) where
+  first_stands : (before : List Numbered) (c : Numbered) (later : List Numbered) (xs : List A)
+      → AreBrought brings commands before (c ∷ later) xs → Stands commands before c → AreAmong (brings before c) xs
   first_stands before c later xs (inl h) s = ([], h.1, h.2)
   first_stands before c later xs (inr h) s = absurd (h.0 s)
 
@@ -74,14 +75,17 @@ module _ {A : Type 0} (brings : List Numbered → Numbered → List A) (commands
       (brings before m ++ r.0, r.1, h.2 ∙ ap (λ (l : List A). brings before m ++ l) r.2 ∙ sym (append_assoc (brings before m) r.0 (some ++ r.1)))
   later_stands before more m c later some xs (inr h) next = next xs h.1
 
-  pub stands_among : (before more : List Numbered) (c : Numbered) (later : List Numbered) (xs : List A) → AreBrought brings commands before (more ++ c ∷ later) xs → Stands commands (before ++ more) c → AreAmong (brings (before ++ more) c) xs
+  pub stands_among : (before more : List Numbered) (c : Numbered) (later : List Numbered) (xs : List A)
+      → AreBrought brings commands before (more ++ c ∷ later) xs → Stands commands (before ++ more) c → AreAmong (brings (before ++ more) c) xs
   stands_among before [] c later xs h s =
       let same = append-nil before in
       subst (λ (l : List Numbered). AreAmong (brings l c) xs) (sym same) (first_stands before c later xs h (subst (λ (l : List Numbered). Stands commands l c) same s))
   stands_among before (m ∷ more) c later xs h s =
       let same = append_assoc before (m ∷ []) more in
       later_stands before more m c later (brings (before ++ m ∷ more) c) xs h
-      (λ rest k. subst (λ (l : List Numbered). AreAmong (brings l c) rest) same (stands_among (before ++ m ∷ []) more c later rest k (subst (λ (l : List Numbered). Stands commands l c) (sym same) s)))
+      (λ rest k.
+      let there = subst (λ (l : List Numbered). Stands commands l c) (sym same) s in
+      subst (λ (l : List Numbered). AreAmong (brings l c) rest) same (stands_among (before ++ m ∷ []) more c later rest k there))
 
 -- ---- what is in force was brought by one that stands
 
@@ -98,12 +102,14 @@ among_either [] zs x first last h = inr (first, last, h)
 among_either {A} (y ∷ ys) zs x [] last h = let same : y ≡ x = cc in inl ([], ys, ap (λ (a : A). a ∷ ys) same)
 among_either (y ∷ ys) zs x (f ∷ first) last h = let rest : ys ++ zs ≡ first ++ x ∷ last = cc in one_further y x ys zs (among_either ys zs x first last rest)
 
-module _ {A : Type 0} (brings : List Numbered → Numbered → List A) (commands : List Numbered) where
-  here_or_later : (before : List Numbered) (c : Numbered) (x : A) (rest : List A) → Stands commands before c → (IsAmong x rest → IsBrought brings commands x) → IsAmong x (brings before c) ⊎ IsAmong x rest → IsBrought brings commands x
+module _ {A : Type 0} (brings : Brings A) (commands : List Numbered) where
+  here_or_later : (before : List Numbered) (c : Numbered) (x : A) (rest : List A) → Stands commands before c
+      → (IsAmong x rest → IsBrought brings commands x) → IsAmong x (brings before c) ⊎ IsAmong x rest → IsBrought brings commands x
   here_or_later before c x rest stands next (inl h) = record { earlier = before; command = c; stands = stands; among = h }
   here_or_later before c x rest stands next (inr h) = next h
 
-  found_first : (before : List Numbered) (c : Numbered) (cs : List Numbered) (xs : List A) (x : A) → ((rest : List A) → AreBrought brings commands (before ++ c ∷ []) cs rest → IsAmong x rest → IsBrought brings commands x)
+  found_first : (before : List Numbered) (c : Numbered) (cs : List Numbered) (xs : List A) (x : A)
+      → ((rest : List A) → AreBrought brings commands (before ++ c ∷ []) cs rest → IsAmong x rest → IsBrought brings commands x)
       → AreBrought brings commands before (c ∷ cs) xs → IsAmong x xs → IsBrought brings commands x
   found_first before c cs xs x next (inl h) i = here_or_later before c x h.1 h.0 (next h.1 h.3) (among_either (brings before c) h.1 x i.0 i.1 (sym h.2 ∙ i.2))
   found_first before c cs xs x next (inr h) i = next xs h.1 i
@@ -131,7 +137,8 @@ asserted_itself n command a (No none) (first, last, h) = absurd (none_among firs
 abbrev pub part_in_force : {A : Type 0} → (Brought → List A) → List Numbered → List A
 part_in_force part commands = flat_map part ((in_force names_stand) (history commands))
 
-pub part_stands : {A : Type 0} (part : Brought → List A) (commands earlier : List Numbered) (c : Numbered) → Stands commands earlier c → AreAmong (part_by part earlier c) (part_in_force part commands)
+pub part_stands : {A : Type 0} (part : Brought → List A) (commands earlier : List Numbered) (c : Numbered) → Stands commands earlier c
+    → AreAmong (part_by part earlier c) (part_in_force part commands)
 part_stands part commands earlier c s =
     let xs = part_in_force part commands in
     stands_among (part_by part) commands [] earlier c s.later xs (subst (λ (l : List Numbered). AreBrought (part_by part) commands [] l xs) s.place (brought_in_order part commands)) s

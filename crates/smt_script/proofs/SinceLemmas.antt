@@ -79,7 +79,8 @@ theories_anew t command h = grind (arith)
 theories_kept : (t : Theories) (command : Command) → sets_theories command ≡ false → is_whole_reset command ≡ false → theories_after t command ≡ t
 theories_kept t command h k = grind (arith)
 
-pub theories_of_the_last : (commands since : List Numbered) (name : List ℕ) (theories : Theories) → AreSince is_whole_reset commands since → IsLast sets_theories since (SetLogic name) → theories_named name ≡ Some theories → theories_in_force commands ≡ theories
+pub theories_of_the_last : (commands since : List Numbered) (name : List ℕ) (theories : Theories) → AreSince is_whole_reset commands since
+    → IsLast sets_theories since (SetLogic name) → theories_named name ≡ Some theories → theories_in_force commands ≡ theories
 theories_of_the_last commands since name theories s l is =
     since_alone theories_after is_whole_reset all_theories theories_anew commands since s
     ∙ set_last theories_after sets_theories is_whole_reset theories_kept all_theories theories since (SetLogic name) (λ v. ap (theories_or v) is) l (never_since is_whole_reset commands since s)
@@ -97,7 +98,8 @@ print_anew start v command h = grind (arith)
 print_kept : (start v : Bool) (command : Command) → sets_print_success command ≡ false → is_whole_reset command ≡ false → print_success_after start v command ≡ v
 print_kept start v command h k = grind (arith)
 
-pub print_of_the_last : (start on : Bool) (commands since : List Numbered) → AreSince is_whole_reset commands since → IsLast sets_print_success since (SetPrintSuccess on) → print_success_in_force start commands ≡ on
+pub print_of_the_last : (start on : Bool) (commands since : List Numbered) → AreSince is_whole_reset commands since
+    → IsLast sets_print_success since (SetPrintSuccess on) → print_success_in_force start commands ≡ on
 print_of_the_last start on commands since s l =
     since_alone (print_success_after start) is_whole_reset start (print_anew start) commands since s
     ∙ set_last (print_success_after start) sets_print_success is_whole_reset (print_kept start) start on since (SetPrintSuccess on) (λ v. refl) l (never_since is_whole_reset commands since s)

@@ -1,4 +1,4 @@
--- The words in which the laws say what is in force after commands that took effect: which command brought it, or set it last.
+-- The words in which laws say what is in force after commands that took effect: which one brought or set it.
 use Rattle.std.specs.Prelude.{◌≡◌, ◌⊎◌, ℕ, ◌+◌, List, [], ◌∷◌, ◌++◌, Bool, true, false, is_some}
 use Rattle.std.specs.List.{list_any}
 use Rattle.smt_theory.specs.Theories.{theories_named}
@@ -7,16 +7,22 @@ use Rattle.smt_terms.specs.Signature.{Entry}
 use Rattle.smt_script.specs.Command.{Command, SetLogic, SetPrintSuccess, Push, Pop, Reset}
 use Rattle.smt_script.specs.Stack.{Assertion, Numbered, Stands, abbreviations_by, assertions_by, entries_by, signature_in_force}
 
+abbrev pub numbered : ℕ → Command → Numbered
+numbered n command = record { number = n; command = command }
+
 -- ---- what commands brought
 
--- the names, the abbreviations and the assertions that a command brings behind the earlier ones
-abbrev pub names_of_command : List Numbered → Numbered → List Entry
+-- what a command brings, behind the earlier ones
+abbrev pub Brings : Type 0 → Type 0
+Brings A = List Numbered → Numbered → List A
+
+abbrev pub names_of_command : Brings Entry
 names_of_command earlier c = entries_by (signature_in_force earlier) c.number c.command
 
-abbrev pub abbreviations_of_command : List Numbered → Numbered → List (List ℕ × Sort)
+abbrev pub abbreviations_of_command : Brings (List ℕ × Sort)
 abbreviations_of_command earlier c = abbreviations_by (signature_in_force earlier) c.command
 
-abbrev pub assertions_of_command : List Numbered → Numbered → List Assertion
+abbrev pub assertions_of_command : Brings Assertion
 assertions_of_command earlier c = assertions_by c.number c.command
 
 -- it is one of these, and these stand side by side among those
@@ -27,14 +33,14 @@ abbrev pub AreAmong : {A : Type 0} → List A → List A → Type 0
 AreAmong {A} some xs = (first last : List A) × (xs ≡ first ++ (some ++ last))
 
 -- one of the commands stands, and brings it
-pub record IsBrought {A : Type 0} (brings : List Numbered → Numbered → List A) (commands : List Numbered) (x : A) : Type 0 where
+pub record IsBrought {A : Type 0} (brings : Brings A) (commands : List Numbered) (x : A) : Type 0 where
   pub earlier : List Numbered
   pub command : Numbered
   pub stands : Stands commands earlier command
   pub among : IsAmong x (brings earlier command)
 
 -- these are, in order, what each of the later commands brings that stands, and nothing of the others
-abbrev pub AreBrought : {A : Type 0} → (List Numbered → Numbered → List A) → (commands earlier later : List Numbered) → List A → Type 0
+abbrev pub AreBrought : {A : Type 0} → Brings A → (commands earlier later : List Numbered) → List A → Type 0
 AreBrought brings commands earlier [] xs = xs ≡ []
 AreBrought {A} brings commands earlier (c ∷ later) xs =
     (Stands commands earlier c × (rest : List A) × (xs ≡ brings earlier c ++ rest)
@@ -51,15 +57,15 @@ pub record IsLast (test : Command → Bool) (commands : List Numbered) (command 
   pub earlier : List Numbered
   pub number : ℕ
   pub later : List Numbered
-  pub place : commands ≡ earlier ++ record { number = number; command = command } ∷ later
+  pub place : commands ≡ earlier ++ numbered number command ∷ later
   pub is : test command ≡ true
   pub none : Never test later
 
 -- the commands since the last that is such, or since the start
 pub data AreSince (test : Command → Bool) (commands since : List Numbered) : Type 0 where
   Start : (commands ≡ since) → Never test since → AreSince test commands since
-  Behind : (earlier : List Numbered) → (c : Numbered) → (commands ≡ earlier ++ c ∷ since) → (test c.command ≡ true) → Never test since
-      → AreSince test commands since
+  Behind : (earlier : List Numbered) → (c : Numbered) → (commands ≡ earlier ++ c ∷ since)
+      → (test c.command ≡ true) → Never test since → AreSince test commands since
 
 abbrev pub is_whole_reset : Command → Bool
 is_whole_reset Reset = true

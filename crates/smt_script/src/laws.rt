@@ -15,7 +15,7 @@ ghost use Rattle.smt_faults.specs.declared.command_fault.CommandFault.TheVariant
 ghost use Rattle.smt_faults.specs.declared.term_fault.TermFault.TheVariants as terms;
 ghost use Rattle.smt_script.specs.Command.{Command, SetLogic, SetPrintSuccess, DeclareConst, DeclareFun, DefineFun, DefineSort, Assert, Push, Pop, Exit};
 ghost use Rattle.smt_script.specs.Stack.{Assertion, HaveNoFault, Numbered, Stands, all_theories, assertions_in_force, depth_in_force, fault_of_effect, has_exited, is_logic_set, is_reset, is_too_late, makes_late, print_success_in_force, signature_in_force, theories_in_force};
-ghost use Rattle.smt_script.specs.Standing.{AreAmong, AreBrought, AreSince, IsAmong, IsBrought, IsLast, Never, abbreviations_of_command, assertions_of_command, is_whole_reset, names_of_command, popped, pushed, sets_logic, sets_print_success, sets_theories};
+ghost use Rattle.smt_script.specs.Standing.{AreAmong, AreBrought, AreSince, IsAmong, IsBrought, IsLast, Never, abbreviations_of_command, assertions_of_command, is_whole_reset, names_of_command, numbered, popped, pushed, sets_logic, sets_print_success, sets_theories};
 
 use smt_terms::laws::{definitions_are_well_sorted, faults_are_no_memory, labels_are_introduced};
 
@@ -28,93 +28,131 @@ pub fn names_in_force_are_introduced()
     labels_are_introduced();
 }
 
-/// A declaration or a definition brings its one name, an assertion its labels, and `define-sort` its one abbreviation (SMT-LIB 2.6,
-/// sections 4.2.3 and 4.2.5).
+/// A declaration or a definition brings its one name, an assertion its labels, and `define-sort` its one
+/// abbreviation (SMT-LIB 2.6, sections 4.2.3 and 4.2.5).
 pub fn commands_bring_names()
-    ensures constants { (earlier : List Numbered) (n : ℕ) (x : List ℕ) (sort : Sexp) (e : Entry) → declared_in (signature_in_force earlier) n x Nil sort ≡ Ok e
-        → names_of_command earlier (record { number = n; command = DeclareConst x sort }) ≡ e ∷ [] }
-    ensures functions { (earlier : List Numbered) (n : ℕ) (x : List ℕ) (parameters : Sexps) (sort : Sexp) (e : Entry)
-        → declared_in (signature_in_force earlier) n x parameters sort ≡ Ok e → names_of_command earlier (record { number = n; command = DeclareFun x parameters sort }) ≡ e ∷ [] }
-    ensures definitions { (earlier : List Numbered) (n : ℕ) (x : List ℕ) (parameters : List (List ℕ × Sexp)) (sort body : Sexp) (e : Entry)
-        → defined_in (signature_in_force earlier) x parameters sort body ≡ Ok e → names_of_command earlier (record { number = n; command = DefineFun x parameters sort body }) ≡ e ∷ [] }
-    ensures labels { (earlier : List Numbered) (n : ℕ) (term : Sexp) (es : List Entry) → asserted_in (names_of (signature_in_force earlier)) term ≡ Ok es
-        → names_of_command earlier (record { number = n; command = Assert term }) ≡ es }
-    ensures abbreviations { (earlier : List Numbered) (n : ℕ) (x : List ℕ) (tree : Sexp) (sort : Sort) → abbreviated_in (sort_names_of (signature_in_force earlier)) x tree ≡ Ok sort
-        → abbreviations_of_command earlier (record { number = n; command = DefineSort x tree }) ≡ (x, sort) ∷ [] }
+    ensures constants { (earlier : List Numbered) (n : ℕ) (x : List ℕ) (sort : Sexp) (e : Entry)
+        → declared_in (signature_in_force earlier) n x Nil sort ≡ Ok e
+        → names_of_command earlier (numbered n (DeclareConst x sort)) ≡ e ∷ [] }
+    ensures functions { (earlier : List Numbered) (n : ℕ) (x : List ℕ) (ps : Sexps) (sort : Sexp) (e : Entry)
+        → declared_in (signature_in_force earlier) n x ps sort ≡ Ok e
+        → names_of_command earlier (numbered n (DeclareFun x ps sort)) ≡ e ∷ [] }
+    ensures definitions { (earlier : List Numbered) (n : ℕ) (x : List ℕ) (ps : List (List ℕ × Sexp))
+        → (sort body : Sexp) (e : Entry) → defined_in (signature_in_force earlier) x ps sort body ≡ Ok e
+        → names_of_command earlier (numbered n (DefineFun x ps sort body)) ≡ e ∷ [] }
+    ensures labels { (earlier : List Numbered) (n : ℕ) (term : Sexp) (es : List Entry)
+        → asserted_in (names_of (signature_in_force earlier)) term ≡ Ok es
+        → names_of_command earlier (numbered n (Assert term)) ≡ es }
+    ensures abbreviations { (earlier : List Numbered) (n : ℕ) (x : List ℕ) (tree : Sexp) (sort : Sort)
+        → abbreviated_in (sort_names_of (signature_in_force earlier)) x tree ≡ Ok sort
+        → abbreviations_of_command earlier (numbered n (DefineSort x tree)) ≡ (x, sort) ∷ [] }
 {}
 
-/// The names in force are those of the commands that stand, in the order of the commands: that were followed by no reset, and by no
-/// fewer levels (SMT-LIB 2.6, section 4.1.4).
+/// The names in force are those of the commands that stand, in the order of the commands: of those that were
+/// followed by no reset, and by no fewer levels (SMT-LIB 2.6, section 4.1.4).
 pub fn names_in_force_stand()
-    ensures stands { (commands earlier : List Numbered) (c : Numbered) → Stands commands earlier c → AreAmong (names_of_command earlier c) (signature_in_force commands).entries }
-    ensures found { (commands : List Numbered) (e : Entry) → IsAmong e (signature_in_force commands).entries → IsBrought names_of_command commands e }
-    ensures ordered { (commands : List Numbered) → AreBrought names_of_command commands [] commands (signature_in_force commands).entries }
+    ensures stands { (commands earlier : List Numbered) (c : Numbered) → Stands commands earlier c
+        → AreAmong (names_of_command earlier c) (signature_in_force commands).entries }
+    ensures found { (commands : List Numbered) (e : Entry) → IsAmong e (signature_in_force commands).entries
+        → IsBrought names_of_command commands e }
+    ensures ordered { (commands : List Numbered)
+        → AreBrought names_of_command commands [] commands (signature_in_force commands).entries }
 {}
 
 /// So are the abbreviations in force.
 pub fn abbreviations_in_force_stand()
-    ensures stands { (commands earlier : List Numbered) (c : Numbered) → Stands commands earlier c → AreAmong (abbreviations_of_command earlier c) (signature_in_force commands).abbreviations }
-    ensures found { (commands : List Numbered) (a : List ℕ × Sort) → IsAmong a (signature_in_force commands).abbreviations → IsBrought abbreviations_of_command commands a }
-    ensures ordered { (commands : List Numbered) → AreBrought abbreviations_of_command commands [] commands (signature_in_force commands).abbreviations }
+    ensures stands { (commands earlier : List Numbered) (c : Numbered) → Stands commands earlier c
+        → AreAmong (abbreviations_of_command earlier c) (signature_in_force commands).abbreviations }
+    ensures found { (commands : List Numbered) (a : List ℕ × Sort)
+        → IsAmong a (signature_in_force commands).abbreviations
+        → IsBrought abbreviations_of_command commands a }
+    ensures ordered { (commands : List Numbered) → AreBrought abbreviations_of_command commands [] commands
+        (signature_in_force commands).abbreviations }
 {}
 
 /// So are the assertions in force.
 pub fn assertions_in_force_stand()
-    ensures stands { (commands earlier : List Numbered) (c : Numbered) (term : Sexp) → Stands commands earlier c → c.command ≡ Assert term
-        → (first last : List Assertion) × (assertions_in_force commands ≡ first ++ record { command = c.number; term = term } ∷ last) }
-    ensures found { (commands : List Numbered) (first last : List Assertion) (a : Assertion) → assertions_in_force commands ≡ first ++ a ∷ last
-        → (earlier : List Numbered) × (c : Numbered) × Stands commands earlier c × (c.command ≡ Assert a.term) × (c.number ≡ a.command) }
-    ensures ordered { (commands : List Numbered) → AreBrought assertions_of_command commands [] commands (assertions_in_force commands) }
+    ensures stands { (commands earlier : List Numbered) (c : Numbered) (term : Sexp)
+        → Stands commands earlier c → c.command ≡ Assert term
+        → IsAmong (record { command = c.number; term = term }) (assertions_in_force commands) }
+    ensures found { (commands : List Numbered) (first last : List Assertion) (a : Assertion)
+        → assertions_in_force commands ≡ first ++ a ∷ last
+        → (earlier : List Numbered) × (c : Numbered)
+        × Stands commands earlier c × (c.command ≡ Assert a.term) × (c.number ≡ a.command) }
+    ensures ordered { (commands : List Numbered)
+        → AreBrought assertions_of_command commands [] commands (assertions_in_force commands) }
 {}
 
-/// The theories in force are those of the last logic that was set since the last `reset`, or else all (SMT-LIB 2.6, sections 4.2.1
-/// and 4.2.2).
+/// The theories in force are those of the last logic that was set since the last `reset`, or else all
+/// (SMT-LIB 2.6, sections 4.2.1 and 4.2.2).
 pub fn theories_in_force_are_the_last()
-    ensures set { (commands since : List Numbered) (name : List ℕ) (theories : Theories) → AreSince is_whole_reset commands since → IsLast sets_theories since (SetLogic name)
+    ensures set { (commands since : List Numbered) (name : List ℕ) (theories : Theories)
+        → AreSince is_whole_reset commands since → IsLast sets_theories since (SetLogic name)
         → theories_named name ≡ Some theories → theories_in_force commands ≡ theories }
-    ensures start { (commands since : List Numbered) → AreSince is_whole_reset commands since → Never sets_theories since → theories_in_force commands ≡ all_theories }
-    ensures signature { (commands : List Numbered) → (signature_in_force commands).theories ≡ theories_in_force commands }
+    ensures start { (commands since : List Numbered) → AreSince is_whole_reset commands since
+        → Never sets_theories since → theories_in_force commands ≡ all_theories }
+    ensures signature { (commands : List Numbered)
+        → (signature_in_force commands).theories ≡ theories_in_force commands }
 {}
 
-/// Whether `success` is printed was said by the last command since the last `reset` that sets it, or else at the start (SMT-LIB 2.6,
-/// sections 4.1.7 and 4.2.2).
+/// Whether `success` is printed was said by the last command since the last `reset` that sets it, or else at
+/// the start (SMT-LIB 2.6, sections 4.1.7 and 4.2.2).
 pub fn print_success_is_the_last()
-    ensures set { (start on : Bool) (commands since : List Numbered) → AreSince is_whole_reset commands since → IsLast sets_print_success since (SetPrintSuccess on)
-        → print_success_in_force start commands ≡ on }
-    ensures start { (start : Bool) (commands since : List Numbered) → AreSince is_whole_reset commands since → Never sets_print_success since → print_success_in_force start commands ≡ start }
+    ensures set { (start on : Bool) (commands since : List Numbered) → AreSince is_whole_reset commands since
+        → IsLast sets_print_success since (SetPrintSuccess on) → print_success_in_force start commands ≡ on }
+    ensures start { (start : Bool) (commands since : List Numbered) → AreSince is_whole_reset commands since
+        → Never sets_print_success since → print_success_in_force start commands ≡ start }
 {}
 
-/// A logic is set, and it is too late to set one, where a command since the last `reset` did so (SMT-LIB 2.6, sections 4.1.1 and
-/// 4.2.1). While neither holds, nothing is in force.
+/// A logic is set, and it is too late to set one, where a command since the last `reset` made it so. While
+/// neither holds, nothing is in force (SMT-LIB 2.6, sections 4.1.1 and 4.2.1).
 pub fn logics_are_set_first()
-    ensures set { (commands since : List Numbered) → AreSince is_whole_reset commands since → is_logic_set commands ≡ list_any (λ c. sets_logic c.command) since }
-    ensures late { (commands since : List Numbered) → AreSince is_whole_reset commands since → is_too_late commands ≡ list_any (λ c. makes_late c.command) since }
-    ensures names { (commands : List Numbered) → is_logic_set commands ≡ false → is_too_late commands ≡ false → (signature_in_force commands).entries ≡ [] }
-    ensures abbreviations { (commands : List Numbered) → is_logic_set commands ≡ false → is_too_late commands ≡ false → (signature_in_force commands).abbreviations ≡ [] }
-    ensures assertions { (commands : List Numbered) → is_logic_set commands ≡ false → is_too_late commands ≡ false → assertions_in_force commands ≡ [] }
-    ensures levels { (commands : List Numbered) → is_logic_set commands ≡ false → is_too_late commands ≡ false → depth_in_force commands ≡ 0 }
+    ensures set { (commands since : List Numbered) → AreSince is_whole_reset commands since
+        → is_logic_set commands ≡ list_any (λ c. sets_logic c.command) since }
+    ensures late { (commands since : List Numbered) → AreSince is_whole_reset commands since
+        → is_too_late commands ≡ list_any (λ c. makes_late c.command) since }
+    ensures names { (commands : List Numbered) → is_logic_set commands ≡ false → is_too_late commands ≡ false
+        → (signature_in_force commands).entries ≡ [] }
+    ensures abbreviations { (commands : List Numbered) → is_logic_set commands ≡ false
+        → is_too_late commands ≡ false
+        → (signature_in_force commands).abbreviations ≡ [] }
+    ensures assertions { (commands : List Numbered) → is_logic_set commands ≡ false
+        → is_too_late commands ≡ false
+        → assertions_in_force commands ≡ [] }
+    ensures levels { (commands : List Numbered) → is_logic_set commands ≡ false → is_too_late commands ≡ false
+        → depth_in_force commands ≡ 0 }
 {}
 
-/// There is no level at the start and after a reset; `push` adds levels, and `pop` removes them. So there are as many as were added since
-/// the last reset, less those removed (SMT-LIB 2.6, sections 4.1.4 and 4.2.2).
+/// There is no level at the start and after a reset; `push` adds levels, and `pop` removes them. So there are
+/// as many as were added since the last reset, less those removed (SMT-LIB 2.6, sections 4.1.4 and 4.2.2).
 pub fn depth_counts_levels()
     ensures start { depth_in_force [] ≡ 0 }
-    ensures push { (commands : List Numbered) (n levels : ℕ) → depth_in_force (commands ++ record { number = n; command = Push levels } ∷ []) ≡ depth_in_force commands + levels }
-    ensures pop { (commands : List Numbered) (n levels : ℕ) → depth_in_force (commands ++ record { number = n; command = Pop levels } ∷ []) ≡ depth_in_force commands - levels }
-    ensures reset { (commands : List Numbered) (c : Numbered) → is_reset c.command ≡ true → depth_in_force (commands ++ c ∷ []) ≡ 0 }
-    ensures sum { (commands since : List Numbered) → HaveNoFault [] commands → AreSince is_reset commands since → depth_in_force commands + popped since ≡ pushed since }
+    ensures push { (commands : List Numbered) (n levels : ℕ)
+        → depth_in_force (commands ++ numbered n (Push levels) ∷ []) ≡ depth_in_force commands + levels }
+    ensures pop { (commands : List Numbered) (n levels : ℕ)
+        → depth_in_force (commands ++ numbered n (Pop levels) ∷ []) ≡ depth_in_force commands - levels }
+    ensures reset { (commands : List Numbered) (c : Numbered) → is_reset c.command ≡ true
+        → depth_in_force (commands ++ c ∷ []) ≡ 0 }
+    ensures sum { (commands since : List Numbered) → HaveNoFault [] commands
+        → AreSince is_reset commands since
+        → depth_in_force commands + popped since ≡ pushed since }
 {}
 
-/// An `exit` is among commands exactly where they have exited (SMT-LIB 2.6, section 4.2.1).
+/// Commands have exited exactly where an `exit` is among them (SMT-LIB 2.6, section 4.2.1).
 pub fn exited_behind_an_exit()
-    ensures exited { (commands : List Numbered) (n : ℕ) → IsAmong (record { number = n; command = Exit }) commands → has_exited commands ≡ true }
-    ensures found { (commands : List Numbered) → has_exited commands ≡ true → (n : ℕ) × IsAmong (record { number = n; command = Exit }) commands }
+    ensures exited { (commands : List Numbered) (n : ℕ)
+        → IsAmong (numbered n Exit) commands
+        → has_exited commands ≡ true }
+    ensures found { (commands : List Numbered) → has_exited commands ≡ true
+        → (n : ℕ) × IsAmong (numbered n Exit) commands }
 {}
 
 /// No fault of a command's effect is want of memory, be it the command's own or a term's.
 pub fn effects_have_no_want_of_memory()
-    ensures own { (before : List Numbered) (n : ℕ) (command : Command) → fault_of_effect before n command ≡ Some Memory → ⊥ }
-    ensures terms { (before : List Numbered) (n : ℕ) (command : Command) → fault_of_effect before n command ≡ Some (Term terms.Memory) → ⊥ }
+    ensures own { (before : List Numbered) (n : ℕ) (command : Command)
+        → fault_of_effect before n command ≡ Some Memory → ⊥ }
+    ensures terms { (before : List Numbered) (n : ℕ) (command : Command)
+        → fault_of_effect before n command ≡ Some (Term terms.Memory) → ⊥ }
 {
     faults_are_no_memory();
 }
