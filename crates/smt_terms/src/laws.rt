@@ -60,8 +60,8 @@ pub fn sorts_are_kept()
     ensures { (names more : Names) (scope : List (List ℕ × Sort)) (term : Sexp) (sort : Sort) → Keeps names more → sort_in names scope term ≡ Ok sort → sort_in more scope term ≡ Ok sort }
 {}
 
-/// The labels that an assertion brings (SMT-LIB 2.6, section 3.6.5) are each new behind the names in force and those before it, no
-/// operator's, and well sorted over them.
+/// What an assertion brings (SMT-LIB 2.6, section 3.6.5) is new behind the names in force and what it brought before, no operator's,
+/// and well sorted over them.
 pub fn labels_are_introduced()
     ensures { (s : Signature) (term : Sexp) (labels : List Entry) → asserted_in (names_of s) term ≡ Ok labels → AreIntroduced s.theories s.entries labels }
 {}
