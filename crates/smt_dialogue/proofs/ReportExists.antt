@@ -10,14 +10,14 @@ use Rattle.smt_dialogue.proofs.PairingUnique.{takes_same}
 use Rattle.smt_dialogue.proofs.StepLemmas.{turn_by}
 use Rattle.smt_dialogue.specs.Answers as answering
 use Rattle.smt_dialogue.specs.Answers.{Missing, Taken, Takes, Unfit, has_form, taken}
-use Rattle.smt_dialogue.specs.FirstFault.{Ends, GoesOn, TextSoFar, Turn, Waits, turn_after, turn_of_command, turn_of_end, turn_of_fault, turn_of_rest, turn_of_taken, want_of_answer, whole_text}
+use Rattle.smt_dialogue.specs.FirstFault.{Ends, GoesOn, IsRest, TextSoFar, Turn, Waits, turn_after, turn_of_command, turn_of_end, turn_of_fault, turn_of_rest, turn_of_taken, want_of_answer, whole_text}
 use Rattle.smt_dialogue.specs.InForce.{AreFaultless, fault_of_pair, has_exited_after, need_after}
 use Rattle.smt_dialogue.specs.Pairing.{AllTake, AreCommands}
 use Rattle.smt_dialogue.specs.Pairs.{Pair, answers_taken, answers_then, next_of, pair_of, with_answer}
 use Rattle.smt_dialogue.specs.declared.answer.Need.{Need}
 use Rattle.smt_dialogue.specs.declared.answer.Need.TheVariants.{Nothing, Optional, Needed}
 use Rattle.smt_report.specs.FaultLine.{text_line}
-use Rattle.smt_dialogue.specs.Report.{IsReport, lines_at_end}
+use Rattle.smt_dialogue.specs.Report.{IsReport, IsTurn, lines_at_end}
 use Rattle.smt_text.specs.Grammar.{limit}
 use Rattle.smt_script.specs.Command.{is_check}
 use Rattle.smt_dialogue.specs.declared.options.Options.{Options}
@@ -29,11 +29,6 @@ use Rattle.smt_faults.specs.declared.command_fault.CommandFault.{CommandFault}
 -- a text so far
 abbrev pub text : Bool → Sexps → Option TextFault → TextSoFar
 text told trees fault = record { told = told; trees = trees; fault = fault }
-
--- the dialogue waits, or has ended
-abbrev pub IsRest : Turn → Type 0
-IsRest GoesOn = ⊥
-IsRest _ = Unit {0}
 
 -- the pairs from some on, to where the dialogue waits or ends
 pub record Way (start : Bool) (before : List Pair) (st : Bool) (trees : Sexps) (sf : Option TextFault) (at' : Bool) (answers : Sexps) (af : Option TextFault) : Type 0 where
@@ -181,6 +176,32 @@ ends_there : (start : Bool) (pairs : List Pair) (trees : Sexps) (sf : Option Tex
 ends_there start pairs trees sf answers af GoesOn rests h = absurd rests
 ends_there start pairs trees sf answers af (Waits closed) rests h = no_wait start pairs trees sf answers af closed h
 ends_there start pairs trees sf answers af (Ends fault) rests h = (fault, h)
+
+-- a dialogue so far is at rest behind some pairs
+pub some_rest : (start : Bool) (script answers : TextSoFar) → (pairs : List Pair) × (turn : Turn) × IsRest turn × IsTurn start script answers pairs turn
+some_rest start script answers =
+    let way = way_through start script.trees [] script.told script.fault answers.told answers.trees answers.fault in (
+      way.pairs,
+      way.turn,
+      way.rests,
+      record {
+        later = way.later;
+        rest = way.rest;
+        paired = record {
+          pairing = record { commands = way.commands; answered = way.answered; taken_so = way.taken_so };
+          faultless = way.faultless;
+        };
+        turn_is = way.turn_is;
+      },
+    )
+
+-- where both ends were told it has ended
+pub rests_ended : (start : Bool) (script answers : TextSoFar) (pairs : List Pair) (turn : Turn) → script.told ≡ true → answers.told ≡ true → IsRest turn → IsTurn start script answers pairs turn → (fault : Option Line) × (turn ≡ Ends fault)
+rests_ended start script answers pairs turn told answers_told rests t =
+    let first : turn_after start pairs (text true t.later script.fault) (text answers.told t.rest answers.fault) ≡ turn = ap (λ (b : Bool). turn_after start pairs (text b t.later script.fault) (text answers.told t.rest answers.fault)) (sym told) ∙ t.turn_is in
+    let both : turn_after start pairs (text true t.later script.fault) (text true t.rest answers.fault) ≡ turn = ap (λ (b : Bool). turn_after start pairs (text true t.later script.fault) (text b t.rest answers.fault)) (sym answers_told) ∙ first in
+    let ends = ends_there start pairs t.later script.fault t.rest answers.fault turn rests both in
+    (ends.0, sym both ∙ ends.1)
 
 -- of every text something is read: a law of the reader's crate
 abbrev pub EveryTextReads : Type 0

@@ -6,10 +6,10 @@ use Rattle.smt_trees.specs.Sexp.{Sexp, Sexps, Nil, Cons}
 use Rattle.smt_faults.specs.declared.text_fault.TextFault.{TextFault}
 use Rattle.smt_dialogue.proofs.PairingUnique.{alike, ok_same}
 use Rattle.smt_script.specs.Command.{command_of}
-use Rattle.smt_dialogue.proofs.ReportExists.{IsRest, text}
+use Rattle.smt_dialogue.proofs.ReportExists.{text}
 use Rattle.smt_dialogue.proofs.StepLemmas.{turn_by}
 use Rattle.smt_dialogue.specs.Answers.{Takes, taken}
-use Rattle.smt_dialogue.specs.FirstFault.{Ends, GoesOn, TextSoFar, Turn, is_over, turn_at}
+use Rattle.smt_dialogue.specs.FirstFault.{Ends, GoesOn, IsRest, TextSoFar, Turn, is_over, turn_at}
 use Rattle.smt_dialogue.specs.InForce.{AreFaultless, fault_of_pair, has_exited_after, need_after}
 use Rattle.smt_dialogue.specs.Pairing.{AllTake, AreCommands}
 use Rattle.smt_dialogue.specs.Pairs.{Pair, answers_then, next_of}

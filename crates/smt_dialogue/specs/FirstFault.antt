@@ -36,6 +36,12 @@ pub data Turn : Type 0 where
   Waits : (closed : Bool) → Turn
   Ends : (fault : Option Line) → Turn
 
+-- the dialogue does not go on: it waits, or has ended
+abbrev pub IsRest : Turn → Type 0
+IsRest GoesOn = ⊥
+IsRest (Waits closed) = Unit {0}
+IsRest (Ends fault) = Unit {0}
+
 abbrev pub turn_of_fault : ℕ → Option CommandFault → Turn
 turn_of_fault n None = GoesOn
 turn_of_fault n (Some fault) = Ends (Some (lines.CommandFault n fault))

@@ -1,6 +1,6 @@
 //! What holds of the definitions of a dialogue. Nothing here does anything: each contract is a law, and each call is of a law that it rests on.
 
-ghost use Rattle.std.specs.Prelude.{◌≡◌, ◌≤◌, ℕ, ◌+◌, List, [], ◌∷◌, ◌++◌, length, Bool, true, false, Ok, Err};
+ghost use Rattle.std.specs.Prelude.{◌≡◌, ◌≤◌, ℕ, ◌+◌, List, [], ◌∷◌, ◌++◌, length, Bool, true, false, Option, Ok, Err};
 ghost use Rattle.smt_text.specs.Grammar.{Forest, limit};
 ghost use Rattle.smt_trees.specs.Sexp.{Sexp, Sexps, Nil};
 ghost use Rattle.smt_theory.specs.declared.sort.Sort.TheVariants.{Bool as Boolean};
@@ -19,7 +19,8 @@ ghost use Rattle.smt_dialogue.specs.InForce.{assertions_after, levels_after, rem
 ghost use Rattle.smt_script.specs.Command.{is_check};
 ghost use Rattle.smt_dialogue.specs.Pairing.{IsPairing};
 ghost use Rattle.smt_dialogue.specs.Pairs.{Pair, checks_in, is_effective};
-ghost use Rattle.smt_dialogue.specs.Report.{IsReport};
+ghost use Rattle.smt_dialogue.specs.FirstFault.{Ends, IsRest, TextSoFar, Turn};
+ghost use Rattle.smt_dialogue.specs.Report.{IsReport, IsTurn};
 ghost use Rattle.smt_dialogue.specs.Validity.{IsAsserted, IsFullyPaired, IsInvalid, IsValid};
 ghost use Rattle.smt_dialogue.specs.VerdictLaws.{IsModelIn, IsSatOf};
 ghost use Rattle.smt_dialogue.specs.Window.{Printed, closes, models_from, structure_at, window};
@@ -34,6 +35,17 @@ use smt_text::laws::{every_text_reads, one_forest, one_reading};
 /// So many commands have at most one pairing with the answers, and it leaves the same.
 pub fn one_pairing()
     ensures { (start : Bool) (xs ys : List Pair) (trees answers later later' rest rest' : Sexps) → length xs ≡ length ys → IsPairing start xs trees later answers rest → IsPairing start ys trees later' answers rest' → (xs ≡ ys) × (later ≡ later') × (rest ≡ rest') }
+{}
+
+/// A dialogue so far, with the ends of its texts told or not, is at rest behind some pairs, and behind no others: it waits there, or has
+/// ended. Where both ends were told it has ended.
+pub fn one_rest()
+    ensures some { (start : Bool) (script answers : TextSoFar)
+        → (pairs : List Pair) × (turn : Turn) × IsRest turn × IsTurn start script answers pairs turn }
+    ensures one { (start : Bool) (script answers : TextSoFar) (xs ys : List Pair) (f g : Turn) → IsRest f → IsRest g
+        → IsTurn start script answers xs f → IsTurn start script answers ys g → (xs ≡ ys) × (f ≡ g) }
+    ensures ended { (start : Bool) (script answers : TextSoFar) (pairs : List Pair) (turn : Turn) → script.told ≡ true → answers.told ≡ true
+        → IsRest turn → IsTurn start script answers pairs turn → (fault : Option Line) × (turn ≡ Ends fault) }
 {}
 
 /// A dialogue has at most one report.

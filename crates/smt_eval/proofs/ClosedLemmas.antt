@@ -1,13 +1,15 @@
 -- Terms that are kept as their trees.
-use Rattle.std.proofs.Common.{◌≡◌, ℕ, [], List, length, Option, Result, Ok, Err, IfOk, ap, sym, ◌∙◌, arith}
+use Rattle.std.proofs.Common.{◌≡◌, ◌↔◌, ℕ, [], List, length, Option, Result, Ok, Err, IfOk, ap, sym, ◌∙◌, arith}
 use Rattle.smt_trees.specs.Sexp.{Sexp}
 use Rattle.smt_trees.specs.Tree.{sexp_of}
 use Rattle.smt_values.specs.Element.{known_element, known_elements}
 use Rattle.smt_values.specs.declared.value.Value.{Value}
+use Rattle.smt_terms.specs.Library.{StandsFor}
 use Rattle.smt_terms.specs.Signature.{Signature}
-use Rattle.smt_eval.specs.Internal.ClosedTerm.{IsClosed}
+use Rattle.smt_eval.specs.ClosedTerm.{IsClosed}
 use Rattle.smt_eval.specs.Internal.DefinitionValues.{definition_values, first}
 use Rattle.smt_eval.specs.Internal.Evaluation.{Evaluates, HaveStructure}
+use Rattle.smt_eval.specs.Interpretation.{IsInterpretation}
 use Rattle.smt_eval.specs.Known.{known_in, known_of, known_over}
 use Rattle.smt_eval.specs.Structure.{structure_of}
 use Rattle.smt_eval.specs.declared.definitions.Definitions.{Definitions}
@@ -16,6 +18,12 @@ use Rattle.smt_eval.specs.declared.plain.Closed.{Closed}
 use Rattle.smt_eval.proofs.EvaluatorLemmas.{all_first}
 use Rattle.smt_eval.proofs.ReadLemmas.{all_valued}
 use Rattle.smt_eval.proofs.ValuesLemmas.{evaluates}
+
+-- where a tree stands for a term
+pub stands_so : (closed : Closed) (structure : Signature) (term : Sexp) → IsClosed closed structure term ↔ ((script definitions : Signature) × StandsFor closed.library.now script
+    × IsInterpretation closed.interpretation.now script definitions × (structure ≡ structure_of script definitions) × (term ≡ sexp_of closed.tree.now))
+stands_so closed structure term =
+    (λ c. (c.script, c.definitions, c.names, c.holds, c.over, c.tree), λ h. record { script = h.0; definitions = h.1; names = h.2; holds = h.3; over = h.4; tree = h.5 })
 
 -- the structure of a closed term
 pub structure_of_closed : (closed : Closed) (structure : Signature) (term : Sexp) (c : IsClosed closed structure term) → HaveStructure closed.library.now closed.interpretation.now.definitions c.script c.definitions

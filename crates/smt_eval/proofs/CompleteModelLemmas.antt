@@ -9,8 +9,8 @@ use Rattle.smt_terms.specs.Items.{declared_named, if_declared, item_in, items_be
 use Rattle.smt_terms.specs.Signature.{AreDistinct, Entry, Origin, Declared, Defined, IsDeclared, KeepsRank, Signature, entry_named, is_taken, names_of}
 use Rattle.smt_terms.specs.WellSorted.{AreWellSorted, IsWellSorted}
 use Rattle.smt_faults.specs.declared.term_fault.TermFault.{TermFault}
-use Rattle.smt_terms.proofs.EntryLemmas.{entry_named-skip}
-use Rattle.smt_terms.proofs.NameLemmas.{same_name, same_flip, none_step}
+use Rattle.smt_eval.proofs.EntryLemmas.{entry_named-skip}
+use Rattle.smt_eval.proofs.NameLemmas.{same_name, same_flip, none_step}
 use Rattle.smt_eval.specs.CompleteModel.{IsModelOf}
 use Rattle.smt_eval.specs.Model.{AreDefined, AreItems, command_of_origin, complete_or, first_lacking, items_from, items_of, lacking_at, model_in, or_item}
 use Rattle.smt_eval.specs.declared.interpretation.ModelFault.{ModelFault}

@@ -23,8 +23,8 @@ use Rattle.smt_forms.specs.ScopeView.{scope_view}
 use Rattle.smt_terms.specs.Signature.{AreDistinct, Entry, Origin, Defined, Signature, entry_named}
 use Rattle.smt_faults.specs.declared.term_fault.TermFault.TheVariants.{Form}
 use Rattle.smt_forms.specs.declared.scope.Variable.{Variable}
-use Rattle.smt_terms.proofs.EntryLemmas.{entry_named-take}
-use Rattle.smt_terms.proofs.NameLemmas.{none_step, same_self}
+use Rattle.smt_eval.proofs.EntryLemmas.{entry_named-take}
+use Rattle.smt_eval.proofs.NameLemmas.{none_step, same_self}
 use Rattle.smt_eval.specs.Internal.DefinitionValues.{definition_values, first, kept_value, values_after}
 use Rattle.smt_eval.specs.Internal.Evaluation.{Evaluates, bodies_weight, known_scope, weight_of}
 use Rattle.smt_eval.specs.Known.{KnownMeaning, known_after, known_by, known_defined, known_in, known_of, known_of_op, known_operators, knowns_bound, knowns_of, with_known}

@@ -1,3 +1,5 @@
+pub mod NameLemmas
+pub mod EntryLemmas
 pub mod MeaningLemmas
 pub mod SortedValueLemmas
 pub mod CompleteModelLemmas

@@ -7,8 +7,8 @@ use Rattle.smt_terms.specs.Library.{AreDefinitions, IsDefinitionOf, StandsFor, d
 use Rattle.smt_terms.specs.Signature.{AreDistinct, Entry, Origin, Declared, Defined, IsDeclared, Signature, entry_named}
 use Rattle.smt_terms.specs.declared.library.Definition.{Definition}
 use Rattle.smt_terms.specs.declared.library.Library.{Library}
-use Rattle.smt_terms.proofs.EntryLemmas.{entry_named-skip, none_before}
-use Rattle.smt_terms.proofs.NameLemmas.{none_step, same_name}
+use Rattle.smt_eval.proofs.EntryLemmas.{entry_named-skip, none_before}
+use Rattle.smt_eval.proofs.NameLemmas.{none_step, same_name}
 use Rattle.smt_eval.specs.Internal.DefinitionValues.{AllDefined, IsDefined}
 use Rattle.smt_eval.specs.Internal.Evaluation.{Evaluates, bodies_in, bodies_of}
 use Rattle.smt_eval.specs.declared.definitions.Definitions.{Definitions}

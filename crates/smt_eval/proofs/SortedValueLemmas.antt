@@ -29,7 +29,7 @@ use Rattle.smt_terms.specs.Signature.{AreDistinct, Entry, Origin, Declared, Defi
 use Rattle.smt_terms.specs.WellSorted.{AreWellSorted, IsWellSorted, IsWellSortedFrom}
 use Rattle.smt_faults.specs.declared.term_fault.TermFault.{TermFault}
 use Rattle.smt_faults.specs.declared.term_fault.TermFault.TheVariants.{BoundTwice, Form, IllSorted, Unknown, Index}
-use Rattle.smt_terms.proofs.NameLemmas.{same_name, same_self, none_step}
+use Rattle.smt_eval.proofs.NameLemmas.{same_name, same_self, none_step}
 use Rattle.smt_eval.specs.Agreement.{FitsScope, IsOfSorts}
 use Rattle.smt_eval.specs.Meaning.{Meaning, element_by, value_of, values_bound, values_of, meaning_of_op, operators, defined_value, with_definition, meaning_after, meaning_in}
 use Rattle.smt_eval.proofs.MeaningLemmas.{is_plain_list, value-other}

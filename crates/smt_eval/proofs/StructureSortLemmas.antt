@@ -13,7 +13,7 @@ use Rattle.smt_terms.specs.Items.{declared_named, if_declared}
 use Rattle.smt_terms.specs.Library.{defined_among, is_declared}
 use Rattle.smt_terms.specs.Signature.{AreDistinct, Entry, IsDeclared, KeepsRank, Names, Origin, Declared, Defined, Rank, Signature, entry_named, is_taken, names_of, rank_of_entry, ranks_of, unlabelled_over}
 use Rattle.smt_terms.specs.WellSorted.{AreIntroduced, AreWellSorted, IsDefinition, IsSortedIfDefined, IsWellSortedFrom, Keeps}
-use Rattle.smt_terms.proofs.NameLemmas.{same_name, same_self}
+use Rattle.smt_eval.proofs.NameLemmas.{same_name, same_self}
 use Rattle.smt_eval.specs.CompleteModel.{IsModelOf}
 use Rattle.smt_eval.specs.Structure.{IsStructure, structure_of}
 use Rattle.smt_eval.proofs.CompleteModelLemmas.{AreFree, AreSound}

@@ -1,4 +1,3 @@
-pub mod ClosedTerm
 pub mod DefinitionValues
 pub mod Evaluation
 pub mod ItemFault

@@ -5,4 +5,5 @@ pub mod Model
 pub mod CompleteModel
 pub mod Structure
 pub mod Interpretation
+pub mod ClosedTerm
 pub mod Internal

@@ -1,7 +1,6 @@
 -- SMT-LIB 2.6, sections 4.2.6 and 5.3: the structure that a model gives to a script.
 use Rattle.std.specs.Prelude.{[], ◌++◌}
-use Rattle.smt_terms.specs.Library.{defined_among}
-use Rattle.smt_terms.specs.Signature.{AreDistinct, Signature}
+use Rattle.smt_terms.specs.Signature.{AreDistinct, Signature, defined_among}
 use Rattle.smt_terms.specs.WellSorted.{AreWellSorted}
 
 -- the definitions of a model of the script's names, and behind them the script's own, which see them

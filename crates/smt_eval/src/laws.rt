@@ -2,23 +2,29 @@
 
 ghost use Rattle.std.specs.Prelude.{◌≡◌, ◌↔◌, ℕ, ◌+◌, List, [], Ok, Err, Option};
 ghost use Rattle.smt_trees.specs.Sexp.{Sexp, Sexps};
+ghost use Rattle.smt_trees.specs.Tree.{sexp_of};
 ghost use Rattle.smt_theory.specs.declared.sort.Sort.{Sort};
 ghost use Rattle.smt_values.specs.Element.{Agrees, Element, IsOfSort};
 ghost use Rattle.smt_values.specs.Operations.{DivisionByZero};
 ghost use Rattle.smt_terms.specs.Checking.{sort_in};
 ghost use Rattle.smt_terms.specs.Items.{items_before};
+ghost use Rattle.smt_terms.specs.Library.{StandsFor};
 ghost use Rattle.smt_terms.specs.Signature.{AreDistinct, Entry, Signature, names_of, unlabelled};
 ghost use Rattle.smt_terms.specs.WellSorted.{AreIntroduced, AreWellSorted};
 ghost use Rattle.smt_eval.specs.Agreement.{AgreesWith, FitsScope};
 ghost use Rattle.smt_faults.specs.declared.term_fault.TermFault.{TermFault};
 ghost use Rattle.smt_faults.specs.declared.term_fault.TermFault.TheVariants.{Memory};
 ghost use Rattle.smt_eval.specs.CompleteModel.{IsModelOf};
+ghost use Rattle.smt_eval.specs.Interpretation.{IsInterpretation};
 ghost use Rattle.smt_eval.specs.Known.{known_in, known_of};
 ghost use Rattle.smt_eval.specs.Meaning.{value_over};
 ghost use Rattle.smt_eval.specs.Model.{AreDefined, AreItems, HasFirstFault, IsFirstLacking, items_of, model_in};
 ghost use Rattle.smt_eval.specs.Structure.{IsStructure, structure_of};
+ghost use Rattle.smt_eval.specs.declared.plain.Closed.{Closed};
 ghost use Rattle.smt_eval.specs.declared.interpretation.ModelFault.TheVariants.{Item, Lacks, Memory as OutOfMemory};
 
+use crate::checked::Checked;
+use crate::plain::Closed;
 use smt_terms::laws as terms;
 use smt_terms::laws::{items_are_well_sorted, sorts_are_kept};
 use smt_theory::laws::{ranks_are_the_table, sorts_are_compared};
@@ -72,6 +78,15 @@ pub fn models_give_structures()
     models_are_complete();
     items_are_well_sorted();
 }
+
+/// A tree is a checked term wherever its interpretation is one of a model of its library's names, and nowhere else: it stands for
+/// itself, over the structure that they give.
+pub fn closed_trees_stand_for_themselves()
+    ensures { (closed : Closed) (structure : Signature) (term : Sexp)
+        → ⟦<Closed<'static> as Checked>⟧.IsTerm closed structure term ↔ ((script definitions : Signature)
+        × StandsFor closed.library.now script × IsInterpretation closed.interpretation.now script definitions
+        × (structure ≡ structure_of script definitions) × (term ≡ sexp_of closed.tree.now)) }
+{}
 
 /// No definition answers that memory was refused.
 pub fn faults_are_no_memory()

@@ -27,7 +27,7 @@ pub struct Closed<'a> {
 }
 
 impl Checked for Closed<'_> {
-    ghost use Rattle.smt_eval.specs.Internal.ClosedTerm.{IsClosed};
+    ghost use Rattle.smt_eval.specs.ClosedTerm.{IsClosed};
 
     ghost IsTerm = { IsClosed };
 

@@ -1,6 +1,6 @@
 -- SMT-LIB 2.6, section 3.6: trees with a name each, as the bindings of a `let` and the parameters of a definition are, and the
 -- attributes of an annotated term. That the value of an attribute may be any tree but a keyword is this project's choice.
-use Rattle.std.specs.Prelude.{ℕ, List, [], ◌∷◌, Bool, true, false, not, ◌&&◌, ◌||◌, Option, Some, None, bytes_eq, codes}
+use Rattle.std.specs.Prelude.{◌≡◌, ℕ, List, [], ◌∷◌, Bool, true, false, not, ◌&&◌, ◌||◌, Option, Some, None, bytes_eq, codes}
 use Rattle.smt_trees.specs.Sexp.{Sexp, Sexps, Atom, Items, Nil, Cons, Keyword, Symbol}
 
 -- whether each is a list of a symbol and one more tree
@@ -37,6 +37,19 @@ is_label keyword = bytes_eq keyword (codes "named")
 abbrev pub is_symbol_tree : Sexp → Bool
 is_symbol_tree (Atom Symbol x) = true
 is_symbol_tree _ = false
+
+-- whether a tree may be the value of a keyword: any but a keyword, and that of a label is a symbol
+abbrev pub is_value : List ℕ → Sexp → Bool
+is_value k (Atom Keyword l) = false
+is_value k value = not (is_label k) || is_symbol_tree value
+
+-- trees are attributes: each a keyword, with its value or without one. A label has one
+pub data AreAttributes : Sexps → Type 0 where
+  NoMore : AreAttributes Nil
+  Bare : (k : List ℕ) (rest : Sexps) → is_label k ≡ false → AreAttributes rest
+      → AreAttributes (Cons (Atom Keyword k) rest)
+  Valued : (k : List ℕ) (value : Sexp) (rest : Sexps) → is_value k value ≡ true → AreAttributes rest
+      → AreAttributes (Cons (Atom Keyword k) (Cons value rest))
 
 -- whether trees go on as attributes, which are keywords, each with a value or without one; and whether they go on so behind a
 -- keyword, whose value comes first if it has one. The value of a label is a symbol

@@ -9,6 +9,7 @@
 
 mod bindings;
 mod identifier;
+pub mod laws;
 mod params;
 mod scope;
 

@@ -1,6 +1,7 @@
 -- What a definition brings is well sorted.
 use Rattle.std.proofs.Common.{◌≡◌, ℕ, Bool, true, false, cond, ◌||◌, List, [], ◌∷◌, ◌++◌, map, Option, Some, None, is_some, Result, Ok, Err, refl, ap, sym, ◌∙◌, subst}
 use Rattle.std.proofs.lemmas.List.{length-map}
+use Rattle.std.specs.Bool.{Decides}
 use Rattle.std.specs.List.{list_any, zip}
 use Rattle.std.specs.Str.{bytes_eq}
 use Rattle.smt_trees.specs.Sexp.{Sexp}
@@ -8,7 +9,6 @@ use Rattle.smt_theory.specs.Sort.{is_same_sort}
 use Rattle.smt_theory.specs.Words.{look_up, result_and_then}
 use Rattle.smt_theory.specs.declared.sort.Sort.{Sort}
 use Rattle.smt_theory.specs.declared.theories.Theories.{Theories}
-use Rattle.smt_theory.proofs.RankLemmas.{is_same_sort-Decides}
 use Rattle.smt_terms.specs.Checking.{sort_in}
 use Rattle.smt_terms.specs.Definitions.{defined_in, definition, definition_in, parameters_named}
 use Rattle.smt_terms.specs.Labels.{Refused}
@@ -20,6 +20,10 @@ use Rattle.smt_faults.specs.declared.term_fault.TermFault.TheVariants.{BoundTwic
 use Rattle.smt_terms.proofs.ItemLemmas.{Params}
 use Rattle.smt_terms.proofs.KeptLemmas.{Keeps-unlabelled, kept-sort}
 use Rattle.smt_terms.proofs.NameLemmas.{none_step, same_flip}
+
+-- the test of sorts decides whether two are the same, as a law of the theories says
+abbrev pub AreCompared : Type 0
+AreCompared = (a b : Sort) → Decides (is_same_sort a b) (a ≡ b)
 
 -- ## Parameters
 
@@ -67,9 +71,9 @@ abbrev pub refused_over : Theories → List Entry → Names
 refused_over theories earlier = record { theories = theories; ranks = ranks_of earlier; labels = Refused }
 
 -- what a definition brings, and that it is well sorted over the earlier names
-pub well_sorted : (theories : Theories) (earlier : List Entry) (x : List ℕ) (ps : Params) (sort : Sort) (body : Sexp) (e : Entry) → AreDifferent (map (λ p. p.0) ps)
+pub well_sorted : AreCompared → (theories : Theories) (earlier : List Entry) (x : List ℕ) (ps : Params) (sort : Sort) (body : Sexp) (e : Entry) → AreDifferent (map (λ p. p.0) ps)
     → definition_in (refused_over theories earlier) x ps sort body ≡ Ok e → (definition x ps sort body ≡ e) × IsWellSorted theories earlier e
-well_sorted theories earlier x ps sort body e different h = by (sort_in names ps body) refl h
+well_sorted compared theories earlier x ps sort body e different h = by (sort_in names ps body) refl h
   where
     names : Names
     names = refused_over theories earlier
@@ -85,7 +89,7 @@ well_sorted theories earlier x ps sort body e different h = by (sort_in names ps
     )
 
     found_by : (found : Sort) (b : Bool) → is_same_sort found sort ≡ b → sort_in names ps body ≡ Ok found → cond b (Ok (definition x ps sort body)) (Err IllSorted) ≡ Ok e → (definition x ps sort body ≡ e) × IsWellSorted theories earlier e
-    found_by found true same sorted h = made (cc) (sorted ∙ ap (λ (s : Sort). Ok s) ((is_same_sort-Decides found sort).0 same))
+    found_by found true same sorted h = made (cc) (sorted ∙ ap (λ (s : Sort). Ok s) ((compared found sort).0 same))
     found_by found false same sorted h = cc
 
     by : (r : Result Sort TermFault) → sort_in names ps body ≡ r → result_and_then r (λ found. cond (is_same_sort found sort) (Ok (definition x ps sort body)) (Err IllSorted)) ≡ Ok e → (definition x ps sort body ≡ e) × IsWellSorted theories earlier e
@@ -98,8 +102,8 @@ pub record IsTaken (s : Signature) (x : List ℕ) (e : Entry) : Type 0 where
   pub named : e.name ≡ x
   pub sorted : IsWellSorted s.theories s.entries e
 
-pub IsTaken-defined : (s : Signature) (x : List ℕ) (params : List (List ℕ × Sexp)) (tree body : Sexp) (e : Entry) → defined_in s x params tree body ≡ Ok e → IsTaken s x e
-IsTaken-defined s x params tree body e h = by (is_taken (names_of s) x) refl (parameters_named (sort_names_of s) [] params) refl (sort_named (sort_names_of s) tree) h
+pub IsTaken-defined : AreCompared → (s : Signature) (x : List ℕ) (params : List (List ℕ × Sexp)) (tree body : Sexp) (e : Entry) → defined_in s x params tree body ≡ Ok e → IsTaken s x e
+IsTaken-defined compared s x params tree body e h = by (is_taken (names_of s) x) refl (parameters_named (sort_names_of s) [] params) refl (sort_named (sort_names_of s) tree) h
   where
     made : (ps : Params) (sort : Sort) → is_taken (names_of s) x ≡ false → (definition x ps sort body ≡ e) × IsWellSorted s.theories s.entries e → IsTaken s x e
     made ps sort free p = record { free = free; named = sym (ap (λ (d : Entry). d.name) p.0); sorted = p.1 }
@@ -109,4 +113,4 @@ IsTaken-defined s x params tree body e h = by (is_taken (names_of s) x) refl (pa
     by true free r bound q h = cc
     by false free (Err f) bound q h = cc
     by false free (Ok ps) bound (Err f) h = cc
-    by false free (Ok ps) bound (Ok sort) h = made ps sort free (well_sorted s.theories s.entries x ps sort body e (different (sort_names_of s) [] params ps tt bound) h)
+    by false free (Ok ps) bound (Ok sort) h = made ps sort free (well_sorted compared s.theories s.entries x ps sort body e (different (sort_names_of s) [] params ps tt bound) h)

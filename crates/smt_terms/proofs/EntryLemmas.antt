@@ -1,7 +1,9 @@
--- Entries by name and by place. Proofs of the crates above cite these too.
-use Rattle.std.proofs.Common.{◌≡◌, ℕ, zero, suc, ◌≤◌, true, false, cond, List, [], ◌∷◌, ◌++◌, take, slice_get, Bool, Option, Some, None, option_map, refl, ap, sym, ◌∙◌, arith}
+-- Entries by name and by place.
+use Rattle.std.proofs.Common.{◌≡◌, ◌≢◌, ◌↔◌, ℕ, zero, suc, true, false, cond, List, [], ◌∷◌, ◌++◌, slice_get, Bool, Option, Some, None, option_map, refl, ap, sym, ◌∙◌, append-nil}
+use Rattle.std.proofs.lemmas.List.Elements.{All-cons, All-head, All-nil, All-tail}
+use Rattle.std.specs.List.{All}
 use Rattle.std.specs.Str.{bytes_eq}
-use Rattle.smt_terms.proofs.NameLemmas.{none_step, same_flip}
+use Rattle.smt_terms.proofs.NameLemmas.{none_step, same_flip, same_name, same_self}
 use Rattle.smt_theory.specs.Words.{look_up}
 use Rattle.smt_terms.specs.Signature.{Entry, Rank, entry_named, rank_of_entry, ranks_of, AreDistinct}
 
@@ -12,30 +14,6 @@ entry_named-skip e es x h = ap (λ b. cond b (Some e) (entry_named es x)) h
 -- and one of the name is found
 pub entry_named-hit : (e : Entry) (es : List Entry) (x : List ℕ) → bytes_eq x e.name ≡ true → entry_named (e ∷ es) x ≡ Some e
 entry_named-hit e es x h = ap (λ b. cond b (Some e) (entry_named es x)) h
-
--- a name that is in no place is in none of the first
-pub entry_named-take : (es : List Entry) (x : List ℕ) (n : ℕ) → entry_named es x ≡ None → entry_named (take n es) x ≡ None
-entry_named-take [] x zero h = refl
-entry_named-take [] x (suc n) h = refl
-entry_named-take (e ∷ es) x zero h = refl
-entry_named-take (e ∷ es) x (suc n) h =
-    let p = none_step (bytes_eq x e.name) e (entry_named es x) h in
-    entry_named-skip e (take n es) x p.0 ∙ entry_named-take es x n p.1
-
--- a name that is in no place is not in this one
-pub other_at : (es : List Entry) (x : List ℕ) (p : ℕ) (e : Entry) → entry_named es x ≡ None → slice_get es p ≡ Some e → bytes_eq x e.name ≡ false
-other_at [] x p e h at = cc
-other_at (d ∷ es) x zero e h at =
-    let p = none_step (bytes_eq x d.name) d (entry_named es x) h in let s : d ≡ e = cc in ap (λ z. bytes_eq x z.name) (sym s) ∙ p.0
-other_at (d ∷ es) x (suc p) e h at = other_at es x p e (none_step (bytes_eq x d.name) d (entry_named es x) h).1 at
-
--- before its place a name does not stand
-pub none_before : (es : List Entry) (p : ℕ) (e : Entry) (n : ℕ) → AreDistinct es → slice_get es p ≡ Some e → n ≤ p → entry_named (take n es) e.name ≡ None
-none_before [] p e n d at h = cc
-none_before (c ∷ es) p e zero d at h = refl
-none_before (c ∷ es) zero e (suc n) d at h = absurd (omega arith)
-none_before (c ∷ es) (suc p) e (suc n) d at h =
-    entry_named-skip c (take n es) e.name (same_flip c.name e.name (other_at es c.name p e d.0 at)) ∙ none_before es p e n d.1 at (omega arith)
 
 -- a name that is in no place is in none where an entry of another name comes behind all
 entry_named-push : (es : List Entry) (e : Entry) (x : List ℕ) → entry_named es x ≡ None → bytes_eq x e.name ≡ false → entry_named (es ++ e ∷ []) x ≡ None
@@ -69,3 +47,49 @@ look_up-ranks (e ∷ es) x = by (bytes_eq x e.name) (look_up-ranks es x)
     by : (b : Bool) → look_up (ranks_of es) x ≡ option_map rank_of_entry (entry_named es x) → cond b (Some (rank_of_entry e)) (look_up (ranks_of es) x) ≡ option_map rank_of_entry (cond b (Some e) (entry_named es x))
     by true rest = refl
     by false rest = rest
+
+-- ## Found and not found
+
+abbrev Others : List ℕ → List Entry → Type 0
+Others x es = All (λ e. e.name ≢ x) es
+
+-- an entry of the name passes the test
+other_name : (e : Entry) (x : List ℕ) → bytes_eq x e.name ≡ false → e.name ≢ x
+other_name e x h = λ is. let t : bytes_eq x e.name ≡ true = ap (λ y. bytes_eq x y) is ∙ same_self x in cc
+
+none-others : (es : List Entry) (x : List ℕ) → entry_named es x ≡ None → Others x es
+none-others [] x h = All-nil (λ e. e.name ≢ x)
+none-others (e ∷ es) x h = let p = none_step (bytes_eq x e.name) e (entry_named es x) h in All-cons (λ e. e.name ≢ x) e es (other_name e x p.0) (none-others es x p.1)
+
+-- behind others, an entry of the name is found
+found_behind : (before after : List Entry) (x : List ℕ) → Others x before → entry_named (before ++ after) x ≡ entry_named after x
+found_behind [] after x h = refl
+found_behind (d ∷ before) after x h = by (bytes_eq x d.name) refl (found_behind before after x (All-tail (λ e. e.name ≢ x) d before h))
+  where
+    by : (b : Bool) → bytes_eq x d.name ≡ b → entry_named (before ++ after) x ≡ entry_named after x → cond b (Some d) (entry_named (before ++ after) x) ≡ entry_named after x
+    by true is rest = absurd (All-head (λ e. e.name ≢ x) d before h (sym (same_name x d.name is)))
+    by false is rest = rest
+
+pub absent_entry : (es : List Entry) (x : List ℕ) → (entry_named es x ≡ None) ↔ All (λ e. e.name ≢ x) es
+absent_entry es x = (none-others es x, λ h. ap (λ ds. entry_named ds x) (sym (append-nil es)) ∙ found_behind es [] x h)
+
+abbrev IsFirstNamed : List Entry → List ℕ → Entry → Type 0
+IsFirstNamed es x e = (before after : List Entry) × (es ≡ before ++ e ∷ after) × (e.name ≡ x) × Others x before
+
+first_named : (es : List Entry) (x : List ℕ) (e : Entry) → entry_named es x ≡ Some e → IsFirstNamed es x e
+first_named [] x e h = cc
+first_named (d ∷ es) x e h = by (bytes_eq x d.name) refl h (λ g. first_named es x e g)
+  where
+    by : (b : Bool) → bytes_eq x d.name ≡ b → cond b (Some d) (entry_named es x) ≡ Some e → (entry_named es x ≡ Some e → IsFirstNamed es x e) → IsFirstNamed (d ∷ es) x e
+    by true is g rest = let here : d ≡ e = cc in ([], es, ap (λ c. c ∷ es) here, sym (same_name x d.name is ∙ ap (λ (c : Entry). c.name) here), All-nil (λ c. c.name ≢ x))
+    by false is g rest =
+        let f = rest g in
+        (d ∷ f.0, f.1, ap (λ cs. d ∷ cs) f.2, f.3, All-cons (λ c. c.name ≢ x) d f.0 (other_name d x is) f.4)
+
+pub found_entry : (es : List Entry) (x : List ℕ) (e : Entry) → (entry_named es x ≡ Some e) ↔ ((before after : List Entry) × (es ≡ before ++ e ∷ after) × (e.name ≡ x) × All (λ d. d.name ≢ x) before)
+found_entry es x e = (first_named es x e, back)
+  where
+    back : IsFirstNamed es x e → entry_named es x ≡ Some e
+    back f =
+        ap (λ ds. entry_named ds x) f.2 ∙ found_behind f.0 (e ∷ f.1) x f.4
+        ∙ entry_named-hit e f.1 x (ap (λ y. bytes_eq x y) f.3 ∙ same_self x)

@@ -88,11 +88,11 @@ fit-labels names scope term (x ∷ xs) sort may h i =
     (record { free = f.0; new = f.1; sorted = (sort, f.2) }, fit-labels later scope term xs sort (MayBeGiven-behind (x ∷ []) names.labels may) h n.1)
 
 -- what a test lets pass
-passed : {A : Type 0} (b : Bool) (r : Result A TermFault) (e : TermFault) (y : A) → cond b r (Err e) ≡ Ok y → r ≡ Ok y
+pub passed : {A : Type 0} (b : Bool) (r : Result A TermFault) (e : TermFault) (y : A) → cond b r (Err e) ≡ Ok y → r ≡ Ok y
 passed true r e y h = h
 passed false r e y h = cc
 
-passed-else : {A : Type 0} (b : Bool) (r : Result A TermFault) (e : TermFault) (y : A) → cond b (Err e) r ≡ Ok y → r ≡ Ok y
+pub passed-else : {A : Type 0} (b : Bool) (r : Result A TermFault) (e : TermFault) (y : A) → cond b (Err e) r ≡ Ok y → r ≡ Ok y
 passed-else true r e y h = cc
 passed-else false r e y h = h
 

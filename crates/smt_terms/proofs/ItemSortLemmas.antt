@@ -6,7 +6,6 @@ use Rattle.smt_theory.specs.Ranks.{are_exactly}
 use Rattle.smt_theory.specs.Sort.{is_same_sort}
 use Rattle.smt_theory.specs.Words.{result_and_then}
 use Rattle.smt_theory.specs.declared.sort.Sort.{Sort}
-use Rattle.smt_theory.proofs.RankLemmas.{is_same_sort-Decides}
 use Rattle.smt_terms.specs.Checking.{unless}
 use Rattle.smt_terms.specs.Definitions.{definition, definition_in, parameters_named}
 use Rattle.smt_terms.specs.Items.{ItemForm, declared_named, defined_as, form_in, has_rank_of, item_form, item_in, items_before, name_fault}
@@ -15,7 +14,7 @@ use Rattle.smt_terms.specs.SortTrees.{sort_named}
 use Rattle.smt_terms.specs.WellSorted.{AreDifferent, IsWellSorted}
 use Rattle.smt_faults.specs.declared.term_fault.TermFault.{TermFault}
 use Rattle.smt_faults.specs.declared.term_fault.TermFault.TheVariants.{BoundTwice, IllSorted, NotFresh}
-use Rattle.smt_terms.proofs.DefinitionSortLemmas.{different, well_sorted}
+use Rattle.smt_terms.proofs.DefinitionSortLemmas.{AreCompared, different, well_sorted}
 
 -- whether no new thing may have the name, and it is not declared
 abbrev pub is_unfit : Signature → List ℕ → Bool
@@ -38,9 +37,10 @@ no_fault script earlier x h = by (entry_named earlier x) (is_unfit script x) h
     by (Some e) b h = cc
 
 -- what is defined as an item is one
-IsItem-definition : (script : Signature) (earlier : List Entry) (form : ItemForm) (ps : List (List ℕ × Sort)) (sort : Sort) (e : Entry) → entry_named earlier form.name ≡ None → is_unfit script form.name ≡ false → AreDifferent (map (λ p. p.0) ps)
+IsItem-definition : AreCompared → (script : Signature) (earlier : List Entry) (form : ItemForm) (ps : List (List ℕ × Sort)) (sort : Sort) (e : Entry)
+    → entry_named earlier form.name ≡ None → is_unfit script form.name ≡ false → AreDifferent (map (λ p. p.0) ps)
     → defined_as script earlier form ps sort ≡ Ok e → IsItem script earlier e
-IsItem-definition script earlier form ps sort e fresh fit different h = by (has_rank_of (declared_named script.entries form.name) (map (λ p. p.1) ps) sort) refl h
+IsItem-definition compared script earlier form ps sort e fresh fit different h = by (has_rank_of (declared_named script.entries form.name) (map (λ p. p.1) ps) sort) refl h
   where
     made : has_rank_of (declared_named script.entries form.name) (map (λ p. p.1) ps) sort ≡ true → (definition form.name ps sort form.body ≡ e) × IsWellSorted script.theories earlier e → IsItem script earlier e
     made ranked p = record {
@@ -52,11 +52,12 @@ IsItem-definition script earlier form ps sort e fresh fit different h = by (has_
 
     by : (b : Bool) → has_rank_of (declared_named script.entries form.name) (map (λ p. p.1) ps) sort ≡ b → cond (not b) (Err IllSorted) (definition_in (names_of (items_before script earlier)) form.name ps sort form.body) ≡ Ok e → IsItem script earlier e
     by false ranked h = cc
-    by true ranked h = made ranked (well_sorted script.theories earlier form.name ps sort form.body e different h)
+    by true ranked h = made ranked (well_sorted compared script.theories earlier form.name ps sort form.body e different h)
 
 -- so is what parts of the right form define
-IsItem-form : (script : Signature) (earlier : List Entry) (form : ItemForm) (e : Entry) → form_in script earlier form ≡ Ok e → IsItem script earlier e
-IsItem-form script earlier form e h = by (name_fault script earlier form.name) refl (parameters_named (sort_names_of script) [] form.parameters) refl (sort_named (sort_names_of script) form.sort) h
+IsItem-form : AreCompared → (script : Signature) (earlier : List Entry) (form : ItemForm) (e : Entry) → form_in script earlier form ≡ Ok e → IsItem script earlier e
+IsItem-form compared script earlier form e h = by (name_fault script earlier form.name) refl (parameters_named (sort_names_of script) [] form.parameters) refl
+    (sort_named (sort_names_of script) form.sort) h
   where
     by : (o : Option TermFault) → name_fault script earlier form.name ≡ o → (r : Result (List (List ℕ × Sort)) TermFault) → parameters_named (sort_names_of script) [] form.parameters ≡ r → (q : Result Sort TermFault)
         → unless o (result_and_then r (λ ps. result_and_then q (λ sort. defined_as script earlier form ps sort))) ≡ Ok e → IsItem script earlier e
@@ -65,23 +66,23 @@ IsItem-form script earlier form e h = by (name_fault script earlier form.name) r
     by None none (Ok ps) bound (Err f) h = cc
     by None none (Ok ps) bound (Ok sort) h =
         let free = no_fault script earlier form.name none in
-        IsItem-definition script earlier form ps sort e free.0 free.1 (different (sort_names_of script) [] form.parameters ps tt bound) h
+        IsItem-definition compared script earlier form ps sort e free.0 free.1 (different (sort_names_of script) [] form.parameters ps tt bound) h
 
 -- so is what an item defines
-pub IsItem-taken : (script : Signature) (earlier : List Entry) (tree : Sexp) (e : Entry) → item_in script earlier tree ≡ Ok e → IsItem script earlier e
-IsItem-taken script earlier tree e h = by (item_form tree) h
+pub IsItem-taken : AreCompared → (script : Signature) (earlier : List Entry) (tree : Sexp) (e : Entry) → item_in script earlier tree ≡ Ok e → IsItem script earlier e
+IsItem-taken compared script earlier tree e h = by (item_form tree) h
   where
     by : (r : Result ItemForm TermFault) → result_and_then r (λ form. form_in script earlier form) ≡ Ok e → IsItem script earlier e
     by (Err f) h = cc
-    by (Ok form) h = IsItem-form script earlier form e h
+    by (Ok form) h = IsItem-form compared script earlier form e h
 
 -- a rank that is tested is kept
-pub KeepsRank-tested : (o : Option Entry) (d e : Entry) → o ≡ Some d → has_rank_of o e.parameters e.sort ≡ true → KeepsRank d (Some e)
-KeepsRank-tested o d e is h = by (are_exactly d.parameters e.parameters) refl (sym (ap (λ p. has_rank_of p e.parameters e.sort) is) ∙ h)
+pub KeepsRank-tested : AreCompared → (o : Option Entry) (d e : Entry) → o ≡ Some d → has_rank_of o e.parameters e.sort ≡ true → KeepsRank d (Some e)
+KeepsRank-tested compared o d e is h = by (are_exactly d.parameters e.parameters) refl (sym (ap (λ p. has_rank_of p e.parameters e.sort) is) ∙ h)
   where
     by : (b : Bool) → are_exactly d.parameters e.parameters ≡ b → (b && is_same_sort d.sort e.sort) ≡ true → KeepsRank d (Some e)
     by false same g = cc
-    by true same g = ((slice_eq-Decides is_same_sort-Decides e.parameters d.parameters (are_exactly d.parameters e.parameters) refl).0 same, sym ((is_same_sort-Decides d.sort e.sort).0 g))
+    by true same g = ((slice_eq-Decides compared e.parameters d.parameters (are_exactly d.parameters e.parameters) refl).0 same, sym ((compared d.sort e.sort).0 g))
 
 -- a name that is fit and not declared is not taken
 pub fit_is_free : (script : Signature) (x : List ℕ) → is_unfit script x ≡ false → declared_named script.entries x ≡ None → is_taken (names_of script) x ≡ false

@@ -21,3 +21,5 @@ pub mod DefinitionLemmas
 pub mod DefinitionSortLemmas
 pub mod ItemSortLemmas
 pub mod NoMemoryLemmas
+pub mod PartLemmas
+pub mod WrittenLemmas

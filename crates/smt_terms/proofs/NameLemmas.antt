@@ -1,5 +1,5 @@
--- Names that pass the test are the same. Proofs of the crates above cite these too.
-use Rattle.std.proofs.Common.{◌≡◌, ℕ, Bool, true, false, cond, List, Option, Some, None, refl, ap, sym, ◌∙◌}
+-- Names that pass the test are the same.
+use Rattle.std.proofs.Common.{◌≡◌, ◌↔◌, ℕ, Bool, true, false, cond, List, Option, Some, None, refl, ap, sym, ◌∙◌}
 use Rattle.std.specs.Str.{bytes_eq}
 use Rattle.std.specs.Cmp.Lexicographic.{same_text}
 use Rattle.std.proofs.lemmas.Cmp.{nat_list_eq_equiv}
@@ -24,3 +24,7 @@ same_flip x y h = by (bytes_eq y x) refl
 pub none_step : {A : Type 0} (b : Bool) (a : A) (r : Option A) → cond b (Some a) r ≡ None → (b ≡ false) × (r ≡ None)
 none_step true a r h = cc
 none_step false a r h = (refl, h)
+
+-- so the test decides whether names are the same
+pub name_compared : (x y : List ℕ) → (bytes_eq x y ≡ true) ↔ (x ≡ y)
+name_compared x y = (same_name x y, λ is. ap (λ z. bytes_eq x z) (sym is) ∙ same_self x)

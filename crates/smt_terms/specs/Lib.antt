@@ -6,6 +6,8 @@ pub mod Definitions
 pub mod Assertions
 pub mod Items
 pub mod WellSorted
+pub mod Parts
+pub mod Written
 pub mod Contents
 pub mod Library
 pub mod Internal

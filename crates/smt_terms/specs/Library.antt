@@ -1,10 +1,10 @@
 -- What a library stands for: a signature, with its declarations and definitions, and terms by their numbers.
 use Rattle.std.specs.Prelude.{◌≡◌, ℕ, ◌+◌, List, [], ◌∷◌, ◌++◌, Bool, true, false, not, Option, Some, length, map, slice_get}
-use Rattle.std.specs.List.{filter}
 use Rattle.smt_trees.specs.Sexp.{Sexp}
 use Rattle.smt_terms.specs.Contents.{Contents, Declaration, contents_of}
 use Rattle.smt_terms.specs.Internal.LibraryView.{ranks_of_library}
 use Rattle.smt_terms.specs.Signature as signature
+pub use Rattle.smt_terms.specs.Signature.{declared_among, defined_among, is_declared}
 use Rattle.smt_terms.specs.Signature.{AreDistinct, Entry, Origin, Signature, ranks_of}
 use Rattle.smt_terms.specs.declared.library.Definition.{Definition}
 use Rattle.smt_terms.specs.declared.library.Found.{Found}
@@ -35,19 +35,6 @@ declaration_at place e (signature.Defined parameters body) = []
 abbrev pub declarations_from : ℕ → List Entry → List Declaration
 declarations_from place [] = []
 declarations_from place (e ∷ es) = declaration_at place e e.origin ++ declarations_from (place + 1) es
-
--- whether a command declared it
-abbrev pub is_declared : Origin → Bool
-is_declared (signature.Declared command) = true
-is_declared (signature.Defined parameters body) = false
-
--- the entries that commands declared, in order
-abbrev pub declared_among : List Entry → List Entry
-declared_among entries = filter (λ e. is_declared e.origin) entries
-
--- those that are defined, in order
-abbrev pub defined_among : List Entry → List Entry
-defined_among entries = filter (λ e. not (is_declared e.origin)) entries
 
 -- the definitions that it holds
 abbrev pub definitions_of : Library → List Definition

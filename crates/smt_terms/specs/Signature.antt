@@ -1,6 +1,7 @@
 -- SMT-LIB 2.6, sections 4.2.3 and 5.1: a signature: the theories, the abbreviations of sorts in force, and the names in force, with what
 -- they stand for, in the order in which they came.
-use Rattle.std.specs.Prelude.{◌≡◌, ℕ, List, [], ◌∷◌, ◌++◌, Bool, Option, Some, None, Result, Ok, Err, is_some, ◌||◌, map, bytes_eq, if◌then◌else◌}
+use Rattle.std.specs.List.{filter}
+use Rattle.std.specs.Prelude.{◌≡◌, ℕ, List, [], ◌∷◌, ◌++◌, Bool, Option, Some, None, Result, Ok, Err, is_some, true, false, not, ◌||◌, map, bytes_eq, if◌then◌else◌}
 use Rattle.smt_trees.specs.Sexp.{Sexp, Sexps}
 use Rattle.smt_theory.specs.Operators.{is_plain_operator}
 use Rattle.smt_theory.specs.Words.{look_up, result_and_then}
@@ -121,3 +122,18 @@ declaration x command rank = record { name = x; parameters = rank.parameters; so
 abbrev pub declared_in : Signature → ℕ → List ℕ → Sexps → Sexp → Result Entry TermFault
 declared_in s command x parameters tree =
     if is_taken (names_of s) x then Err NotFresh else result_and_then (rank_named (sort_names_of s) parameters tree) (λ rank. Ok (declaration x command rank))
+
+-- ---- what is declared, and what is defined
+
+-- whether a command declared it
+abbrev pub is_declared : Origin → Bool
+is_declared (Declared command) = true
+is_declared (Defined parameters body) = false
+
+-- the entries that commands declared, in order
+abbrev pub declared_among : List Entry → List Entry
+declared_among entries = filter (λ e. is_declared e.origin) entries
+
+-- those that are defined, in order
+abbrev pub defined_among : List Entry → List Entry
+defined_among entries = filter (λ e. not (is_declared e.origin)) entries

@@ -1,20 +1,26 @@
 //! What holds of the definitions that the contracts name. Nothing here does anything: each contract is a law.
 
-ghost use Rattle.std.specs.Prelude.{◌≡◌, ℕ, List, Some, None, false, Ok, Err};
+ghost use Rattle.std.specs.List.{All, Contains, flat_map};
+ghost use Rattle.std.specs.Prelude.{◌≡◌, ◌≢◌, ◌↔◌, ◌∷◌, ◌++◌, ℕ, List, Some, None, true, false, Ok, Err, bytes_eq, map};
 ghost use Rattle.smt_trees.specs.Sexp.{Sexp, Sexps};
 ghost use Rattle.smt_theory.specs.declared.sort.Sort.{Sort};
 ghost use Rattle.smt_terms.specs.Checking.{sort_in};
 ghost use Rattle.smt_terms.specs.Assertions.{asserted_in};
 ghost use Rattle.smt_terms.specs.Contents.{Contents, Extends, IsBelow, IsWithin, first_of};
 ghost use Rattle.smt_terms.specs.Definitions.{defined_in};
+ghost use Rattle.smt_terms.specs.Labels.{labels_in, uses_variable};
 ghost use Rattle.smt_terms.specs.Library.{IsTermOf};
+ghost use Rattle.smt_terms.specs.Parts.{IsLabelled, OccursFree, own_labels, parts_of};
 ghost use Rattle.smt_terms.specs.Items.{declared_named, item_in};
-ghost use Rattle.smt_terms.specs.Signature.{Entry, KeepsRank, Names, Signature, declared_in, entry_named, is_taken, names_of};
+ghost use Rattle.smt_terms.specs.Signature.{Entry, KeepsRank, Names, Signature, declared_in, entry_named, is_taken, names_of, sort_names_of};
 ghost use Rattle.smt_terms.specs.SortTrees.{SortNames, abbreviated_in};
 ghost use Rattle.smt_terms.specs.WellSorted.{AreIntroduced, IsWellSorted, Keeps};
+ghost use Rattle.smt_terms.specs.Written.{AreLabelsOf, IsDeclaredAs, IsDefinedAs, IsPrintedAs};
 ghost use Rattle.smt_terms.specs.declared.library.TermId.{TermId};
 ghost use Rattle.smt_terms.specs.declared.library.marks.Mark.{Mark};
 ghost use Rattle.smt_faults.specs.declared.term_fault.TermFault.TheVariants.{Memory};
+
+use smt_theory::laws::sorts_are_compared;
 
 /// No definition answers that memory was refused.
 pub fn faults_are_no_memory()
@@ -32,7 +38,9 @@ pub fn definitions_are_well_sorted()
     ensures sorted { (s : Signature) (x : List ℕ) (parameters : List (List ℕ × Sexp)) (sort body : Sexp) (e : Entry) → defined_in s x parameters sort body ≡ Ok e → IsWellSorted s.theories s.entries e }
     ensures named { (s : Signature) (x : List ℕ) (parameters : List (List ℕ × Sexp)) (sort body : Sexp) (e : Entry) → defined_in s x parameters sort body ≡ Ok e → e.name ≡ x }
     ensures free { (s : Signature) (x : List ℕ) (parameters : List (List ℕ × Sexp)) (sort body : Sexp) (e : Entry) → defined_in s x parameters sort body ≡ Ok e → is_taken (names_of s) x ≡ false }
-{}
+{
+    sorts_are_compared();
+}
 
 /// What an item of a model defines is well sorted over the earlier items (SMT-LIB 2.6, sections 4.2.6 and 5.2), and its name is new
 /// among them. Where the script declares the name, the item has the rank of that declaration; elsewhere the name is free in the script.
@@ -43,17 +51,76 @@ pub fn items_are_well_sorted()
         → declared_named script.entries e.name ≡ Some d → KeepsRank d (Some e) }
     ensures free { (script : Signature) (earlier : List Entry) (tree : Sexp) (e : Entry) → item_in script earlier tree ≡ Ok e
         → declared_named script.entries e.name ≡ None → is_taken (names_of script) e.name ≡ false }
-{}
+{
+    sorts_are_compared();
+}
 
 /// A term keeps its sort over more names, none of which hides an operator, where labels are not looked at.
 pub fn sorts_are_kept()
     ensures { (names more : Names) (scope : List (List ℕ × Sort)) (term : Sexp) (sort : Sort) → Keeps names more → sort_in names scope term ≡ Ok sort → sort_in more scope term ≡ Ok sort }
 {}
 
-/// The labels that an assertion brings (SMT-LIB 2.6, section 3.6.5) are each new behind the names in force and those before it, no
-/// operator's, and well sorted over them.
+/// What an assertion brings (SMT-LIB 2.6, section 3.6.5) is new behind the names in force and what it brought before, no operator's,
+/// and well sorted over them.
 pub fn labels_are_introduced()
     ensures { (s : Signature) (term : Sexp) (labels : List Entry) → asserted_in (names_of s) term ≡ Ok labels → AreIntroduced s.theories s.entries labels }
+{}
+
+/// A declaration brings what it says (SMT-LIB 2.6, section 4.2.3): its name, with the sorts that its trees name, as its command.
+pub fn declarations_are_as_written()
+    ensures { (s : Signature) (command : ℕ) (x : List ℕ) (parameters : Sexps) (sort : Sexp) (e : Entry)
+        → declared_in s command x parameters sort ≡ Ok e
+        → IsDeclaredAs (sort_names_of s) command x parameters sort e }
+{}
+
+/// A definition brings what it says (SMT-LIB 2.6, section 4.2.3): its name, with the sorts that its trees name, its parameters and
+/// its body.
+pub fn definitions_are_as_written()
+    ensures { (s : Signature) (x : List ℕ) (parameters : List (List ℕ × Sexp)) (sort body : Sexp) (e : Entry)
+        → defined_in s x parameters sort body ≡ Ok e
+        → IsDefinedAs (sort_names_of s) x parameters sort body e }
+{}
+
+/// An item of a model defines what is printed (SMT-LIB 2.6, section 4.2.6), each sort as the script's abbreviations have it.
+pub fn items_are_as_printed()
+    ensures { (script : Signature) (earlier : List Entry) (tree : Sexp) (e : Entry)
+        → item_in script earlier tree ≡ Ok e → IsPrintedAs (sort_names_of script) tree e }
+{}
+
+/// An assertion brings its labels, in order (SMT-LIB 2.6, section 3.6.5): each is a constant that the term which it annotates
+/// defines.
+pub fn assertions_bring_their_labels()
+    ensures { (names : Names) (term : Sexp) (es : List Entry)
+        → asserted_in names term ≡ Ok es → AreLabelsOf names (labels_in term) es }
+{}
+
+/// The labels of a term are those that its annotations give (SMT-LIB 2.6, section 3.6.5): where `(! t .. :named x ..)` stands in it,
+/// `x` labels `t`, and each label stands so. Those of the term's parts come first, one part behind another, and then its own.
+pub fn labels_are_annotations()
+    ensures standing { (term : Sexp) (label : List ℕ × Sexp)
+        → Contains (labels_in term) label ↔ IsLabelled term label }
+    ensures ordered { (term : Sexp)
+        → labels_in term ≡ flat_map (λ p. labels_in p.1) (parts_of term) ++ own_labels term }
+{}
+
+/// A term uses variables that are bound outside it exactly where the name of one occurs free in it (SMT-LIB 2.6, section 3.6.1).
+pub fn used_variables_occur_free()
+    ensures { (scope : List (List ℕ × Sort)) (term : Sexp) → (uses_variable scope term ≡ true)
+        ↔ ((x : List ℕ) × Contains (map (λ v. v.0) scope) x × OccursFree x term) }
+{}
+
+/// Names are the same exactly where the test of their bytes says so.
+pub fn names_are_compared()
+    ensures { (x y : List ℕ) → (bytes_eq x y ≡ true) ↔ (x ≡ y) }
+{}
+
+/// A name is found at its first entry: one of its name, with none before it; and none is found where no entry has the name.
+pub fn entries_are_found()
+    ensures found { (entries : List Entry) (x : List ℕ) (e : Entry) → (entry_named entries x ≡ Some e)
+        ↔ ((before after : List Entry) × (entries ≡ before ++ e ∷ after) × (e.name ≡ x)
+        × All (λ d. d.name ≢ x) before) }
+    ensures absent { (entries : List Entry) (x : List ℕ)
+        → (entry_named entries x ≡ None) ↔ All (λ e. e.name ≢ x) entries }
 {}
 
 /// What a mark counts is the same in longer contents, where it counts no more than there was.

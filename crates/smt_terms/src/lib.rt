@@ -21,3 +21,4 @@ mod variables;
 
 pub use library::{Declared, Definition, Found, Library, Mark, TermId};
 pub use smt_faults::TermFault;
+pub use smt_forms::Param;

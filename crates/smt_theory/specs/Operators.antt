@@ -105,7 +105,8 @@ IsOperatorOf theories (Bits op) = IsTrue theories.bits × AreInRange op
 
 -- the symbol with these indexes is this operator of the theories
 abbrev pub IsOperatorBy : Theories → List ℕ → List IndexView → Op → Type 0
-IsOperatorBy theories symbol indexes op = IsOperatorOf theories op × IsNameOf op symbol × (indexes ≡ indexes_of op)
+IsOperatorBy theories symbol indexes op =
+    IsOperatorOf theories op × IsNameOf op symbol × (indexes ≡ indexes_of op)
 
 -- ---- names, whatever the indexes are
 
@@ -117,7 +118,9 @@ IsOfTheories theories (Bits op) = IsTrue theories.bits
 
 -- some operator of the theories that takes no indexes, or that takes some, has this name
 abbrev pub IsPlainName : Theories → List ℕ → Type 0
-IsPlainName theories symbol = (op : Op) × IsOfTheories theories op × IsNameOf op symbol × (indexes_of op ≡ [])
+IsPlainName theories symbol =
+    (op : Op) × IsOfTheories theories op × IsNameOf op symbol × (indexes_of op ≡ [])
 
 abbrev pub IsIndexedName : Theories → List ℕ → Type 0
-IsIndexedName theories symbol = (op : Op) × IsOfTheories theories op × IsNameOf op symbol × (indexes_of op ≢ [])
+IsIndexedName theories symbol =
+    (op : Op) × IsOfTheories theories op × IsNameOf op symbol × (indexes_of op ≢ [])

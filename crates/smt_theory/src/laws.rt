@@ -29,7 +29,8 @@ pub fn operators_are_found_by_their_names()
 pub fn faults_of_operators_are_told_apart()
     ensures index { (theories : Theories) (symbol : List ℕ) (indexes : List IndexView)
         → (op_by theories symbol indexes ≡ Err Index)
-        ↔ ((indexes ≢ []) × IsIndexedName theories symbol × ((op : Op) → ¬ IsOperatorBy theories symbol indexes op)) }
+        ↔ ((indexes ≢ []) × IsIndexedName theories symbol
+        × ((op : Op) → ¬ IsOperatorBy theories symbol indexes op)) }
     ensures plain { (theories : Theories) (symbol : List ℕ)
         → (op_by theories symbol [] ≡ Err Unknown) ↔ ¬ IsPlainName theories symbol }
     ensures indexed { (theories : Theories) (symbol : List ℕ) (first : IndexView) (rest : List IndexView)

@@ -27,12 +27,14 @@ pub fn known_results_are_true()
 /// of theory Ints: every result of another sort is known, every one of arguments without an integer, and every one of theory Core.
 pub fn known_arguments_give_known_results()
     ensures other_sorts { (op : Op) (sorts : List Sort) (sort : Sort) (args : List Element)
-        → HasRank op sorts sort → AreOfSorts sorts args → sort ≢ Int → IsSome (known_step op (map Some args)) }
+        → HasRank op sorts sort → AreOfSorts sorts args → sort ≢ Int
+        → IsSome (known_step op (map Some args)) }
     ensures without_integers { (op : Op) (sorts : List Sort) (sort : Sort) (args : List Element)
         → HasRank op sorts sort → AreOfSorts sorts args → All (λ s. s ≢ Int) sorts
         → IsSome (known_step op (map Some args)) }
     ensures core { (op : CoreOp) (sorts : List Sort) (sort : Sort) (args : List Element)
-        → HasRank (Core op) sorts sort → AreOfSorts sorts args → IsSome (known_step (Core op) (map Some args)) }
+        → HasRank (Core op) sorts sort → AreOfSorts sorts args
+        → IsSome (known_step (Core op) (map Some args)) }
 {}
 
 /// An operator that has a rank gives an element of the rank's sort for arguments of the rank's sorts.
@@ -61,9 +63,11 @@ pub fn division_is_by_the_law()
 /// of the two (SMT-LIB 2.6, theory Ints).
 pub fn division_by_zero_is_free()
     ensures quotient { (z : DivisionByZero) (a r : ℤ) → (y : DivisionByZero) × (quotient y a (pos 0) ≡ r)
-        × ((b n : ℤ) → b ≢ a → quotient y b n ≡ quotient z b n) × ((b n : ℤ) → remainder y b n ≡ remainder z b n) }
+        × ((b n : ℤ) → b ≢ a → quotient y b n ≡ quotient z b n)
+        × ((b n : ℤ) → remainder y b n ≡ remainder z b n) }
     ensures remainder { (z : DivisionByZero) (a r : ℤ) → (y : DivisionByZero) × (remainder y a (pos 0) ≡ r)
-        × ((b n : ℤ) → b ≢ a → remainder y b n ≡ remainder z b n) × ((b n : ℤ) → quotient y b n ≡ quotient z b n) }
+        × ((b n : ℤ) → b ≢ a → remainder y b n ≡ remainder z b n)
+        × ((b n : ℤ) → quotient y b n ≡ quotient z b n) }
 {}
 
 /// Of two bit vectors of one width the first is less exactly where it is not at least the second, as numbers and read as signed.

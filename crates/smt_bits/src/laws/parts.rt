@@ -29,7 +29,8 @@ pub fn parts_have_their_bits()
     ensures concat_low { (n s t k : ℕ) → k < n → bit_at (meaning.concat n s t) k ≡ bit_at t k }
     ensures concat_high { (n s t k : ℕ) → t < 2 ^ n → bit_at (meaning.concat n s t) (n + k) ≡ bit_at s k }
     ensures extract { (i j s k : ℕ) → k ≤ i - j → bit_at (meaning.extract i j s) k ≡ bit_at s (j + k) }
-    ensures repeat { (i m s k : ℕ) → s < 2 ^ m → k < i * m → bit_at (meaning.repeat i m s) k ≡ bit_at s (k % m) }
+    ensures repeat { (i m s k : ℕ) → s < 2 ^ m → k < i * m
+        → bit_at (meaning.repeat i m s) k ≡ bit_at s (k % m) }
 {}
 
 /// A rotation to the left by i takes the bit of place k to place k + i, and one to the right that of place k + i to place k, around the
@@ -47,7 +48,8 @@ pub fn extensions_keep_bits()
         → bit_at w.number k ≡ bit_at v.number k }
     ensures zeros { (i k : ℕ) (v w : BitVector) → IsVector v → zero_extension i v ≡ Some w
         → v.width ≤ k → bit_at w.number k ≡ 0 }
-    ensures sign_extend { (i m s k : ℕ) → s < 2 ^ m → k < m → bit_at (meaning.sign_extend i m s) k ≡ bit_at s k }
+    ensures sign_extend { (i m s k : ℕ) → s < 2 ^ m → k < m
+        → bit_at (meaning.sign_extend i m s) k ≡ bit_at s k }
     ensures signs { (i m s k : ℕ) → s < 2 ^ m → m ≤ k → k < m + i
         → bit_at (meaning.sign_extend i m s) k ≡ bit_at s (m - 1) }
 {}

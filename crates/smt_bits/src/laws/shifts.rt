@@ -20,7 +20,8 @@ pub fn shifts_right_move_bits()
 /// zeros or all ones where t is the width or more.
 pub fn arithmetic_shifts_keep_the_sign()
     ensures moved { (m s t k : ℕ) → s < 2 ^ m → t + k < m → bit_at (bvashr m s t) k ≡ bit_at s (t + k) }
-    ensures signs { (m s t k : ℕ) → s < 2 ^ m → k < m → m ≤ t + k → bit_at (bvashr m s t) k ≡ bit_at s (m - 1) }
+    ensures signs { (m s t k : ℕ) → s < 2 ^ m → k < m → m ≤ t + k
+        → bit_at (bvashr m s t) k ≡ bit_at s (m - 1) }
     ensures all_zeros { (m s t : ℕ) → s < 2 ^ m → m ≤ t → bit_at s (m - 1) ≡ 0 → bvashr m s t ≡ 0 }
     ensures all_ones { (m s t : ℕ) → s < 2 ^ m → m ≤ t → bit_at s (m - 1) ≡ 1 → bvashr m s t ≡ 2 ^ m - 1 }
 {}

@@ -1,4 +1,4 @@
-use Rattle.smt_terms.proofs.EntryLemmas.{entry_named-take}
+use Rattle.smt_eval.proofs.EntryLemmas.{entry_named-take}
 use Rattle.smt_eval.proofs.PlaceLemmas.{distinct_entries, not_before}
 use Rattle.smt_eval.proofs.definitions.place_of.Goals as goal
 
