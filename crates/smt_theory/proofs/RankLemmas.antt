@@ -1,4 +1,4 @@
--- Tests of sorts, and the computed ranks of Core and Ints beside the table. Proofs of crates above cite these too.
+-- Tests of sorts, and the computed ranks of Core and Ints beside the table.
 use Rattle.std.proofs.Common.{◌≡◌, ◌↔◌, ◌⊎◌, inl, inr, ℕ, ◌<◌, ◌≤◌, Bool, true, false, cond, ◌&&◌, ◌||◌, List, [], ◌∷◌, Some, None, length, get_or, nat_lt, nat_le, refl, sym, ap, subst, arith, rules}
 use Rattle.std.specs.Prelude.{All}
 use Rattle.std.specs.Bool.{Decides, then_some}
