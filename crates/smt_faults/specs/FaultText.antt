@@ -1,9 +1,16 @@
--- The names of the faults of terms and of commands in a report, which are this project's own.
+-- The names of the faults of texts, terms and commands in a report, which are this project's own.
 use Rattle.std.specs.Prelude.{ℕ, List, ◌++◌, codes}
 use Rattle.smt_faults.specs.declared.command_fault.CommandFault.{CommandFault}
 use Rattle.smt_faults.specs.declared.command_fault.CommandFault.TheVariants as commands
 use Rattle.smt_faults.specs.declared.term_fault.TermFault.{TermFault}
 use Rattle.smt_faults.specs.declared.term_fault.TermFault.TheVariants as terms
+use Rattle.smt_faults.specs.declared.text_flaw.TextFlaw.{TextFlaw}
+use Rattle.smt_faults.specs.declared.text_flaw.TextFlaw.TheVariants as flaws
+
+abbrev pub text_of_flaw : TextFlaw → List ℕ
+text_of_flaw (flaws.Byte place) = codes "X1"
+text_of_flaw (flaws.Deep place) = codes "X2"
+text_of_flaw (flaws.End place) = codes "X3"
 
 abbrev pub text_of_term_fault : TermFault → List ℕ
 text_of_term_fault terms.Form = codes "F1"

@@ -1,14 +1,20 @@
-//! What can be wrong with a term, a sort or a definition, and what with a command. This crate knows no terms and no commands: the
-//! crates that check them answer these faults, and a report writes them by their names, which are this project's own.
+//! What can be wrong with a text, a term or a command. This crate knows none of these: the crates that read
+//! them answer these faults, and a report writes them by their names, which are this project's own.
 //!
 //! A fault of a term is one of the command in which it stands: `CommandFault::from(TermFault::Unknown)` is
 //! `CommandFault::Term { fault: TermFault::Unknown }`, and is written `C7 F3`.
 #![tactic(auto)]
 
 mod command_fault;
+mod failure;
+mod memory;
 mod term_fault;
 mod text_fault;
+mod text_flaw;
 
 pub use command_fault::CommandFault;
+pub use failure::Failure;
+pub use memory::Memory;
 pub use term_fault::TermFault;
 pub use text_fault::TextFault;
+pub use text_flaw::TextFlaw;

@@ -12,7 +12,8 @@ pub enum TermFault {
     Unsupported,
     /// A symbol is unknown (`F3`).
     Unknown,
-    /// A symbol is applied to arguments that it doesn't take, or a term has another sort than it should (`F4`).
+    /// A symbol is applied to arguments that it doesn't take, or a term has another sort than it should
+    /// (`F4`).
     IllSorted,
     /// An index or a width is out of range (`F5`).
     Index,

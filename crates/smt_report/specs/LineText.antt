@@ -6,7 +6,10 @@ use Rattle.smt_report.specs.declared.claim.Claim.TheVariants.{Assertion}
 use Rattle.smt_report.specs.declared.line.CheckAnswer.{CheckAnswer}
 use Rattle.smt_report.specs.declared.line.CheckAnswer.TheVariants.{Unsat, Unknown, Unsupported, Error}
 use Rattle.smt_report.specs.declared.line.Line.{Line}
-use Rattle.smt_report.specs.declared.line.Line.TheVariants.{Unchecked, Confirmed, NoModel, ItemFault, Lacks, Refuted, NotDecided, TextFault, CommandFault, MissingAnswer, UnexpectedAnswer, ExtraAnswer, Verdict as VerdictLine}
+use Rattle.smt_report.specs.declared.line.Line.TheVariants.{Unchecked, Confirmed, NoModel, ItemFault, Lacks}
+use Rattle.smt_report.specs.declared.line.Line.TheVariants.{Refuted, NotDecided, TextFault, CommandFault}
+use Rattle.smt_report.specs.declared.line.Line.TheVariants.{MissingAnswer, UnexpectedAnswer, ExtraAnswer}
+use Rattle.smt_report.specs.declared.line.Line.TheVariants.{Verdict as VerdictLine}
 use Rattle.smt_report.specs.declared.line.Side.{Side}
 use Rattle.smt_report.specs.declared.line.Side.TheVariants.{Script, Answers}
 use Rattle.smt_report.specs.declared.verdict.Tally.{Tally}
@@ -43,7 +46,8 @@ text_of_verdict verdicts.Refused = codes "refused"
 
 abbrev pub text_of_tally : Tally → List ℕ
 text_of_tally t =
-    codes "confirmed " ++ decimal t.confirmed ++ codes ", refuted " ++ decimal t.refuted ++ codes ", undecided " ++ decimal t.undecided ++ codes ", unchecked " ++ decimal t.unchecked
+    codes "confirmed " ++ decimal t.confirmed ++ codes ", refuted " ++ decimal t.refuted
+    ++ codes ", undecided " ++ decimal t.undecided ++ codes ", unchecked " ++ decimal t.unchecked
 
 -- a line on a check, which goes on with the rest
 abbrev pub check_line : ℕ → ℕ → List ℕ → List ℕ
@@ -52,7 +56,8 @@ check_line check command rest =
 
 -- a line on the model printed for a command, which goes on with the rest
 abbrev pub model_line : ℕ → ℕ → ℕ → List ℕ → List ℕ
-model_line check command model rest = check_line check command (codes ": sat, model of command " ++ (decimal model ++ rest))
+model_line check command model rest =
+    check_line check command (codes ": sat, model of command " ++ (decimal model ++ rest))
 
 -- the text of a line
 abbrev pub text_of : Line → List ℕ
@@ -60,16 +65,22 @@ text_of (Unchecked check command answer) = check_line check command (codes ": " 
 text_of (Confirmed check command) = check_line check command (codes ": sat, confirmed")
 text_of (NoModel check command) = check_line check command (codes ": sat, no model")
 text_of (ItemFault check command model item fault) =
-    model_line check command model (codes ": item " ++ (decimal item ++ (codes " " ++ text_of_term_fault fault)))
+    model_line check command model
+    (codes ": item " ++ (decimal item ++ (codes " " ++ text_of_term_fault fault)))
 text_of (Lacks check command model declaration) =
     model_line check command model (codes ": lacks the symbol of command " ++ decimal declaration)
-text_of (Refuted check command model claim) = model_line check command model (codes ": refuted by the " ++ text_of_claim claim)
-text_of (NotDecided check command model claim) = model_line check command model (codes ": " ++ (text_of_claim claim ++ codes " not decided"))
+text_of (Refuted check command model claim) =
+    model_line check command model (codes ": refuted by the " ++ text_of_claim claim)
+text_of (NotDecided check command model claim) =
+    model_line check command model (codes ": " ++ (text_of_claim claim ++ codes " not decided"))
 text_of (TextFault side kind place) =
-    codes "fault " ++ text_of_kind kind ++ codes " in the " ++ text_of_side side ++ codes " at byte " ++ decimal place
+    codes "fault " ++ text_of_kind kind ++ codes " in the " ++ text_of_side side ++ codes " at byte "
+    ++ decimal place
 text_of (CommandFault command fault) =
     codes "fault " ++ text_of_command_fault fault ++ codes " at command " ++ decimal command
 text_of (MissingAnswer command) = codes "fault P1 at command " ++ decimal command
-text_of (UnexpectedAnswer command answer) = codes "fault P2 at command " ++ decimal command ++ codes ", answer " ++ decimal answer
+text_of (UnexpectedAnswer command answer) =
+    codes "fault P2 at command " ++ decimal command ++ codes ", answer " ++ decimal answer
 text_of (ExtraAnswer answer) = codes "fault P3 at answer " ++ decimal answer
-text_of (VerdictLine verdict tally) = codes "verdict: " ++ text_of_verdict verdict ++ codes ", " ++ text_of_tally tally
+text_of (VerdictLine verdict tally) =
+    codes "verdict: " ++ text_of_verdict verdict ++ codes ", " ++ text_of_tally tally

@@ -37,12 +37,20 @@ is_fault_line _ = false
 -- how many lines there are of each kind
 abbrev pub tally_of : List Line → Tally
 tally_of ls =
-    record { confirmed = count_by is_confirmed_line ls; refuted = count_by is_refuted_line ls; undecided = count_by is_undecided_line ls; unchecked = count_by is_unchecked_line ls }
+    record {
+      confirmed = count_by is_confirmed_line ls;
+      refuted = count_by is_refuted_line ls;
+      undecided = count_by is_undecided_line ls;
+      unchecked = count_by is_unchecked_line ls;
+    }
 
--- what lines come to: refused at a fault, else invalid at a refuted model, else not decided at an undecided `sat`
+-- what lines come to: refused at a fault, else invalid at a refuted model, else not decided at an undecided
+-- `sat`
 abbrev pub verdict_of : List Line → Verdict
 verdict_of ls =
-    if list_any is_fault_line ls then verdicts.Refused else if list_any is_refuted_line ls then verdicts.Invalid else if list_any is_undecided_line ls then verdicts.NotDecided else verdicts.Valid
+    if list_any is_fault_line ls then verdicts.Refused
+    else if list_any is_refuted_line ls then verdicts.Invalid
+    else if list_any is_undecided_line ls then verdicts.NotDecided else verdicts.Valid
 
 -- the lines, and then that of the verdict
 abbrev pub with_verdict : List Line → List Line
@@ -50,4 +58,5 @@ with_verdict ls = ls ++ lines.Verdict (verdict_of ls) (tally_of ls) ∷ []
 
 -- the last line is that of the verdict
 abbrev pub IsVerdictOf : Verdict → List Line → Type 0
-IsVerdictOf verdict ls = (prefix : List Line) × (tally : Tally) × (ls ≡ prefix ++ lines.Verdict verdict tally ∷ [])
+IsVerdictOf verdict ls =
+    (prefix : List Line) × (tally : Tally) × (ls ≡ prefix ++ lines.Verdict verdict tally ∷ [])

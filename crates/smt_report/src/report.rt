@@ -65,7 +65,8 @@ fn unchecked_in(lines: &[Line]) -> u64
     lines.iter().filter(|line| line.is_unchecked()).count() as u64
 }
 
-// Refused at a fault, else invalid at a refuted model, else not decided at a `sat` that isn't confirmed, else valid.
+// Refused at a fault, else invalid at a refuted model, else not decided at a `sat` that isn't confirmed, else
+// valid.
 fn verdict_of(lines: &[Line]) -> Verdict
     ensures { result ≡ verdicts.verdict_of lines.now }
 {

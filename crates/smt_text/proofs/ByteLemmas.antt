@@ -1,12 +1,18 @@
 -- Bytes, and what they do to tokens.
-use Rattle.std.proofs.Common.{◌≡◌, ◌⊎◌, ◌==◌, ◌||◌, ℕ, Bool, true, false, not, refl, sym, ap, ◌∙◌, inl, inr, arith, subst}
+use Rattle.std.proofs.Common.{◌≡◌, ◌⊎◌, ◌==◌, ◌||◌, ℕ, Bool, true, false, not, refl, sym, ap, ◌∙◌, inl, inr}
+use Rattle.std.proofs.Common.{arith, subst}
 use Rattle.std.proofs.lemmas.Bool.{eqb-true}
 use Rattle.std.proofs.lemmas.Bool.Decides.{nat_tests}
 use Rattle.std.specs.Prelude.{if◌then◌else◌}
-use Rattle.smt_text.specs.Lexical.{quote, bar, point, is_white, is_line_end, is_digit, is_nonzero_digit, is_hexadecimal_digit, is_binary_digit, is_letter, is_symbol_byte, is_text_byte, is_quoted_byte, is_comment_byte, ends_token}
+use Rattle.smt_text.specs.Lexical.{quote, bar, point, is_white, is_line_end, is_digit, is_nonzero_digit}
+use Rattle.smt_text.specs.Lexical.{is_hexadecimal_digit, is_binary_digit, is_letter, is_symbol_byte}
+use Rattle.smt_text.specs.Lexical.{is_text_byte, is_quoted_byte, is_comment_byte, ends_token}
 use Rattle.smt_text.specs.Internal.Machine.{separated, lex}
 use Rattle.smt_text.specs.declared.lexer.AtomState.{AtomState}
-use Rattle.smt_text.specs.declared.lexer.AtomState.TheVariants.{Nothing, Zero, Digits, Point, Fraction, Hash, HexMark, HexDigits, BinMark, BinDigits, Name, Colon, KeywordName, InText, TextQuote, InBars, AfterBar, InComment}
+use Rattle.smt_text.specs.declared.lexer.AtomState.TheVariants.{Nothing, Zero, Digits, Point, Fraction, Hash}
+use Rattle.smt_text.specs.declared.lexer.AtomState.TheVariants.{HexMark, HexDigits, BinMark, BinDigits, Name}
+use Rattle.smt_text.specs.declared.lexer.AtomState.TheVariants.{Colon, KeywordName, InText, TextQuote, InBars}
+use Rattle.smt_text.specs.declared.lexer.AtomState.TheVariants.{AfterBar, InComment}
 use Rattle.smt_text.specs.declared.lexer.LexerStep.TheVariants.{Push, Skip, Finish, Stuck}
 
 pub white_values : (b : ℕ) → is_white b ≡ true → (b ≡ 9) ⊎ ((b ≡ 10) ⊎ ((b ≡ 13) ⊎ (b ≡ 32)))
@@ -31,7 +37,8 @@ by_white P b h p9 p10 p13 p32 = by (white_values b h)
     by (inr (inr (inl e))) = subst P (sym e) p13
     by (inr (inr (inr e))) = subst P (sym e) p32
 
-by_ender : (P : ℕ → Type 0) (b : ℕ) → ends_token b ≡ true → P 9 → P 10 → P 13 → P 32 → P 59 → P 40 → P 41 → P b
+by_ender : (P : ℕ → Type 0) (b : ℕ) → ends_token b ≡ true → P 9 → P 10 → P 13 → P 32 → P 59 → P 40 → P 41
+    → P b
 by_ender P b h p9 p10 p13 p32 p59 p40 p41 = by (ender_values b h)
   where
     by : (is_white b ≡ true) ⊎ ((b ≡ 59) ⊎ ((b ≡ 40) ⊎ (b ≡ 41))) → P b
@@ -64,16 +71,21 @@ MayBeEnded InText = ⊥
 MayBeEnded InBars = ⊥
 MayBeEnded InComment = ⊥
 
-pub lex_ended : (token : AtomState) (b : ℕ) → MayBeEnded token → ends_token b ≡ true → lex token b ≡ separated b
+pub lex_ended : (token : AtomState) (b : ℕ) → MayBeEnded token → ends_token b ≡ true
+    → lex token b ≡ separated b
 lex_ended Nothing b m h = by_ender (λ x. lex Nothing x ≡ separated x) b h refl refl refl refl refl refl refl
 lex_ended Zero b m h = by_ender (λ x. lex Zero x ≡ separated x) b h refl refl refl refl refl refl refl
 lex_ended Digits b m h = by_ender (λ x. lex Digits x ≡ separated x) b h refl refl refl refl refl refl refl
 lex_ended Fraction b m h = by_ender (λ x. lex Fraction x ≡ separated x) b h refl refl refl refl refl refl refl
-lex_ended HexDigits b m h = by_ender (λ x. lex HexDigits x ≡ separated x) b h refl refl refl refl refl refl refl
-lex_ended BinDigits b m h = by_ender (λ x. lex BinDigits x ≡ separated x) b h refl refl refl refl refl refl refl
+lex_ended HexDigits b m h =
+    by_ender (λ x. lex HexDigits x ≡ separated x) b h refl refl refl refl refl refl refl
+lex_ended BinDigits b m h =
+    by_ender (λ x. lex BinDigits x ≡ separated x) b h refl refl refl refl refl refl refl
 lex_ended Name b m h = by_ender (λ x. lex Name x ≡ separated x) b h refl refl refl refl refl refl refl
-lex_ended KeywordName b m h = by_ender (λ x. lex KeywordName x ≡ separated x) b h refl refl refl refl refl refl refl
-lex_ended TextQuote b m h = by_ender (λ x. lex TextQuote x ≡ separated x) b h refl refl refl refl refl refl refl
+lex_ended KeywordName b m h =
+    by_ender (λ x. lex KeywordName x ≡ separated x) b h refl refl refl refl refl refl refl
+lex_ended TextQuote b m h =
+    by_ender (λ x. lex TextQuote x ≡ separated x) b h refl refl refl refl refl refl refl
 lex_ended AfterBar b m h = refl
 lex_ended Point b m h = absurd m
 lex_ended Hash b m h = absurd m
@@ -119,7 +131,8 @@ pub push_quoted : (b : ℕ) → is_quoted_byte b ≡ true → lex InBars b ≡ P
 push_quoted b h = ap (λ t. if t then Push InBars else if b == bar then Finish AfterBar else Stuck) h
 
 pub push_text : (b : ℕ) → (b == quote) ≡ false → is_text_byte b ≡ true → lex InText b ≡ Push InText
-push_text b e h = ap (λ t. if t then Skip TextQuote else if is_text_byte b then Push InText else Stuck) e ∙ ap (λ t. if t then Push InText else Stuck) h
+push_text b e h = ap (λ t. if t then Skip TextQuote else if is_text_byte b then Push InText else Stuck) e ∙ ap
+    (λ t. if t then Push InText else Stuck) h
 
 pub skip_comment : (b : ℕ) → is_comment_byte b ≡ true → lex InComment b ≡ Skip InComment
 skip_comment b h = ap (λ t. if t then Skip InComment else Finish Nothing) h
@@ -138,10 +151,12 @@ pub letter_goes_on : (b : ℕ) → is_letter b ≡ true → is_symbol_byte b ≡
 letter_goes_on b h = ap (λ t. t || is_digit b) h
 
 pub letter_no_ender : (b : ℕ) → is_letter b ≡ true → ends_token b ≡ true → ⊥
-letter_no_ender b h e = by_ender (λ x. is_letter x ≡ true → ⊥) b e (λ f. cc) (λ f. cc) (λ f. cc) (λ f. cc) (λ f. cc) (λ f. cc) (λ f. cc) h
+letter_no_ender b h e = by_ender (λ x. is_letter x ≡ true → ⊥) b e (λ f. cc) (λ f. cc) (λ f. cc) (λ f. cc)
+    (λ f. cc) (λ f. cc) (λ f. cc) h
 
 pub digit_no_ender : (b : ℕ) → is_nonzero_digit b ≡ true → ends_token b ≡ true → ⊥
-digit_no_ender b h e = by_ender (λ x. is_nonzero_digit x ≡ true → ⊥) b e (λ f. cc) (λ f. cc) (λ f. cc) (λ f. cc) (λ f. cc) (λ f. cc) (λ f. cc) h
+digit_no_ender b h e = by_ender (λ x. is_nonzero_digit x ≡ true → ⊥) b e (λ f. cc) (λ f. cc) (λ f. cc)
+    (λ f. cc) (λ f. cc) (λ f. cc) (λ f. cc) h
 
 no_ender_sticks : (b : ℕ) → ends_token b ≡ false → separated b ≡ Stuck
 no_ender_sticks b h = grind (arith, nat_tests)
@@ -162,30 +177,36 @@ view_separated token b m e = by (ends_token b) refl
     by true h = Separates m h e
     by false h = Refused (e ∙ no_ender_sticks b h)
 
-view_one : (token next : AtomState) (b : ℕ) (t : Bool) → MayBeEnded token → lex token b ≡ (if t then Push next else separated b) → View token b
+view_one : (token next : AtomState) (b : ℕ) (t : Bool) → MayBeEnded token
+    → lex token b ≡ (if t then Push next else separated b) → View token b
 view_one token next b true m e = Kept next e
 view_one token next b false m e = view_separated token b m e
 
-view_needed : (token next : AtomState) (b : ℕ) (t : Bool) → lex token b ≡ (if t then Push next else Stuck) → View token b
+view_needed : (token next : AtomState) (b : ℕ) (t : Bool) → lex token b ≡ (if t then Push next else Stuck)
+    → View token b
 view_needed token next b true e = Kept next e
 view_needed token next b false e = Refused e
 
-view_digits : (b : ℕ) (s t : Bool) → lex Digits b ≡ (if s then Push Digits else if t then Push Point else separated b) → View Digits b
+view_digits : (b : ℕ) (s t : Bool)
+    → lex Digits b ≡ (if s then Push Digits else if t then Push Point else separated b) → View Digits b
 view_digits b true t e = Kept Digits e
 view_digits b false true e = Kept Point e
 view_digits b false false e = view_separated Digits b tt e
 
-view_hash : (b : ℕ) (s t : Bool) → lex Hash b ≡ (if s then Skip HexMark else if t then Skip BinMark else Stuck) → View Hash b
+view_hash : (b : ℕ) (s t : Bool)
+    → lex Hash b ≡ (if s then Skip HexMark else if t then Skip BinMark else Stuck) → View Hash b
 view_hash b true t e = Skipped HexMark e
 view_hash b false true e = Skipped BinMark e
 view_hash b false false e = Refused e
 
-view_text : (b : ℕ) (s t : Bool) → lex InText b ≡ (if s then Skip TextQuote else if t then Push InText else Stuck) → View InText b
+view_text : (b : ℕ) (s t : Bool)
+    → lex InText b ≡ (if s then Skip TextQuote else if t then Push InText else Stuck) → View InText b
 view_text b true t e = Skipped TextQuote e
 view_text b false true e = Kept InText e
 view_text b false false e = Refused e
 
-view_bars : (b : ℕ) (s t : Bool) → (b == bar) ≡ t → lex InBars b ≡ (if s then Push InBars else if t then Finish AfterBar else Stuck) → View InBars b
+view_bars : (b : ℕ) (s t : Bool) → (b == bar) ≡ t
+    → lex InBars b ≡ (if s then Push InBars else if t then Finish AfterBar else Stuck) → View InBars b
 view_bars b true t k e = Kept InBars e
 view_bars b false true k e = BarEnds refl (eqb-true b bar k) e
 view_bars b false false k e = Refused e
@@ -194,7 +215,8 @@ line_end : (s : Bool) → not s ≡ false → s ≡ true
 line_end true e = refl
 line_end false e = absurd (cc)
 
-view_comment : (b : ℕ) (t : Bool) → is_comment_byte b ≡ t → lex InComment b ≡ (if t then Skip InComment else Finish Nothing) → View InComment b
+view_comment : (b : ℕ) (t : Bool) → is_comment_byte b ≡ t
+    → lex InComment b ≡ (if t then Skip InComment else Finish Nothing) → View InComment b
 view_comment b true k e = Skipped InComment e
 view_comment b false k e = LineEnds refl (line_end (is_line_end b) k) e
 
@@ -209,7 +231,11 @@ pub data FirstByte (b : ℕ) : Type 0 where
   LetterFirst : is_letter b ≡ true → lex Nothing b ≡ Push Name → FirstByte b
   NoneFirst : lex Nothing b ≡ separated b → FirstByte b
 
-first_by : (b : ℕ) (t₁ t₂ t₃ t₄ t₅ t₆ t₇ : Bool) → (b == 48) ≡ t₁ → is_nonzero_digit b ≡ t₂ → (b == quote) ≡ t₃ → (b == bar) ≡ t₄ → (b == 35) ≡ t₅ → (b == 58) ≡ t₆ → is_letter b ≡ t₇ → lex Nothing b ≡ (if t₁ then Push Zero else if t₂ then Push Digits else if t₃ then Skip InText else if t₄ then Skip InBars else if t₅ then Skip Hash else if t₆ then Skip Colon else if t₇ then Push Name else separated b) → FirstByte b
+first_by : (b : ℕ) (t₁ t₂ t₃ t₄ t₅ t₆ t₇ : Bool) → (b == 48) ≡ t₁ → is_nonzero_digit b ≡ t₂
+    → (b == quote) ≡ t₃ → (b == bar) ≡ t₄ → (b == 35) ≡ t₅ → (b == 58) ≡ t₆ → is_letter b ≡ t₇
+    → lex Nothing b ≡ (if t₁ then Push Zero else if t₂ then Push Digits else if t₃ then Skip InText
+    else if t₄ then Skip InBars else if t₅ then Skip Hash else if t₆ then Skip Colon else if t₇ then Push Name
+    else separated b) → FirstByte b
 first_by b true t₂ t₃ t₄ t₅ t₆ t₇ k₁ k₂ k₃ k₄ k₅ k₆ k₇ e = ZeroFirst (eqb-true b 48 k₁) e
 first_by b false true t₃ t₄ t₅ t₆ t₇ k₁ k₂ k₃ k₄ k₅ k₆ k₇ e = DigitFirst k₂ e
 first_by b false false true t₄ t₅ t₆ t₇ k₁ k₂ k₃ k₄ k₅ k₆ k₇ e = QuoteFirst (eqb-true b quote k₃) e
@@ -220,7 +246,8 @@ first_by b false false false false false false true k₁ k₂ k₃ k₄ k₅ k�
 first_by b false false false false false false false k₁ k₂ k₃ k₄ k₅ k₆ k₇ e = NoneFirst e
 
 pub first_byte : (b : ℕ) → FirstByte b
-first_byte b = first_by b (b == 48) (is_nonzero_digit b) (b == quote) (b == bar) (b == 35) (b == 58) (is_letter b) refl refl refl refl refl refl refl refl
+first_byte b = first_by b (b == 48) (is_nonzero_digit b) (b == quote) (b == bar) (b == 35) (b == 58)
+    (is_letter b) refl refl refl refl refl refl refl refl
 
 view_first : (b : ℕ) → FirstByte b → View Nothing b
 view_first b (ZeroFirst k e) = Kept Zero e

@@ -1,5 +1,7 @@
 -- How a reader's value goes on with the text.
-use Rattle.std.proofs.Common.{◌≡◌, ◌≢◌, ◌⊎◌, ◌<◌, ◌+◌, ℕ, List, [], ◌∷◌, ◌++◌, length, drop, take, get_or, Option, Some, None, Result, Ok, Err, is_some, Bool, true, false, cond, ltb, refl, sym, ap, ◌∙◌, inl, inr, arith, subst}
+use Rattle.std.proofs.Common.{◌≡◌, ◌≢◌, ◌⊎◌, ◌<◌, ◌+◌, ℕ, List, [], ◌∷◌, ◌++◌, length, drop, take, get_or}
+use Rattle.std.proofs.Common.{Option, Some, None, Result, Ok, Err, is_some, Bool, true, false, cond, ltb}
+use Rattle.std.proofs.Common.{refl, sym, ap, ◌∙◌, inl, inr, arith, subst}
 use Rattle.std.specs.Result.{result_err}
 use Rattle.std.proofs.lemmas.List.{append_assoc, length-append, length-take-le, take-append-drop, drop_more}
 use Rattle.smt_text.proofs.SexpLemmas.{append_nil, append_assoc as sexps_assoc}
@@ -8,9 +10,12 @@ use Rattle.smt_text.proofs.BuilderLemmas.{depth_of-flush}
 use Rattle.smt_text.proofs.ReaderCompleteness.{run-append}
 use Rattle.smt_text.specs.Grammar.{OpenParenthesis, CloseParenthesis}
 use Rattle.smt_text.specs.Reader.{is_finished, bytes_fed, fault_of, trees_ready, Keeps, StandsFor, Answers}
-use Rattle.smt_text.specs.Internal.Machine.{Levels, On, State, At, start, add, atom_of, add_if, flush, act, settle, lex, move, may_end, token_in, step, go_on, run, depth_of, depth_in, top_of, complete_of, IsStuck, Leaves, blame}
+use Rattle.smt_text.specs.Internal.Machine.{Levels, On, State, At, start, add, atom_of, add_if, flush, act}
+use Rattle.smt_text.specs.Internal.Machine.{settle, lex, move, may_end, token_in, step, go_on, run, depth_of}
+use Rattle.smt_text.specs.Internal.Machine.{depth_in, top_of, complete_of, IsStuck, Leaves, blame}
 use Rattle.smt_text.specs.Reading.{Reads}
-use Rattle.smt_text.specs.Internal.ReaderState.{GoesOnFrom, lists_of, state_of, under, after_taken, GoesThrough, Ends}
+use Rattle.smt_text.specs.Internal.ReaderState.{GoesOnFrom, lists_of, state_of, under, after_taken}
+use Rattle.smt_text.specs.Internal.ReaderState.{GoesThrough, Ends}
 use Rattle.smt_trees.specs.Sexp.{Sexp, Sexps, Items, Nil, Cons, append}
 use Rattle.smt_trees.specs.Tree.{sexp_of, sexps_of}
 use Rattle.smt_faults.specs.declared.text_fault.TextFault.{TextFault}
@@ -36,111 +41,159 @@ abbrev after_if : Sexps → Option State → Option State
 after_if taken None = None
 after_if taken (Some s) = Some (after_taken taken s)
 
-add_under : (taken : Sexps) (x : Sexp) (levels : Levels) → add x (under taken levels) ≡ under taken (add x levels)
+add_under : (taken : Sexps) (x : Sexp) (levels : Levels)
+    → add x (under taken levels) ≡ under taken (add x levels)
 add_under taken x (On [] top) = ap (λ z. On [] z) (sexps_assoc taken top (Cons x Nil))
 add_under taken x (On (parts ∷ lists) top) = refl
 
-add_if_under : (taken : Sexps) (o : Option Sexp) (levels : Levels) → add_if o (under taken levels) ≡ under taken (add_if o levels)
+add_if_under : (taken : Sexps) (o : Option Sexp) (levels : Levels)
+    → add_if o (under taken levels) ≡ under taken (add_if o levels)
 add_if_under taken None levels = refl
 add_if_under taken (Some x) levels = add_under taken x levels
 
 pub flush_after : (taken : Sexps) (s : State) → flush (after_taken taken s) ≡ under taken (flush s)
 flush_after taken (At token bytes levels) = add_if_under taken (atom_of token bytes) levels
 
-open_under : (limit : ℕ) (taken : Sexps) (levels : Levels) → settle (act limit OpenParenthesis (under taken levels)) ≡ after_if taken (settle (act limit OpenParenthesis levels))
+open_under : (limit : ℕ) (taken : Sexps) (levels : Levels)
+    → settle (act limit OpenParenthesis (under taken levels))
+    ≡ after_if taken (settle (act limit OpenParenthesis levels))
 open_under limit taken (On lists top) = by (ltb (length lists) limit)
   where
-    by : (t : Bool) → settle (cond t (Some (On (Nil ∷ lists) (append taken top))) None) ≡ after_if taken (settle (cond t (Some (On (Nil ∷ lists) top)) None))
+    by : (t : Bool) → settle (cond t (Some (On (Nil ∷ lists) (append taken top))) None)
+        ≡ after_if taken (settle (cond t (Some (On (Nil ∷ lists) top)) None))
     by true = refl
     by false = refl
 
-close_under : (limit : ℕ) (taken : Sexps) (levels : Levels) → settle (act limit CloseParenthesis (under taken levels)) ≡ after_if taken (settle (act limit CloseParenthesis levels))
+close_under : (limit : ℕ) (taken : Sexps) (levels : Levels)
+    → settle (act limit CloseParenthesis (under taken levels))
+    ≡ after_if taken (settle (act limit CloseParenthesis levels))
 close_under limit taken (On [] top) = refl
-close_under limit taken (On (parts ∷ lists) top) = ap (λ x. Some (At Nothing [] x)) (add_under taken (Items parts) (On lists top))
+close_under limit taken (On (parts ∷ lists) top) =
+    ap (λ x. Some (At Nothing [] x)) (add_under taken (Items parts) (On lists top))
 
-move_after : (limit : ℕ) (taken : Sexps) (what : LexerStep) (s : State) (b : ℕ) → move limit what (after_taken taken s) b ≡ after_if taken (move limit what s b)
+move_after : (limit : ℕ) (taken : Sexps) (what : LexerStep) (s : State) (b : ℕ)
+    → move limit what (after_taken taken s) b ≡ after_if taken (move limit what s b)
 move_after limit taken (Push next) (At token bytes levels) b = refl
 move_after limit taken (Skip next) (At token bytes levels) b = refl
 move_after limit taken (Finish next) s b = ap (λ x. Some (At next [] x)) (flush_after taken s)
-move_after limit taken Open s b = ap (λ x. settle (act limit OpenParenthesis x)) (flush_after taken s) ∙ open_under limit taken (flush s)
-move_after limit taken Close s b = ap (λ x. settle (act limit CloseParenthesis x)) (flush_after taken s) ∙ close_under limit taken (flush s)
+move_after limit taken Open s b =
+    ap (λ x. settle (act limit OpenParenthesis x)) (flush_after taken s) ∙ open_under limit taken (flush s)
+move_after limit taken Close s b =
+    ap (λ x. settle (act limit CloseParenthesis x)) (flush_after taken s) ∙ close_under limit taken (flush s)
 move_after limit taken Stuck s b = refl
 
 pub token_after : (taken : Sexps) (s : State) → token_in (after_taken taken s) ≡ token_in s
 token_after taken (At token bytes levels) = refl
 
-pub step_after : (limit : ℕ) (taken : Sexps) (s : State) (b : ℕ) → step limit (after_taken taken s) b ≡ after_if taken (step limit s b)
+pub step_after : (limit : ℕ) (taken : Sexps) (s : State) (b : ℕ)
+    → step limit (after_taken taken s) b ≡ after_if taken (step limit s b)
 step_after limit taken s b =
-    ap (λ x. move limit (lex x b) (after_taken taken s) b) (token_after taken s) ∙ move_after limit taken (lex (token_in s) b) s b
+    ap (λ x. move limit (lex x b) (after_taken taken s) b) (token_after taken s) ∙ move_after limit taken
+    (lex (token_in s) b) s b
 
 -- what is known while there is no fault
-unfinished : (reader : Reader) (fed : List ℕ) (taken : Sexps) → StandsFor reader fed taken → is_finished reader ≡ false → (fault_of reader ≡ Some Memory) ⊎ Leaves MAX_DEPTH fed (after_taken taken (state_of reader)) (fault_of reader)
+unfinished : (reader : Reader) (fed : List ℕ) (taken : Sexps) → StandsFor reader fed taken
+    → is_finished reader ≡ false
+    → (fault_of reader ≡ Some Memory)
+    ⊎ Leaves MAX_DEPTH fed (after_taken taken (state_of reader)) (fault_of reader)
 unfinished reader fed taken h e = by h.1
   where
-    by : (fault_of reader ≡ Some Memory) ⊎ Keeps (is_finished reader) reader fed taken → (fault_of reader ≡ Some Memory) ⊎ Leaves MAX_DEPTH fed (after_taken taken (state_of reader)) (fault_of reader)
+    by : (fault_of reader ≡ Some Memory) ⊎ Keeps (is_finished reader) reader fed taken
+        → (fault_of reader ≡ Some Memory)
+        ⊎ Leaves MAX_DEPTH fed (after_taken taken (state_of reader)) (fault_of reader)
     by (inl m) = inl m
     by (inr k) = inr (subst (λ b. Keeps b reader fed taken) e k).1
 
-runs_on : (reader : Reader) (fed : List ℕ) (taken : Sexps) → StandsFor reader fed taken → is_finished reader ≡ false → fault_of reader ≡ None → run MAX_DEPTH start fed ≡ Some (after_taken taken (state_of reader))
+runs_on : (reader : Reader) (fed : List ℕ) (taken : Sexps) → StandsFor reader fed taken
+    → is_finished reader ≡ false → fault_of reader ≡ None
+    → run MAX_DEPTH start fed ≡ Some (after_taken taken (state_of reader))
 runs_on reader fed taken h e n = by (unfinished reader fed taken h e)
   where
-    by : (fault_of reader ≡ Some Memory) ⊎ Leaves MAX_DEPTH fed (after_taken taken (state_of reader)) (fault_of reader) → run MAX_DEPTH start fed ≡ Some (after_taken taken (state_of reader))
+    by : (fault_of reader ≡ Some Memory)
+        ⊎ Leaves MAX_DEPTH fed (after_taken taken (state_of reader)) (fault_of reader)
+        → run MAX_DEPTH start fed ≡ Some (after_taken taken (state_of reader))
     by (inl m) = absurd (cc)
     by (inr k) = subst (λ f. Leaves MAX_DEPTH fed (after_taken taken (state_of reader)) f) n k
 
-stands_if : (reader : Reader) (fed : List ℕ) (taken : Sexps) (fault : Option TextFault) → bytes_fed reader ≡ length fed → is_finished reader ≡ false → fault_of reader ≡ fault → Leaves MAX_DEPTH fed (after_taken taken (state_of reader)) fault → StandsFor reader fed taken
+stands_if : (reader : Reader) (fed : List ℕ) (taken : Sexps) (fault : Option TextFault)
+    → bytes_fed reader ≡ length fed → is_finished reader ≡ false → fault_of reader ≡ fault
+    → Leaves MAX_DEPTH fed (after_taken taken (state_of reader)) fault → StandsFor reader fed taken
 stands_if reader fed taken fault count e f k =
-    let all : Leaves MAX_DEPTH fed (after_taken taken (state_of reader)) (fault_of reader) = subst (λ x. Leaves MAX_DEPTH fed (after_taken taken (state_of reader)) x) (sym f) k in
-    let kept : Keeps false reader fed taken = (leaves_reads MAX_DEPTH fed (after_taken taken (state_of reader)) (fault_of reader) all, all) in
+    let all : Leaves MAX_DEPTH fed (after_taken taken (state_of reader)) (fault_of reader) = subst
+    (λ x. Leaves MAX_DEPTH fed (after_taken taken (state_of reader)) x) (sym f) k in
+    let kept : Keeps false reader fed taken =
+    (leaves_reads MAX_DEPTH fed (after_taken taken (state_of reader)) (fault_of reader) all, all) in
     (count, inr (subst (λ b. Keeps b reader fed taken) (sym e) kept))
 
 -- before any byte
-pub stands_new : (reader : Reader) → bytes_fed reader ≡ 0 → is_finished reader ≡ false → fault_of reader ≡ None → state_of reader ≡ start → StandsFor reader [] Nil
+pub stands_new : (reader : Reader) → bytes_fed reader ≡ 0 → is_finished reader ≡ false
+    → fault_of reader ≡ None → state_of reader ≡ start → StandsFor reader [] Nil
 stands_new reader count e f s =
     stands_if reader [] Nil None count e f (ap Some (sym (ap (after_taken Nil) s)))
 
-run_after : (limit : ℕ) (taken : Sexps) (s : State) (text : List ℕ) → run limit (after_taken taken s) text ≡ after_if taken (run limit s text)
+run_after : (limit : ℕ) (taken : Sexps) (s : State) (text : List ℕ)
+    → run limit (after_taken taken s) text ≡ after_if taken (run limit s text)
 run_after limit taken s [] = refl
 run_after limit taken s (b ∷ text) = by (step limit s b) refl (λ next. run_after limit taken next text)
   where
-    by : (o : Option State) → step limit s b ≡ o → ((next : State) → run limit (after_taken taken next) text ≡ after_if taken (run limit next text)) → run limit (after_taken taken s) (b ∷ text) ≡ after_if taken (run limit s (b ∷ text))
+    by : (o : Option State) → step limit s b ≡ o
+        → ((next : State) → run limit (after_taken taken next) text ≡ after_if taken (run limit next text))
+        → run limit (after_taken taken s) (b ∷ text) ≡ after_if taken (run limit s (b ∷ text))
     by None e later =
-        ap (λ o. go_on o (λ x. run limit x text)) (step_after limit taken s b ∙ ap (after_if taken) e) ∙ ap (λ o. after_if taken (go_on o (λ x. run limit x text))) (sym e)
+        ap (λ o. go_on o (λ x. run limit x text)) (step_after limit taken s b ∙ ap (after_if taken) e) ∙ ap
+        (λ o. after_if taken (go_on o (λ x. run limit x text))) (sym e)
     by (Some next) e later =
-        ap (λ o. go_on o (λ x. run limit x text)) (step_after limit taken s b ∙ ap (after_if taken) e) ∙ later next ∙ ap (λ o. after_if taken (go_on o (λ x. run limit x text))) (sym e)
+        ap (λ o. go_on o (λ x. run limit x text)) (step_after limit taken s b ∙ ap (after_if taken) e) ∙ later
+        next ∙ ap (λ o. after_if taken (go_on o (λ x. run limit x text))) (sym e)
 
 -- one more piece
-counted : (old new : Reader) (fed piece : List ℕ) → bytes_fed old ≡ length fed → bytes_fed new ≡ bytes_fed old + length piece → bytes_fed new ≡ length (fed ++ piece)
+counted : (old new : Reader) (fed piece : List ℕ) → bytes_fed old ≡ length fed
+    → bytes_fed new ≡ bytes_fed old + length piece → bytes_fed new ≡ length (fed ++ piece)
 counted old new fed piece h e = omega (arith, h, e, length-append fed piece)
 
-pub stands_read : (old new : Reader) (piece : List ℕ) (result : Result (Unit {0}) TextFault) (fed : List ℕ) (taken : Sexps) → is_finished old ≡ false → is_finished new ≡ false → fault_of old ≡ None → bytes_fed new ≡ bytes_fed old + length piece → fault_of new ≡ result_err result → GoesThrough (state_of old) (bytes_fed old) piece result (state_of new) → StandsFor old fed taken → StandsFor new (fed ++ piece) taken
+pub stands_read : (old new : Reader) (piece : List ℕ) (result : Result (Unit {0}) TextFault) (fed : List ℕ)
+    (taken : Sexps) → is_finished old ≡ false → is_finished new ≡ false → fault_of old ≡ None
+    → bytes_fed new ≡ bytes_fed old + length piece → fault_of new ≡ result_err result
+    → GoesThrough (state_of old) (bytes_fed old) piece result (state_of new) → StandsFor old fed taken
+    → StandsFor new (fed ++ piece) taken
 stands_read old new piece (Ok done) fed taken e e' n count f goes h =
     let before = runs_on old fed taken h e n in
     stands_if new (fed ++ piece) taken None (counted old new fed piece h.0 count) e' f
-    (run-append MAX_DEPTH start (after_taken taken (state_of old)) fed piece before ∙ run_after MAX_DEPTH taken (state_of old) piece ∙ ap (after_if taken) goes)
-stands_read old new piece (Err fault) fed taken e e' n count f (inl m) h = (counted old new fed piece h.0 count, inl (f ∙ ap Some m))
+    (run-append MAX_DEPTH start (after_taken taken (state_of old)) fed piece before ∙ run_after MAX_DEPTH
+    taken (state_of old) piece ∙ ap (after_if taken) goes)
+stands_read old new piece (Err fault) fed taken e e' n count f (inl m) h =
+    (counted old new fed piece h.0 count, inl (f ∙ ap Some m))
 stands_read old new piece (Err fault) fed taken e e' n count f (inr g) h =
     let before = runs_on old fed taken h e n in
     let place = g.0 in
     let byte = get_or piece place 0 in
     let s = after_taken taken (state_of new) in
-    let runs : run MAX_DEPTH start (fed ++ take place piece) ≡ Some s = run-append MAX_DEPTH start (after_taken taken (state_of old)) fed (take place piece) before ∙ run_after MAX_DEPTH taken (state_of old) (take place piece) ∙ ap (after_if taken) g.2 in
-    let stops : step MAX_DEPTH s byte ≡ None = step_after MAX_DEPTH taken (state_of new) byte ∙ ap (after_if taken) g.3 in
-    let split : piece ≡ take place piece ++ byte ∷ drop (place + 1) piece = sym (take-append-drop place piece) ∙ ap (λ x. take place piece ++ x) (drop_more piece place 0 g.1) in
-    let at : bytes_fed old + place ≡ length (fed ++ take place piece) = omega (arith, h.0, length-append fed (take place piece), length-take-le place piece (omega (arith, g.1))) in
+    let runs : run MAX_DEPTH start (fed ++ take place piece) ≡ Some s = run-append MAX_DEPTH start
+    (after_taken taken (state_of old)) fed (take place piece) before ∙ run_after MAX_DEPTH taken
+    (state_of old) (take place piece) ∙ ap (after_if taken) g.2 in
+    let stops : step MAX_DEPTH s byte ≡ None = step_after MAX_DEPTH taken (state_of new) byte ∙ ap
+    (after_if taken) g.3 in
+    let split : piece ≡ take place piece ++ byte ∷ drop (place + 1) piece = sym
+    (take-append-drop place piece) ∙ ap (λ x. take place piece ++ x) (drop_more piece place 0 g.1) in
+    let at : bytes_fed old + place ≡ length (fed ++ take place piece) = omega
+    (arith, h.0, length-append fed (take place piece), length-take-le place piece (omega (arith, g.1))) in
     stands_if new (fed ++ piece) taken (Some fault) (counted old new fed piece h.0 count) e' f
     record {
       prefix = fed ++ take place piece;
       byte = byte;
       rest = drop (place + 1) piece;
-      parts = ap (λ x. fed ++ x) split ∙ sym (append_assoc fed (take place piece) (byte ∷ drop (place + 1) piece));
+      parts = ap (λ x. fed ++ x) split ∙ sym
+          (append_assoc fed (take place piece) (byte ∷ drop (place + 1) piece));
       runs = runs;
       stops = stops;
-      is = g.4 ∙ ap (λ p. blame p (lex (token_in (state_of new)) byte)) at ∙ ap (λ t. blame (length (fed ++ take place piece)) (lex t byte)) (sym (token_after taken (state_of new)));
+      is = g.4 ∙ ap (λ p. blame p (lex (token_in (state_of new)) byte)) at ∙ ap
+          (λ t. blame (length (fed ++ take place piece)) (lex t byte))
+          (sym (token_after taken (state_of new)));
     }
 
 -- more bytes after a fault
-stuck_more : (limit : ℕ) (text more : List ℕ) (s : State) (fault : TextFault) → IsStuck limit text s fault → IsStuck limit (text ++ more) s fault
+stuck_more : (limit : ℕ) (text more : List ℕ) (s : State) (fault : TextFault) → IsStuck limit text s fault
+    → IsStuck limit (text ++ more) s fault
 stuck_more limit text more s fault h = record {
   prefix = h.prefix;
   byte = h.byte;
@@ -151,16 +204,27 @@ stuck_more limit text more s fault h = record {
   is = h.is;
 }
 
-skipped : (old new : Reader) (piece fed : List ℕ) (taken : Sexps) (o : Option TextFault) → is_some o ≡ true → fault_of old ≡ o → is_finished new ≡ false → bytes_fed new ≡ length (fed ++ piece) → fault_of new ≡ fault_of old → state_of new ≡ state_of old → (fault_of old ≡ Some Memory) ⊎ Leaves MAX_DEPTH fed (after_taken taken (state_of old)) (fault_of old) → StandsFor new (fed ++ piece) taken
+skipped : (old new : Reader) (piece fed : List ℕ) (taken : Sexps) (o : Option TextFault) → is_some o ≡ true
+    → fault_of old ≡ o → is_finished new ≡ false → bytes_fed new ≡ length (fed ++ piece)
+    → fault_of new ≡ fault_of old → state_of new ≡ state_of old
+    → (fault_of old ≡ Some Memory) ⊎ Leaves MAX_DEPTH fed (after_taken taken (state_of old)) (fault_of old)
+    → StandsFor new (fed ++ piece) taken
 skipped old new piece fed taken None some is e count f same h = absurd (cc)
 skipped old new piece fed taken (Some fault) some is e count f same (inl m) = (count, inl (f ∙ m))
 skipped old new piece fed taken (Some fault) some is e count f same (inr k) =
-    let stuck : IsStuck MAX_DEPTH fed (after_taken taken (state_of old)) fault = subst (λ x. Leaves MAX_DEPTH fed (after_taken taken (state_of old)) x) is k in
-    stands_if new (fed ++ piece) taken (Some fault) count e (f ∙ is) (subst (λ s. IsStuck MAX_DEPTH (fed ++ piece) (after_taken taken s) fault) (sym same) (stuck_more MAX_DEPTH fed piece (after_taken taken (state_of old)) fault stuck))
+    let stuck : IsStuck MAX_DEPTH fed (after_taken taken (state_of old)) fault = subst
+    (λ x. Leaves MAX_DEPTH fed (after_taken taken (state_of old)) x) is k in
+    stands_if new (fed ++ piece) taken (Some fault) count e (f ∙ is)
+    (subst (λ s. IsStuck MAX_DEPTH (fed ++ piece) (after_taken taken s) fault) (sym same)
+    (stuck_more MAX_DEPTH fed piece (after_taken taken (state_of old)) fault stuck))
 
-pub stands_skip : (old new : Reader) (piece fed : List ℕ) (taken : Sexps) → is_finished old ≡ false → is_finished new ≡ false → is_some (fault_of old) ≡ true → bytes_fed new ≡ bytes_fed old + length piece → fault_of new ≡ fault_of old → state_of new ≡ state_of old → StandsFor old fed taken → StandsFor new (fed ++ piece) taken
+pub stands_skip : (old new : Reader) (piece fed : List ℕ) (taken : Sexps) → is_finished old ≡ false
+    → is_finished new ≡ false → is_some (fault_of old) ≡ true → bytes_fed new ≡ bytes_fed old + length piece
+    → fault_of new ≡ fault_of old → state_of new ≡ state_of old → StandsFor old fed taken
+    → StandsFor new (fed ++ piece) taken
 stands_skip old new piece fed taken e e' some count f same h =
-    skipped old new piece fed taken (fault_of old) some refl e' (counted old new fed piece h.0 count) f same (unfinished old fed taken h e)
+    skipped old new piece fed taken (fault_of old) some refl e' (counted old new fed piece h.0 count) f same
+    (unfinished old fed taken h e)
 
 depth_under : (taken : Sexps) (levels : Levels) → depth_of (under taken levels) ≡ depth_of levels
 depth_under taken (On lists top) = refl
@@ -170,72 +234,108 @@ at_top : (levels : Levels) → depth_of levels ≡ 0 → levels ≡ On [] (top_o
 at_top (On [] top) e = refl
 at_top (On (parts ∷ lists) top) e = absurd (omega arith)
 
-not_whole : (taken : Sexps) (s : State) → (0 < depth_in s) ⊎ (may_end (token_in s) ≡ false) → (trees : Sexps) → flush (after_taken taken s) ≡ On [] trees → may_end (token_in (after_taken taken s)) ≡ true → ⊥
+not_whole : (taken : Sexps) (s : State) → (0 < depth_in s) ⊎ (may_end (token_in s) ≡ false) → (trees : Sexps)
+    → flush (after_taken taken s) ≡ On [] trees → may_end (token_in (after_taken taken s)) ≡ true → ⊥
 not_whole taken s (inl d) trees f w =
     let same : depth_of (under taken (flush s)) ≡ 0 = ap depth_of (sym (flush_after taken s) ∙ f) in
     omega (arith, depth_under taken (flush s), depth_of-flush s, same, d)
 not_whole taken s (inr e) trees f w = let both = ap may_end (token_after taken s) in cc
 
-stands_ended : (reader : Reader) (fed : List ℕ) (taken : Sexps) (fault : Option TextFault) → bytes_fed reader ≡ length fed → is_finished reader ≡ true → fault_of reader ≡ fault → Reads MAX_DEPTH true fed (append taken (trees_ready reader)) fault → StandsFor reader fed taken
+stands_ended : (reader : Reader) (fed : List ℕ) (taken : Sexps) (fault : Option TextFault)
+    → bytes_fed reader ≡ length fed → is_finished reader ≡ true → fault_of reader ≡ fault
+    → Reads MAX_DEPTH true fed (append taken (trees_ready reader)) fault → StandsFor reader fed taken
 stands_ended reader fed taken fault count e f k =
-    let kept : Keeps true reader fed taken = (subst (λ x. Reads MAX_DEPTH true fed (append taken (trees_ready reader)) x) (sym f) k, tt) in
+    let kept : Keeps true reader fed taken =
+    (subst (λ x. Reads MAX_DEPTH true fed (append taken (trees_ready reader)) x) (sym f) k, tt) in
     (count, inr (subst (λ b. Keeps b reader fed taken) (sym e) kept))
 
-pub stands_finish : (old new : Reader) (result : Result (Unit {0}) TextFault) (fed : List ℕ) (taken : Sexps) → is_finished old ≡ false → is_finished new ≡ true → fault_of old ≡ None → bytes_fed new ≡ bytes_fed old → fault_of new ≡ result_err result → Ends (state_of old) (bytes_fed old) result (state_of new) → StandsFor old fed taken → StandsFor new fed taken
+pub stands_finish : (old new : Reader) (result : Result (Unit {0}) TextFault) (fed : List ℕ) (taken : Sexps)
+    → is_finished old ≡ false → is_finished new ≡ true → fault_of old ≡ None → bytes_fed new ≡ bytes_fed old
+    → fault_of new ≡ result_err result → Ends (state_of old) (bytes_fed old) result (state_of new)
+    → StandsFor old fed taken → StandsFor new fed taken
 stands_finish old new (Ok done) fed taken e e' n count f ends h =
     let before = runs_on old fed taken h e n in
     let flat = at_top (flush (state_of old)) (depth_of-flush (state_of old) ∙ ends.0) in
     let closed : flush (after_taken taken (state_of old)) ≡ On [] (append taken (top_of (flush (state_of old)))) = flush_after taken (state_of old) ∙ ap (under taken) flat in
     let ready : top_of (flush (state_of old)) ≡ trees_ready new = ap complete_of ends.2 in
-    let whole : may_end (token_in (after_taken taken (state_of old))) ≡ true = ap may_end (token_after taken (state_of old)) ∙ ends.1 in
-    stands_ended new fed taken None (count ∙ h.0) e' f (ends_outside MAX_DEPTH fed (after_taken taken (state_of old)) (append taken (trees_ready new)) before (closed ∙ ap (λ x. On [] (append taken x)) ready) whole)
+    let whole : may_end (token_in (after_taken taken (state_of old))) ≡ true = ap may_end
+    (token_after taken (state_of old)) ∙ ends.1 in
+    stands_ended new fed taken None (count ∙ h.0) e' f
+    (ends_outside MAX_DEPTH fed (after_taken taken (state_of old)) (append taken (trees_ready new)) before
+    (closed ∙ ap (λ x. On [] (append taken x)) ready) whole)
 stands_finish old new (Err fault) fed taken e e' n count f (inl m) h = (count ∙ h.0, inl (f ∙ ap Some m))
 stands_finish old new (Err fault) fed taken e e' n count f (inr stuck) h =
     let before = runs_on old fed taken h e n in
-    let read = ends_inside MAX_DEPTH fed (after_taken taken (state_of old)) before (not_whole taken (state_of old) stuck.0) in
-    let trees : complete_of (after_taken taken (state_of old)) ≡ append taken (trees_ready new) = ap (λ s. complete_of (after_taken taken s)) (sym stuck.2) in
+    let read = ends_inside MAX_DEPTH fed (after_taken taken (state_of old)) before
+    (not_whole taken (state_of old) stuck.0) in
+    let trees : complete_of (after_taken taken (state_of old)) ≡ append taken (trees_ready new) = ap
+    (λ s. complete_of (after_taken taken s)) (sym stuck.2) in
     stands_ended new fed taken (Some (End (length fed))) (count ∙ h.0) e' (f ∙ ap Some (stuck.1 ∙ ap End h.0))
     (subst (λ x. Reads MAX_DEPTH true fed x (Some (End (length fed)))) trees read)
 
-stopped : (old new : Reader) (fed : List ℕ) (taken : Sexps) (o : Option TextFault) → is_some o ≡ true → fault_of old ≡ o → is_finished new ≡ true → bytes_fed new ≡ length fed → fault_of new ≡ fault_of old → state_of new ≡ state_of old → (fault_of old ≡ Some Memory) ⊎ Leaves MAX_DEPTH fed (after_taken taken (state_of old)) (fault_of old) → StandsFor new fed taken
+stopped : (old new : Reader) (fed : List ℕ) (taken : Sexps) (o : Option TextFault) → is_some o ≡ true
+    → fault_of old ≡ o → is_finished new ≡ true → bytes_fed new ≡ length fed → fault_of new ≡ fault_of old
+    → state_of new ≡ state_of old
+    → (fault_of old ≡ Some Memory) ⊎ Leaves MAX_DEPTH fed (after_taken taken (state_of old)) (fault_of old)
+    → StandsFor new fed taken
 stopped old new fed taken None some is e count f same h = absurd (cc)
 stopped old new fed taken (Some fault) some is e count f same (inl m) = (count, inl (f ∙ m))
 stopped old new fed taken (Some fault) some is e count f same (inr k) =
-    let stuck : IsStuck MAX_DEPTH fed (after_taken taken (state_of old)) fault = subst (λ x. Leaves MAX_DEPTH fed (after_taken taken (state_of old)) x) is k in
+    let stuck : IsStuck MAX_DEPTH fed (after_taken taken (state_of old)) fault = subst
+    (λ x. Leaves MAX_DEPTH fed (after_taken taken (state_of old)) x) is k in
     let read = stuck_reads MAX_DEPTH true fed (after_taken taken (state_of old)) fault stuck in
     let ready : trees_ready old ≡ trees_ready new = ap complete_of (sym same) in
-    stands_ended new fed taken (Some fault) count e (f ∙ is) (subst (λ x. Reads MAX_DEPTH true fed (append taken x) (Some fault)) ready read)
+    stands_ended new fed taken (Some fault) count e (f ∙ is)
+    (subst (λ x. Reads MAX_DEPTH true fed (append taken x) (Some fault)) ready read)
 
-pub stands_stop : (old new : Reader) (fed : List ℕ) (taken : Sexps) → is_finished old ≡ false → is_finished new ≡ true → is_some (fault_of old) ≡ true → bytes_fed new ≡ bytes_fed old → fault_of new ≡ fault_of old → state_of new ≡ state_of old → StandsFor old fed taken → StandsFor new fed taken
+pub stands_stop : (old new : Reader) (fed : List ℕ) (taken : Sexps) → is_finished old ≡ false
+    → is_finished new ≡ true → is_some (fault_of old) ≡ true → bytes_fed new ≡ bytes_fed old
+    → fault_of new ≡ fault_of old → state_of new ≡ state_of old → StandsFor old fed taken
+    → StandsFor new fed taken
 stands_stop old new fed taken e e' some count f same h =
     stopped old new fed taken (fault_of old) some refl e' (count ∙ h.0) f same (unfinished old fed taken h e)
 
 -- what is read, with the trees that are ready
-pub stands_reads : (reader : Reader) (fed : List ℕ) (taken : Sexps) → StandsFor reader fed taken → (fault_of reader ≡ Some Memory) ⊎ Reads MAX_DEPTH (is_finished reader) fed (append taken (trees_ready reader)) (fault_of reader)
+pub stands_reads : (reader : Reader) (fed : List ℕ) (taken : Sexps) → StandsFor reader fed taken
+    → (fault_of reader ≡ Some Memory)
+    ⊎ Reads MAX_DEPTH (is_finished reader) fed (append taken (trees_ready reader)) (fault_of reader)
 stands_reads reader fed taken h = by h.1
   where
-    by : (fault_of reader ≡ Some Memory) ⊎ Keeps (is_finished reader) reader fed taken → (fault_of reader ≡ Some Memory) ⊎ Reads MAX_DEPTH (is_finished reader) fed (append taken (trees_ready reader)) (fault_of reader)
+    by : (fault_of reader ≡ Some Memory) ⊎ Keeps (is_finished reader) reader fed taken
+        → (fault_of reader ≡ Some Memory)
+        ⊎ Reads MAX_DEPTH (is_finished reader) fed (append taken (trees_ready reader)) (fault_of reader)
     by (inl m) = inl m
     by (inr k) = inr k.0
 
 -- where no tree is ready
-pub none_ready : (reader : Reader) (fed : List ℕ) (taken : Sexps) (fault : Option TextFault) → reader.builder.ready.items ≡ [] → fault_of reader ≡ fault → StandsFor reader fed taken → (fault ≡ Some Memory) ⊎ Reads MAX_DEPTH (is_finished reader) fed taken fault
+pub none_ready : (reader : Reader) (fed : List ℕ) (taken : Sexps) (fault : Option TextFault)
+    → reader.builder.ready.items ≡ [] → fault_of reader ≡ fault → StandsFor reader fed taken
+    → (fault ≡ Some Memory) ⊎ Reads MAX_DEPTH (is_finished reader) fed taken fault
 none_ready reader fed taken fault empty f h = by (stands_reads reader fed taken h)
   where
-    by : (fault_of reader ≡ Some Memory) ⊎ Reads MAX_DEPTH (is_finished reader) fed (append taken (trees_ready reader)) (fault_of reader) → (fault ≡ Some Memory) ⊎ Reads MAX_DEPTH (is_finished reader) fed taken fault
+    by : (fault_of reader ≡ Some Memory)
+        ⊎ Reads MAX_DEPTH (is_finished reader) fed (append taken (trees_ready reader)) (fault_of reader)
+        → (fault ≡ Some Memory) ⊎ Reads MAX_DEPTH (is_finished reader) fed taken fault
     by (inl m) = inl (sym f ∙ m)
     by (inr r) =
-        let all : append taken (trees_ready reader) ≡ taken = ap (λ x. append taken (sexps_of x)) empty ∙ append_nil taken in
-        inr (subst (λ x. Reads MAX_DEPTH (is_finished reader) fed taken x) f (subst (λ x. Reads MAX_DEPTH (is_finished reader) fed x (fault_of reader)) all r))
+        let all : append taken (trees_ready reader) ≡ taken = ap
+        (λ x. append taken (sexps_of x)) empty ∙ append_nil taken in
+        inr (subst (λ x. Reads MAX_DEPTH (is_finished reader) fed taken x) f
+        (subst (λ x. Reads MAX_DEPTH (is_finished reader) fed x (fault_of reader)) all r))
 
-pub answers_none : (reader : Reader) (fed : List ℕ) (taken : Sexps) → reader.builder.ready.items ≡ [] → fault_of reader ≡ None → StandsFor reader fed taken → Reads MAX_DEPTH (is_finished reader) fed taken None
+pub answers_none : (reader : Reader) (fed : List ℕ) (taken : Sexps) → reader.builder.ready.items ≡ []
+    → fault_of reader ≡ None → StandsFor reader fed taken
+    → Reads MAX_DEPTH (is_finished reader) fed taken None
 answers_none reader fed taken empty f h = by (none_ready reader fed taken None empty f h)
   where
-    by : (None ≡ Some Memory) ⊎ Reads MAX_DEPTH (is_finished reader) fed taken None → Reads MAX_DEPTH (is_finished reader) fed taken None
+    by : (None ≡ Some Memory) ⊎ Reads MAX_DEPTH (is_finished reader) fed taken None
+        → Reads MAX_DEPTH (is_finished reader) fed taken None
     by (inl m) = absurd (cc)
     by (inr r) = r
 
-told : (ended : Bool) (fed : List ℕ) (taken : Sexps) (fault : TextFault) → (Some fault ≡ Some Memory) ⊎ Reads MAX_DEPTH ended fed taken (Some fault) → Answers ended fed taken (Fault fault)
+told : (ended : Bool) (fed : List ℕ) (taken : Sexps) (fault : TextFault)
+    → (Some fault ≡ Some Memory) ⊎ Reads MAX_DEPTH ended fed taken (Some fault)
+    → Answers ended fed taken (Fault fault)
 told ended fed taken (Byte place) (inl m) = absurd (cc)
 told ended fed taken (Byte place) (inr r) = r
 told ended fed taken (Deep place) (inl m) = absurd (cc)
@@ -244,38 +344,71 @@ told ended fed taken (End place) (inl m) = absurd (cc)
 told ended fed taken (End place) (inr r) = r
 told ended fed taken Memory h = tt
 
-pub answers_fault : (reader : Reader) (fed : List ℕ) (taken : Sexps) (fault : TextFault) → reader.builder.ready.items ≡ [] → fault_of reader ≡ Some fault → StandsFor reader fed taken → Answers (is_finished reader) fed taken (Fault fault)
-answers_fault reader fed taken fault empty f h = told (is_finished reader) fed taken fault (none_ready reader fed taken (Some fault) empty f h)
+pub answers_fault : (reader : Reader) (fed : List ℕ) (taken : Sexps) (fault : TextFault)
+    → reader.builder.ready.items ≡ [] → fault_of reader ≡ Some fault → StandsFor reader fed taken
+    → Answers (is_finished reader) fed taken (Fault fault)
+answers_fault reader fed taken fault empty f h =
+    told (is_finished reader) fed taken fault (none_ready reader fed taken (Some fault) empty f h)
 
 -- where one is
-pub answers_tree : (reader : Reader) (fed : List ℕ) (taken : Sexps) (tree : Tree) (rest : List Tree) → fault_of reader ≢ Some Memory → reader.builder.ready.items ≡ tree ∷ rest → StandsFor reader fed taken → (later : Sexps) × (fault : Option TextFault) × Reads MAX_DEPTH (is_finished reader) fed (append taken (Cons (sexp_of tree) later)) fault
+pub answers_tree : (reader : Reader) (fed : List ℕ) (taken : Sexps) (tree : Tree) (rest : List Tree)
+    → fault_of reader ≢ Some Memory → reader.builder.ready.items ≡ tree ∷ rest → StandsFor reader fed taken
+    → (later : Sexps) × (fault : Option TextFault)
+    × Reads MAX_DEPTH (is_finished reader) fed (append taken (Cons (sexp_of tree) later)) fault
 answers_tree reader fed taken tree rest fine first h = by (stands_reads reader fed taken h)
   where
-    by : (fault_of reader ≡ Some Memory) ⊎ Reads MAX_DEPTH (is_finished reader) fed (append taken (trees_ready reader)) (fault_of reader) → (later : Sexps) × (fault : Option TextFault) × Reads MAX_DEPTH (is_finished reader) fed (append taken (Cons (sexp_of tree) later)) fault
+    by : (fault_of reader ≡ Some Memory)
+        ⊎ Reads MAX_DEPTH (is_finished reader) fed (append taken (trees_ready reader)) (fault_of reader)
+        → (later : Sexps) × (fault : Option TextFault)
+        × Reads MAX_DEPTH (is_finished reader) fed (append taken (Cons (sexp_of tree) later)) fault
     by (inl m) = absurd (fine m)
-    by (inr r) = (sexps_of rest, fault_of reader, subst (λ x. Reads MAX_DEPTH (is_finished reader) fed (append taken (sexps_of x)) (fault_of reader)) first r)
+    by (inr r) = (
+      sexps_of rest,
+      fault_of reader,
+      subst
+          (λ x. Reads MAX_DEPTH (is_finished reader) fed (append taken (sexps_of x)) (fault_of reader)) first r,
+    )
 
 -- a tree was handed out
-handed : (ended : Bool) (old new : Reader) (fed : List ℕ) (taken longer : Sexps) → fault_of new ≡ fault_of old → after_taken longer (state_of new) ≡ after_taken taken (state_of old) → append longer (trees_ready new) ≡ append taken (trees_ready old) → Keeps ended old fed taken → Keeps ended new fed longer
-handed ended old new fed taken longer f same all k =
-    (subst (λ x. Reads MAX_DEPTH ended fed (append longer (trees_ready new)) x) (sym f) (subst (λ xs. Reads MAX_DEPTH ended fed xs (fault_of old)) (sym all) k.0), on ended k.1)
+handed : (ended : Bool) (old new : Reader) (fed : List ℕ) (taken longer : Sexps) → fault_of new ≡ fault_of old
+    → after_taken longer (state_of new) ≡ after_taken taken (state_of old)
+    → append longer (trees_ready new) ≡ append taken (trees_ready old) → Keeps ended old fed taken
+    → Keeps ended new fed longer
+handed ended old new fed taken longer f same all k = (
+  subst (λ x. Reads MAX_DEPTH ended fed (append longer (trees_ready new)) x) (sym f)
+      (subst (λ xs. Reads MAX_DEPTH ended fed xs (fault_of old)) (sym all) k.0),
+  on ended k.1,
+)
   where
     on : (b : Bool) → GoesOnFrom b old fed taken → GoesOnFrom b new fed longer
-    on false l = subst (λ x. Leaves MAX_DEPTH fed (after_taken longer (state_of new)) x) (sym f) (subst (λ s. Leaves MAX_DEPTH fed s (fault_of old)) (sym same) l)
+    on false l = subst (λ x. Leaves MAX_DEPTH fed (after_taken longer (state_of new)) x) (sym f)
+        (subst (λ s. Leaves MAX_DEPTH fed s (fault_of old)) (sym same) l)
     on true l = tt
 
-pub stands_handed : (old new : Reader) (fed : List ℕ) (taken : Sexps) (tree : Tree) → bytes_fed new ≡ bytes_fed old → is_finished new ≡ is_finished old → fault_of new ≡ fault_of old → new.token ≡ old.token → new.bytes.items ≡ old.bytes.items → new.builder.lists.items ≡ old.builder.lists.items → old.builder.ready.items ≡ tree ∷ new.builder.ready.items → StandsFor old fed taken → StandsFor new fed (append taken (Cons (sexp_of tree) Nil))
-stands_handed old new fed taken tree count e f same_token same_bytes same_lists first h = (count ∙ h.0, by h.1)
+pub stands_handed : (old new : Reader) (fed : List ℕ) (taken : Sexps) (tree : Tree)
+    → bytes_fed new ≡ bytes_fed old → is_finished new ≡ is_finished old → fault_of new ≡ fault_of old
+    → new.token ≡ old.token → new.bytes.items ≡ old.bytes.items
+    → new.builder.lists.items ≡ old.builder.lists.items
+    → old.builder.ready.items ≡ tree ∷ new.builder.ready.items → StandsFor old fed taken
+    → StandsFor new fed (append taken (Cons (sexp_of tree) Nil))
+stands_handed old new fed taken tree count e f same_token same_bytes same_lists first h =
+    (count ∙ h.0, by h.1)
   where
     all : append (append taken (Cons (sexp_of tree) Nil)) (trees_ready new) ≡ append taken (trees_ready old)
-    all = sexps_assoc taken (Cons (sexp_of tree) Nil) (trees_ready new) ∙ ap (λ x. append taken (sexps_of x)) (sym first)
+    all = sexps_assoc taken (Cons (sexp_of tree) Nil) (trees_ready new) ∙ ap (λ x. append taken (sexps_of x))
+        (sym first)
 
-    same : after_taken (append taken (Cons (sexp_of tree) Nil)) (state_of new) ≡ after_taken taken (state_of old)
+    same : after_taken (append taken (Cons (sexp_of tree) Nil)) (state_of new)
+        ≡ after_taken taken (state_of old)
     same =
-        let inner : lists_of new.builder.lists.items [] ≡ lists_of old.builder.lists.items [] = ap (λ x. lists_of x []) same_lists in
+        let inner : lists_of new.builder.lists.items [] ≡ lists_of old.builder.lists.items [] = ap
+        (λ x. lists_of x []) same_lists in
         let outer : append (append taken (Cons (sexp_of tree) Nil)) (sexps_of new.builder.ready.items) ≡ append taken (sexps_of old.builder.ready.items) = all in
         cc
 
-    by : (fault_of old ≡ Some Memory) ⊎ Keeps (is_finished old) old fed taken → (fault_of new ≡ Some Memory) ⊎ Keeps (is_finished new) new fed (append taken (Cons (sexp_of tree) Nil))
+    by : (fault_of old ≡ Some Memory) ⊎ Keeps (is_finished old) old fed taken
+        → (fault_of new ≡ Some Memory)
+        ⊎ Keeps (is_finished new) new fed (append taken (Cons (sexp_of tree) Nil))
     by (inl m) = inl (f ∙ m)
-    by (inr k) = inr (subst (λ b. Keeps b new fed (append taken (Cons (sexp_of tree) Nil))) (sym e) (handed (is_finished old) old new fed taken (append taken (Cons (sexp_of tree) Nil)) f same all k))
+    by (inr k) = inr (subst (λ b. Keeps b new fed (append taken (Cons (sexp_of tree) Nil))) (sym e)
+        (handed (is_finished old) old new fed taken (append taken (Cons (sexp_of tree) Nil)) f same all k))

@@ -1,5 +1,6 @@
 -- The reserved words and their spellings.
-use Rattle.std.proofs.Common.{◌≡◌, ◌≢◌, ℕ, List, [], ◌∷◌, Option, Some, None, Bool, true, false, ◌+◌, ◌<◌, ◌≤◌, length, drop, get_or, refl, sym, ap, ◌∙◌}
+use Rattle.std.proofs.Common.{◌≡◌, ◌≢◌, ℕ, List, [], ◌∷◌, Option, Some, None, Bool, true, false, ◌+◌, ◌<◌}
+use Rattle.std.proofs.Common.{◌≤◌, length, drop, get_or, refl, sym, ap, ◌∙◌}
 use Rattle.std.proofs.lemmas.List.{drop_all, drop_more}
 use Rattle.std.specs.List.{slice_get}
 use Rattle.std.specs.Str.{bytes_eq}
@@ -7,7 +8,17 @@ use Rattle.std.proofs.lemmas.Slice.Eq.{bytes_eq-Decides}
 use Rattle.smt_text.specs.Internal.Machine.{find_word, word_named, words_like}
 use Rattle.smt_trees.specs.Reserved.{all_words, spelling_of}
 use Rattle.smt_trees.specs.declared.reserved.Word.{Word}
-use Rattle.smt_trees.specs.declared.reserved.Word.TheVariants.{Bang, Underscore, As, Binary, Decimal, Exists, Hexadecimal, Forall, Let, Match, Numeral, Par, String, Assert, CheckSat, CheckSatAssuming, DeclareConst, DeclareDatatype, DeclareDatatypes, DeclareFun, DeclareSort, DefineFun, DefineFunRec, DefineFunsRec, DefineSort, Echo, Exit, GetAssertions, GetAssignment, GetInfo, GetModel, GetOption, GetProof, GetUnsatAssumptions, GetUnsatCore, GetValue, Pop, Push, Reset, ResetAssertions, SetInfo, SetLogic, SetOption}
+use Rattle.smt_trees.specs.declared.reserved.Word.TheVariants.{Bang, Underscore, As, Binary, Decimal, Exists}
+use Rattle.smt_trees.specs.declared.reserved.Word.TheVariants.{Hexadecimal, Forall, Let, Match, Numeral, Par}
+use Rattle.smt_trees.specs.declared.reserved.Word.TheVariants.{String, Assert, CheckSat, CheckSatAssuming}
+use Rattle.smt_trees.specs.declared.reserved.Word.TheVariants.{DeclareConst, DeclareDatatype}
+use Rattle.smt_trees.specs.declared.reserved.Word.TheVariants.{DeclareDatatypes, DeclareFun, DeclareSort}
+use Rattle.smt_trees.specs.declared.reserved.Word.TheVariants.{DefineFun, DefineFunRec, DefineFunsRec}
+use Rattle.smt_trees.specs.declared.reserved.Word.TheVariants.{DefineSort, Echo, Exit, GetAssertions}
+use Rattle.smt_trees.specs.declared.reserved.Word.TheVariants.{GetAssignment, GetInfo, GetModel, GetOption}
+use Rattle.smt_trees.specs.declared.reserved.Word.TheVariants.{GetProof, GetUnsatAssumptions, GetUnsatCore}
+use Rattle.smt_trees.specs.declared.reserved.Word.TheVariants.{GetValue, Pop, Push, Reset, ResetAssertions}
+use Rattle.smt_trees.specs.declared.reserved.Word.TheVariants.{SetInfo, SetLogic, SetOption}
 
 -- no two reserved words are written alike
 pub word_named-spelling : (word : Word) → word_named (spelling_of word) ≡ Some word
@@ -56,7 +67,9 @@ word_named-spelling SetLogic = refl
 word_named-spelling SetOption = refl
 
 -- what is found is written so
-found_by : (t : Bool) (bytes : List ℕ) (w : Word) (words : List Word) (word : Word) → bytes_eq (spelling_of w) bytes ≡ t → (find_word bytes words ≡ Some word → bytes ≡ spelling_of word) → find_word bytes (w ∷ words) ≡ Some word → bytes ≡ spelling_of word
+found_by : (t : Bool) (bytes : List ℕ) (w : Word) (words : List Word) (word : Word)
+    → bytes_eq (spelling_of w) bytes ≡ t → (find_word bytes words ≡ Some word → bytes ≡ spelling_of word)
+    → find_word bytes (w ∷ words) ≡ Some word → bytes ≡ spelling_of word
 found_by true bytes w words word h later e =
     let same = (bytes_eq-Decides (spelling_of w) bytes).0 h in
     let found : find_word bytes (w ∷ words) ≡ Some w = rw h refl in
@@ -65,7 +78,8 @@ found_by false bytes w words word h later e =
     let next : find_word bytes (w ∷ words) ≡ find_word bytes words = rw h refl in
     later (sym next ∙ e)
 
-pub find_word-some : (bytes : List ℕ) (words : List Word) (word : Word) → find_word bytes words ≡ Some word → bytes ≡ spelling_of word
+pub find_word-some : (bytes : List ℕ) (words : List Word) (word : Word) → find_word bytes words ≡ Some word
+    → bytes ≡ spelling_of word
 find_word-some bytes [] word e = cc
 find_word-some bytes (w ∷ words) word e =
     found_by (bytes_eq (spelling_of w) bytes) bytes w words word refl (find_word-some bytes words word) e
@@ -77,15 +91,19 @@ word_named-none bytes e word is =
     cc
 
 -- a word that is written otherwise is passed
-pub find_word-more : (bytes : List ℕ) (words : List Word) (i : ℕ) (d : Word) (written : List ℕ) → i < length words → written ≡ spelling_of (get_or words i d) → bytes_eq written bytes ≡ false → find_word bytes (drop (i + 1) words) ≡ find_word bytes (drop i words)
+pub find_word-more : (bytes : List ℕ) (words : List Word) (i : ℕ) (d : Word) (written : List ℕ)
+    → i < length words → written ≡ spelling_of (get_or words i d) → bytes_eq written bytes ≡ false
+    → find_word bytes (drop (i + 1) words) ≡ find_word bytes (drop i words)
 find_word-more bytes words i d written within is h =
     let w = get_or words i d in
     let other : bytes_eq (spelling_of w) bytes ≡ false = ap (λ x. bytes_eq x bytes) (sym is) ∙ h in
-    let next : find_word bytes (w ∷ drop (i + 1) words) ≡ find_word bytes (drop (i + 1) words) = rw other refl in
+    let next : find_word bytes (w ∷ drop (i + 1) words) ≡ find_word bytes (drop (i + 1) words) = rw other refl
+    in
     sym next ∙ ap (find_word bytes) (sym (drop_more words i d within))
 
 -- none is found behind the last
-pub find_word-end : (bytes : List ℕ) (words : List Word) (i : ℕ) → length words ≤ i → None ≡ find_word bytes (drop i words)
+pub find_word-end : (bytes : List ℕ) (words : List Word) (i : ℕ) → length words ≤ i
+    → None ≡ find_word bytes (drop i words)
 find_word-end bytes words i h = sym (ap (find_word bytes) (drop_all i words h))
 
 -- each reserved word is among those like it
@@ -93,7 +111,9 @@ abbrev pub first_of : List ℕ → ℕ
 first_of [] = 0
 first_of (b ∷ bs) = b
 
-found_by_first : (word : Word) → find_word (spelling_of word) (words_like (length (spelling_of word)) (first_of (spelling_of word))) ≡ Some word
+found_by_first : (word : Word)
+    → find_word (spelling_of word) (words_like (length (spelling_of word)) (first_of (spelling_of word)))
+    ≡ Some word
 found_by_first Bang = refl
 found_by_first Underscore = refl
 found_by_first As = refl
@@ -139,12 +159,19 @@ found_by_first SetLogic = refl
 found_by_first SetOption = refl
 
 -- a word is found among those like it as it is among all
-pub find_word-like : (bytes : List ℕ) → find_word bytes (words_like (length bytes) (first_of bytes)) ≡ word_named bytes
-find_word-like bytes = by (word_named bytes) refl (find_word bytes (words_like (length bytes) (first_of bytes))) refl where
-  by : (all : Option Word) → word_named bytes ≡ all → (some : Option Word) → find_word bytes (words_like (length bytes) (first_of bytes)) ≡ some → find_word bytes (words_like (length bytes) (first_of bytes)) ≡ word_named bytes
-  by (Some word) e some h = ap (λ b. find_word b (words_like (length b) (first_of b))) (find_word-some bytes all_words word e) ∙ found_by_first word ∙ sym e
-  by None e None h = h ∙ sym e
-  by None e (Some word) h = absurd (word_named-none bytes e word (find_word-some bytes (words_like (length bytes) (first_of bytes)) word h))
+pub find_word-like : (bytes : List ℕ)
+    → find_word bytes (words_like (length bytes) (first_of bytes)) ≡ word_named bytes
+find_word-like bytes =
+    by (word_named bytes) refl (find_word bytes (words_like (length bytes) (first_of bytes))) refl where
+      by : (all : Option Word) → word_named bytes ≡ all → (some : Option Word)
+          → find_word bytes (words_like (length bytes) (first_of bytes)) ≡ some
+          → find_word bytes (words_like (length bytes) (first_of bytes)) ≡ word_named bytes
+      by (Some word) e some h = ap (λ b. find_word b (words_like (length b) (first_of b)))
+          (find_word-some bytes all_words word e) ∙ found_by_first word ∙ sym e
+      by None e None h = h ∙ sym e
+      by None e (Some word) h = absurd
+          (word_named-none bytes e word
+          (find_word-some bytes (words_like (length bytes) (first_of bytes)) word h))
 
 pub first-got : (bytes : List ℕ) (b : ℕ) → Some b ≡ slice_get bytes 0 → b ≡ first_of bytes
 first-got [] b e = absurd (cc)

@@ -1,11 +1,16 @@
--- SMT-LIB 2.6, sections 3.1 and 3.2: texts, as tokens with white space and comments between them, and the trees of a text.
--- This project's rules are that two neighbouring tokens, neither a parenthesis, need white space or a comment between them,
--- that a comment may end with the text and may have any bytes, and that lists nest no deeper than a limit.
-use Rattle.std.specs.Prelude.{◌≡◌, ◌≢◌, ◌⊎◌, ◌≤◌, ℕ, Bool, true, List, [], ◌∷◌, ◌++◌, codes, ◌==◌, if◌then◌else◌}
+-- SMT-LIB 2.6, sections 3.1 and 3.2: texts, as tokens with white space and comments between them, and the
+-- trees of a text. This project's rules are that two neighbouring tokens, neither a parenthesis, need white
+-- space or a comment between them, that a comment may end with the text and may have any bytes, and that
+-- lists nest no deeper than a limit.
+use Rattle.std.specs.Prelude.{◌≡◌, ◌≢◌, ◌⊎◌, ◌≤◌, ℕ, Bool, true, List, [], ◌∷◌, ◌++◌, codes, ◌==◌}
+use Rattle.std.specs.Prelude.{if◌then◌else◌}
 use Rattle.std.specs.List.{AllByRecursion}
-use Rattle.smt_text.specs.Lexical.{quote, bar, semicolon, point, zero_digit, is_white, is_line_end, is_digit, is_nonzero_digit, is_hexadecimal_digit, is_binary_digit, is_letter, is_symbol_byte, is_text_byte, is_quoted_byte, is_comment_byte, ends_token}
+use Rattle.smt_text.specs.Lexical.{quote, bar, semicolon, point, zero_digit, is_white, is_line_end, is_digit}
+use Rattle.smt_text.specs.Lexical.{is_nonzero_digit, is_hexadecimal_digit, is_binary_digit, is_letter}
+use Rattle.smt_text.specs.Lexical.{is_symbol_byte, is_text_byte, is_quoted_byte, is_comment_byte, ends_token}
 use Rattle.smt_trees.specs.Reserved.{spelling_of}
-use Rattle.smt_trees.specs.Sexp.{AtomKind, Numeral, Decimal, Hexadecimal, Binary, Text, Symbol, Keyword, Sexp, Sexps, Atom, Reserved, Items, Nil, Cons, depth_all}
+use Rattle.smt_trees.specs.Sexp.{AtomKind, Numeral, Decimal, Hexadecimal, Binary, Text, Symbol, Keyword, Sexp}
+use Rattle.smt_trees.specs.Sexp.{Sexps, Atom, Reserved, Items, Nil, Cons, depth_all}
 use Rattle.smt_text.specs.declared.reader.TheConstants.{MAX_DEPTH}
 use Rattle.smt_trees.specs.declared.reserved.Word.{Word}
 
@@ -36,7 +41,8 @@ IsNumeral (b ∷ bs) = ((b ≡ zero_digit) × (bs ≡ [])) ⊎ ((is_nonzero_digi
 -- a numeral, a point and digits
 abbrev pub IsDecimal : List ℕ → Type 0
 IsDecimal text =
-    (whole : List ℕ) × (fraction : List ℕ) × (text ≡ whole ++ point ∷ fraction) × IsNumeral whole × OneOrMore is_digit fraction
+    (whole : List ℕ) × (fraction : List ℕ) × (text ≡ whole ++ point ∷ fraction) × IsNumeral whole
+    × OneOrMore is_digit fraction
 
 -- bytes of symbols that don't start with a digit and are no reserved word
 abbrev pub IsSimpleSymbol : List ℕ → Type 0
@@ -60,9 +66,11 @@ IsSpelling CloseParenthesis text = text ≡ codes ")"
 IsSpelling (WordToken word) text = text ≡ spelling_of word
 IsSpelling (AtomToken Numeral digits) text = (text ≡ digits) × IsNumeral digits
 IsSpelling (AtomToken Decimal bytes) text = (text ≡ bytes) × IsDecimal bytes
-IsSpelling (AtomToken Hexadecimal digits) text = (text ≡ codes "#x" ++ digits) × OneOrMore is_hexadecimal_digit digits
+IsSpelling (AtomToken Hexadecimal digits) text =
+    (text ≡ codes "#x" ++ digits) × OneOrMore is_hexadecimal_digit digits
 IsSpelling (AtomToken Binary digits) text = (text ≡ codes "#b" ++ digits) × OneOrMore is_binary_digit digits
-IsSpelling (AtomToken Text bytes) text = (text ≡ quote ∷ (doubled bytes ++ quote ∷ [])) × ZeroOrMore is_text_byte bytes
+IsSpelling (AtomToken Text bytes) text =
+    (text ≡ quote ∷ (doubled bytes ++ quote ∷ [])) × ZeroOrMore is_text_byte bytes
 IsSpelling (AtomToken Symbol name) text =
     ((text ≡ name) × IsSimpleSymbol name) ⊎ ((text ≡ barred name) × ZeroOrMore is_quoted_byte name)
 IsSpelling (AtomToken Keyword name) text = (text ≡ codes ":" ++ name) × OneOrMore is_symbol_byte name
@@ -74,7 +82,9 @@ IsComment text = (body : List ℕ) × (text ≡ semicolon ∷ body) × ZeroOrMor
 -- one byte of white space, or a comment with the end of its line
 abbrev pub IsSeparator : List ℕ → Type 0
 IsSeparator text =
-    ((b : ℕ) × (text ≡ b ∷ []) × (is_white b ≡ true)) ⊎ ((comment : List ℕ) × (b : ℕ) × (text ≡ comment ++ b ∷ []) × IsComment comment × (is_line_end b ≡ true))
+    ((b : ℕ) × (text ≡ b ∷ []) × (is_white b ≡ true))
+    ⊎ ((comment : List ℕ) × (b : ℕ) × (text ≡ comment ++ b ∷ []) × IsComment comment
+    × (is_line_end b ≡ true))
 
 -- texts one after another
 abbrev pub joined : List (List ℕ) → List ℕ
@@ -101,7 +111,8 @@ IsApart (WordToken word) rest = EndsToken rest
 abbrev pub IsTextThen : (List ℕ → Type 0) → List Token → List ℕ → Type 0
 IsTextThen Last [] text = (gap : List ℕ) × (rest : List ℕ) × (text ≡ gap ++ rest) × IsGap gap × Last rest
 IsTextThen Last (token ∷ tokens) text =
-    (gap : List ℕ) × (spelled : List ℕ) × (rest : List ℕ) × (text ≡ gap ++ (spelled ++ rest)) × IsGap gap × IsSpelling token spelled × IsApart token rest × IsTextThen Last tokens rest
+    (gap : List ℕ) × (spelled : List ℕ) × (rest : List ℕ) × (text ≡ gap ++ (spelled ++ rest)) × IsGap gap
+    × IsSpelling token spelled × IsApart token rest × IsTextThen Last tokens rest
 
 -- nothing, or a comment that ends with the text
 abbrev pub IsTextEnd : List ℕ → Type 0

@@ -1,5 +1,5 @@
--- SMT-LIB 2.6, section 3.1: bytes, by what they may stand for. That a symbol and a string are strings of bytes, in whatever
--- encoding, is this project's rule.
+-- SMT-LIB 2.6, section 3.1: bytes, by what they may stand for. That a symbol and a string are strings of
+-- bytes, in whatever encoding, is this project's rule.
 use Rattle.std.specs.Prelude.{ℕ, Bool, not, ◌==◌, ◌||◌, ◌&&◌, nat_le, codes}
 use Rattle.std.specs.List.{list_any}
 
@@ -56,7 +56,8 @@ is_binary_digit b = b == 48 || b == 49
 -- the bytes of simple symbols, digits aside: 'a' to 'z', 'A' to 'Z' and these
 abbrev pub is_letter : ℕ → Bool
 is_letter b =
-    nat_le 97 b && nat_le b 122 || nat_le 65 b && nat_le b 90 || list_any (λ c. b == c) (codes "~!@$%^&*_-+=<>.?/")
+    nat_le 97 b && nat_le b 122 || nat_le 65 b && nat_le b 90
+    || list_any (λ c. b == c) (codes "~!@$%^&*_-+=<>.?/")
 
 -- the bytes of simple symbols
 abbrev pub is_symbol_byte : ℕ → Bool
@@ -78,6 +79,7 @@ is_quoted_byte b = is_text_byte b && not (b == 124) && not (b == 92)
 abbrev pub is_comment_byte : ℕ → Bool
 is_comment_byte b = not (is_line_end b)
 
--- a byte that shows that the token before it has ended: white space, the beginning of a comment, a parenthesis
+-- a byte that shows that the token before it has ended: white space, the beginning of a comment, a
+-- parenthesis
 abbrev pub ends_token : ℕ → Bool
 ends_token b = is_white b || b == 59 || b == 40 || b == 41

@@ -1,4 +1,5 @@
--- What a reader's value says of the text that it was fed and the trees that it handed out. These are this project's rules.
+-- What a reader's value says of the text that it was fed and the trees that it handed out. These are this
+-- project's rules.
 use Rattle.std.specs.Prelude.{◌≡◌, ◌⊎◌, ℕ, List, ◌+◌, length, Bool, true, false, Option, Some, None}
 use Rattle.smt_text.specs.Reading.{Reads}
 use Rattle.smt_text.specs.Internal.ReaderState.{GoesOnFrom}
@@ -29,15 +30,18 @@ trees_ready reader = sexps_of reader.builder.ready.items
 abbrev pub trees_waiting : Reader → ℕ
 trees_waiting reader = length reader.builder.ready.items
 
--- these trees and those that are ready, with the fault, are what is read of these bytes; and the reader goes on from what they leave
+-- these trees and those that are ready, with the fault, are what is read of these bytes; and the reader goes
+-- on from what they leave
 abbrev pub Keeps : Bool → Reader → List ℕ → Sexps → Type 0
 Keeps ended reader fed taken =
-    Reads MAX_DEPTH ended fed (append taken (trees_ready reader)) (fault_of reader) × GoesOnFrom ended reader fed taken
+    Reads MAX_DEPTH ended fed (append taken (trees_ready reader)) (fault_of reader)
+    × GoesOnFrom ended reader fed taken
 
 -- the reader's value fits this history: these bytes were fed, and these trees were handed out
 abbrev pub StandsFor : Reader → List ℕ → Sexps → Type 0
 StandsFor reader fed taken =
-    (bytes_fed reader ≡ length fed) × ((fault_of reader ≡ Some Memory) ⊎ Keeps (is_finished reader) reader fed taken)
+    (bytes_fed reader ≡ length fed)
+    × ((fault_of reader ≡ Some Memory) ⊎ Keeps (is_finished reader) reader fed taken)
 
 -- the trees that were handed out, after this answer
 abbrev pub with_answer : Sexps → Next → Sexps
@@ -49,7 +53,8 @@ with_answer taken (Fault f) = taken
 -- the answer is right after these bytes and these trees. Want of memory says nothing of the text
 abbrev pub Answers : Bool → List ℕ → Sexps → Next → Type 0
 Answers ended fed taken (Tree t) =
-    (later : Sexps) × (fault : Option TextFault) × Reads MAX_DEPTH ended fed (append taken (Cons (sexp_of t) later)) fault
+    (later : Sexps) × (fault : Option TextFault)
+    × Reads MAX_DEPTH ended fed (append taken (Cons (sexp_of t) later)) fault
 Answers ended fed taken Wait = (ended ≡ false) × Reads MAX_DEPTH false fed taken None
 Answers ended fed taken End = (ended ≡ true) × Reads MAX_DEPTH true fed taken None
 Answers ended fed taken (Fault (Byte place)) = Reads MAX_DEPTH ended fed taken (Some (Byte place))

@@ -1,6 +1,8 @@
 -- What is read of a text that may still go on, and which fault a text has. These are this project's rules.
-use Rattle.std.specs.Prelude.{◌≡◌, ◌⊎◌, ◌≤◌, ℕ, List, [], ◌∷◌, ◌++◌, length, Bool, true, false, Option, Some, None}
-use Rattle.smt_text.specs.Grammar.{Forest, Token, CloseParenthesis, AtomToken, IsSpelling, IsTextThen, barred, tokens_of_all}
+use Rattle.std.specs.Prelude.{◌≡◌, ◌⊎◌, ◌≤◌, ℕ, List, [], ◌∷◌, ◌++◌, length, Bool, true, false, Option, Some}
+use Rattle.std.specs.Prelude.{None}
+use Rattle.smt_text.specs.Grammar.{Forest, Token, CloseParenthesis, AtomToken, IsSpelling, IsTextThen, barred}
+use Rattle.smt_text.specs.Grammar.{tokens_of_all}
 use Rattle.smt_text.specs.Lexical.{ends_token}
 use Rattle.smt_trees.specs.Sexp.{Sexps, append, Symbol}
 use Rattle.smt_faults.specs.declared.text_fault.TextFault.{TextFault}
@@ -18,7 +20,8 @@ IsForest limit text = (trees : Sexps) × Forest limit text trees
 pub record LongestPrefix (limit : ℕ) (text prefix rest : List ℕ) : Type 0 where
   pub parts : text ≡ prefix ++ rest
   pub begins : Begins limit prefix
-  pub longest : (longer other : List ℕ) → text ≡ longer ++ other → Begins limit longer → length longer ≤ length prefix
+  pub longest : (longer other : List ℕ) → text ≡ longer ++ other → Begins limit longer
+      → length longer ≤ length prefix
 
 -- a token that shows its end itself: a closing parenthesis, or a symbol in bars
 abbrev pub IsClosed : Token → List ℕ → Type 0
@@ -29,14 +32,15 @@ IsClosed _ spelled = ⊥
 -- the text ends with the last of the tokens, which shows its end itself
 abbrev pub EndsClosed : List Token → List ℕ → Type 0
 EndsClosed tokens text =
-    (before : List Token) × (last : Token) × (tokens ≡ before ++ last ∷ []) × IsTextThen (λ spelled. IsSpelling last spelled × IsClosed last spelled) before text
+    (before : List Token) × (last : Token) × (tokens ≡ before ++ last ∷ [])
+    × IsTextThen (λ spelled. IsSpelling last spelled × IsClosed last spelled) before text
 
 -- a byte follows that shows the end of the token before it
 abbrev pub IsFollowed : List ℕ → Type 0
 IsFollowed rest = (b : ℕ) × (bs : List ℕ) × (rest ≡ b ∷ bs) × (ends_token b ≡ true)
 
--- these are the trees of a beginning of the prefix that is empty, ends with a list or a quoted symbol, or is followed by white
--- space, a comment or a parenthesis: so the last of them is complete, whatever comes
+-- these are the trees of a beginning of the prefix that is empty, ends with a list or a quoted symbol, or is
+-- followed by white space, a comment or a parenthesis: so the last of them is complete, whatever comes
 pub record AreSettled (limit : ℕ) (prefix : List ℕ) (trees : Sexps) : Type 0 where
   pub beginning : List ℕ
   pub rest : List ℕ
@@ -47,7 +51,8 @@ pub record AreSettled (limit : ℕ) (prefix : List ℕ) (trees : Sexps) : Type 0
 -- the complete trees of a prefix: those of its longest such beginning
 pub record AreComplete (limit : ℕ) (prefix : List ℕ) (trees : Sexps) : Type 0 where
   pub settled : AreSettled limit prefix trees
-  pub most : (others : Sexps) → AreSettled limit prefix others → (later : Sexps) × (trees ≡ append others later)
+  pub most : (others : Sexps) → AreSettled limit prefix others
+      → (later : Sexps) × (trees ≡ append others later)
 
 -- which fault a text has that is none of trees
 --     End      it might have gone on, and ends inside a list or a token
@@ -56,9 +61,11 @@ pub record AreComplete (limit : ℕ) (prefix : List ℕ) (trees : Sexps) : Type 
 abbrev pub HasFault : ℕ → List ℕ → TextFault → Type 0
 HasFault limit text (End place) = (place ≡ length text) × Begins limit text × (IsForest limit text → ⊥)
 HasFault limit text (Deep place) =
-    (prefix : List ℕ) × (b : ℕ) × (rest : List ℕ) × (place ≡ length prefix) × LongestPrefix limit text prefix (b ∷ rest) × ((depth : ℕ) × Begins depth (prefix ++ b ∷ []))
+    (prefix : List ℕ) × (b : ℕ) × (rest : List ℕ) × (place ≡ length prefix)
+    × LongestPrefix limit text prefix (b ∷ rest) × ((depth : ℕ) × Begins depth (prefix ++ b ∷ []))
 HasFault limit text (Byte place) =
-    (prefix : List ℕ) × (b : ℕ) × (rest : List ℕ) × (place ≡ length prefix) × LongestPrefix limit text prefix (b ∷ rest) × (((depth : ℕ) × Begins depth (prefix ++ b ∷ [])) → ⊥)
+    (prefix : List ℕ) × (b : ℕ) × (rest : List ℕ) × (place ≡ length prefix)
+    × LongestPrefix limit text prefix (b ∷ rest) × (((depth : ℕ) × Begins depth (prefix ++ b ∷ [])) → ⊥)
 HasFault limit text Memory = ⊥
 
 -- a text that ends inside a list or a token has this fault only once its end was told
@@ -68,9 +75,11 @@ IsTold ended (Byte place) = Unit {0}
 IsTold ended (Deep place) = Unit {0}
 IsTold ended Memory = Unit {0}
 
--- what is read of the text: the trees, and the fault after them, if there is one. `ended` says that no more of the text comes
+-- what is read of the text: the trees, and the fault after them, if there is one. `ended` says that no more
+-- of the text comes
 abbrev pub Reads : ℕ → Bool → List ℕ → Sexps → Option TextFault → Type 0
 Reads limit true text trees None = Forest limit text trees
 Reads limit false text trees None = Begins limit text × AreComplete limit text trees
 Reads limit ended text trees (Some fault) =
-    HasFault limit text fault × IsTold ended fault × ((prefix rest : List ℕ) × LongestPrefix limit text prefix rest × AreComplete limit prefix trees)
+    HasFault limit text fault × IsTold ended fault
+    × ((prefix rest : List ℕ) × LongestPrefix limit text prefix rest × AreComplete limit prefix trees)

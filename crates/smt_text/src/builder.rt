@@ -46,7 +46,8 @@ impl Builder {
     /// Adds a tree to the innermost list that is not closed, or at the top.
     #[inline(always)]
     pub(crate) fn add(&mut self, tree: Tree) -> Result<(), Refusal>
-        ensures { MatchResult result (λ _. levels_of self.new ≡ add (sexp_of tree) (levels_of self.old)) (λ e. e ≡ NoMemory) }
+        ensures { MatchResult result (λ _. levels_of self.new ≡ add (sexp_of tree) (levels_of self.old))
+            (λ e. e ≡ NoMemory) }
     {
         match self.lists.last_mut() {
             Some(parts) => parts.push(tree)?,
@@ -58,7 +59,8 @@ impl Builder {
     /// Begins a list.
     #[inline(always)]
     pub(crate) fn begin_list(&mut self) -> Result<(), Refusal>
-        ensures { MatchResult result (λ _. levels_of self.new ≡ begun (levels_of self.old)) (λ e. e ≡ NoMemory) }
+        ensures { MatchResult result (λ _. levels_of self.new ≡ begun (levels_of self.old))
+            (λ e. e ≡ NoMemory) }
     {
         let parts = self.empty_list();
         self.lists.push(parts)?;
@@ -68,7 +70,8 @@ impl Builder {
     /// Closes the innermost list.
     pub(crate) fn end_list(&mut self) -> Result<(), Refusal>
         requires { 0 < depth_of (levels_of self.old) }
-        ensures { MatchResult result (λ _. ended (levels_of self.old) ≡ levels_of self.new) (λ e. e ≡ NoMemory) }
+        ensures { MatchResult result (λ _. ended (levels_of self.old) ≡ levels_of self.new)
+            (λ e. e ≡ NoMemory) }
     {
         match self.lists.pop() {
             Some(parts) => {
@@ -110,7 +113,8 @@ impl Builder {
     /// The first tree that was not handed out.
     pub(crate) fn hand_out(&mut self) -> Option<Tree>
         ensures lists { self.new.lists ≡ self.old.lists }
-        ensures first { MatchOption result ((self.old.ready.items ≡ []) × (self.new.ready.items ≡ [])) (λ tree. self.old.ready.items ≡ tree ∷ self.new.ready.items) }
+        ensures first { MatchOption result ((self.old.ready.items ≡ []) × (self.new.ready.items ≡ []))
+            (λ tree. self.old.ready.items ≡ tree ∷ self.new.ready.items) }
     {
         self.ready.pop_front()
     }

@@ -4,7 +4,8 @@ ghost use Rattle.std.specs.Prelude.{◌≡◌, ◌<◌, ◌≤◌, ℕ, [], true
 ghost use Rattle.std.specs.Option.{option_map};
 ghost use Rattle.smt_text.specs.Internal.Machine as machine;
 ghost use Rattle.smt_trees.specs.Tree.{sexp_of};
-ghost use Rattle.smt_text.specs.declared.lexer.AtomState.TheVariants.{Zero, Digits, Hash, InText, InBars, InComment};
+ghost use Rattle.smt_text.specs.declared.lexer.AtomState.TheVariants.{Zero, Digits, Hash, InText, InBars};
+ghost use Rattle.smt_text.specs.declared.lexer.AtomState.TheVariants.{InComment};
 ghost use Rattle.smt_text.specs.declared.lexer.LexerStep.TheVariants.{Push, Skip};
 
 use crate::byte_class::{
@@ -312,7 +313,8 @@ pub(crate) fn atom_of(
 
 // A reserved word or a simple symbol.
 fn name_of(alloc: Global, bytes: &mut Vec<u8>) -> Result<Tree, AllocError>
-    ensures atom { IfOk result (λ tree. sexp_of tree ≡ machine.name_or_word (machine.word_named bytes.old.items) bytes.old.items) }
+    ensures atom { IfOk result
+        (λ tree. sexp_of tree ≡ machine.name_or_word (machine.word_named bytes.old.items) bytes.old.items) }
     ensures emptied { IfOk result (λ tree. bytes.new.items ≡ []) }
 {
     match word_of(bytes.as_slice()) {
@@ -328,7 +330,8 @@ fn name_of(alloc: Global, bytes: &mut Vec<u8>) -> Result<Tree, AllocError>
 #[inline(always)]
 pub(crate) fn name_at(alloc: Global, text: &[u8], count: usize) -> Result<Tree, AllocError>
     requires { count ≤ length text.now }
-    ensures { IfOk result (λ tree. let name = take count text.now in sexp_of tree ≡ machine.name_or_word (machine.word_named name) name) }
+    ensures { IfOk result (λ tree. let name = take count text.now
+        in sexp_of tree ≡ machine.name_or_word (machine.word_named name) name) }
 {
     match word_of(&text[..count]) {
         Some(word) => Ok(Tree::Reserved(word)),

@@ -1,10 +1,14 @@
 //! The reader: bytes in, S-expressions out.
 
-ghost use Rattle.std.specs.Prelude.{◌≡◌, ◌≢◌, ℕ, ◌+◌, ◌<◌, ◌≤◌, ◌^◌, List, [], ◌∷◌, ◌++◌, ◌⊎◌, length, slice_index, take, true, false, None, Some, MatchBool, MatchResult};
+ghost use Rattle.std.specs.Prelude.{◌≡◌, ◌≢◌, ℕ, ◌+◌, ◌<◌, ◌≤◌, ◌^◌, List, [], ◌∷◌, ◌++◌, ◌⊎◌, length};
+ghost use Rattle.std.specs.Prelude.{slice_index, take, true, false, None, Some, MatchBool, MatchResult};
 ghost use Rattle.smt_text.specs.Grammar.{limit, OpenParenthesis, CloseParenthesis};
-ghost use Rattle.smt_text.specs.Reader.{is_finished, bytes_fed, fault_of, trees_waiting, StandsFor, Answers, FewerWait, IsFound, with_answer};
-ghost use Rattle.smt_text.specs.Internal.Machine.{act, add, finished, flush, lex, name_or_word, refusal_of, settle, step, word_named};
-ghost use Rattle.smt_text.specs.Internal.ReaderState.{levels_of, state_of, Ends, Goes, GoesOver, GoesThrough, IsBeside};
+ghost use Rattle.smt_text.specs.Reader.{is_finished, bytes_fed, fault_of, trees_waiting, StandsFor, Answers};
+ghost use Rattle.smt_text.specs.Reader.{FewerWait, IsFound, with_answer};
+ghost use Rattle.smt_text.specs.Internal.Machine.{act, add, finished, flush, lex, name_or_word, refusal_of};
+ghost use Rattle.smt_text.specs.Internal.Machine.{settle, step, word_named};
+ghost use Rattle.smt_text.specs.Internal.ReaderState.{levels_of, state_of, Ends, Goes, GoesOver, GoesThrough};
+ghost use Rattle.smt_text.specs.Internal.ReaderState.{IsBeside};
 ghost use Rattle.smt_text.specs.Reading.{Reads};
 ghost use Rattle.smt_trees.specs.Sexp.{Sexps, Nil};
 ghost use Rattle.smt_faults.specs.declared.text_fault.TextFault.{TextFault as Fault};
@@ -38,7 +42,8 @@ pub enum Next {
     Fault(TextFault),
 }
 
-/// A reader of a text (SMT-LIB 2.6, sections 3.1 and 3.2) that comes in pieces. Lists nest at most 1,000 deep.
+/// A reader of a text (SMT-LIB 2.6, sections 3.1 and 3.2) that comes in pieces. Lists nest at most 1,000
+/// deep.
 #[derive(Drop)]
 pub struct Reader {
     alloc: Global,
@@ -74,7 +79,8 @@ impl Reader {
     pub fn feed(&mut self, piece: &[u8])
         requires unfinished { is_finished self.old ≡ false }
         requires room { bytes_fed self.old + length piece.now < 2 ^ 64 }
-        ensures stands { (fed : List ℕ) (taken : Sexps) → StandsFor self.old fed taken → StandsFor self.new (fed ++ piece.now) taken }
+        ensures stands { (fed : List ℕ) (taken : Sexps) → StandsFor self.old fed taken
+            → StandsFor self.new (fed ++ piece.now) taken }
         ensures finished { is_finished self.new ≡ false }
         ensures counted { bytes_fed self.new ≡ bytes_fed self.old + length piece.now }
         ensures fault { (f : Fault) → fault_of self.old ≡ Some f → fault_of self.new ≡ Some f }
@@ -96,7 +102,8 @@ impl Reader {
     /// Tells that the text has ended.
     pub fn finish(&mut self)
         requires unfinished { is_finished self.old ≡ false }
-        ensures stands { (fed : List ℕ) (taken : Sexps) → StandsFor self.old fed taken → StandsFor self.new fed taken }
+        ensures stands { (fed : List ℕ) (taken : Sexps) → StandsFor self.old fed taken
+            → StandsFor self.new fed taken }
         ensures finished { is_finished self.new ≡ true }
         ensures counted { bytes_fed self.new ≡ bytes_fed self.old }
         ensures fault { (f : Fault) → fault_of self.old ≡ Some f → fault_of self.new ≡ Some f }
@@ -109,8 +116,10 @@ impl Reader {
 
     /// Hands out the next tree, or tells why there is none.
     pub fn next(&mut self) -> Next
-        ensures right { (fed : List ℕ) (taken : Sexps) → StandsFor self.old fed taken → Answers (is_finished self.old) fed taken result }
-        ensures stands { (fed : List ℕ) (taken : Sexps) → StandsFor self.old fed taken → StandsFor self.new fed (with_answer taken result) }
+        ensures right { (fed : List ℕ) (taken : Sexps) → StandsFor self.old fed taken
+            → Answers (is_finished self.old) fed taken result }
+        ensures stands { (fed : List ℕ) (taken : Sexps) → StandsFor self.old fed taken
+            → StandsFor self.new fed (with_answer taken result) }
         ensures finished { is_finished self.new ≡ is_finished self.old }
         ensures counted { bytes_fed self.new ≡ bytes_fed self.old }
         ensures fault { fault_of self.new ≡ fault_of self.old }
@@ -225,7 +234,10 @@ impl Reader {
         ensures beside { IsBeside self.old self.new }
         ensures token { self.new.token ≡ self.old.token }
         ensures bytes { self.new.bytes ≡ self.old.bytes }
-        ensures added { MatchResult result (λ _. let name = take count text.now in levels_of self.new.builder ≡ add (name_or_word (word_named name) name) (levels_of self.old.builder)) (λ e. e ≡ NoMemory) }
+        ensures added { MatchResult result
+            (λ _. let name = take count text.now
+            in levels_of self.new.builder
+            ≡ add (name_or_word (word_named name) name) (levels_of self.old.builder)) (λ e. e ≡ NoMemory) }
     {
         self.builder.add(name_at(self.alloc, text, count)?)
     }
@@ -271,7 +283,8 @@ impl Reader {
     // One byte, while there is no fault.
     fn advance(&mut self, byte: u8) -> Result<(), Refusal>
         ensures beside { IsBeside self.old self.new }
-        ensures goes { Goes (step MAX_DEPTH (state_of self.old) byte) (refusal_of (lex self.old.token byte)) (state_of self.old) result (state_of self.new) }
+        ensures goes { Goes (step MAX_DEPTH (state_of self.old) byte) (refusal_of (lex self.old.token byte))
+            (state_of self.old) result (state_of self.new) }
     {
         match self.token.after(byte) {
             LexerStep::Push(token) => {
@@ -293,7 +306,8 @@ impl Reader {
     // The token that has begun ends here, and a list begins.
     fn begin_list(&mut self) -> Result<(), Refusal>
         ensures beside { IsBeside self.old self.new }
-        ensures goes { Goes (settle (act MAX_DEPTH OpenParenthesis (flush (state_of self.old)))) TooDeep (state_of self.old) result (state_of self.new) }
+        ensures goes { Goes (settle (act MAX_DEPTH OpenParenthesis (flush (state_of self.old)))) TooDeep
+            (state_of self.old) result (state_of self.new) }
     {
         if self.builder.depth() >= MAX_DEPTH {
             return Err(Refusal::TooDeep);
@@ -305,7 +319,8 @@ impl Reader {
     // The token that has begun ends here, and so does the innermost list.
     fn end_list(&mut self) -> Result<(), Refusal>
         ensures beside { IsBeside self.old self.new }
-        ensures goes { Goes (settle (act MAX_DEPTH CloseParenthesis (flush (state_of self.old)))) Unfit (state_of self.old) result (state_of self.new) }
+        ensures goes { Goes (settle (act MAX_DEPTH CloseParenthesis (flush (state_of self.old)))) Unfit
+            (state_of self.old) result (state_of self.new) }
     {
         if self.builder.depth() == 0 {
             return Err(Refusal::Unfit);
@@ -317,7 +332,8 @@ impl Reader {
     // Adds the atom that has begun, if one has, which ends here.
     fn finish_token(&mut self, next: AtomState) -> Result<(), Refusal>
         ensures beside { IsBeside self.old self.new }
-        ensures finished { MatchResult result (λ _. finished next (state_of self.old) ≡ state_of self.new) (λ e. e ≡ NoMemory) }
+        ensures finished { MatchResult result (λ _. finished next (state_of self.old) ≡ state_of self.new)
+            (λ e. e ≡ NoMemory) }
     {
         let token = mem::replace(&mut self.token, next);
         match atom_of(self.alloc, token, &mut self.bytes)? {

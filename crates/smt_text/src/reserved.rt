@@ -58,7 +58,8 @@ fn words_like(length: usize, first: u8) -> &'static [Word]
 #[inline(always)]
 pub(crate) fn word_of(bytes: &[u8]) -> Option<Word>
     ensures named { result ≡ word_named bytes.now }
-    ensures written { MatchOption result ((word : Word) → bytes.now ≢ spelling_of word) (λ word. bytes.now ≡ spelling_of word) }
+    ensures written { MatchOption result ((word : Word) → bytes.now ≢ spelling_of word)
+        (λ word. bytes.now ≡ spelling_of word) }
 {
     let Some(first) = bytes.first() else {
         return None;

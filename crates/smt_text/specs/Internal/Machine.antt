@@ -1,13 +1,21 @@
--- How a reader goes over a text, byte by byte. Proofs and private contracts name this; what a text means is in Grammar and Reading.
-use Rattle.std.specs.Prelude.{◌≡◌, ◌==◌, ◌&&◌, ℕ, Bool, true, false, List, [], ◌∷◌, ◌++◌, length, Option, Some, None, nat_lt, if◌then◌else◌}
+-- How a reader goes over a text, byte by byte. Proofs and private contracts name this; what a text means is
+-- in Grammar and Reading.
+use Rattle.std.specs.Prelude.{◌≡◌, ◌==◌, ◌&&◌, ℕ, Bool, true, false, List, [], ◌∷◌, ◌++◌, length, Option}
+use Rattle.std.specs.Prelude.{Some, None, nat_lt, if◌then◌else◌}
 use Rattle.std.specs.Str.{bytes_eq}
 use Rattle.smt_text.specs.Grammar.{Token, OpenParenthesis, CloseParenthesis, AtomToken, WordToken}
-use Rattle.smt_text.specs.Lexical.{quote, bar, semicolon, point, zero_digit, open_parenthesis, close_parenthesis, is_white, is_digit, is_nonzero_digit, is_hexadecimal_digit, is_binary_digit, is_letter, is_symbol_byte, is_text_byte, is_quoted_byte, is_comment_byte}
+use Rattle.smt_text.specs.Lexical.{quote, bar, semicolon, point, zero_digit, open_parenthesis}
+use Rattle.smt_text.specs.Lexical.{close_parenthesis, is_white, is_digit, is_nonzero_digit}
+use Rattle.smt_text.specs.Lexical.{is_hexadecimal_digit, is_binary_digit, is_letter, is_symbol_byte}
+use Rattle.smt_text.specs.Lexical.{is_text_byte, is_quoted_byte, is_comment_byte}
 use Rattle.smt_trees.specs.Reserved.{spelling_of, all_words}
 use Rattle.smt_trees.specs.Sexp as sexp
 use Rattle.smt_trees.specs.Sexp.{Sexp, Sexps, Atom, Reserved, Items, Nil, Cons, append}
 use Rattle.smt_text.specs.declared.lexer.AtomState.{AtomState}
-use Rattle.smt_text.specs.declared.lexer.AtomState.TheVariants.{Nothing, Zero, Digits, Point, Fraction, Hash, HexMark, HexDigits, BinMark, BinDigits, Name, Colon, KeywordName, InText, TextQuote, InBars, AfterBar, InComment}
+use Rattle.smt_text.specs.declared.lexer.AtomState.TheVariants.{Nothing, Zero, Digits, Point, Fraction, Hash}
+use Rattle.smt_text.specs.declared.lexer.AtomState.TheVariants.{HexMark, HexDigits, BinMark, BinDigits, Name}
+use Rattle.smt_text.specs.declared.lexer.AtomState.TheVariants.{Colon, KeywordName, InText, TextQuote, InBars}
+use Rattle.smt_text.specs.declared.lexer.AtomState.TheVariants.{AfterBar, InComment}
 use Rattle.smt_text.specs.declared.lexer.LexerStep.{LexerStep}
 use Rattle.smt_text.specs.declared.lexer.LexerStep.TheVariants.{Push, Skip, Finish, Open, Close, Stuck}
 use Rattle.smt_trees.specs.declared.reserved.Word.{Word}
@@ -37,7 +45,8 @@ add x (On (parts ∷ lists) top) = On (append parts (Cons x Nil) ∷ lists) top
 -- the first of the words that is written so
 abbrev pub find_word : List ℕ → List Word → Option Word
 find_word bytes [] = None
-find_word bytes (word ∷ words) = if bytes_eq (spelling_of word) bytes then Some word else find_word bytes words
+find_word bytes (word ∷ words) =
+    if bytes_eq (spelling_of word) bytes then Some word else find_word bytes words
 
 -- the reserved word that is written so
 abbrev pub word_named : List ℕ → Option Word
@@ -141,7 +150,8 @@ flush (At token bytes levels) = add_if (atom_of token bytes) levels
 -- a byte that shows the end of the token before it
 abbrev pub separated : ℕ → LexerStep
 separated b =
-    if b == open_parenthesis then Open else if b == close_parenthesis then Close else if b == semicolon then Finish InComment else if is_white b then Finish Nothing else Stuck
+    if b == open_parenthesis then Open else if b == close_parenthesis then Close
+    else if b == semicolon then Finish InComment else if is_white b then Finish Nothing else Stuck
 
 -- the first byte of a token
 abbrev pub begun_by : ℕ → LexerStep
@@ -187,7 +197,8 @@ ended (On (parts ∷ lists) top) = add (Items parts) (On lists top)
 
 -- what a token does to the trees, if it may come
 abbrev pub act : ℕ → Token → Levels → Option Levels
-act limit OpenParenthesis (On lists top) = if nat_lt (length lists) limit then Some (On (Nil ∷ lists) top) else None
+act limit OpenParenthesis (On lists top) =
+    if nat_lt (length lists) limit then Some (On (Nil ∷ lists) top) else None
 act limit CloseParenthesis (On [] top) = None
 act limit CloseParenthesis (On (parts ∷ lists) top) = Some (add (Items parts) (On lists top))
 act limit (AtomToken kind bytes) levels = Some (add (Atom kind bytes) levels)

@@ -1,33 +1,47 @@
-//! Examples of texts, with their trees and faults, as theorems on the definitions. Each is a clause of a function that
-//! does nothing.
+//! Examples of texts, with their trees and faults, as theorems on the definitions. Each is a clause of a
+//! function that does nothing.
 
-ghost use Rattle.std.specs.Prelude.{◌≡◌, ◌<◌, ◌+◌, ℕ, List, [], ◌∷◌, ◌++◌, codes, true, false, Some, None, replicate};
+ghost use Rattle.std.specs.Prelude.{◌≡◌, ◌<◌, ◌+◌, ℕ, List, [], ◌∷◌, ◌++◌, codes, true, false, Some, None};
+ghost use Rattle.std.specs.Prelude.{replicate};
 ghost use Rattle.smt_text.specs.Grammar.{limit, Forest};
 ghost use Rattle.smt_text.specs.Reading.{Reads};
-ghost use Rattle.smt_trees.specs.Sexp.{Atom, Reserved, Items, Nil, Cons, Symbol, Numeral, Decimal, Hexadecimal, Binary, Text, Keyword};
+ghost use Rattle.smt_trees.specs.Sexp.{Atom, Reserved, Items, Nil, Cons, Symbol, Numeral, Decimal};
+ghost use Rattle.smt_trees.specs.Sexp.{Hexadecimal, Binary, Text, Keyword};
 ghost use Rattle.smt_faults.specs.declared.text_fault.TextFault.TheVariants.{Byte, Deep, End};
 ghost use Rattle.smt_trees.specs.declared.reserved.Word.TheVariants.{Assert};
 
 /// Texts and their trees.
 pub fn forests()
     ensures empty { Forest limit [] Nil }
-    ensures two_symbols { Forest limit (codes "a b") (Cons (Atom Symbol (codes "a")) (Cons (Atom Symbol (codes "b")) Nil)) }
-    ensures one_symbol { Forest limit (codes "ab") (Cons (Atom Symbol (codes "a")) (Cons (Atom Symbol (codes "b")) Nil)) → ⊥ }
+    ensures two_symbols { Forest limit (codes "a b")
+        (Cons (Atom Symbol (codes "a")) (Cons (Atom Symbol (codes "b")) Nil)) }
+    ensures one_symbol { Forest limit (codes "ab")
+        (Cons (Atom Symbol (codes "a")) (Cons (Atom Symbol (codes "b")) Nil)) → ⊥ }
     ensures reserved { Forest limit (codes "(assert)") (Cons (Items (Cons (Reserved Assert) Nil)) Nil) }
-    ensures no_symbol { Forest limit (codes "(assert)") (Cons (Items (Cons (Atom Symbol (codes "assert")) Nil)) Nil) → ⊥ }
+    ensures no_symbol { Forest limit (codes "(assert)")
+        (Cons (Items (Cons (Atom Symbol (codes "assert")) Nil)) Nil) → ⊥ }
     ensures quoted { Forest limit (codes "|assert|") (Cons (Atom Symbol (codes "assert")) Nil) }
     ensures quoted_empty { Forest limit (codes "||") (Cons (Atom Symbol []) Nil) }
-    ensures quoted_space { Forest limit (codes "(|a b| x)") (Cons (Items (Cons (Atom Symbol (codes "a b")) (Cons (Atom Symbol (codes "x")) Nil))) Nil) }
-    ensures numbers { Forest limit (codes "0 10 0.50 #xAf0 #b011") (Cons (Atom Numeral (codes "0")) (Cons (Atom Numeral (codes "10")) (Cons (Atom Decimal (codes "0.50")) (Cons (Atom Hexadecimal (codes "Af0")) (Cons (Atom Binary (codes "011")) Nil))))) }
-    ensures keyword { Forest limit (codes ":1a(:x)") (Cons (Atom Keyword (codes "1a")) (Cons (Items (Cons (Atom Keyword (codes "x")) Nil)) Nil)) }
+    ensures quoted_space { Forest limit (codes "(|a b| x)")
+        (Cons (Items (Cons (Atom Symbol (codes "a b")) (Cons (Atom Symbol (codes "x")) Nil))) Nil) }
+    ensures numbers { Forest limit (codes "0 10 0.50 #xAf0 #b011")
+        (Cons (Atom Numeral (codes "0"))
+        (Cons (Atom Numeral (codes "10"))
+        (Cons (Atom Decimal (codes "0.50"))
+        (Cons (Atom Hexadecimal (codes "Af0")) (Cons (Atom Binary (codes "011")) Nil))))) }
+    ensures keyword { Forest limit (codes ":1a(:x)")
+        (Cons (Atom Keyword (codes "1a")) (Cons (Items (Cons (Atom Keyword (codes "x")) Nil)) Nil)) }
 {}
 
 /// String literals. A quote is byte 34.
 pub fn texts()
     ensures empty { Forest limit (34 ∷ 34 ∷ []) (Cons (Atom Text []) Nil) }
-    ensures one_quote { Forest limit (34 ∷ 97 ∷ 34 ∷ 34 ∷ 98 ∷ 34 ∷ []) (Cons (Atom Text (97 ∷ 34 ∷ 98 ∷ [])) Nil) }
-    ensures no_two { Forest limit (34 ∷ 97 ∷ 34 ∷ 34 ∷ 98 ∷ 34 ∷ []) (Cons (Atom Text (codes "a")) (Cons (Atom Text (codes "b")) Nil)) → ⊥ }
-    ensures any_encoding { Forest limit (34 ∷ 92 ∷ 195 ∷ 164 ∷ 10 ∷ 34 ∷ []) (Cons (Atom Text (92 ∷ 195 ∷ 164 ∷ 10 ∷ [])) Nil) }
+    ensures one_quote { Forest limit (34 ∷ 97 ∷ 34 ∷ 34 ∷ 98 ∷ 34 ∷ [])
+        (Cons (Atom Text (97 ∷ 34 ∷ 98 ∷ [])) Nil) }
+    ensures no_two { Forest limit (34 ∷ 97 ∷ 34 ∷ 34 ∷ 98 ∷ 34 ∷ [])
+        (Cons (Atom Text (codes "a")) (Cons (Atom Text (codes "b")) Nil)) → ⊥ }
+    ensures any_encoding { Forest limit (34 ∷ 92 ∷ 195 ∷ 164 ∷ 10 ∷ 34 ∷ [])
+        (Cons (Atom Text (92 ∷ 195 ∷ 164 ∷ 10 ∷ [])) Nil) }
     ensures delete { Reads limit true (34 ∷ 127 ∷ 34 ∷ []) Nil (Some (Byte 1)) }
     ensures neighbour { Reads limit true (34 ∷ 97 ∷ 34 ∷ 98 ∷ []) Nil (Some (Byte 3)) }
     ensures open_end { Reads limit true (34 ∷ 97 ∷ []) Nil (Some (End 2)) }
@@ -39,8 +53,10 @@ pub fn texts()
 pub fn comments()
     ensures ends_with_text { Forest limit (codes "a ; b") (Cons (Atom Symbol (codes "a")) Nil) }
     ensures after_atom { Forest limit (codes "a;b") (Cons (Atom Symbol (codes "a")) Nil) }
-    ensures line_feed { Forest limit (codes "a;" ++ 10 ∷ 98 ∷ []) (Cons (Atom Symbol (codes "a")) (Cons (Atom Symbol (codes "b")) Nil)) }
-    ensures carriage_return { Forest limit (codes "a;" ++ 13 ∷ 98 ∷ []) (Cons (Atom Symbol (codes "a")) (Cons (Atom Symbol (codes "b")) Nil)) }
+    ensures line_feed { Forest limit (codes "a;" ++ 10 ∷ 98 ∷ [])
+        (Cons (Atom Symbol (codes "a")) (Cons (Atom Symbol (codes "b")) Nil)) }
+    ensures carriage_return { Forest limit (codes "a;" ++ 13 ∷ 98 ∷ [])
+        (Cons (Atom Symbol (codes "a")) (Cons (Atom Symbol (codes "b")) Nil)) }
     ensures any_byte { Forest limit (59 ∷ 0 ∷ 127 ∷ 255 ∷ 10 ∷ []) Nil }
     ensures closes_nothing { Reads limit true (codes "(a ;)") Nil (Some (End 5)) }
     ensures ends_an_atom { Reads limit false (codes "a;") (Cons (Atom Symbol (codes "a")) Nil) None }
@@ -49,15 +65,18 @@ pub fn comments()
 /// Texts and their faults, once they have ended, and what is read before the fault.
 pub fn faults()
     ensures closed { Reads limit true (codes "sat)") Nil (Some (Byte 3)) }
-    ensures closed_later { Reads limit true (codes "sat )") (Cons (Atom Symbol (codes "sat")) Nil) (Some (Byte 4)) }
-    ensures closed_quoted { Reads limit true (codes "|sat|)") (Cons (Atom Symbol (codes "sat")) Nil) (Some (Byte 5)) }
+    ensures closed_later { Reads limit true (codes "sat )") (Cons (Atom Symbol (codes "sat")) Nil)
+        (Some (Byte 4)) }
+    ensures closed_quoted { Reads limit true (codes "|sat|)") (Cons (Atom Symbol (codes "sat")) Nil)
+        (Some (Byte 5)) }
     ensures unclosed { Reads limit true (codes "(a") Nil (Some (End 2)) }
     ensures may_close { Reads limit false (codes "(a") Nil None }
     ensures numeral { Reads limit true (codes "1a") Nil (Some (Byte 1)) }
     ensures zero { Reads limit true (codes "01") Nil (Some (Byte 1)) }
     ensures point { Reads limit true (codes "1.") Nil (Some (End 2)) }
     ensures no_fraction { Reads limit true (codes "1.)") Nil (Some (Byte 2)) }
-    ensures after_a_tree { Reads limit true (codes "(a) 01") (Cons (Items (Cons (Atom Symbol (codes "a")) Nil)) Nil) (Some (Byte 5)) }
+    ensures after_a_tree { Reads limit true (codes "(a) 01")
+        (Cons (Items (Cons (Atom Symbol (codes "a")) Nil)) Nil) (Some (Byte 5)) }
     ensures after_a_quoted_symbol { Reads limit true (codes "|a|b") (Cons (Atom Symbol (codes "a")) Nil) (Some (Byte 3)) }
     ensures backslash { Reads limit true (124 ∷ 97 ∷ 92 ∷ 98 ∷ 124 ∷ []) Nil (Some (Byte 2)) }
     ensures no_digit { Reads limit true (codes "#xg") Nil (Some (Byte 2)) }

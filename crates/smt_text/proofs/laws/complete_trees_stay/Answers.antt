@@ -2,4 +2,5 @@ use Rattle.smt_text.proofs.ReadingLemmas as faults
 use Rattle.smt_text.proofs.laws.complete_trees_stay.Goals as goal
 
 pub returns : goal.returns
-returns c = record { stay = λ limit prefix more xs ys _ a b. faults.complete_trees_stay limit prefix more xs ys a b }
+returns c =
+    record { stay = λ limit prefix more xs ys _ a b. faults.complete_trees_stay limit prefix more xs ys a b }

@@ -2,4 +2,5 @@ use Rattle.smt_text.proofs.ReadingLemmas.{every_text}
 use Rattle.smt_text.proofs.laws.every_text_reads.Goals as goal
 
 pub returns : goal.returns
-returns c = record { some = λ limit ended text. let r = every_text limit ended text in (r.trees, r.fault, r.reads) }
+returns c =
+    record { some = λ limit ended text. let r = every_text limit ended text in (r.trees, r.fault, r.reads) }

@@ -5,8 +5,13 @@ use Rattle.smt_text.proofs.builder.Builder.add.Goals as goal
 
 pub returns-in_ok-push-in-Some : goal.returns-in_ok-push-in-Some
 returns-in_ok-push-in-Some c =
-    add_last c.args.self.now.lists.items (vec_len c.args.self.now.lists) c.in-Some.parts.now c.push.new.self c.args.tree (sexps_of c.args.self.now.ready.items) c.args.self.now.lists.ok.0 (c.in-Some.ensures.variant.0 refl) c.in-Some.ensures.value c.in_ok-push-in-Some.ensures.items
+    add_last c.args.self.now.lists.items
+    (vec_len c.args.self.now.lists) c.in-Some.parts.now c.push.new.self c.args.tree
+    (sexps_of c.args.self.now.ready.items) c.args.self.now.lists.ok.0
+    (c.in-Some.ensures.variant.0 refl) c.in-Some.ensures.value c.in_ok-push-in-Some.ensures.items
 
 pub returns-in_ok-push_back-in-None : goal.returns-in_ok-push_back-in-None
 returns-in_ok-push_back-in-None c =
-    add_topmost c.args.self.now.lists.items (vec_len c.args.self.now.lists) c.args.self.now.ready.items c.push_back.new.self.items c.args.tree c.args.self.now.lists.ok.0 c.in-None.ensures.variant.1 c.in_ok-push_back-in-None.ensures.items
+    add_topmost c.args.self.now.lists.items
+    (vec_len c.args.self.now.lists) c.args.self.now.ready.items c.push_back.new.self.items c.args.tree
+    c.args.self.now.lists.ok.0 c.in-None.ensures.variant.1 c.in_ok-push_back-in-None.ensures.items

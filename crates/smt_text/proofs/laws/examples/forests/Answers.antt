@@ -10,7 +10,8 @@ returns c = record {
   two_symbols = reads limit true (codes "a b");
   one_symbol = λ h. let e = one_forest limit limit (codes "ab") _ _ (reads limit true (codes "ab")) h in cc;
   reserved = reads limit true (codes "(assert)");
-  no_symbol = λ h. let e = one_forest limit limit (codes "(assert)") _ _ (reads limit true (codes "(assert)")) h in cc;
+  no_symbol = λ h. let e = one_forest limit limit (codes "(assert)") _ _
+      (reads limit true (codes "(assert)")) h in cc;
   quoted = reads limit true (codes "|assert|");
   quoted_empty = reads limit true (codes "||");
   quoted_space = reads limit true (codes "(|a b| x)");

@@ -8,7 +8,8 @@ pub returns : goal.returns
 returns c = record {
   empty = reads limit true (34 ∷ 34 ∷ []);
   one_quote = reads limit true (34 ∷ 97 ∷ 34 ∷ 34 ∷ 98 ∷ 34 ∷ []);
-  no_two = λ h. let e = one_forest limit limit (34 ∷ 97 ∷ 34 ∷ 34 ∷ 98 ∷ 34 ∷ []) _ _ (reads limit true (34 ∷ 97 ∷ 34 ∷ 34 ∷ 98 ∷ 34 ∷ [])) h in cc;
+  no_two = λ h. let e = one_forest limit limit (34 ∷ 97 ∷ 34 ∷ 34 ∷ 98 ∷ 34 ∷ []) _ _
+      (reads limit true (34 ∷ 97 ∷ 34 ∷ 34 ∷ 98 ∷ 34 ∷ [])) h in cc;
   any_encoding = reads limit true (34 ∷ 92 ∷ 195 ∷ 164 ∷ 10 ∷ 34 ∷ []);
   delete = reads limit true (34 ∷ 127 ∷ 34 ∷ []);
   neighbour = reads limit true (34 ∷ 97 ∷ 34 ∷ 98 ∷ []);

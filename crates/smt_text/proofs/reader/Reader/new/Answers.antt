@@ -7,8 +7,17 @@ use Rattle.smt_text.proofs.reader.Reader.new.Goals as goal
 
 pub returns-clause-stands : goal.returns-clause-stands
 returns-clause-stands c =
-    stands_new (record { alloc = c.args.alloc; fed = 0; finished = false; token = Nothing; bytes = c.new.result; builder = c.new-2.result; fault = None }) refl refl refl
-    (ap (λ (bytes : List ℕ). At Nothing bytes (levels_of c.new-2.result)) c.new.ensures.items ∙ ap (At Nothing []) c.new-2.ensures)
+    stands_new (record {
+      alloc = c.args.alloc;
+      fed = 0;
+      finished = false;
+      token = Nothing;
+      bytes = c.new.result;
+      builder = c.new-2.result;
+      fault = None;
+    }) refl refl refl
+    (ap (λ (bytes : List ℕ). At Nothing bytes (levels_of c.new-2.result)) c.new.ensures.items ∙ ap
+    (At Nothing []) c.new-2.ensures)
 
 pub returns-clause-finished : goal.returns-clause-finished
 returns-clause-finished c = search rules

@@ -6,20 +6,32 @@ use Rattle.smt_text.proofs.reader.Reader.next.Goals as goal
 
 pub returns-in-Some-clause-right : goal.returns-in-Some-clause-right
 returns-in-Some-clause-right c =
-    λ fed taken h. answers_tree c.args.self.now fed taken c.in-Some.tree c.hand_out.new.self.ready.items c.if-is_refused.ensures c.in-Some.ensures.first h
+    λ fed taken h. answers_tree c.args.self.now fed taken c.in-Some.tree c.hand_out.new.self.ready.items
+    c.if-is_refused.ensures c.in-Some.ensures.first h
 
 pub returns-in-Some-clause-stands : goal.returns-in-Some-clause-stands
 returns-in-Some-clause-stands c =
-    λ fed taken h. stands_handed c.args.self.now (record c.args.self.now { builder = c.hand_out.new.self }) fed taken c.in-Some.tree refl refl refl refl refl (ap (λ v. v.items) c.hand_out.ensures.lists) c.in-Some.ensures.first h
+    λ fed taken h. stands_handed c.args.self.now
+    (record c.args.self.now { builder = c.hand_out.new.self }) fed taken c.in-Some.tree refl refl refl
+    refl refl (ap (λ v. v.items) c.hand_out.ensures.lists) c.in-Some.ensures.first h
 
 pub returns-in-Some-fault-clause-right : goal.returns-in-Some-fault-clause-right
 returns-in-Some-fault-clause-right c =
-    λ fed taken h. answers_fault c.args.self.now fed taken c.in-Some-fault.fault c.in_default.ensures.first.0 c.in-Some-fault.is h
+    λ fed taken h. answers_fault c.args.self.now fed taken c.in-Some-fault.fault c.in_default.ensures.first.0
+    c.in-Some-fault.is h
 
 pub returns-in-None-clause-right : goal.returns-in-None-clause-right
 returns-in-None-clause-right c =
-    λ fed taken h. (c.if-self.true, subst (λ b. Reads MAX_DEPTH b fed taken None) c.if-self.true (answers_none c.args.self.now fed taken c.in_default.ensures.first.0 c.in-None.is h))
+    λ fed taken h. (
+      c.if-self.true,
+      subst (λ b. Reads MAX_DEPTH b fed taken None) c.if-self.true
+          (answers_none c.args.self.now fed taken c.in_default.ensures.first.0 c.in-None.is h),
+    )
 
 pub returns-in-None-2-clause-right : goal.returns-in-None-2-clause-right
 returns-in-None-2-clause-right c =
-    λ fed taken h. (c.if-self.false, subst (λ b. Reads MAX_DEPTH b fed taken None) c.if-self.false (answers_none c.args.self.now fed taken c.in_default.ensures.first.0 c.in-None.is h))
+    λ fed taken h. (
+      c.if-self.false,
+      subst (λ b. Reads MAX_DEPTH b fed taken None) c.if-self.false
+          (answers_none c.args.self.now fed taken c.in_default.ensures.first.0 c.in-None.is h),
+    )

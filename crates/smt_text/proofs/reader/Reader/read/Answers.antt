@@ -6,15 +6,26 @@ use Rattle.smt_text.proofs.reader.Reader.read.Goals as goal
 
 pub loop-place-preserved : goal.loop-place-preserved
 loop-place-preserved c = record {
-  within = omega (arith, c.in-Ok.ensures.goes.1, rest_length c.args.piece.now c.loop-place.place, c.loop-place.invariant.within);
+  within = omega (
+    arith,
+    c.in-Ok.ensures.goes.1,
+    rest_length c.args.piece.now c.loop-place.place,
+    c.loop-place.invariant.within,
+  );
   beside = (
     c.in-Ok.ensures.beside.0 ∙ c.loop-place.invariant.beside.0,
     c.in-Ok.ensures.beside.1 ∙ c.loop-place.invariant.beside.1,
     c.in-Ok.ensures.beside.2 ∙ c.loop-place.invariant.beside.2,
   );
-  runs = further MAX_DEPTH (state_of c.args.self.now) (state_of c.loop-place.self) (state_of c.read_some.new.self) c.args.piece.now c.loop-place.place c.in-Ok.count c.loop-place.invariant.runs c.in-Ok.ensures.goes.2;
+  runs = further MAX_DEPTH (state_of c.args.self.now) (state_of c.loop-place.self)
+      (state_of c.read_some.new.self) c.args.piece.now c.loop-place.place c.in-Ok.count
+      c.loop-place.invariant.runs c.in-Ok.ensures.goes.2;
 }
 
 pub returns-in-Err-clause-goes : goal.returns-in-Err-clause-goes
 returns-in-Err-clause-goes c =
-    refused (state_of c.args.self.now) (state_of c.loop-place.self) (state_of c.read_some.new.self) c.args.piece.now c.loop-place.place c.args.self.now.fed c.read_some.new.self.fed c.in-Err.refusal c.at.result c.loop-place-test.true c.loop-place.invariant.runs (c.in-Err.ensures.beside.0 ∙ c.loop-place.invariant.beside.0) c.at.ensures c.in-Err.ensures.goes
+    refused (state_of c.args.self.now) (state_of c.loop-place.self)
+    (state_of c.read_some.new.self) c.args.piece.now c.loop-place.place c.args.self.now.fed
+    c.read_some.new.self.fed c.in-Err.refusal c.at.result c.loop-place-test.true
+    c.loop-place.invariant.runs
+    (c.in-Err.ensures.beside.0 ∙ c.loop-place.invariant.beside.0) c.at.ensures c.in-Err.ensures.goes

@@ -5,5 +5,11 @@ use Rattle.smt_text.specs.declared.reader.TheConstants.{MAX_DEPTH}
 use Rattle.smt_text.proofs.reader.Reader.read_comment.Goals as goal
 
 pub returns-clause-goes : goal.returns-clause-goes
-returns-clause-goes c =
-    (omega arith, c.comment_length-count.ensures.within, skipped_run MAX_DEPTH (levels_of c.args.self.now.builder) c.args.self.now.token c.args.self.now.bytes.items c.args.text.now c.comment_length-count.result c.requires.token c.comment_length-count.ensures.within c.comment_length-count.ensures.skipped)
+returns-clause-goes c = (
+  omega arith,
+  c.comment_length-count.ensures.within,
+  skipped_run MAX_DEPTH
+      (levels_of c.args.self.now.builder) c.args.self.now.token c.args.self.now.bytes.items c.args.text.now
+      c.comment_length-count.result c.requires.token c.comment_length-count.ensures.within
+      c.comment_length-count.ensures.skipped,
+)

@@ -6,4 +6,7 @@ use Rattle.smt_text.proofs.reader.Reader.read_run.Goals as goal
 
 pub returns-clause-goes : goal.returns-clause-goes
 returns-clause-goes c =
-    run_kept MAX_DEPTH (levels_of c.args.self.now.builder) c.args.self.now.token c.args.self.now.bytes.items c.extend_from_slice.new.self.items c.args.text.now c.run_length-count.result (omega arith) c.run_length-count.ensures.within c.run_length-count.ensures.kept c.in_ok-extend_from_slice.ensures.items
+    run_kept MAX_DEPTH (levels_of c.args.self.now.builder) c.args.self.now.token c.args.self.now.bytes.items
+    c.extend_from_slice.new.self.items c.args.text.now c.run_length-count.result
+    (omega arith) c.run_length-count.ensures.within c.run_length-count.ensures.kept
+    c.in_ok-extend_from_slice.ensures.items
