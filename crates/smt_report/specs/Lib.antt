@@ -1,4 +1,3 @@
-pub mod FaultLine
 pub mod Verdict
 pub mod LineText
 pub mod Internal

@@ -13,12 +13,10 @@ use Rattle.smt_report.specs.declared.line.Line.TheVariants.{Verdict as VerdictLi
 use Rattle.smt_report.specs.declared.line.Side.{Side}
 use Rattle.smt_report.specs.declared.line.Side.TheVariants.{Script, Answers}
 use Rattle.smt_report.specs.declared.verdict.Tally.{Tally}
-use Rattle.smt_report.specs.declared.line.TextFaultKind.{TextFaultKind}
-use Rattle.smt_report.specs.declared.line.TextFaultKind.TheVariants.{Byte, Deep, End}
 use Rattle.smt_report.specs.declared.verdict.Verdict.{Verdict}
 use Rattle.smt_report.specs.declared.verdict.Verdict.TheVariants as verdicts
-use Rattle.smt_faults.specs.FaultText.{text_of_command_fault}
-use Rattle.smt_faults.specs.FaultText.{text_of_term_fault}
+use Rattle.smt_faults.specs.Faults.{place_of}
+use Rattle.smt_faults.specs.FaultText.{text_of_command_fault, text_of_flaw, text_of_term_fault}
 
 abbrev pub text_of_answer : CheckAnswer → List ℕ
 text_of_answer Unsat = codes "unsat"
@@ -32,11 +30,6 @@ text_of_claim (Assertion command) = codes "assertion of command " ++ decimal com
 abbrev pub text_of_side : Side → List ℕ
 text_of_side Script = codes "script"
 text_of_side Answers = codes "answers"
-
-abbrev pub text_of_kind : TextFaultKind → List ℕ
-text_of_kind Byte = codes "X1"
-text_of_kind Deep = codes "X2"
-text_of_kind End = codes "X3"
 
 abbrev pub text_of_verdict : Verdict → List ℕ
 text_of_verdict verdicts.Valid = codes "valid"
@@ -73,9 +66,9 @@ text_of (Refuted check command model claim) =
     model_line check command model (codes ": refuted by the " ++ text_of_claim claim)
 text_of (NotDecided check command model claim) =
     model_line check command model (codes ": " ++ (text_of_claim claim ++ codes " not decided"))
-text_of (TextFault side kind place) =
-    codes "fault " ++ text_of_kind kind ++ codes " in the " ++ text_of_side side ++ codes " at byte "
-    ++ decimal place
+text_of (TextFault side flaw) =
+    codes "fault " ++ text_of_flaw flaw ++ codes " in the " ++ text_of_side side
+    ++ codes " at byte " ++ decimal (place_of flaw)
 text_of (CommandFault command fault) =
     codes "fault " ++ text_of_command_fault fault ++ codes " at command " ++ decimal command
 text_of (MissingAnswer command) = codes "fault P1 at command " ++ decimal command

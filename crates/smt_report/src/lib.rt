@@ -13,6 +13,6 @@ mod report;
 mod verdict;
 
 pub use claim::Claim;
-pub use line::{CheckAnswer, Line, Side, TextFaultKind};
+pub use line::{CheckAnswer, Line, Side};
 pub use report::Report;
 pub use verdict::{Tally, Verdict};

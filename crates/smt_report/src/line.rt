@@ -1,12 +1,11 @@
 //! The lines of a report.
 
 ghost use Rattle.std.specs.Prelude.{◌≡◌};
-ghost use Rattle.smt_report.specs.FaultLine.{text_line};
 ghost use Rattle.smt_report.specs.Verdict as verdicts;
 
 use crate::claim::Claim;
 use crate::verdict::{Tally, Verdict};
-use smt_faults::{CommandFault, TermFault, TextFault};
+use smt_faults::{CommandFault, TermFault, TextFlaw};
 use std::fmt;
 
 /// What a check was answered where it was not `sat`.
@@ -24,17 +23,6 @@ pub enum CheckAnswer {
 pub enum Side {
     Script,
     Answers,
-}
-
-/// Why a text is none of the language.
-#[derive(Clone, Copy)]
-pub enum TextFaultKind {
-    /// A byte with which no text goes on (`X1`).
-    Byte,
-    /// A list deeper than 1,000 (`X2`).
-    Deep,
-    /// A text that ends inside a list, or inside a token that is not whole yet (`X3`).
-    End,
 }
 
 /// A line of a report. Checks, commands, answers and items of a model count from 1, and bytes from 0.
@@ -88,8 +76,7 @@ pub enum Line {
     /// A text that is none of the language.
     TextFault {
         side: Side,
-        kind: TextFaultKind,
-        place: u64,
+        flaw: TextFlaw,
     },
     /// A command that is refused.
     CommandFault {
@@ -117,34 +104,6 @@ pub enum Line {
 }
 
 impl Line {
-    /// The line on the fault of a text.
-    pub fn of_text(side: Side, fault: TextFault) -> Line
-        ensures { result ≡ text_line side fault }
-    {
-        match fault {
-            TextFault::Byte { place } => Line::TextFault {
-                side,
-                kind: TextFaultKind::Byte,
-                place,
-            },
-            TextFault::Deep { place } => Line::TextFault {
-                side,
-                kind: TextFaultKind::Deep,
-                place,
-            },
-            TextFault::End { place } => Line::TextFault {
-                side,
-                kind: TextFaultKind::End,
-                place,
-            },
-            TextFault::Memory => Line::TextFault {
-                side,
-                kind: TextFaultKind::End,
-                place: 0,
-            },
-        }
-    }
-
     /// Whether it is the line of a check whose models are all confirmed.
     pub fn is_confirmed(&self) -> bool
         ensures { result ≡ verdicts.is_confirmed_line self.now }
@@ -221,21 +180,6 @@ impl fmt::Display for Side {
     }
 }
 
-impl fmt::Display for TextFaultKind {
-    ghost use Rattle.std.specs.Prelude.{Some};
-    ghost use Rattle.smt_report.specs.LineText.{text_of_kind};
-
-    ghost output = { λ x. Some (text_of_kind x) };
-
-    fn fmt<W: fmt::Write>(&self, f: &mut fmt::Formatter<W>) -> fmt::Result {
-        f.write_str(match self {
-            TextFaultKind::Byte => "X1",
-            TextFaultKind::Deep => "X2",
-            TextFaultKind::End => "X3",
-        })
-    }
-}
-
 impl fmt::Display for Line {
     ghost use Rattle.std.specs.Prelude.{Some};
     ghost use Rattle.smt_report.specs.LineText.{text_of};
@@ -254,10 +198,10 @@ impl fmt::Display for Line {
                 let outcome = Outcome { line: self };
                 write!(f, "check {check} at command {command}: {outcome}")
             }
-            Line::TextFault { side, kind, place } => write!(
-                f,
-                "fault {kind} in the {side} at byte {place}"
-            ),
+            Line::TextFault { side, flaw } => {
+                let place = flaw.place();
+                write!(f, "fault {flaw} in the {side} at byte {place}")
+            }
             Line::CommandFault { command, fault } => write!(
                 f,
                 "fault {fault} at command {command}"
