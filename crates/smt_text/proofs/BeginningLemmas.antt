@@ -1,7 +1,7 @@
 -- What is read of the beginning of a text, and how many trees there are.
 use Rattle.std.proofs.Common.{◌≡◌, ◌≤◌, ◌+◌, ℕ, List, [], ◌∷◌, ◌++◌, length, Option, Some, None, Bool, true}
 use Rattle.std.proofs.Common.{false, ltb, cond, refl, sym, ap, ◌∙◌, arith, subst}
-use Rattle.std.proofs.lemmas.List.{append_assoc, length-append}
+use Rattle.std.proofs.lemmas.List.{length-append}
 use Rattle.smt_text.proofs.PrefixLemmas.{runs_if_begins}
 use Rattle.smt_text.proofs.ReaderCompleteness.{reads-forest}
 use Rattle.smt_text.proofs.ReadingLemmas.{complete_trees_stay, one_complete, read_faults_stay}
@@ -14,7 +14,7 @@ use Rattle.smt_text.specs.Internal.Machine.{settle, lex, move, token_in, step, g
 use Rattle.smt_text.specs.Internal.Machine.{top_of}
 use Rattle.smt_text.specs.Reading.{Begins, AreComplete, AreSettled, Reads}
 use Rattle.smt_trees.specs.Sexp.{Sexp, Sexps, Nil, Cons, Items, append, count}
-use Rattle.smt_faults.specs.declared.text_fault.TextFault.{TextFault}
+use Rattle.smt_faults.specs.declared.text_flaw.TextFlaw.{TextFlaw}
 use Rattle.smt_text.specs.declared.lexer.AtomState.{AtomState}
 use Rattle.smt_text.specs.declared.lexer.AtomState.TheVariants.{Nothing}
 use Rattle.smt_text.specs.declared.lexer.LexerStep.{LexerStep}
@@ -43,7 +43,7 @@ at_end : (s : State) (ys : Sexps) → flush s ≡ On [] ys → (later : Sexps) �
 at_end (At token bytes levels) ys e = added (atom_of token bytes) levels ys e
 
 -- complete trees of a beginning are the first of those of the whole, and of those of every longer beginning
-first_complete : (limit : ℕ) (ended : Bool) (text more : List ℕ) (xs ys : Sexps) (g : Option TextFault)
+first_complete : (limit : ℕ) (ended : Bool) (text more : List ℕ) (xs ys : Sexps) (g : Option TextFlaw)
     → Begins limit text → AreComplete limit text xs → Reads limit ended (text ++ more) ys g
     → (later : Sexps) × (ys ≡ append xs later)
 first_complete limit ended text more xs ys (Some g) begun a b =
@@ -60,7 +60,7 @@ first_complete limit true text more xs ys None begun a b =
     )
 first_complete limit false text more xs ys None begun a b = complete_trees_stay limit text more xs ys a b.1
 
-pub read_trees_stay : (limit : ℕ) (ended : Bool) (text more : List ℕ) (xs ys : Sexps) (f g : Option TextFault)
+pub read_trees_stay : (limit : ℕ) (ended : Bool) (text more : List ℕ) (xs ys : Sexps) (f g : Option TextFlaw)
     → Reads limit false text xs f → Reads limit ended (text ++ more) ys g
     → (later : Sexps) × (ys ≡ append xs later)
 read_trees_stay limit ended text more xs ys None g a b =
@@ -153,7 +153,7 @@ width_run limit s (b ∷ text) end e = by (step limit s b) refl e (λ next. widt
 width_complete : (s : State) → count (complete_of s) ≤ width_in s
 width_complete (At token bytes levels) = width_kept (atom_of token bytes) levels
 
-pub few_trees : (limit : ℕ) (text : List ℕ) (trees : Sexps) (f : Option TextFault)
+pub few_trees : (limit : ℕ) (text : List ℕ) (trees : Sexps) (f : Option TextFlaw)
     → Reads limit true text trees f → count trees ≤ length text
 few_trees limit text trees None h =
     let r = reads-forest limit text trees h in

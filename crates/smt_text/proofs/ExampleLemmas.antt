@@ -9,13 +9,13 @@ use Rattle.smt_text.specs.Internal.Machine.{Levels, On, State, start, flush, lex
 use Rattle.smt_text.specs.Internal.Machine.{run, complete_of, Leaves, blame}
 use Rattle.smt_text.specs.Reading.{Reads}
 use Rattle.smt_trees.specs.Sexp.{Sexps}
-use Rattle.smt_faults.specs.declared.text_fault.TextFault.{TextFault}
-use Rattle.smt_faults.specs.declared.text_fault.TextFault.TheVariants.{End}
+use Rattle.smt_faults.specs.declared.text_flaw.TextFlaw.{TextFlaw}
+use Rattle.smt_faults.specs.declared.text_flaw.TextFlaw.TheVariants.{End}
 
 -- the state that is left, and the fault if there is one
 record Left : Type 0 where
   state : State
-  fault : Option TextFault
+  fault : Option TextFlaw
 
 abbrev left_by : Option State → Left → (State → Left) → Left
 left_by None stuck f = stuck
@@ -30,14 +30,14 @@ left limit place s (b ∷ bs) =
 -- what is read
 record Answer : Type 0 where
   trees : Sexps
-  fault : Option TextFault
+  fault : Option TextFlaw
 
 abbrev at_end : ℕ → State → Levels → Bool → Answer
 at_end place s (On [] top) true = record { trees = top; fault = None }
 at_end place s (On [] top) false = record { trees = complete_of s; fault = Some (End place) }
 at_end place s (On (parts ∷ lists) top) t = record { trees = complete_of s; fault = Some (End place) }
 
-abbrev answer_of : Bool → ℕ → State → Option TextFault → Answer
+abbrev answer_of : Bool → ℕ → State → Option TextFlaw → Answer
 answer_of ended place s (Some fault) = record { trees = complete_of s; fault = Some fault }
 answer_of false place s None = record { trees = complete_of s; fault = None }
 answer_of true place s None = at_end place s (flush s) (may_end (token_in s))
@@ -82,7 +82,7 @@ read_at_end limit text s (On [] top) false e f w = ends_inside limit text s e (i
 read_at_end limit text s (On (parts ∷ lists) top) t e f w =
     ends_inside limit text s e (inside_list s parts lists top f)
 
-answered : (limit : ℕ) (ended : Bool) (text : List ℕ) (s : State) (fault : Option TextFault)
+answered : (limit : ℕ) (ended : Bool) (text : List ℕ) (s : State) (fault : Option TextFlaw)
     → Leaves limit text s fault
     → Reads limit ended text (answer_of ended (length text) s fault).trees
     (answer_of ended (length text) s fault).fault

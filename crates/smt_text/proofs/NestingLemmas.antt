@@ -9,7 +9,7 @@ use Rattle.smt_text.proofs.ReaderCompleteness.{run-cons, run-append}
 use Rattle.smt_text.specs.Internal.Machine.{On, At, start, settle, step, run}
 use Rattle.smt_text.specs.Reading.{Reads}
 use Rattle.smt_trees.specs.Sexp.{Sexps, Nil}
-use Rattle.smt_faults.specs.declared.text_fault.TextFault.TheVariants.{Byte, Deep, End}
+use Rattle.smt_faults.specs.declared.text_flaw.TextFlaw.TheVariants.{Byte, Deep, End}
 use Rattle.smt_text.specs.declared.lexer.AtomState.TheVariants.{Nothing, HexMark}
 
 one_more : (n : ℕ) (lists : List Sexps) → replicate n Nil ++ (Nil ∷ lists) ≡ Nil ∷ (replicate n Nil ++ lists)

@@ -9,17 +9,21 @@ use Rattle.smt_text.proofs.ReadingLemmas.{stuck_reads, leaves_reads, ends_outsid
 use Rattle.smt_text.proofs.BuilderLemmas.{depth_of-flush}
 use Rattle.smt_text.proofs.ReaderCompleteness.{run-append}
 use Rattle.smt_text.specs.Grammar.{OpenParenthesis, CloseParenthesis}
-use Rattle.smt_text.specs.Reader.{is_finished, bytes_fed, fault_of, trees_ready, Keeps, StandsFor, Answers}
+use Rattle.smt_text.specs.Reader.{is_finished, bytes_fed, flaw_of, trees_ready, Keeps, StandsFor, Answers}
 use Rattle.smt_text.specs.Internal.Machine.{Levels, On, State, At, start, add, atom_of, add_if, flush, act}
 use Rattle.smt_text.specs.Internal.Machine.{settle, lex, move, may_end, token_in, step, go_on, run, depth_of}
 use Rattle.smt_text.specs.Internal.Machine.{depth_in, top_of, complete_of, IsStuck, Leaves, blame}
 use Rattle.smt_text.specs.Reading.{Reads}
 use Rattle.smt_text.specs.Internal.ReaderState.{GoesOnFrom, lists_of, state_of, under, after_taken}
-use Rattle.smt_text.specs.Internal.ReaderState.{GoesThrough, Ends}
+use Rattle.smt_text.specs.Internal.ReaderState.{GoesThrough, Ends, flaw_found}
 use Rattle.smt_trees.specs.Sexp.{Sexp, Sexps, Items, Nil, Cons, append}
 use Rattle.smt_trees.specs.Tree.{sexp_of, sexps_of}
-use Rattle.smt_faults.specs.declared.text_fault.TextFault.{TextFault}
-use Rattle.smt_faults.specs.declared.text_fault.TextFault.TheVariants.{Byte, Deep, End, Memory}
+use Rattle.smt_faults.specs.Faults.{text_failure}
+use Rattle.smt_faults.specs.declared.failure.Failure.{Failure}
+use Rattle.smt_faults.specs.declared.failure.Failure.TheVariants as failures
+use Rattle.smt_faults.specs.declared.failure.Failure.TheVariants.{Memory}
+use Rattle.smt_faults.specs.declared.text_flaw.TextFlaw.{TextFlaw}
+use Rattle.smt_faults.specs.declared.text_flaw.TextFlaw.TheVariants.{Byte, Deep, End}
 use Rattle.smt_text.specs.declared.lexer.AtomState.TheVariants.{Nothing}
 use Rattle.smt_text.specs.declared.lexer.LexerStep.{LexerStep}
 use Rattle.smt_text.specs.declared.lexer.LexerStep.TheVariants.{Push, Skip, Finish, Open, Close, Stuck}
@@ -28,7 +32,7 @@ use Rattle.smt_text.specs.declared.reader.Reader.{Reader}
 use Rattle.smt_text.specs.declared.reader.TheConstants.{MAX_DEPTH}
 use Rattle.smt_trees.specs.declared.tree.Tree.{Tree}
 
-pub none_if : (o : Option TextFault) → is_some o ≡ false → o ≡ None
+pub none_if : (o : Option (Failure TextFlaw)) → is_some o ≡ false → o ≡ None
 none_if None e = refl
 none_if (Some fault) e = absurd (cc)
 
@@ -94,42 +98,43 @@ step_after limit taken s b =
 -- what is known while there is no fault
 unfinished : (reader : Reader) (fed : List ℕ) (taken : Sexps) → StandsFor reader fed taken
     → is_finished reader ≡ false
-    → (fault_of reader ≡ Some Memory)
-    ⊎ Leaves MAX_DEPTH fed (after_taken taken (state_of reader)) (fault_of reader)
+    → (reader.failure ≡ Some Memory)
+    ⊎ Leaves MAX_DEPTH fed (after_taken taken (state_of reader)) (flaw_of reader)
 unfinished reader fed taken h e = by h.1
   where
-    by : (fault_of reader ≡ Some Memory) ⊎ Keeps (is_finished reader) reader fed taken
-        → (fault_of reader ≡ Some Memory)
-        ⊎ Leaves MAX_DEPTH fed (after_taken taken (state_of reader)) (fault_of reader)
+    by : (reader.failure ≡ Some Memory) ⊎ Keeps (is_finished reader) reader fed taken
+        → (reader.failure ≡ Some Memory)
+        ⊎ Leaves MAX_DEPTH fed (after_taken taken (state_of reader)) (flaw_of reader)
     by (inl m) = inl m
     by (inr k) = inr (subst (λ b. Keeps b reader fed taken) e k).1
 
 runs_on : (reader : Reader) (fed : List ℕ) (taken : Sexps) → StandsFor reader fed taken
-    → is_finished reader ≡ false → fault_of reader ≡ None
+    → is_finished reader ≡ false → reader.failure ≡ None
     → run MAX_DEPTH start fed ≡ Some (after_taken taken (state_of reader))
 runs_on reader fed taken h e n = by (unfinished reader fed taken h e)
   where
-    by : (fault_of reader ≡ Some Memory)
-        ⊎ Leaves MAX_DEPTH fed (after_taken taken (state_of reader)) (fault_of reader)
+    by : (reader.failure ≡ Some Memory)
+        ⊎ Leaves MAX_DEPTH fed (after_taken taken (state_of reader)) (flaw_of reader)
         → run MAX_DEPTH start fed ≡ Some (after_taken taken (state_of reader))
     by (inl m) = absurd (cc)
-    by (inr k) = subst (λ f. Leaves MAX_DEPTH fed (after_taken taken (state_of reader)) f) n k
+    by (inr k) =
+        subst (λ f. Leaves MAX_DEPTH fed (after_taken taken (state_of reader)) f) (ap flaw_found n) k
 
-stands_if : (reader : Reader) (fed : List ℕ) (taken : Sexps) (fault : Option TextFault)
-    → bytes_fed reader ≡ length fed → is_finished reader ≡ false → fault_of reader ≡ fault
+stands_if : (reader : Reader) (fed : List ℕ) (taken : Sexps) (fault : Option TextFlaw)
+    → bytes_fed reader ≡ length fed → is_finished reader ≡ false → flaw_of reader ≡ fault
     → Leaves MAX_DEPTH fed (after_taken taken (state_of reader)) fault → StandsFor reader fed taken
 stands_if reader fed taken fault count e f k =
-    let all : Leaves MAX_DEPTH fed (after_taken taken (state_of reader)) (fault_of reader) = subst
+    let all : Leaves MAX_DEPTH fed (after_taken taken (state_of reader)) (flaw_of reader) = subst
     (λ x. Leaves MAX_DEPTH fed (after_taken taken (state_of reader)) x) (sym f) k in
     let kept : Keeps false reader fed taken =
-    (leaves_reads MAX_DEPTH fed (after_taken taken (state_of reader)) (fault_of reader) all, all) in
+    (leaves_reads MAX_DEPTH fed (after_taken taken (state_of reader)) (flaw_of reader) all, all) in
     (count, inr (subst (λ b. Keeps b reader fed taken) (sym e) kept))
 
 -- before any byte
 pub stands_new : (reader : Reader) → bytes_fed reader ≡ 0 → is_finished reader ≡ false
-    → fault_of reader ≡ None → state_of reader ≡ start → StandsFor reader [] Nil
+    → reader.failure ≡ None → state_of reader ≡ start → StandsFor reader [] Nil
 stands_new reader count e f s =
-    stands_if reader [] Nil None count e f (ap Some (sym (ap (after_taken Nil) s)))
+    stands_if reader [] Nil None count e (ap flaw_found f) (ap Some (sym (ap (after_taken Nil) s)))
 
 run_after : (limit : ℕ) (taken : Sexps) (s : State) (text : List ℕ)
     → run limit (after_taken taken s) text ≡ after_if taken (run limit s text)
@@ -151,19 +156,19 @@ counted : (old new : Reader) (fed piece : List ℕ) → bytes_fed old ≡ length
     → bytes_fed new ≡ bytes_fed old + length piece → bytes_fed new ≡ length (fed ++ piece)
 counted old new fed piece h e = omega (arith, h, e, length-append fed piece)
 
-pub stands_read : (old new : Reader) (piece : List ℕ) (result : Result (Unit {0}) TextFault) (fed : List ℕ)
-    (taken : Sexps) → is_finished old ≡ false → is_finished new ≡ false → fault_of old ≡ None
-    → bytes_fed new ≡ bytes_fed old + length piece → fault_of new ≡ result_err result
+pub stands_read : (old new : Reader) (piece : List ℕ) (result : Result (Unit {0}) (Failure TextFlaw)) (fed : List ℕ)
+    (taken : Sexps) → is_finished old ≡ false → is_finished new ≡ false → old.failure ≡ None
+    → bytes_fed new ≡ bytes_fed old + length piece → new.failure ≡ result_err result
     → GoesThrough (state_of old) (bytes_fed old) piece result (state_of new) → StandsFor old fed taken
     → StandsFor new (fed ++ piece) taken
 stands_read old new piece (Ok done) fed taken e e' n count f goes h =
     let before = runs_on old fed taken h e n in
-    stands_if new (fed ++ piece) taken None (counted old new fed piece h.0 count) e' f
+    stands_if new (fed ++ piece) taken None (counted old new fed piece h.0 count) e' (ap flaw_found f)
     (run-append MAX_DEPTH start (after_taken taken (state_of old)) fed piece before ∙ run_after MAX_DEPTH
     taken (state_of old) piece ∙ ap (after_if taken) goes)
-stands_read old new piece (Err fault) fed taken e e' n count f (inl m) h =
-    (counted old new fed piece h.0 count, inl (f ∙ ap Some m))
-stands_read old new piece (Err fault) fed taken e e' n count f (inr g) h =
+stands_read old new piece (Err Memory) fed taken e e' n count f g h =
+    (counted old new fed piece h.0 count, inl f)
+stands_read old new piece (Err (failures.Fault flaw)) fed taken e e' n count f g h =
     let before = runs_on old fed taken h e n in
     let place = g.0 in
     let byte = get_or piece place 0 in
@@ -177,7 +182,7 @@ stands_read old new piece (Err fault) fed taken e e' n count f (inr g) h =
     (take-append-drop place piece) ∙ ap (λ x. take place piece ++ x) (drop_more piece place 0 g.1) in
     let at : bytes_fed old + place ≡ length (fed ++ take place piece) = omega
     (arith, h.0, length-append fed (take place piece), length-take-le place piece (omega (arith, g.1))) in
-    stands_if new (fed ++ piece) taken (Some fault) (counted old new fed piece h.0 count) e' f
+    stands_if new (fed ++ piece) taken (Some flaw) (counted old new fed piece h.0 count) e' (ap flaw_found f)
     record {
       prefix = fed ++ take place piece;
       byte = byte;
@@ -192,7 +197,7 @@ stands_read old new piece (Err fault) fed taken e e' n count f (inr g) h =
     }
 
 -- more bytes after a fault
-stuck_more : (limit : ℕ) (text more : List ℕ) (s : State) (fault : TextFault) → IsStuck limit text s fault
+stuck_more : (limit : ℕ) (text more : List ℕ) (s : State) (fault : TextFlaw) → IsStuck limit text s fault
     → IsStuck limit (text ++ more) s fault
 stuck_more limit text more s fault h = record {
   prefix = h.prefix;
@@ -204,26 +209,28 @@ stuck_more limit text more s fault h = record {
   is = h.is;
 }
 
-skipped : (old new : Reader) (piece fed : List ℕ) (taken : Sexps) (o : Option TextFault) → is_some o ≡ true
-    → fault_of old ≡ o → is_finished new ≡ false → bytes_fed new ≡ length (fed ++ piece)
-    → fault_of new ≡ fault_of old → state_of new ≡ state_of old
-    → (fault_of old ≡ Some Memory) ⊎ Leaves MAX_DEPTH fed (after_taken taken (state_of old)) (fault_of old)
+skipped : (old new : Reader) (piece fed : List ℕ) (taken : Sexps) (o : Option (Failure TextFlaw)) → is_some o ≡ true
+    → old.failure ≡ o → is_finished new ≡ false → bytes_fed new ≡ length (fed ++ piece)
+    → new.failure ≡ old.failure → state_of new ≡ state_of old
+    → (old.failure ≡ Some Memory) ⊎ Leaves MAX_DEPTH fed (after_taken taken (state_of old)) (flaw_of old)
     → StandsFor new (fed ++ piece) taken
 skipped old new piece fed taken None some is e count f same h = absurd (cc)
-skipped old new piece fed taken (Some fault) some is e count f same (inl m) = (count, inl (f ∙ m))
-skipped old new piece fed taken (Some fault) some is e count f same (inr k) =
-    let stuck : IsStuck MAX_DEPTH fed (after_taken taken (state_of old)) fault = subst
-    (λ x. Leaves MAX_DEPTH fed (after_taken taken (state_of old)) x) is k in
-    stands_if new (fed ++ piece) taken (Some fault) count e (f ∙ is)
-    (subst (λ s. IsStuck MAX_DEPTH (fed ++ piece) (after_taken taken s) fault) (sym same)
-    (stuck_more MAX_DEPTH fed piece (after_taken taken (state_of old)) fault stuck))
+skipped old new piece fed taken (Some Memory) some is e count f same h = (count, inl (f ∙ is))
+skipped old new piece fed taken (Some (failures.Fault flaw)) some is e count f same (inl m) =
+    (count, inl (f ∙ m))
+skipped old new piece fed taken (Some (failures.Fault flaw)) some is e count f same (inr k) =
+    let stuck : IsStuck MAX_DEPTH fed (after_taken taken (state_of old)) flaw = subst
+    (λ x. Leaves MAX_DEPTH fed (after_taken taken (state_of old)) x) (ap flaw_found is) k in
+    stands_if new (fed ++ piece) taken (Some flaw) count e (ap flaw_found (f ∙ is))
+    (subst (λ s. IsStuck MAX_DEPTH (fed ++ piece) (after_taken taken s) flaw) (sym same)
+    (stuck_more MAX_DEPTH fed piece (after_taken taken (state_of old)) flaw stuck))
 
 pub stands_skip : (old new : Reader) (piece fed : List ℕ) (taken : Sexps) → is_finished old ≡ false
-    → is_finished new ≡ false → is_some (fault_of old) ≡ true → bytes_fed new ≡ bytes_fed old + length piece
-    → fault_of new ≡ fault_of old → state_of new ≡ state_of old → StandsFor old fed taken
+    → is_finished new ≡ false → is_some old.failure ≡ true → bytes_fed new ≡ bytes_fed old + length piece
+    → new.failure ≡ old.failure → state_of new ≡ state_of old → StandsFor old fed taken
     → StandsFor new (fed ++ piece) taken
 stands_skip old new piece fed taken e e' some count f same h =
-    skipped old new piece fed taken (fault_of old) some refl e' (counted old new fed piece h.0 count) f same
+    skipped old new piece fed taken old.failure some refl e' (counted old new fed piece h.0 count) f same
     (unfinished old fed taken h e)
 
 depth_under : (taken : Sexps) (levels : Levels) → depth_of (under taken levels) ≡ depth_of levels
@@ -241,17 +248,17 @@ not_whole taken s (inl d) trees f w =
     omega (arith, depth_under taken (flush s), depth_of-flush s, same, d)
 not_whole taken s (inr e) trees f w = let both = ap may_end (token_after taken s) in cc
 
-stands_ended : (reader : Reader) (fed : List ℕ) (taken : Sexps) (fault : Option TextFault)
-    → bytes_fed reader ≡ length fed → is_finished reader ≡ true → fault_of reader ≡ fault
+stands_ended : (reader : Reader) (fed : List ℕ) (taken : Sexps) (fault : Option TextFlaw)
+    → bytes_fed reader ≡ length fed → is_finished reader ≡ true → flaw_of reader ≡ fault
     → Reads MAX_DEPTH true fed (append taken (trees_ready reader)) fault → StandsFor reader fed taken
 stands_ended reader fed taken fault count e f k =
     let kept : Keeps true reader fed taken =
     (subst (λ x. Reads MAX_DEPTH true fed (append taken (trees_ready reader)) x) (sym f) k, tt) in
     (count, inr (subst (λ b. Keeps b reader fed taken) (sym e) kept))
 
-pub stands_finish : (old new : Reader) (result : Result (Unit {0}) TextFault) (fed : List ℕ) (taken : Sexps)
-    → is_finished old ≡ false → is_finished new ≡ true → fault_of old ≡ None → bytes_fed new ≡ bytes_fed old
-    → fault_of new ≡ result_err result → Ends (state_of old) (bytes_fed old) result (state_of new)
+pub stands_finish : (old new : Reader) (result : Result (Unit {0}) (Failure TextFlaw)) (fed : List ℕ) (taken : Sexps)
+    → is_finished old ≡ false → is_finished new ≡ true → old.failure ≡ None → bytes_fed new ≡ bytes_fed old
+    → new.failure ≡ result_err result → Ends (state_of old) (bytes_fed old) result (state_of new)
     → StandsFor old fed taken → StandsFor new fed taken
 stands_finish old new (Ok done) fed taken e e' n count f ends h =
     let before = runs_on old fed taken h e n in
@@ -260,133 +267,134 @@ stands_finish old new (Ok done) fed taken e e' n count f ends h =
     let ready : top_of (flush (state_of old)) ≡ trees_ready new = ap complete_of ends.2 in
     let whole : may_end (token_in (after_taken taken (state_of old))) ≡ true = ap may_end
     (token_after taken (state_of old)) ∙ ends.1 in
-    stands_ended new fed taken None (count ∙ h.0) e' f
+    stands_ended new fed taken None (count ∙ h.0) e' (ap flaw_found f)
     (ends_outside MAX_DEPTH fed (after_taken taken (state_of old)) (append taken (trees_ready new)) before
     (closed ∙ ap (λ x. On [] (append taken x)) ready) whole)
-stands_finish old new (Err fault) fed taken e e' n count f (inl m) h = (count ∙ h.0, inl (f ∙ ap Some m))
-stands_finish old new (Err fault) fed taken e e' n count f (inr stuck) h =
+stands_finish old new (Err Memory) fed taken e e' n count f ends h = (count ∙ h.0, inl f)
+stands_finish old new (Err (failures.Fault flaw)) fed taken e e' n count f stuck h =
     let before = runs_on old fed taken h e n in
     let read = ends_inside MAX_DEPTH fed (after_taken taken (state_of old)) before
     (not_whole taken (state_of old) stuck.0) in
     let trees : complete_of (after_taken taken (state_of old)) ≡ append taken (trees_ready new) = ap
     (λ s. complete_of (after_taken taken s)) (sym stuck.2) in
-    stands_ended new fed taken (Some (End (length fed))) (count ∙ h.0) e' (f ∙ ap Some (stuck.1 ∙ ap End h.0))
+    stands_ended new fed taken (Some (End (length fed))) (count ∙ h.0) e'
+    (ap flaw_found f ∙ ap Some (stuck.1 ∙ ap End h.0))
     (subst (λ x. Reads MAX_DEPTH true fed x (Some (End (length fed)))) trees read)
 
-stopped : (old new : Reader) (fed : List ℕ) (taken : Sexps) (o : Option TextFault) → is_some o ≡ true
-    → fault_of old ≡ o → is_finished new ≡ true → bytes_fed new ≡ length fed → fault_of new ≡ fault_of old
+stopped : (old new : Reader) (fed : List ℕ) (taken : Sexps) (o : Option (Failure TextFlaw)) → is_some o ≡ true
+    → old.failure ≡ o → is_finished new ≡ true → bytes_fed new ≡ length fed → new.failure ≡ old.failure
     → state_of new ≡ state_of old
-    → (fault_of old ≡ Some Memory) ⊎ Leaves MAX_DEPTH fed (after_taken taken (state_of old)) (fault_of old)
+    → (old.failure ≡ Some Memory) ⊎ Leaves MAX_DEPTH fed (after_taken taken (state_of old)) (flaw_of old)
     → StandsFor new fed taken
 stopped old new fed taken None some is e count f same h = absurd (cc)
-stopped old new fed taken (Some fault) some is e count f same (inl m) = (count, inl (f ∙ m))
-stopped old new fed taken (Some fault) some is e count f same (inr k) =
-    let stuck : IsStuck MAX_DEPTH fed (after_taken taken (state_of old)) fault = subst
-    (λ x. Leaves MAX_DEPTH fed (after_taken taken (state_of old)) x) is k in
-    let read = stuck_reads MAX_DEPTH true fed (after_taken taken (state_of old)) fault stuck in
+stopped old new fed taken (Some Memory) some is e count f same h = (count, inl (f ∙ is))
+stopped old new fed taken (Some (failures.Fault flaw)) some is e count f same (inl m) = (count, inl (f ∙ m))
+stopped old new fed taken (Some (failures.Fault flaw)) some is e count f same (inr k) =
+    let stuck : IsStuck MAX_DEPTH fed (after_taken taken (state_of old)) flaw = subst
+    (λ x. Leaves MAX_DEPTH fed (after_taken taken (state_of old)) x) (ap flaw_found is) k in
+    let read = stuck_reads MAX_DEPTH true fed (after_taken taken (state_of old)) flaw stuck in
     let ready : trees_ready old ≡ trees_ready new = ap complete_of (sym same) in
-    stands_ended new fed taken (Some fault) count e (f ∙ is)
-    (subst (λ x. Reads MAX_DEPTH true fed (append taken x) (Some fault)) ready read)
+    stands_ended new fed taken (Some flaw) count e (ap flaw_found (f ∙ is))
+    (subst (λ x. Reads MAX_DEPTH true fed (append taken x) (Some flaw)) ready read)
 
 pub stands_stop : (old new : Reader) (fed : List ℕ) (taken : Sexps) → is_finished old ≡ false
-    → is_finished new ≡ true → is_some (fault_of old) ≡ true → bytes_fed new ≡ bytes_fed old
-    → fault_of new ≡ fault_of old → state_of new ≡ state_of old → StandsFor old fed taken
+    → is_finished new ≡ true → is_some old.failure ≡ true → bytes_fed new ≡ bytes_fed old
+    → new.failure ≡ old.failure → state_of new ≡ state_of old → StandsFor old fed taken
     → StandsFor new fed taken
 stands_stop old new fed taken e e' some count f same h =
-    stopped old new fed taken (fault_of old) some refl e' (count ∙ h.0) f same (unfinished old fed taken h e)
+    stopped old new fed taken old.failure some refl e' (count ∙ h.0) f same (unfinished old fed taken h e)
 
 -- what is read, with the trees that are ready
 pub stands_reads : (reader : Reader) (fed : List ℕ) (taken : Sexps) → StandsFor reader fed taken
-    → (fault_of reader ≡ Some Memory)
-    ⊎ Reads MAX_DEPTH (is_finished reader) fed (append taken (trees_ready reader)) (fault_of reader)
+    → (reader.failure ≡ Some Memory)
+    ⊎ Reads MAX_DEPTH (is_finished reader) fed (append taken (trees_ready reader)) (flaw_of reader)
 stands_reads reader fed taken h = by h.1
   where
-    by : (fault_of reader ≡ Some Memory) ⊎ Keeps (is_finished reader) reader fed taken
-        → (fault_of reader ≡ Some Memory)
-        ⊎ Reads MAX_DEPTH (is_finished reader) fed (append taken (trees_ready reader)) (fault_of reader)
+    by : (reader.failure ≡ Some Memory) ⊎ Keeps (is_finished reader) reader fed taken
+        → (reader.failure ≡ Some Memory)
+        ⊎ Reads MAX_DEPTH (is_finished reader) fed (append taken (trees_ready reader)) (flaw_of reader)
     by (inl m) = inl m
     by (inr k) = inr k.0
 
 -- where no tree is ready
-pub none_ready : (reader : Reader) (fed : List ℕ) (taken : Sexps) (fault : Option TextFault)
-    → reader.builder.ready.items ≡ [] → fault_of reader ≡ fault → StandsFor reader fed taken
-    → (fault ≡ Some Memory) ⊎ Reads MAX_DEPTH (is_finished reader) fed taken fault
-none_ready reader fed taken fault empty f h = by (stands_reads reader fed taken h)
+pub none_ready : (reader : Reader) (fed : List ℕ) (taken : Sexps) (failure : Option (Failure TextFlaw))
+    → reader.builder.ready.items ≡ [] → reader.failure ≡ failure → StandsFor reader fed taken
+    → (failure ≡ Some Memory) ⊎ Reads MAX_DEPTH (is_finished reader) fed taken (flaw_found failure)
+none_ready reader fed taken failure empty f h = by (stands_reads reader fed taken h)
   where
-    by : (fault_of reader ≡ Some Memory)
-        ⊎ Reads MAX_DEPTH (is_finished reader) fed (append taken (trees_ready reader)) (fault_of reader)
-        → (fault ≡ Some Memory) ⊎ Reads MAX_DEPTH (is_finished reader) fed taken fault
+    by : (reader.failure ≡ Some Memory)
+        ⊎ Reads MAX_DEPTH (is_finished reader) fed (append taken (trees_ready reader)) (flaw_of reader)
+        → (failure ≡ Some Memory) ⊎ Reads MAX_DEPTH (is_finished reader) fed taken (flaw_found failure)
     by (inl m) = inl (sym f ∙ m)
     by (inr r) =
         let all : append taken (trees_ready reader) ≡ taken = ap
         (λ x. append taken (sexps_of x)) empty ∙ append_nil taken in
-        inr (subst (λ x. Reads MAX_DEPTH (is_finished reader) fed taken x) f
-        (subst (λ x. Reads MAX_DEPTH (is_finished reader) fed x (fault_of reader)) all r))
+        inr (subst (λ x. Reads MAX_DEPTH (is_finished reader) fed taken x) (ap flaw_found f)
+        (subst (λ x. Reads MAX_DEPTH (is_finished reader) fed x (flaw_of reader)) all r))
 
 pub answers_none : (reader : Reader) (fed : List ℕ) (taken : Sexps) → reader.builder.ready.items ≡ []
-    → fault_of reader ≡ None → StandsFor reader fed taken
+    → reader.failure ≡ None → StandsFor reader fed taken
     → Reads MAX_DEPTH (is_finished reader) fed taken None
-answers_none reader fed taken empty f h = by (none_ready reader fed taken None empty f h)
+answers_none reader fed taken empty f h = by None refl (none_ready reader fed taken None empty f h)
   where
-    by : (None ≡ Some Memory) ⊎ Reads MAX_DEPTH (is_finished reader) fed taken None
+    by : (o : Option (Failure TextFlaw)) → o ≡ None
+        → (o ≡ Some Memory) ⊎ Reads MAX_DEPTH (is_finished reader) fed taken None
         → Reads MAX_DEPTH (is_finished reader) fed taken None
-    by (inl m) = absurd (cc)
-    by (inr r) = r
+    by o n (inl m) = absurd (cc)
+    by o n (inr r) = r
 
-told : (ended : Bool) (fed : List ℕ) (taken : Sexps) (fault : TextFault)
-    → (Some fault ≡ Some Memory) ⊎ Reads MAX_DEPTH ended fed taken (Some fault)
-    → Answers ended fed taken (Fault fault)
-told ended fed taken (Byte place) (inl m) = absurd (cc)
-told ended fed taken (Byte place) (inr r) = r
-told ended fed taken (Deep place) (inl m) = absurd (cc)
-told ended fed taken (Deep place) (inr r) = r
-told ended fed taken (End place) (inl m) = absurd (cc)
-told ended fed taken (End place) (inr r) = r
-told ended fed taken Memory h = tt
+told : (ended : Bool) (fed : List ℕ) (taken : Sexps) (failure : Failure TextFlaw)
+    → (Some failure ≡ Some Memory) ⊎ Reads MAX_DEPTH ended fed taken (flaw_found (Some failure))
+    → Answers ended fed taken (Fault (text_failure failure))
+told ended fed taken (failures.Fault flaw) (inl m) = absurd (cc)
+told ended fed taken (failures.Fault (Byte place)) (inr r) = λ flaw e. subst (Reads MAX_DEPTH ended fed taken) e r
+told ended fed taken (failures.Fault (Deep place)) (inr r) = λ flaw e. subst (Reads MAX_DEPTH ended fed taken) e r
+told ended fed taken (failures.Fault (End place)) (inr r) = λ flaw e. subst (Reads MAX_DEPTH ended fed taken) e r
+told ended fed taken Memory h = λ flaw e. absurd (cc)
 
-pub answers_fault : (reader : Reader) (fed : List ℕ) (taken : Sexps) (fault : TextFault)
-    → reader.builder.ready.items ≡ [] → fault_of reader ≡ Some fault → StandsFor reader fed taken
-    → Answers (is_finished reader) fed taken (Fault fault)
-answers_fault reader fed taken fault empty f h =
-    told (is_finished reader) fed taken fault (none_ready reader fed taken (Some fault) empty f h)
+pub answers_fault : (reader : Reader) (fed : List ℕ) (taken : Sexps) (failure : Failure TextFlaw)
+    → reader.builder.ready.items ≡ [] → reader.failure ≡ Some failure → StandsFor reader fed taken
+    → Answers (is_finished reader) fed taken (Fault (text_failure failure))
+answers_fault reader fed taken failure empty f h =
+    told (is_finished reader) fed taken failure (none_ready reader fed taken (Some failure) empty f h)
 
 -- where one is
 pub answers_tree : (reader : Reader) (fed : List ℕ) (taken : Sexps) (tree : Tree) (rest : List Tree)
-    → fault_of reader ≢ Some Memory → reader.builder.ready.items ≡ tree ∷ rest → StandsFor reader fed taken
-    → (later : Sexps) × (fault : Option TextFault)
-    × Reads MAX_DEPTH (is_finished reader) fed (append taken (Cons (sexp_of tree) later)) fault
+    → reader.failure ≢ Some Memory → reader.builder.ready.items ≡ tree ∷ rest → StandsFor reader fed taken
+    → (later : Sexps) × (flaw : Option TextFlaw)
+    × Reads MAX_DEPTH (is_finished reader) fed (append taken (Cons (sexp_of tree) later)) flaw
 answers_tree reader fed taken tree rest fine first h = by (stands_reads reader fed taken h)
   where
-    by : (fault_of reader ≡ Some Memory)
-        ⊎ Reads MAX_DEPTH (is_finished reader) fed (append taken (trees_ready reader)) (fault_of reader)
-        → (later : Sexps) × (fault : Option TextFault)
-        × Reads MAX_DEPTH (is_finished reader) fed (append taken (Cons (sexp_of tree) later)) fault
+    by : (reader.failure ≡ Some Memory)
+        ⊎ Reads MAX_DEPTH (is_finished reader) fed (append taken (trees_ready reader)) (flaw_of reader)
+        → (later : Sexps) × (flaw : Option TextFlaw)
+        × Reads MAX_DEPTH (is_finished reader) fed (append taken (Cons (sexp_of tree) later)) flaw
     by (inl m) = absurd (fine m)
     by (inr r) = (
       sexps_of rest,
-      fault_of reader,
+      flaw_of reader,
       subst
-          (λ x. Reads MAX_DEPTH (is_finished reader) fed (append taken (sexps_of x)) (fault_of reader)) first r,
+          (λ x. Reads MAX_DEPTH (is_finished reader) fed (append taken (sexps_of x)) (flaw_of reader)) first r,
     )
 
 -- a tree was handed out
-handed : (ended : Bool) (old new : Reader) (fed : List ℕ) (taken longer : Sexps) → fault_of new ≡ fault_of old
+handed : (ended : Bool) (old new : Reader) (fed : List ℕ) (taken longer : Sexps) → new.failure ≡ old.failure
     → after_taken longer (state_of new) ≡ after_taken taken (state_of old)
     → append longer (trees_ready new) ≡ append taken (trees_ready old) → Keeps ended old fed taken
     → Keeps ended new fed longer
 handed ended old new fed taken longer f same all k = (
-  subst (λ x. Reads MAX_DEPTH ended fed (append longer (trees_ready new)) x) (sym f)
-      (subst (λ xs. Reads MAX_DEPTH ended fed xs (fault_of old)) (sym all) k.0),
+  subst (λ x. Reads MAX_DEPTH ended fed (append longer (trees_ready new)) x) (sym (ap flaw_found f))
+      (subst (λ xs. Reads MAX_DEPTH ended fed xs (flaw_of old)) (sym all) k.0),
   on ended k.1,
 )
   where
     on : (b : Bool) → GoesOnFrom b old fed taken → GoesOnFrom b new fed longer
-    on false l = subst (λ x. Leaves MAX_DEPTH fed (after_taken longer (state_of new)) x) (sym f)
-        (subst (λ s. Leaves MAX_DEPTH fed s (fault_of old)) (sym same) l)
+    on false l = subst (λ x. Leaves MAX_DEPTH fed (after_taken longer (state_of new)) x) (sym (ap flaw_found f))
+        (subst (λ s. Leaves MAX_DEPTH fed s (flaw_of old)) (sym same) l)
     on true l = tt
 
 pub stands_handed : (old new : Reader) (fed : List ℕ) (taken : Sexps) (tree : Tree)
-    → bytes_fed new ≡ bytes_fed old → is_finished new ≡ is_finished old → fault_of new ≡ fault_of old
+    → bytes_fed new ≡ bytes_fed old → is_finished new ≡ is_finished old → new.failure ≡ old.failure
     → new.token ≡ old.token → new.bytes.items ≡ old.bytes.items
     → new.builder.lists.items ≡ old.builder.lists.items
     → old.builder.ready.items ≡ tree ∷ new.builder.ready.items → StandsFor old fed taken
@@ -406,8 +414,8 @@ stands_handed old new fed taken tree count e f same_token same_bytes same_lists 
         let outer : append (append taken (Cons (sexp_of tree) Nil)) (sexps_of new.builder.ready.items) ≡ append taken (sexps_of old.builder.ready.items) = all in
         cc
 
-    by : (fault_of old ≡ Some Memory) ⊎ Keeps (is_finished old) old fed taken
-        → (fault_of new ≡ Some Memory)
+    by : (old.failure ≡ Some Memory) ⊎ Keeps (is_finished old) old fed taken
+        → (new.failure ≡ Some Memory)
         ⊎ Keeps (is_finished new) new fed (append taken (Cons (sexp_of tree) Nil))
     by (inl m) = inl (f ∙ m)
     by (inr k) = inr (subst (λ b. Keeps b new fed (append taken (Cons (sexp_of tree) Nil))) (sym e)

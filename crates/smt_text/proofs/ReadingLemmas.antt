@@ -15,8 +15,8 @@ use Rattle.smt_text.specs.Internal.Machine.{may_end, token_in, step, go_on, run,
 use Rattle.smt_text.specs.Internal.Machine.{blame}
 use Rattle.smt_text.specs.Reading.{Begins, IsForest, LongestPrefix, AreComplete, HasFault, IsTold, Reads}
 use Rattle.smt_trees.specs.Sexp.{Sexps, Nil, append, count}
-use Rattle.smt_faults.specs.declared.text_fault.TextFault.{TextFault}
-use Rattle.smt_faults.specs.declared.text_fault.TextFault.TheVariants.{Byte, Deep, End, Memory}
+use Rattle.smt_faults.specs.declared.text_flaw.TextFlaw.{TextFlaw}
+use Rattle.smt_faults.specs.declared.text_flaw.TextFlaw.TheVariants.{Byte, Deep, End}
 use Rattle.smt_text.specs.declared.lexer.AtomState.TheVariants.{Nothing}
 use Rattle.smt_text.specs.declared.lexer.LexerStep.{LexerStep}
 use Rattle.smt_text.specs.declared.lexer.LexerStep.TheVariants.{Push, Skip, Finish, Open, Close, Stuck}
@@ -121,7 +121,7 @@ never_begins limit prefix s b e stops other h =
     cc
 
 -- the fault of a byte that no text goes on with
-pub stuck_reads : (limit : ℕ) (ended : Bool) (text : List ℕ) (s : State) (fault : TextFault)
+pub stuck_reads : (limit : ℕ) (ended : Bool) (text : List ℕ) (s : State) (fault : TextFlaw)
     → IsStuck limit text s fault → Reads limit ended text (complete_of s) (Some fault)
 stuck_reads limit ended text s fault h = subst (λ f. Reads limit ended text (complete_of s) (Some f))
     (sym h.is) (by_step (lex (token_in s) h.byte) refl)
@@ -152,7 +152,7 @@ stuck_reads limit ended text s fault h = subst (λ f. Reads limit ended text (co
     by_step Stuck e = (byte (λ f. absurd (cc)), tt, prefix_and_trees)
 
 -- what is read while more may come
-pub leaves_reads : (limit : ℕ) (text : List ℕ) (s : State) (fault : Option TextFault)
+pub leaves_reads : (limit : ℕ) (text : List ℕ) (s : State) (fault : Option TextFlaw)
     → Leaves limit text s fault → Reads limit false text (complete_of s) fault
 leaves_reads limit text s None h = (begins_if_runs limit text s h, complete_run limit text s h)
 leaves_reads limit text s (Some fault) h = stuck_reads limit false text s fault h
@@ -189,7 +189,7 @@ inside_token s e trees f w = cc
 -- every text leaves a state and perhaps a fault
 pub record Left (limit : ℕ) (text : List ℕ) : Type 0 where
   pub end : State
-  pub fault : Option TextFault
+  pub fault : Option TextFlaw
   pub leaves : Leaves limit text end fault
 
 pub leaves_on : (limit : ℕ) (prefix text : List ℕ) (s : State) → run limit start prefix ≡ Some s
@@ -214,7 +214,7 @@ leaves_on limit prefix (b ∷ text) s e =
 -- there are always trees and perhaps a fault
 pub record IsRead (limit : ℕ) (ended : Bool) (text : List ℕ) : Type 0 where
   pub trees : Sexps
-  pub fault : Option TextFault
+  pub fault : Option TextFlaw
   pub reads : Reads limit ended text trees fault
 
 read_ended : (limit : ℕ) (text : List ℕ) (s : State) (levels : Levels) (t : Bool)
@@ -232,7 +232,7 @@ read_ended limit text s (On (parts ∷ lists) top) t e f w = record {
   reads = ends_inside limit text s e (inside_list s parts lists top f);
 }
 
-is_read : (limit : ℕ) (ended : Bool) (text : List ℕ) (s : State) (fault : Option TextFault)
+is_read : (limit : ℕ) (ended : Bool) (text : List ℕ) (s : State) (fault : Option TextFlaw)
     → Leaves limit text s fault → IsRead limit ended text
 is_read limit true text s None h = read_ended limit text s (flush s) (may_end (token_in s)) h refl refl
 is_read limit false text s fault h =
@@ -311,7 +311,7 @@ not_both limit text prefix b rest longer c other g h never deeper =
     never (deeper.0, subst (Begins deeper.0) texts deeper.1)
 
 -- a text has one fault
-same_fault : (limit : ℕ) (text : List ℕ) (f g : TextFault) → HasFault limit text f → HasFault limit text g
+same_fault : (limit : ℕ) (text : List ℕ) (f g : TextFlaw) → HasFault limit text f → HasFault limit text g
     → f ≡ g
 same_fault limit text (End m) (End n) a b = ap End (a.0 ∙ sym b.0)
 same_fault limit text (End m) (Byte n) a b = absurd (no_stop limit text b.0 b.1 b.2 a.1 b.4)
@@ -328,31 +328,26 @@ same_fault limit text (Byte m) (Deep n) a b =
     absurd (not_both limit text a.0 a.1 a.2 b.0 b.1 b.2 a.4 b.4 a.5 b.5)
 same_fault limit text (Deep m) (Byte n) a b =
     absurd (not_both limit text b.0 b.1 b.2 a.0 a.1 a.2 b.4 a.4 b.5 a.5)
-same_fault limit text Memory g a b = absurd a
-same_fault limit text (End m) Memory a b = absurd b
-same_fault limit text (Byte m) Memory a b = absurd b
-same_fault limit text (Deep m) Memory a b = absurd b
 
 -- a text has trees alone or a fault
-no_fault_begun : (limit : ℕ) (text : List ℕ) (f : TextFault) → Begins limit text
+no_fault_begun : (limit : ℕ) (text : List ℕ) (f : TextFlaw) → Begins limit text
     → (IsForest limit text ⊎ (IsTold false f)) → HasFault limit text f → ⊥
 no_fault_begun limit text (End m) b (inl forest) h = h.2 forest
 no_fault_begun limit text (End m) b (inr told) h = cc
 no_fault_begun limit text (Byte m) b t h = no_stop limit text h.0 h.1 h.2 b h.4
 no_fault_begun limit text (Deep m) b t h = no_stop limit text h.0 h.1 h.2 b h.4
-no_fault_begun limit text Memory b t h = h
 
 forest_begins : (limit : ℕ) (text : List ℕ) (xs : Sexps) → Forest limit text xs → Begins limit text
 forest_begins limit text xs h = ([], xs, subst (λ t. Forest limit t xs) (sym (append-nil text)) h)
 
-none_some : (limit : ℕ) (ended : Bool) (text : List ℕ) (xs ys : Sexps) (f : TextFault)
+none_some : (limit : ℕ) (ended : Bool) (text : List ℕ) (xs ys : Sexps) (f : TextFlaw)
     → Reads limit ended text xs None → Reads limit ended text ys (Some f) → ⊥
 none_some limit true text xs ys f a b =
     no_fault_begun limit text f (forest_begins limit text xs a) (inl (xs, a)) b.0
 none_some limit false text xs ys f a b = no_fault_begun limit text f a.0 (inr b.1) b.0
 
 -- what is read of a text is one answer
-pub one_reading : (limit : ℕ) (ended : Bool) (text : List ℕ) (xs ys : Sexps) (f g : Option TextFault)
+pub one_reading : (limit : ℕ) (ended : Bool) (text : List ℕ) (xs ys : Sexps) (f g : Option TextFlaw)
     → Reads limit ended text xs f → Reads limit ended text ys g → (xs ≡ ys) × (f ≡ g)
 one_reading limit true text xs ys None None a b = (one_forest limit limit text xs ys a b, refl)
 one_reading limit false text xs ys None None a b = (one_complete limit text xs ys a.1 b.1, refl)
@@ -404,31 +399,28 @@ longest_stays limit text more prefix b rest g = record {
     by longer h (inl lt) past = let x = past lt in absurd (no_more x.0 (subst (Begins limit) x.1 h))
 
 -- a fault that was told before the end is one of every longer text
-fault_stays : (limit : ℕ) (text more : List ℕ) (f : TextFault) → IsTold false f → HasFault limit text f
+fault_stays : (limit : ℕ) (text more : List ℕ) (f : TextFlaw) → IsTold false f → HasFault limit text f
     → HasFault limit (text ++ more) f
 fault_stays limit text more (End m) told h = absurd (cc)
 fault_stays limit text more (Byte m) told h =
     (h.0, h.1, h.2 ++ more, h.3, longest_stays limit text more h.0 h.1 h.2 h.4, h.5)
 fault_stays limit text more (Deep m) told h =
     (h.0, h.1, h.2 ++ more, h.3, longest_stays limit text more h.0 h.1 h.2 h.4, h.5)
-fault_stays limit text more Memory told h = absurd h
 
 -- the byte that ended it
-ends_at : (limit : ℕ) (text : List ℕ) (f : TextFault) → IsTold false f → HasFault limit text f
+ends_at : (limit : ℕ) (text : List ℕ) (f : TextFlaw) → IsTold false f → HasFault limit text f
     → (prefix : List ℕ) × (b : ℕ) × (rest : List ℕ) × LongestPrefix limit text prefix (b ∷ rest)
 ends_at limit text (End m) told h = absurd (cc)
 ends_at limit text (Byte m) told h = (h.0, h.1, h.2, h.4)
 ends_at limit text (Deep m) told h = (h.0, h.1, h.2, h.4)
-ends_at limit text Memory told h = absurd h
 
 -- and it is told whether the end is or not
-always_told : (ended : Bool) (f : TextFault) → IsTold false f → IsTold ended f
+always_told : (ended : Bool) (f : TextFlaw) → IsTold false f → IsTold ended f
 always_told ended (End m) told = absurd (cc)
 always_told ended (Byte m) told = tt
 always_told ended (Deep m) told = tt
-always_told ended Memory told = tt
 
-fault_is_read : (limit : ℕ) (ended : Bool) (text more : List ℕ) (xs : Sexps) (f : TextFault)
+fault_is_read : (limit : ℕ) (ended : Bool) (text more : List ℕ) (xs : Sexps) (f : TextFlaw)
     → Reads limit false text xs (Some f) → Reads limit ended (text ++ more) xs (Some f)
 fault_is_read limit ended text more xs f a =
     let at = ends_at limit text f a.1 a.0 in
@@ -439,8 +431,8 @@ fault_is_read limit ended text more xs f a =
       (at.0, at.1 ∷ (at.2 ++ more), longest, subst (λ t. AreComplete limit t xs) same.0 a.2.3),
     )
 
-pub read_faults_stay : (limit : ℕ) (ended : Bool) (text more : List ℕ) (xs ys : Sexps) (f : TextFault)
-    (g : Option TextFault) → Reads limit false text xs (Some f) → Reads limit ended (text ++ more) ys g
+pub read_faults_stay : (limit : ℕ) (ended : Bool) (text more : List ℕ) (xs ys : Sexps) (f : TextFlaw)
+    (g : Option TextFlaw) → Reads limit false text xs (Some f) → Reads limit ended (text ++ more) ys g
     → (ys ≡ xs) × (g ≡ Some f)
 read_faults_stay limit ended text more xs ys f g a b =
     one_reading limit ended (text ++ more) ys xs g (Some f) b (fault_is_read limit ended text more xs f a)

@@ -1,6 +1,6 @@
 -- Several bytes at once.
 use Rattle.std.proofs.Common.{◌≡◌, ◌+◌, ◌-◌, ◌<◌, ◌≤◌, ℕ, zero, suc, List, [], ◌∷◌, ◌++◌, length, take, drop}
-use Rattle.std.proofs.Common.{get_or, Some, None, Err, true, inl, inr, refl, sym, ap, ◌∙◌, arith, subst}
+use Rattle.std.proofs.Common.{get_or, Some, None, Err, true, refl, sym, ap, ◌∙◌, arith, subst}
 use Rattle.std.proofs.Math.Seq.{take-add}
 use Rattle.std.proofs.lemmas.List.{append-nil, append_assoc, take_more, take_all, get_or-drop, length-drop}
 use Rattle.smt_text.proofs.BuilderLemmas.{end_taken}
@@ -8,14 +8,15 @@ use Rattle.smt_text.proofs.ByteLemmas.{lex_ended, letter_begins, white_ends, whi
 use Rattle.smt_text.proofs.ReaderCompleteness.{step-at, run-push, run-cons, run-append}
 use Rattle.smt_text.specs.Lexical.{is_letter, is_white}
 use Rattle.smt_text.specs.Internal.Machine.{Levels, State, At, add, word_named, name_or_word, ended, lex}
-use Rattle.smt_text.specs.Internal.Machine.{token_in, step, run, depth_of, blame, refusal_of, fault_at}
+use Rattle.smt_text.specs.Internal.Machine.{token_in, step, run, depth_of, blame, refusal_of, flaw_at}
 use Rattle.smt_text.specs.Internal.ReaderState.{GoesOver, GoesThrough}
 use Rattle.smt_text.specs.declared.lexer.AtomState.{AtomState}
 use Rattle.smt_text.specs.declared.lexer.AtomState.TheVariants.{Nothing, Name, InComment}
 use Rattle.smt_text.specs.declared.lexer.LexerStep.{LexerStep}
 use Rattle.smt_text.specs.declared.lexer.LexerStep.TheVariants.{Push, Skip, Finish, Open, Close, Stuck}
+use Rattle.smt_faults.specs.declared.failure.Failure.TheVariants.{Fault}
 use Rattle.smt_text.specs.declared.refusal.Refusal.{Refusal}
-use Rattle.smt_faults.specs.declared.text_fault.TextFault.{TextFault}
+use Rattle.smt_faults.specs.declared.text_flaw.TextFlaw.{TextFlaw}
 use Rattle.smt_text.specs.declared.reader.TheConstants.{MAX_DEPTH}
 
 -- bytes that are kept
@@ -167,7 +168,7 @@ further limit s mid next piece place n e f =
     (take n (drop place piece)) e
     ∙ ap (λ x. run limit mid (take n x)) (sym (rest_is piece place)) ∙ f
 
-blame-at : (place : ℕ) (what : LexerStep) → fault_at place (refusal_of what) ≡ blame place what
+blame-at : (place : ℕ) (what : LexerStep) → flaw_at place (refusal_of what) ≡ blame place what
 blame-at place (Push token) = refl
 blame-at place (Skip token) = refl
 blame-at place (Finish token) = refl
@@ -177,25 +178,22 @@ blame-at place Stuck = refl
 
 -- a byte of a piece that was refused
 pub refused : (s mid new : State) (piece : List ℕ) (place before now : ℕ) (refusal : Refusal)
-    (fault : TextFault) → place < length piece → run MAX_DEPTH s (take place piece) ≡ Some mid → now ≡ before
-    → fault ≡ fault_at (now + place) refusal → GoesOver mid (rest_of piece place) (Err refusal) new
-    → GoesThrough s before piece (Err fault) new
-refused s mid new piece place before now refusal fault lt e same is (inl m) =
-    inl (is ∙ ap (fault_at (now + place)) m)
-refused s mid new piece place before now refusal fault lt e same is (inr g) =
+    (flaw : TextFlaw) → place < length piece → run MAX_DEPTH s (take place piece) ≡ Some mid → now ≡ before
+    → flaw ≡ flaw_at (now + place) refusal → GoesOver mid (rest_of piece place) (Err (Fault refusal)) new
+    → GoesThrough s before piece (Err (Fault flaw)) new
+refused s mid new piece place before now refusal flaw lt e same is g =
     let byte = get_or piece place 0 in
     let stays : mid ≡ new = sym g.2 in
     let stops : step MAX_DEPTH new byte ≡ None = ap (λ x. step MAX_DEPTH x byte) g.2 ∙ ap (step MAX_DEPTH mid)
     (sym (first_of_rest piece place)) ∙ g.0 in
     let what : refusal ≡ refusal_of (lex (token_in new) byte) = g.1 ∙ ap
     (λ b. refusal_of (lex (token_in mid) b)) (first_of_rest piece place) ∙ ap
-    (λ x. refusal_of (lex (token_in x) byte)) stays in
-    inr (
+    (λ x. refusal_of (lex (token_in x) byte)) stays in (
       place,
       lt,
       e ∙ ap Some stays,
       stops,
-      is ∙ ap (fault_at (now + place)) what ∙ ap
-          (λ n. fault_at (n + place) (refusal_of (lex (token_in new) byte))) same ∙ blame-at (before + place)
+      is ∙ ap (flaw_at (now + place)) what ∙ ap
+          (λ n. flaw_at (n + place) (refusal_of (lex (token_in new) byte))) same ∙ blame-at (before + place)
           (lex (token_in new) byte),
     )

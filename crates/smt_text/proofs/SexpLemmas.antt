@@ -1,5 +1,5 @@
 -- S-expressions side by side: a list behind another, and how many there are.
-use Rattle.std.proofs.Common.{◌≡◌, ℕ, ◌+◌, refl, ap, arith}
+use Rattle.std.proofs.Common.{◌≡◌, ◌+◌, refl, ap, arith}
 use Rattle.smt_trees.specs.Sexp.{Sexps, Nil, Cons, append, count}
 
 pub append_nil : (xs : Sexps) → append xs Nil ≡ xs

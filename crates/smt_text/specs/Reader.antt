@@ -1,12 +1,14 @@
 -- What a reader's value says of the text that it was fed and the trees that it handed out. These are this
 -- project's rules.
-use Rattle.std.specs.Prelude.{◌≡◌, ◌⊎◌, ℕ, List, ◌+◌, length, Bool, true, false, Option, Some, None}
+use Rattle.std.specs.Prelude.{◌≡◌, ◌⊎◌, ℕ, List, ◌+◌, length, Bool, true, false, Option, Some, None, option_map}
 use Rattle.smt_text.specs.Reading.{Reads}
-use Rattle.smt_text.specs.Internal.ReaderState.{GoesOnFrom}
+use Rattle.smt_text.specs.Internal.ReaderState.{GoesOnFrom, flaw_found}
 use Rattle.smt_trees.specs.Sexp.{Sexps, Nil, Cons, append}
 use Rattle.smt_trees.specs.Tree.{sexp_of, sexps_of}
 use Rattle.smt_faults.specs.declared.text_fault.TextFault.{TextFault}
-use Rattle.smt_faults.specs.declared.text_fault.TextFault.TheVariants.{Byte, Deep, End as EndFault, Memory}
+use Rattle.smt_faults.specs.declared.text_flaw.TextFlaw.{TextFlaw}
+use Rattle.smt_faults.specs.declared.failure.Failure.TheVariants as failures
+use Rattle.smt_faults.specs.Faults.{flaw_in, text_failure}
 use Rattle.smt_text.specs.declared.reader.Next.{Next}
 use Rattle.smt_text.specs.declared.reader.Next.TheVariants.{Tree, Wait, End, Fault}
 use Rattle.smt_text.specs.declared.reader.Reader.{Reader}
@@ -19,9 +21,13 @@ is_finished reader = reader.finished
 abbrev pub bytes_fed : Reader → ℕ
 bytes_fed reader = reader.fed
 
--- the fault that was found so far
+-- what has failed so far, as a caller is told it
 abbrev pub fault_of : Reader → Option TextFault
-fault_of reader = reader.fault
+fault_of reader = option_map text_failure reader.failure
+
+-- the flaw of the text that was found so far
+abbrev pub flaw_of : Reader → Option TextFlaw
+flaw_of reader = flaw_found reader.failure
 
 -- the trees that are complete and were not handed out
 abbrev pub trees_ready : Reader → Sexps
@@ -34,14 +40,14 @@ trees_waiting reader = length reader.builder.ready.items
 -- on from what they leave
 abbrev pub Keeps : Bool → Reader → List ℕ → Sexps → Type 0
 Keeps ended reader fed taken =
-    Reads MAX_DEPTH ended fed (append taken (trees_ready reader)) (fault_of reader)
+    Reads MAX_DEPTH ended fed (append taken (trees_ready reader)) (flaw_of reader)
     × GoesOnFrom ended reader fed taken
 
 -- the reader's value fits this history: these bytes were fed, and these trees were handed out
 abbrev pub StandsFor : Reader → List ℕ → Sexps → Type 0
 StandsFor reader fed taken =
     (bytes_fed reader ≡ length fed)
-    × ((fault_of reader ≡ Some Memory) ⊎ Keeps (is_finished reader) reader fed taken)
+    × ((reader.failure ≡ Some failures.Memory) ⊎ Keeps (is_finished reader) reader fed taken)
 
 -- the trees that were handed out, after this answer
 abbrev pub with_answer : Sexps → Next → Sexps
@@ -53,14 +59,12 @@ with_answer taken (Fault f) = taken
 -- the answer is right after these bytes and these trees. Want of memory says nothing of the text
 abbrev pub Answers : Bool → List ℕ → Sexps → Next → Type 0
 Answers ended fed taken (Tree t) =
-    (later : Sexps) × (fault : Option TextFault)
-    × Reads MAX_DEPTH ended fed (append taken (Cons (sexp_of t) later)) fault
+    (later : Sexps) × (flaw : Option TextFlaw)
+    × Reads MAX_DEPTH ended fed (append taken (Cons (sexp_of t) later)) flaw
 Answers ended fed taken Wait = (ended ≡ false) × Reads MAX_DEPTH false fed taken None
 Answers ended fed taken End = (ended ≡ true) × Reads MAX_DEPTH true fed taken None
-Answers ended fed taken (Fault (Byte place)) = Reads MAX_DEPTH ended fed taken (Some (Byte place))
-Answers ended fed taken (Fault (Deep place)) = Reads MAX_DEPTH ended fed taken (Some (Deep place))
-Answers ended fed taken (Fault (EndFault place)) = Reads MAX_DEPTH ended fed taken (Some (EndFault place))
-Answers ended fed taken (Fault Memory) = Unit {0}
+Answers ended fed taken (Fault fault) =
+    (flaw : TextFlaw) → flaw_in fault ≡ Some flaw → Reads MAX_DEPTH ended fed taken (Some flaw)
 
 -- how many trees wait after this answer
 abbrev pub FewerWait : ℕ → ℕ → Next → Type 0

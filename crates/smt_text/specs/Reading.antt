@@ -5,8 +5,8 @@ use Rattle.smt_text.specs.Grammar.{Forest, Token, CloseParenthesis, AtomToken, I
 use Rattle.smt_text.specs.Grammar.{tokens_of_all}
 use Rattle.smt_text.specs.Lexical.{ends_token}
 use Rattle.smt_trees.specs.Sexp.{Sexps, append, Symbol}
-use Rattle.smt_faults.specs.declared.text_fault.TextFault.{TextFault}
-use Rattle.smt_faults.specs.declared.text_fault.TextFault.TheVariants.{Byte, Deep, End, Memory}
+use Rattle.smt_faults.specs.declared.text_flaw.TextFlaw.{TextFlaw}
+use Rattle.smt_faults.specs.declared.text_flaw.TextFlaw.TheVariants.{Byte, Deep, End}
 
 -- some text of trees begins so
 abbrev pub Begins : ℕ → List ℕ → Type 0
@@ -58,7 +58,7 @@ pub record AreComplete (limit : ℕ) (prefix : List ℕ) (trees : Sexps) : Type 
 --     End      it might have gone on, and ends inside a list or a token
 --     Deep     with the byte at this place, the text might go on if lists could be of any depth
 --     Byte     with the byte at this place, it is the beginning of no text
-abbrev pub HasFault : ℕ → List ℕ → TextFault → Type 0
+abbrev pub HasFault : ℕ → List ℕ → TextFlaw → Type 0
 HasFault limit text (End place) = (place ≡ length text) × Begins limit text × (IsForest limit text → ⊥)
 HasFault limit text (Deep place) =
     (prefix : List ℕ) × (b : ℕ) × (rest : List ℕ) × (place ≡ length prefix)
@@ -66,18 +66,16 @@ HasFault limit text (Deep place) =
 HasFault limit text (Byte place) =
     (prefix : List ℕ) × (b : ℕ) × (rest : List ℕ) × (place ≡ length prefix)
     × LongestPrefix limit text prefix (b ∷ rest) × (((depth : ℕ) × Begins depth (prefix ++ b ∷ [])) → ⊥)
-HasFault limit text Memory = ⊥
 
 -- a text that ends inside a list or a token has this fault only once its end was told
-abbrev pub IsTold : Bool → TextFault → Type 0
+abbrev pub IsTold : Bool → TextFlaw → Type 0
 IsTold ended (End place) = ended ≡ true
 IsTold ended (Byte place) = Unit {0}
 IsTold ended (Deep place) = Unit {0}
-IsTold ended Memory = Unit {0}
 
 -- what is read of the text: the trees, and the fault after them, if there is one. `ended` says that no more
 -- of the text comes
-abbrev pub Reads : ℕ → Bool → List ℕ → Sexps → Option TextFault → Type 0
+abbrev pub Reads : ℕ → Bool → List ℕ → Sexps → Option TextFlaw → Type 0
 Reads limit true text trees None = Forest limit text trees
 Reads limit false text trees None = Begins limit text × AreComplete limit text trees
 Reads limit ended text trees (Some fault) =

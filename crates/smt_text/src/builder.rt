@@ -1,13 +1,12 @@
 //! Trees, built from tokens in order.
 
-ghost use Rattle.std.specs.Prelude.{◌≡◌, ◌<◌, [], ◌∷◌, MatchOption, MatchResult};
+ghost use Rattle.std.specs.Prelude.{◌≡◌, ◌<◌, [], ◌∷◌, IfOk, MatchOption};
 ghost use Rattle.smt_text.specs.Internal.Machine.{On, add, begun, ended, depth_of};
 ghost use Rattle.smt_text.specs.Internal.ReaderState.{levels_of};
 ghost use Rattle.smt_trees.specs.Sexp.{Nil};
-ghost use Rattle.smt_text.specs.declared.refusal.Refusal.TheVariants.{NoMemory};
 ghost use Rattle.smt_trees.specs.Tree.{sexp_of};
 
-use crate::refusal::Refusal;
+use smt_faults::Memory;
 use smt_trees::{Tree, Trees};
 use std::alloc::Global;
 use std::collections::VecDeque;
@@ -45,9 +44,8 @@ impl Builder {
 
     /// Adds a tree to the innermost list that is not closed, or at the top.
     #[inline(always)]
-    pub(crate) fn add(&mut self, tree: Tree) -> Result<(), Refusal>
-        ensures { MatchResult result (λ _. levels_of self.new ≡ add (sexp_of tree) (levels_of self.old))
-            (λ e. e ≡ NoMemory) }
+    pub(crate) fn add(&mut self, tree: Tree) -> Result<(), Memory>
+        ensures { IfOk result (λ _. levels_of self.new ≡ add (sexp_of tree) (levels_of self.old)) }
     {
         match self.lists.last_mut() {
             Some(parts) => parts.push(tree)?,
@@ -58,9 +56,8 @@ impl Builder {
 
     /// Begins a list.
     #[inline(always)]
-    pub(crate) fn begin_list(&mut self) -> Result<(), Refusal>
-        ensures { MatchResult result (λ _. levels_of self.new ≡ begun (levels_of self.old))
-            (λ e. e ≡ NoMemory) }
+    pub(crate) fn begin_list(&mut self) -> Result<(), Memory>
+        ensures { IfOk result (λ _. levels_of self.new ≡ begun (levels_of self.old)) }
     {
         let parts = self.empty_list();
         self.lists.push(parts)?;
@@ -68,10 +65,9 @@ impl Builder {
     }
 
     /// Closes the innermost list.
-    pub(crate) fn end_list(&mut self) -> Result<(), Refusal>
+    pub(crate) fn end_list(&mut self) -> Result<(), Memory>
         requires { 0 < depth_of (levels_of self.old) }
-        ensures { MatchResult result (λ _. ended (levels_of self.old) ≡ levels_of self.new)
-            (λ e. e ≡ NoMemory) }
+        ensures { IfOk result (λ _. ended (levels_of self.old) ≡ levels_of self.new) }
     {
         match self.lists.pop() {
             Some(parts) => {
@@ -98,8 +94,8 @@ impl Builder {
     }
 
     // The parts in a vector that has room for no more. The memory that they had is for the next list.
-    fn exact(&mut self, parts: Vec<Tree>) -> Result<Vec<Tree>, Refusal>
-        ensures same { MatchResult result (λ exact. exact.items ≡ parts.items) (λ e. e ≡ NoMemory) }
+    fn exact(&mut self, parts: Vec<Tree>) -> Result<Vec<Tree>, Memory>
+        ensures same { IfOk result (λ exact. exact.items ≡ parts.items) }
         ensures lists { self.new.lists ≡ self.old.lists }
         ensures ready { self.new.ready ≡ self.old.ready }
     {

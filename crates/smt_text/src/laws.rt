@@ -6,7 +6,7 @@ ghost use Rattle.std.specs.Prelude.{◌≡◌, ◌≤◌, ℕ, List, ◌++◌, B
 ghost use Rattle.smt_text.specs.Grammar.{Forest};
 ghost use Rattle.smt_text.specs.Reading.{Begins, AreComplete, Reads};
 ghost use Rattle.smt_trees.specs.Sexp.{Sexps, append, count};
-ghost use Rattle.smt_faults.specs.declared.text_fault.TextFault.{TextFault as Fault};
+ghost use Rattle.smt_faults.specs.declared.text_flaw.TextFlaw.{TextFlaw};
 
 /// A text has at most one forest, whatever the limits on the depth of lists.
 pub fn one_forest()
@@ -16,14 +16,14 @@ pub fn one_forest()
 
 /// What is read of a text, its trees and its fault, is one answer.
 pub fn one_reading()
-    ensures one { (limit : ℕ) (ended : Bool) (text : List ℕ) (xs ys : Sexps) (f g : Option Fault)
+    ensures one { (limit : ℕ) (ended : Bool) (text : List ℕ) (xs ys : Sexps) (f g : Option TextFlaw)
         → Reads limit ended text xs f → Reads limit ended text ys g → (xs ≡ ys) × (f ≡ g) }
 {}
 
 /// Of every text something is read, whether more of it comes or not.
 pub fn every_text_reads()
     ensures some { (limit : ℕ) (ended : Bool) (text : List ℕ)
-        → (trees : Sexps) × (fault : Option Fault) × Reads limit ended text trees fault }
+        → (trees : Sexps) × (fault : Option TextFlaw) × Reads limit ended text trees fault }
 {}
 
 /// The complete trees of a prefix of a text stay, in their order, whatever comes after it.
@@ -36,7 +36,7 @@ pub fn complete_trees_stay()
 /// The trees that are read of the beginning of a text, while more of it may come, are the first that are read
 /// of more of it, whether its end was told or not.
 pub fn read_trees_stay()
-    ensures stay { (limit : ℕ) (ended : Bool) (text more : List ℕ) (xs ys : Sexps) (f g : Option Fault)
+    ensures stay { (limit : ℕ) (ended : Bool) (text more : List ℕ) (xs ys : Sexps) (f g : Option TextFlaw)
         → Reads limit false text xs f → Reads limit ended (text ++ more) ys g
         → (later : Sexps) × (ys ≡ append xs later) }
 {}
@@ -44,14 +44,14 @@ pub fn read_trees_stay()
 /// A fault of the beginning of a text, which was found while more of it might come, is that of more of it,
 /// behind the same trees.
 pub fn read_faults_stay()
-    ensures stay { (limit : ℕ) (ended : Bool) (text more : List ℕ) (xs ys : Sexps) (f : Fault)
-        (g : Option Fault)
+    ensures stay { (limit : ℕ) (ended : Bool) (text more : List ℕ) (xs ys : Sexps) (f : TextFlaw)
+        (g : Option TextFlaw)
         → Reads limit false text xs (Some f) → Reads limit ended (text ++ more) ys g
         → (ys ≡ xs) × (g ≡ Some f) }
 {}
 
 /// A text has no more trees than bytes.
 pub fn trees_are_no_more_than_bytes()
-    ensures few { (limit : ℕ) (text : List ℕ) (trees : Sexps) (f : Option Fault)
+    ensures few { (limit : ℕ) (text : List ℕ) (trees : Sexps) (f : Option TextFlaw)
         → Reads limit true text trees f → count trees ≤ length text }
 {}

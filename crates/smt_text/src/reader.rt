@@ -1,7 +1,7 @@
 //! The reader: bytes in, S-expressions out.
 
-ghost use Rattle.std.specs.Prelude.{◌≡◌, ◌≢◌, ℕ, ◌+◌, ◌<◌, ◌≤◌, ◌^◌, List, [], ◌∷◌, ◌++◌, ◌⊎◌, length};
-ghost use Rattle.std.specs.Prelude.{slice_index, take, true, false, None, Some, MatchBool, MatchResult};
+ghost use Rattle.std.specs.Prelude.{◌≡◌, ◌≢◌, ℕ, ◌+◌, ◌<◌, ◌≤◌, ◌^◌, List, [], ◌∷◌, ◌++◌, length};
+ghost use Rattle.std.specs.Prelude.{slice_index, take, true, false, None, Some, IfOk, MatchBool, MatchResult};
 ghost use Rattle.smt_text.specs.Grammar.{limit, OpenParenthesis, CloseParenthesis};
 ghost use Rattle.smt_text.specs.Reader.{is_finished, bytes_fed, fault_of, trees_waiting, StandsFor, Answers};
 ghost use Rattle.smt_text.specs.Reader.{FewerWait, IsFound, with_answer};
@@ -12,8 +12,11 @@ ghost use Rattle.smt_text.specs.Internal.ReaderState.{IsBeside};
 ghost use Rattle.smt_text.specs.Reading.{Reads};
 ghost use Rattle.smt_trees.specs.Sexp.{Sexps, Nil};
 ghost use Rattle.smt_faults.specs.declared.text_fault.TextFault.{TextFault as Fault};
-ghost use Rattle.smt_faults.specs.declared.text_fault.TextFault.TheVariants.{Memory};
-ghost use Rattle.smt_text.specs.declared.refusal.Refusal.TheVariants.{NoMemory, TooDeep, Unfit};
+ghost use Rattle.smt_faults.specs.declared.text_fault.TextFault.TheVariants.{Memory as OutOfMemory};
+ghost use Rattle.smt_faults.specs.declared.text_flaw.TextFlaw.{TextFlaw};
+ghost use Rattle.smt_faults.specs.Faults.{flaw_in};
+ghost use Rattle.smt_faults.specs.declared.failure.Failure.TheVariants as failures;
+ghost use Rattle.smt_text.specs.declared.refusal.Refusal.TheVariants.{TooDeep, Unfit};
 ghost use Rattle.smt_text.specs.declared.lexer.AtomState.TheVariants.{InComment, Nothing};
 ghost use Rattle.smt_text.specs.Lexical.{is_letter};
 
@@ -21,7 +24,7 @@ use crate::builder::Builder;
 use crate::byte_class::{is_letter, is_white};
 use crate::lexer::{AtomState, LexerStep, atom_of, comment_length, name_at};
 use crate::refusal::Refusal;
-use smt_faults::TextFault;
+use smt_faults::{Failure, Memory, TextFault, TextFlaw};
 use smt_trees::{Tree, Trees};
 use std::alloc::Global;
 use std::mem;
@@ -53,7 +56,7 @@ pub struct Reader {
     token: AtomState,
     bytes: Vec<u8>,
     builder: Builder,
-    fault: Option<TextFault>,
+    failure: Option<Failure<TextFlaw>>,
 }
 
 impl Reader {
@@ -71,7 +74,7 @@ impl Reader {
             token: AtomState::Nothing,
             bytes: Vec::new(alloc),
             builder: Builder::new(alloc),
-            fault: None,
+            failure: None,
         }
     }
 
@@ -85,8 +88,8 @@ impl Reader {
         ensures counted { bytes_fed self.new ≡ bytes_fed self.old + length piece.now }
         ensures fault { (f : Fault) → fault_of self.old ≡ Some f → fault_of self.new ≡ Some f }
     {
-        if self.fault.is_none() {
-            self.fault = self.read(piece).err();
+        if self.failure.is_none() {
+            self.failure = self.read(piece).err();
         }
         self.fed += piece.len() as u64;
     }
@@ -109,8 +112,8 @@ impl Reader {
         ensures fault { (f : Fault) → fault_of self.old ≡ Some f → fault_of self.new ≡ Some f }
     {
         self.finished = true;
-        if self.fault.is_none() {
-            self.fault = self.close_text().err();
+        if self.failure.is_none() {
+            self.failure = self.close_text().err();
         }
     }
 
@@ -124,7 +127,7 @@ impl Reader {
         ensures counted { bytes_fed self.new ≡ bytes_fed self.old }
         ensures fault { fault_of self.new ≡ fault_of self.old }
         ensures found { IsFound (fault_of self.old) result }
-        ensures refused { fault_of self.old ≡ Some Memory → result ≡ Next.Fault Memory }
+        ensures refused { fault_of self.old ≡ Some OutOfMemory → result ≡ Next.Fault OutOfMemory }
         ensures fewer { FewerWait (trees_waiting self.old) (trees_waiting self.new) result }
     {
         if self.is_refused() {
@@ -133,8 +136,8 @@ impl Reader {
         if let Some(tree) = self.builder.hand_out() {
             return Next::Tree(tree);
         }
-        match self.fault {
-            Some(fault) => Next::Fault(fault),
+        match self.failure {
+            Some(failure) => Next::Fault(TextFault::from(failure)),
             None if self.finished => Next::End,
             None => Next::Wait,
         }
@@ -142,13 +145,14 @@ impl Reader {
 
     // Memory was refused.
     fn is_refused(&self) -> bool
-        ensures { MatchBool result (self.now.fault ≡ Some Memory) (self.now.fault ≢ Some Memory) }
+        ensures { MatchBool result (self.now.failure ≡ Some failures.Memory)
+            (self.now.failure ≢ Some failures.Memory) }
     {
-        matches!(self.fault, Some(TextFault::Memory))
+        matches!(self.failure, Some(Failure::Memory))
     }
 
-    // Reads a piece, while there is no fault.
-    fn read(&mut self, piece: &[u8]) -> Result<(), TextFault>
+    // Reads a piece, while nothing has failed.
+    fn read(&mut self, piece: &[u8]) -> Result<(), Failure<TextFlaw>>
         requires { self.old.fed + length piece.now < 2 ^ 64 }
         ensures beside { IsBeside self.old self.new }
         ensures goes { GoesThrough (state_of self.old) self.old.fed piece.now result (state_of self.new) }
@@ -157,14 +161,17 @@ impl Reader {
         while place < piece.len() {
             match self.read_some(&piece[place..]) {
                 Ok(count) => place += count,
-                Err(refusal) => return Err(refusal.at(self.fed + place as u64)),
+                Err(Failure::Fault(refusal)) => {
+                    return Err(Failure::Fault(refusal.at(self.fed + place as u64)));
+                }
+                Err(Failure::Memory) => return Err(Failure::Memory),
             }
         }
         Ok(())
     }
 
     // Reads some bytes of a text that is not empty.
-    fn read_some(&mut self, text: &[u8]) -> Result<usize, Refusal>
+    fn read_some(&mut self, text: &[u8]) -> Result<usize, Failure<Refusal>>
         requires { 0 < length text.now }
         ensures beside { IsBeside self.old self.new }
         ensures goes { GoesOver (state_of self.old) text.now result (state_of self.new) }
@@ -177,7 +184,7 @@ impl Reader {
     }
 
     // Reads on where no token has begun.
-    fn read_token(&mut self, text: &[u8]) -> Result<usize, Refusal>
+    fn read_token(&mut self, text: &[u8]) -> Result<usize, Failure<Refusal>>
         requires some { 0 < length text.now }
         requires token { self.old.token ≡ Nothing }
         requires bytes { self.old.bytes.items ≡ [] }
@@ -200,7 +207,7 @@ impl Reader {
     }
 
     // Reads a name, and the byte behind it where it ends the name.
-    fn read_name(&mut self, text: &[u8]) -> Result<usize, Refusal>
+    fn read_name(&mut self, text: &[u8]) -> Result<usize, Failure<Refusal>>
         requires some { 0 < length text.now }
         requires letter { is_letter (slice_index text.now 0) ≡ true }
         requires token { self.old.token ≡ Nothing }
@@ -229,21 +236,20 @@ impl Reader {
 
     // Adds the name at the beginning of a text, of so many bytes.
     #[inline(always)]
-    fn add_name(&mut self, text: &[u8], count: usize) -> Result<(), Refusal>
+    fn add_name(&mut self, text: &[u8], count: usize) -> Result<(), Memory>
         requires { count ≤ length text.now }
         ensures beside { IsBeside self.old self.new }
         ensures token { self.new.token ≡ self.old.token }
         ensures bytes { self.new.bytes ≡ self.old.bytes }
-        ensures added { MatchResult result
-            (λ _. let name = take count text.now
+        ensures added { IfOk result (λ _. let name = take count text.now
             in levels_of self.new.builder
-            ≡ add (name_or_word (word_named name) name) (levels_of self.old.builder)) (λ e. e ≡ NoMemory) }
+            ≡ add (name_or_word (word_named name) name) (levels_of self.old.builder)) }
     {
         self.builder.add(name_at(self.alloc, text, count)?)
     }
 
     // Reads on in a comment.
-    fn read_comment(&mut self, text: &[u8]) -> Result<usize, Refusal>
+    fn read_comment(&mut self, text: &[u8]) -> Result<usize, Failure<Refusal>>
         requires some { 0 < length text.now }
         requires token { self.old.token ≡ InComment }
         ensures beside { IsBeside self.old self.new }
@@ -257,7 +263,7 @@ impl Reader {
     }
 
     // Reads on in a token that has begun.
-    fn read_run(&mut self, text: &[u8]) -> Result<usize, Refusal>
+    fn read_run(&mut self, text: &[u8]) -> Result<usize, Failure<Refusal>>
         requires { 0 < length text.now }
         ensures beside { IsBeside self.old self.new }
         ensures goes { GoesOver (state_of self.old) text.now result (state_of self.new) }
@@ -271,7 +277,7 @@ impl Reader {
     }
 
     // Reads the first byte of a text.
-    fn read_byte(&mut self, text: &[u8]) -> Result<usize, Refusal>
+    fn read_byte(&mut self, text: &[u8]) -> Result<usize, Failure<Refusal>>
         requires { 0 < length text.now }
         ensures beside { IsBeside self.old self.new }
         ensures goes { GoesOver (state_of self.old) text.now result (state_of self.new) }
@@ -280,8 +286,8 @@ impl Reader {
         Ok(1)
     }
 
-    // One byte, while there is no fault.
-    fn advance(&mut self, byte: u8) -> Result<(), Refusal>
+    // One byte, while nothing has failed.
+    fn advance(&mut self, byte: u8) -> Result<(), Failure<Refusal>>
         ensures beside { IsBeside self.old self.new }
         ensures goes { Goes (step MAX_DEPTH (state_of self.old) byte) (refusal_of (lex self.old.token byte))
             (state_of self.old) result (state_of self.new) }
@@ -296,44 +302,48 @@ impl Reader {
                 self.token = token;
                 Ok(())
             }
-            LexerStep::Finish(token) => self.finish_token(token),
+            LexerStep::Finish(token) => {
+                self.finish_token(token)?;
+                Ok(())
+            }
             LexerStep::Open => self.begin_list(),
             LexerStep::Close => self.end_list(),
-            LexerStep::Stuck => Err(Refusal::Unfit),
+            LexerStep::Stuck => Err(Failure::Fault(Refusal::Unfit)),
         }
     }
 
     // The token that has begun ends here, and a list begins.
-    fn begin_list(&mut self) -> Result<(), Refusal>
+    fn begin_list(&mut self) -> Result<(), Failure<Refusal>>
         ensures beside { IsBeside self.old self.new }
         ensures goes { Goes (settle (act MAX_DEPTH OpenParenthesis (flush (state_of self.old)))) TooDeep
             (state_of self.old) result (state_of self.new) }
     {
         if self.builder.depth() >= MAX_DEPTH {
-            return Err(Refusal::TooDeep);
+            return Err(Failure::Fault(Refusal::TooDeep));
         }
         self.finish_token(AtomState::Nothing)?;
-        self.builder.begin_list()
+        self.builder.begin_list()?;
+        Ok(())
     }
 
     // The token that has begun ends here, and so does the innermost list.
-    fn end_list(&mut self) -> Result<(), Refusal>
+    fn end_list(&mut self) -> Result<(), Failure<Refusal>>
         ensures beside { IsBeside self.old self.new }
         ensures goes { Goes (settle (act MAX_DEPTH CloseParenthesis (flush (state_of self.old)))) Unfit
             (state_of self.old) result (state_of self.new) }
     {
         if self.builder.depth() == 0 {
-            return Err(Refusal::Unfit);
+            return Err(Failure::Fault(Refusal::Unfit));
         }
         self.finish_token(AtomState::Nothing)?;
-        self.builder.end_list()
+        self.builder.end_list()?;
+        Ok(())
     }
 
     // Adds the atom that has begun, if one has, which ends here.
-    fn finish_token(&mut self, next: AtomState) -> Result<(), Refusal>
+    fn finish_token(&mut self, next: AtomState) -> Result<(), Memory>
         ensures beside { IsBeside self.old self.new }
-        ensures finished { MatchResult result (λ _. finished next (state_of self.old) ≡ state_of self.new)
-            (λ e. e ≡ NoMemory) }
+        ensures finished { IfOk result (λ _. finished next (state_of self.old) ≡ state_of self.new) }
     {
         let token = mem::replace(&mut self.token, next);
         match atom_of(self.alloc, token, &mut self.bytes)? {
@@ -343,24 +353,23 @@ impl Reader {
     }
 
     // Ends the text.
-    fn close_text(&mut self) -> Result<(), TextFault>
+    fn close_text(&mut self) -> Result<(), Failure<TextFlaw>>
         ensures beside { IsBeside self.old self.new }
         ensures ends { Ends (state_of self.old) self.old.fed result (state_of self.new) }
     {
         if self.builder.depth() > 0 || !self.token.may_end() {
-            return Err(TextFault::End { place: self.fed });
+            return Err(Failure::Fault(TextFlaw::End { place: self.fed }));
         }
-        match self.finish_token(AtomState::Nothing) {
-            Ok(()) => Ok(()),
-            Err(refusal) => Err(refusal.at(self.fed)),
-        }
+        self.finish_token(AtomState::Nothing)?;
+        Ok(())
     }
 }
 
 /// The trees of a whole text, or its fault.
 pub fn read_trees(alloc: Global, text: &[u8]) -> Result<Trees, TextFault>
     ensures { MatchResult result (λ trees. Reads limit true text.now trees None)
-        (λ fault. (fault ≡ Memory) ⊎ ((trees : Sexps) × Reads limit true text.now trees (Some fault))) }
+        (λ fault. (flaw : TextFlaw) → flaw_in fault ≡ Some flaw
+        → (trees : Sexps) × Reads limit true text.now trees (Some flaw)) }
 {
     let mut reader = Reader::new(alloc);
     reader.feed(text);

@@ -1,53 +1,27 @@
-//! Why a byte of a text was refused.
+//! Why a byte of a text was refused, wherever it stands. This file knows no want of memory.
 
 ghost use Rattle.std.specs.Prelude.{◌≡◌};
-ghost use Rattle.smt_text.specs.Internal.Machine.{fault_at};
+ghost use Rattle.smt_text.specs.Internal.Machine.{flaw_at};
 
-use smt_faults::TextFault;
-use std::alloc::{AllocError, AllocFailed};
+use smt_faults::TextFlaw;
 
-/// Why a byte was refused, wherever it stands.
+/// Why a byte was refused.
 #[derive(Clone, Copy)]
 pub(crate) enum Refusal {
     /// No text goes on with the byte.
     Unfit,
     /// The byte opens a list deeper than lists may nest.
     TooDeep,
-    /// Memory was refused.
-    NoMemory,
 }
 
 impl Refusal {
-    /// The fault of the byte at this place.
-    pub(crate) fn at(self, place: u64) -> TextFault
-        ensures { result ≡ fault_at place self }
+    /// The flaw of a text with the byte at this place, in bytes from 0.
+    pub(crate) fn at(self, place: u64) -> TextFlaw
+        ensures { result ≡ flaw_at place self }
     {
         match self {
-            Refusal::Unfit => TextFault::Byte { place },
-            Refusal::TooDeep => TextFault::Deep { place },
-            Refusal::NoMemory => TextFault::Memory,
+            Refusal::Unfit => TextFlaw::Byte { place },
+            Refusal::TooDeep => TextFlaw::Deep { place },
         }
-    }
-}
-
-impl From<AllocError> for Refusal {
-    ghost use Rattle.std.specs.Prelude.{◌≡◌};
-    ghost use Rattle.smt_text.specs.declared.refusal.Refusal.TheVariants.{NoMemory};
-
-    ghost from_gives = { λ _ refusal. refusal ≡ NoMemory };
-
-    fn from(_error: AllocError) -> Refusal {
-        Refusal::NoMemory
-    }
-}
-
-impl<T: Drop> From<AllocFailed<T>> for Refusal {
-    ghost use Rattle.std.specs.Prelude.{◌≡◌};
-    ghost use Rattle.smt_text.specs.declared.refusal.Refusal.TheVariants.{NoMemory};
-
-    ghost from_gives = { λ _ refusal. refusal ≡ NoMemory };
-
-    fn from(_error: AllocFailed<T>) -> Refusal {
-        Refusal::NoMemory
     }
 }

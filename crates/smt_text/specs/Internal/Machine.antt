@@ -20,10 +20,10 @@ use Rattle.smt_text.specs.declared.lexer.LexerStep.{LexerStep}
 use Rattle.smt_text.specs.declared.lexer.LexerStep.TheVariants.{Push, Skip, Finish, Open, Close, Stuck}
 use Rattle.smt_trees.specs.declared.reserved.Word.{Word}
 use Rattle.smt_trees.specs.declared.reserved.Word.TheVariants as words
-use Rattle.smt_faults.specs.declared.text_fault.TextFault.{TextFault}
-use Rattle.smt_faults.specs.declared.text_fault.TextFault.TheVariants.{Byte, Deep, Memory}
+use Rattle.smt_faults.specs.declared.text_flaw.TextFlaw.{TextFlaw}
+use Rattle.smt_faults.specs.declared.text_flaw.TextFlaw.TheVariants.{Byte, Deep}
 use Rattle.smt_text.specs.declared.refusal.Refusal.{Refusal}
-use Rattle.smt_text.specs.declared.refusal.Refusal.TheVariants.{Unfit, TooDeep, NoMemory}
+use Rattle.smt_text.specs.declared.refusal.Refusal.TheVariants.{Unfit, TooDeep}
 
 -- the trees so far: those of each list that is not closed, the innermost list first, and those at the top
 pub data Levels : Type 0 where
@@ -235,7 +235,7 @@ run limit s [] = Some s
 run limit s (b ∷ bs) = go_on (step limit s b) (λ next. run limit next bs)
 
 -- the fault of a byte that no text goes on with
-abbrev pub blame : ℕ → LexerStep → TextFault
+abbrev pub blame : ℕ → LexerStep → TextFlaw
 blame place Open = Deep place
 blame place _ = Byte place
 
@@ -244,13 +244,12 @@ abbrev pub refusal_of : LexerStep → Refusal
 refusal_of Open = TooDeep
 refusal_of _ = Unfit
 
-abbrev pub fault_at : ℕ → Refusal → TextFault
-fault_at place Unfit = Byte place
-fault_at place TooDeep = Deep place
-fault_at place NoMemory = Memory
+abbrev pub flaw_at : ℕ → Refusal → TextFlaw
+flaw_at place Unfit = Byte place
+flaw_at place TooDeep = Deep place
 
 -- the text, in which no text goes on with one byte, up to that byte
-pub record IsStuck (limit : ℕ) (text : List ℕ) (s : State) (fault : TextFault) : Type 0 where
+pub record IsStuck (limit : ℕ) (text : List ℕ) (s : State) (fault : TextFlaw) : Type 0 where
   pub prefix : List ℕ
   pub byte : ℕ
   pub rest : List ℕ
@@ -260,7 +259,7 @@ pub record IsStuck (limit : ℕ) (text : List ℕ) (s : State) (fault : TextFaul
   pub is : fault ≡ blame (length prefix) (lex (token_in s) byte)
 
 -- the state and the fault that a text leaves, while more of it may come
-abbrev pub Leaves : ℕ → List ℕ → State → Option TextFault → Type 0
+abbrev pub Leaves : ℕ → List ℕ → State → Option TextFlaw → Type 0
 Leaves limit text s None = run limit start text ≡ Some s
 Leaves limit text s (Some fault) = IsStuck limit text s fault
 

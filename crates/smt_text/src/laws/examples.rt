@@ -7,7 +7,7 @@ ghost use Rattle.smt_text.specs.Grammar.{limit, Forest};
 ghost use Rattle.smt_text.specs.Reading.{Reads};
 ghost use Rattle.smt_trees.specs.Sexp.{Atom, Reserved, Items, Nil, Cons, Symbol, Numeral, Decimal};
 ghost use Rattle.smt_trees.specs.Sexp.{Hexadecimal, Binary, Text, Keyword};
-ghost use Rattle.smt_faults.specs.declared.text_fault.TextFault.TheVariants.{Byte, Deep, End};
+ghost use Rattle.smt_faults.specs.declared.text_flaw.TextFlaw.TheVariants.{Byte, Deep, End};
 ghost use Rattle.smt_trees.specs.declared.reserved.Word.TheVariants.{Assert};
 
 /// Texts and their trees.

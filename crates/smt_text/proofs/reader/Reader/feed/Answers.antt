@@ -13,11 +13,11 @@ returns-clause-stands c =
           (fed ++ c.args.piece.now) taken) (sym w.self-is)
           (stands_read c.args.self.now
           (record w.read.new.self {
-            fault = w.err-self.result;
+            failure = w.err-self.result;
             fed = w.read.new.self.fed + length c.args.piece.now;
           }) c.args.piece.now w.read.result fed taken
           c.requires.unfinished (w.read.ensures.beside.1 ∙ c.requires.unfinished)
-          (none_if c.args.self.now.fault w.if-is_none.ensures)
+          (none_if c.args.self.now.failure w.if-is_none.ensures)
           (ap (λ n. n + length c.args.piece.now) w.read.ensures.beside.0) w.err-self.ensures.value
           w.read.ensures.goes h)
       | else-is_none w ↦ subst

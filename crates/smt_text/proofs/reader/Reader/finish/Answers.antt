@@ -5,9 +5,9 @@ use Rattle.smt_text.proofs.reader.Reader.finish.Goals as goal
 pub returns-then-is_none-clause-stands : goal.returns-then-is_none-clause-stands
 returns-then-is_none-clause-stands c =
     λ fed taken h. stands_finish c.args.self.now
-    (record c.close_text.new.self { fault = c.err-self.result }) c.close_text.result fed taken
+    (record c.close_text.new.self { failure = c.err-self.result }) c.close_text.result fed taken
     c.requires.unfinished c.close_text.ensures.beside.1
-    (none_if c.args.self.now.fault c.if-is_none.ensures) c.close_text.ensures.beside.0
+    (none_if c.args.self.now.failure c.if-is_none.ensures) c.close_text.ensures.beside.0
     c.err-self.ensures.value c.close_text.ensures.ends h
 
 pub returns-else-is_none-clause-stands : goal.returns-else-is_none-clause-stands

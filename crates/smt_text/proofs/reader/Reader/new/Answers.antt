@@ -14,7 +14,7 @@ returns-clause-stands c =
       token = Nothing;
       bytes = c.new.result;
       builder = c.new-2.result;
-      fault = None;
+      failure = None;
     }) refl refl refl
     (ap (λ (bytes : List ℕ). At Nothing bytes (levels_of c.new-2.result)) c.new.ensures.items ∙ ap
     (At Nothing []) c.new-2.ensures)

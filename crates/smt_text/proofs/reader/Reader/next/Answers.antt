@@ -1,6 +1,8 @@
-use Rattle.std.proofs.Common.{None, subst, refl, ap}
+use Rattle.std.proofs.Common.{None, subst, sym, refl, ap}
 use Rattle.smt_text.proofs.ReaderLemmas.{answers_none, answers_fault, answers_tree, stands_handed}
+use Rattle.smt_text.specs.Reader.{Answers, is_finished}
 use Rattle.smt_text.specs.Reading.{Reads}
+use Rattle.smt_text.specs.declared.reader.Next.TheVariants.{Fault}
 use Rattle.smt_text.specs.declared.reader.TheConstants.{MAX_DEPTH}
 use Rattle.smt_text.proofs.reader.Reader.next.Goals as goal
 
@@ -15,10 +17,11 @@ returns-in-Some-clause-stands c =
     (record c.args.self.now { builder = c.hand_out.new.self }) fed taken c.in-Some.tree refl refl refl
     refl refl (ap (λ v. v.items) c.hand_out.ensures.lists) c.in-Some.ensures.first h
 
-pub returns-in-Some-fault-clause-right : goal.returns-in-Some-fault-clause-right
-returns-in-Some-fault-clause-right c =
-    λ fed taken h. answers_fault c.args.self.now fed taken c.in-Some-fault.fault c.in_default.ensures.first.0
-    c.in-Some-fault.is h
+pub returns-in-Some-failure-clause-right : goal.returns-in-Some-failure-clause-right
+returns-in-Some-failure-clause-right c =
+    λ fed taken h. subst (λ f. Answers (is_finished c.args.self.now) fed taken (Fault f)) (sym c.from.ensures)
+    (answers_fault c.args.self.now fed taken c.in-Some-failure.failure c.in_default.ensures.first.0
+    c.in-Some-failure.is h)
 
 pub returns-in-None-clause-right : goal.returns-in-None-clause-right
 returns-in-None-clause-right c =

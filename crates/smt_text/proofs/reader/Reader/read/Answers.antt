@@ -1,6 +1,6 @@
-use Rattle.std.proofs.Common.{◌∙◌, arith}
-use Rattle.smt_text.proofs.RunLemmas.{further, refused, rest_length}
-use Rattle.smt_text.specs.Internal.ReaderState.{state_of}
+use Rattle.std.proofs.Common.{◌∙◌, arith, subst, Err}
+use Rattle.smt_text.proofs.RunLemmas.{further, refused, rest_length, rest_of}
+use Rattle.smt_text.specs.Internal.ReaderState.{state_of, GoesOver}
 use Rattle.smt_text.specs.declared.reader.TheConstants.{MAX_DEPTH}
 use Rattle.smt_text.proofs.reader.Reader.read.Goals as goal
 
@@ -22,10 +22,12 @@ loop-place-preserved c = record {
       c.loop-place.invariant.runs c.in-Ok.ensures.goes.2;
 }
 
-pub returns-in-Err-clause-goes : goal.returns-in-Err-clause-goes
-returns-in-Err-clause-goes c =
+pub returns-in-Err-Fault-clause-goes : goal.returns-in-Err-Fault-clause-goes
+returns-in-Err-Fault-clause-goes c =
     refused (state_of c.args.self.now) (state_of c.loop-place.self)
     (state_of c.read_some.new.self) c.args.piece.now c.loop-place.place c.args.self.now.fed
-    c.read_some.new.self.fed c.in-Err.refusal c.at.result c.loop-place-test.true
+    c.read_some.new.self.fed c.in-Err-Fault.refusal c.at.result c.loop-place-test.true
     c.loop-place.invariant.runs
-    (c.in-Err.ensures.beside.0 ∙ c.loop-place.invariant.beside.0) c.at.ensures c.in-Err.ensures.goes
+    (c.in-Err-Fault.ensures.beside.0 ∙ c.loop-place.invariant.beside.0) c.at.ensures
+    (subst (λ e. GoesOver (state_of c.loop-place.self) (rest_of c.args.piece.now c.loop-place.place) (Err e)
+    (state_of c.read_some.new.self)) c.in-Err-Fault.field-0-is c.in-Err-Fault.ensures.goes)
