@@ -2,8 +2,7 @@
 use Rattle.std.proofs.Common.{◌≡◌, ◌+◌, ℕ, Bool, true, false, ◌||◌, List, [], ◌∷◌, ◌++◌, length, Option, Some, None, Result, Ok, Err, cond, refl, ap, sym, ◌∙◌}
 use Rattle.std.specs.List.{list_any}
 use Rattle.smt_trees.specs.Sexp.{Sexps, Nil, Cons}
-use Rattle.smt_faults.specs.declared.text_fault.TextFault.{TextFault}
-use Rattle.smt_faults.specs.declared.text_fault.TextFault.TheVariants as texts
+use Rattle.smt_faults.specs.declared.text_flaw.TextFlaw.{TextFlaw}
 use Rattle.smt_script.specs.Command.{Command, command_of}
 use Rattle.smt_faults.specs.declared.command_fault.CommandFault.TheVariants.{AfterExit}
 use Rattle.smt_dialogue.specs.Answers as answering
@@ -11,7 +10,6 @@ use Rattle.smt_dialogue.specs.Answers.{Missing, Taken, Takes, Unfit, taken}
 use Rattle.smt_dialogue.specs.FirstFault.{Ends, TextSoFar, is_over, turn_at, turn_of_command, turn_of_fault, turn_of_taken}
 use Rattle.smt_dialogue.specs.InForce.{fault_of_pair, has_exited_after, need_after}
 use Rattle.smt_dialogue.specs.Pairs.{Pair, answers_taken, next_of, pair_of}
-use Rattle.smt_report.specs.FaultLine.{text_line}
 use Rattle.smt_dialogue.specs.Report.{lines_of_end}
 use Rattle.smt_report.specs.Verdict.{is_fault_line, is_refuted_line, is_undecided_line, verdict_of}
 use Rattle.smt_report.specs.declared.line.Line.{Line}
@@ -67,18 +65,12 @@ none_of p xs ys h =
 -- ## A dialogue that ends without the line of a fault
 
 -- all trees and answers were taken, and neither text has a fault
-pub record IsClean (later : Sexps) (script_fault : Option TextFault) (rest : Sexps) (answers_fault : Option TextFault) (fault : Option Line) : Type 0 where
+pub record IsClean (later : Sexps) (script_fault : Option TextFlaw) (rest : Sexps) (answers_fault : Option TextFlaw) (fault : Option Line) : Type 0 where
   pub trees : later ≡ Nil
   pub script : script_fault ≡ None
   pub left : rest ≡ Nil
   pub answers : answers_fault ≡ None
   pub none : fault ≡ None
-
-text_line_is_fault : (side : Side) (f : TextFault) → is_fault_line (text_line side f) ≡ true
-text_line_is_fault side (texts.Byte place) = refl
-text_line_is_fault side (texts.Deep place) = refl
-text_line_is_fault side (texts.End place) = refl
-text_line_is_fault side texts.Memory = refl
 
 -- the end that has a line has that of a fault
 no_line : {P : Type 0} (line : Line) (fault : Option Line) → is_fault_line line ≡ true → Ends (Some line) ≡ Ends fault → list_any is_fault_line (lines_of_end fault) ≡ false → P
@@ -93,11 +85,11 @@ turn_of_fault_line : {P : Type 0} (n : ℕ) (f : Option CommandFault) (fault : O
 turn_of_fault_line n None fault e h = absurd (cc)
 turn_of_fault_line n (Some f) fault e h = no_line (lines.CommandFault n f) fault refl e h
 
-taken_line : {P : Type 0} (pairs : List Pair) (c : Command) (af : Option TextFault) (t : Taken) (fault : Option Line) → turn_of_taken pairs c af t ≡ Ends fault → list_any is_fault_line (lines_of_end fault) ≡ false → P
+taken_line : {P : Type 0} (pairs : List Pair) (c : Command) (af : Option TextFlaw) (t : Taken) (fault : Option Line) → turn_of_taken pairs c af t ≡ Ends fault → list_any is_fault_line (lines_of_end fault) ≡ false → P
 taken_line pairs c af (Takes answer) fault e h = turn_of_fault_line (length pairs + 1) (fault_of_pair pairs (pair_of c answer)) fault e h
 taken_line pairs c af answering.Waits fault e h = absurd (cc)
 taken_line pairs c None Missing fault e h = no_line (lines.MissingAnswer (length pairs + 1)) fault refl e h
-taken_line pairs c (Some f) Missing fault e h = no_line (text_line Answers f) fault (text_line_is_fault Answers f) e h
+taken_line pairs c (Some f) Missing fault e h = no_line (lines.TextFault Answers f) fault refl e h
 taken_line pairs c af Unfit fault e h = no_line (lines.UnexpectedAnswer (length pairs + 1) (answers_taken pairs + 1)) fault refl e h
 
 command_line : {P : Type 0} (start : Bool) (pairs : List Pair) (r : Result Command CommandFault) (answers : TextSoFar) (fault : Option Line) → turn_of_command start pairs r answers ≡ Ends fault → list_any is_fault_line (lines_of_end fault) ≡ false → P
@@ -109,12 +101,12 @@ exit_line : {P : Type 0} (start : Bool) (b : Bool) (pairs : List Pair) (r : Resu
 exit_line start true pairs r answers fault e h = no_line (lines.CommandFault (length pairs + 1) AfterExit) fault refl e h
 exit_line start false pairs r answers fault e h = command_line start pairs r answers fault e h
 
-pub ends_clean : (start : Bool) (pairs : List Pair) (told answers_told : Bool) (later : Sexps) (sf : Option TextFault) (rest : Sexps) (af : Option TextFault) (fault : Option Line)
+pub ends_clean : (start : Bool) (pairs : List Pair) (told answers_told : Bool) (later : Sexps) (sf : Option TextFlaw) (rest : Sexps) (af : Option TextFlaw) (fault : Option Line)
     → turn_at start pairs (record { told = answers_told; trees = rest; fault = af }) told sf later ≡ Ends fault → list_any is_fault_line (lines_of_end fault) ≡ false → IsClean later sf rest af fault
 ends_clean start pairs told answers_told (Cons t ts) sf rest af fault e h = exit_line start (has_exited_after pairs) pairs (command_of t) (record { told = answers_told; trees = rest; fault = af }) fault e h
-ends_clean start pairs told answers_told Nil (Some f) rest af fault e h = no_line (text_line Script f) fault (text_line_is_fault Script f) e h
+ends_clean start pairs told answers_told Nil (Some f) rest af fault e h = no_line (lines.TextFault Script f) fault refl e h
 ends_clean start pairs false answers_told Nil None rest af fault e h = absurd (cc)
 ends_clean start pairs true answers_told Nil None (Cons a rest) af fault e h = no_line (lines.ExtraAnswer (answers_taken pairs + 1)) fault refl e h
-ends_clean start pairs true answers_told Nil None Nil (Some f) fault e h = no_line (text_line Answers f) fault (text_line_is_fault Answers f) e h
+ends_clean start pairs true answers_told Nil None Nil (Some f) fault e h = no_line (lines.TextFault Answers f) fault refl e h
 ends_clean start pairs true false Nil None Nil None fault e h = absurd (cc)
 ends_clean start pairs true true Nil None Nil None fault e h = record { trees = refl; script = refl; left = refl; answers = refl; none = cc }

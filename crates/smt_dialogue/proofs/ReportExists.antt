@@ -3,7 +3,7 @@ use Rattle.std.proofs.Common.{◌≡◌, ℕ, ◌+◌, Bool, true, false, cond, 
 use Rattle.std.proofs.lemmas.List.{append-nil}
 use Rattle.smt_text.specs.Reading.{Reads}
 use Rattle.smt_trees.specs.Sexp.{Sexp, Sexps, Nil, Cons}
-use Rattle.smt_faults.specs.declared.text_fault.TextFault.{TextFault}
+use Rattle.smt_faults.specs.declared.text_flaw.TextFlaw.{TextFlaw}
 use Rattle.smt_script.specs.Command.{Command, command_of}
 use Rattle.smt_faults.specs.declared.command_fault.CommandFault.TheVariants.{AfterExit}
 use Rattle.smt_dialogue.proofs.PairingUnique.{takes_same}
@@ -16,7 +16,6 @@ use Rattle.smt_dialogue.specs.Pairing.{AllTake, AreCommands}
 use Rattle.smt_dialogue.specs.Pairs.{Pair, answers_taken, answers_then, next_of, pair_of, with_answer}
 use Rattle.smt_dialogue.specs.declared.answer.Need.{Need}
 use Rattle.smt_dialogue.specs.declared.answer.Need.TheVariants.{Nothing, Optional, Needed}
-use Rattle.smt_report.specs.FaultLine.{text_line}
 use Rattle.smt_dialogue.specs.Report.{IsReport, IsTurn, lines_at_end}
 use Rattle.smt_text.specs.Grammar.{limit}
 use Rattle.smt_script.specs.Command.{is_check}
@@ -27,11 +26,11 @@ use Rattle.smt_report.specs.declared.line.Side.TheVariants.{Script}
 use Rattle.smt_faults.specs.declared.command_fault.CommandFault.{CommandFault}
 
 -- a text so far
-abbrev pub text : Bool → Sexps → Option TextFault → TextSoFar
+abbrev pub text : Bool → Sexps → Option TextFlaw → TextSoFar
 text told trees fault = record { told = told; trees = trees; fault = fault }
 
 -- the pairs from some on, to where the dialogue waits or ends
-pub record Way (start : Bool) (before : List Pair) (st : Bool) (trees : Sexps) (sf : Option TextFault) (at' : Bool) (answers : Sexps) (af : Option TextFault) : Type 0 where
+pub record Way (start : Bool) (before : List Pair) (st : Bool) (trees : Sexps) (sf : Option TextFlaw) (at' : Bool) (answers : Sexps) (af : Option TextFlaw) : Type 0 where
   pub pairs : List Pair
   pub later : Sexps
   pub rest : Sexps
@@ -44,7 +43,7 @@ pub record Way (start : Bool) (before : List Pair) (st : Bool) (trees : Sexps) (
   pub turn_is : turn_after start (before ++ pairs) (text st later sf) (text at' rest af) ≡ turn
 
 -- the dialogue is at rest here
-stop_here : (start : Bool) (before : List Pair) (st : Bool) (trees : Sexps) (sf : Option TextFault) (at' : Bool) (answers : Sexps) (af : Option TextFault) (turn : Turn) → IsRest turn → turn_after start before (text st trees sf) (text at' answers af) ≡ turn → Way start before st trees sf at' answers af
+stop_here : (start : Bool) (before : List Pair) (st : Bool) (trees : Sexps) (sf : Option TextFlaw) (at' : Bool) (answers : Sexps) (af : Option TextFlaw) (turn : Turn) → IsRest turn → turn_after start before (text st trees sf) (text at' answers af) ≡ turn → Way start before st trees sf at' answers af
 stop_here start before st trees sf at' answers af turn rests h = record {
   pairs = [];
   later = trees;
@@ -59,7 +58,7 @@ stop_here start before st trees sf at' answers af turn rests h = record {
 }
 
 -- a command with what it takes: its fault ends the dialogue, or there is a way on
-by_effect : (start : Bool) (before : List Pair) (t : Sexp) (ts : Sexps) (c : Command) (o : Option Sexp) (st : Bool) (sf : Option TextFault) (at' : Bool) (answers left : Sexps) (af : Option TextFault) (f : Option CommandFault) → has_exited_after before ≡ false → command_of t ≡ Ok c → answers ≡ with_answer o left
+by_effect : (start : Bool) (before : List Pair) (t : Sexp) (ts : Sexps) (c : Command) (o : Option Sexp) (st : Bool) (sf : Option TextFlaw) (at' : Bool) (answers left : Sexps) (af : Option TextFlaw) (f : Option CommandFault) → has_exited_after before ≡ false → command_of t ≡ Ok c → answers ≡ with_answer o left
     → taken (at' || is_some af) (need_after start before c) (next_of answers) ≡ Takes o → fault_of_pair before (pair_of c o) ≡ f → ((b : List Pair) (as' : Sexps) → Way start b st ts sf at' as' af) → Way start before st (Cons t ts) sf at' answers af
 by_effect start before t ts c o st sf at' answers left af (Some fault) goes_on read next takes h on =
     stop_here start before st (Cons t ts) sf at' answers af (Ends (Some (lines.CommandFault (length before + 1) fault))) tt
@@ -99,7 +98,7 @@ left_by told (Needed form) (Cons a more) o h = by (has_form form a) h
     by true e = (more, ap (λ (x : Option Sexp). with_answer x more) (takes_same e))
     by false e = absurd (cc)
 
-by_taken : (start : Bool) (before : List Pair) (t : Sexp) (ts : Sexps) (c : Command) (st : Bool) (sf : Option TextFault) (at' : Bool) (answers : Sexps) (af : Option TextFault) (k : Taken) → has_exited_after before ≡ false → command_of t ≡ Ok c → taken (at' || is_some af) (need_after start before c) (next_of answers) ≡ k
+by_taken : (start : Bool) (before : List Pair) (t : Sexp) (ts : Sexps) (c : Command) (st : Bool) (sf : Option TextFlaw) (at' : Bool) (answers : Sexps) (af : Option TextFlaw) (k : Taken) → has_exited_after before ≡ false → command_of t ≡ Ok c → taken (at' || is_some af) (need_after start before c) (next_of answers) ≡ k
     → ((b : List Pair) (as' : Sexps) → Way start b st ts sf at' as' af) → Way start before st (Cons t ts) sf at' answers af
 by_taken start before t ts c st sf at' answers af answering.Waits goes_on read h on =
     stop_here start before st (Cons t ts) sf at' answers af (Waits (is_check c)) tt (rw goes_on (turn_by start before t (text at' answers af) c answering.Waits read h))
@@ -111,7 +110,7 @@ by_taken start before t ts c st sf at' answers af (Takes o) goes_on read h on =
     let left = left_by (at' || is_some af) (need_after start before c) answers o h in
     by_effect start before t ts c o st sf at' answers left.0 af (fault_of_pair before (pair_of c o)) goes_on read left.1 h refl on
 
-by_tree : (start : Bool) (before : List Pair) (t : Sexp) (ts : Sexps) (st : Bool) (sf : Option TextFault) (at' : Bool) (answers : Sexps) (af : Option TextFault) (e : Bool) (r : Result Command CommandFault) → has_exited_after before ≡ e → command_of t ≡ r
+by_tree : (start : Bool) (before : List Pair) (t : Sexp) (ts : Sexps) (st : Bool) (sf : Option TextFlaw) (at' : Bool) (answers : Sexps) (af : Option TextFlaw) (e : Bool) (r : Result Command CommandFault) → has_exited_after before ≡ e → command_of t ≡ r
     → ((b : List Pair) (as' : Sexps) → Way start b st ts sf at' as' af) → Way start before st (Cons t ts) sf at' answers af
 by_tree start before t ts st sf at' answers af true r exited h on =
     stop_here start before st (Cons t ts) sf at' answers af (Ends (Some (lines.CommandFault (length before + 1) AfterExit))) tt (rw exited refl)
@@ -121,19 +120,19 @@ by_tree start before t ts st sf at' answers af false (Ok c) goes_on h on =
     by_taken start before t ts c st sf at' answers af (taken (at' || is_some af) (need_after start before c) (next_of answers)) goes_on h refl on
 
 -- behind the last command the dialogue is at rest
-end_rests : (told : Bool) (af : Option TextFault) → IsRest (turn_of_end told af)
+end_rests : (told : Bool) (af : Option TextFlaw) → IsRest (turn_of_end told af)
 end_rests told (Some fault) = tt
 end_rests true None = tt
 end_rests false None = tt
 
-rest_rests : (pairs : List Pair) (told : Bool) (af : Option TextFault) (answers : Sexps) → IsRest (turn_of_rest pairs told af answers)
+rest_rests : (pairs : List Pair) (told : Bool) (af : Option TextFlaw) (answers : Sexps) → IsRest (turn_of_rest pairs told af answers)
 rest_rests pairs told af (Cons a rest) = tt
 rest_rests pairs told af Nil = end_rests told af
 
-pub way_through : (start : Bool) (trees : Sexps) (before : List Pair) (st : Bool) (sf : Option TextFault) (at' : Bool) (answers : Sexps) (af : Option TextFault) → Way start before st trees sf at' answers af
+pub way_through : (start : Bool) (trees : Sexps) (before : List Pair) (st : Bool) (sf : Option TextFlaw) (at' : Bool) (answers : Sexps) (af : Option TextFlaw) → Way start before st trees sf at' answers af
 way_through start Nil before true None at' answers af = stop_here start before true Nil None at' answers af (turn_of_rest before at' af answers) (rest_rests before at' af answers) refl
 way_through start Nil before false None at' answers af = stop_here start before false Nil None at' answers af (Waits false) tt refl
-way_through start Nil before st (Some fault) at' answers af = stop_here start before st Nil (Some fault) at' answers af (Ends (Some (text_line Script fault))) tt refl
+way_through start Nil before st (Some fault) at' answers af = stop_here start before st Nil (Some fault) at' answers af (Ends (Some (lines.TextFault Script fault))) tt refl
 way_through start (Cons t ts) before st sf at' answers af = by_tree start before t ts st sf at' answers af (has_exited_after before) (command_of t) refl refl (λ b as'. way_through start ts b st sf at' as' af)
 
 -- ## Where both ends were told, the dialogue does not wait
@@ -142,7 +141,7 @@ took : {P : Type 0} (n : ℕ) (f : Option CommandFault) (closed : Bool) → turn
 took n None closed h = absurd (cc)
 took n (Some fault) closed h = absurd (cc)
 
-took_what : {P : Type 0} (pairs : List Pair) (c : Command) (af : Option TextFault) (need : Need) (next : Option Sexp) (closed : Bool) → turn_of_taken pairs c af (taken true need next) ≡ Waits closed → P
+took_what : {P : Type 0} (pairs : List Pair) (c : Command) (af : Option TextFlaw) (need : Need) (next : Option Sexp) (closed : Bool) → turn_of_taken pairs c af (taken true need next) ≡ Waits closed → P
 took_what pairs c af Nothing next closed h = took (length pairs + 1) (fault_of_pair pairs (pair_of c None)) closed h
 took_what pairs c af (Optional form) None closed h = took (length pairs + 1) (fault_of_pair pairs (pair_of c None)) closed h
 took_what {P} pairs c af (Optional form) (Some a) closed h = by (has_form form a) h
@@ -157,13 +156,13 @@ took_what {P} pairs c af (Needed form) (Some a) closed h = by (has_form form a) 
     by true e = took (length pairs + 1) (fault_of_pair pairs (pair_of c (Some a))) closed e
     by false e = absurd (cc)
 
-command_waits : {P : Type 0} (start b : Bool) (pairs : List Pair) (r : Result Command CommandFault) (answers : Sexps) (af : Option TextFault) (closed : Bool)
+command_waits : {P : Type 0} (start b : Bool) (pairs : List Pair) (r : Result Command CommandFault) (answers : Sexps) (af : Option TextFlaw) (closed : Bool)
     → cond b (Ends (Some (lines.CommandFault (length pairs + 1) AfterExit))) (turn_of_command start pairs r (text true answers af)) ≡ Waits closed → P
 command_waits start true pairs r answers af closed h = absurd (cc)
 command_waits start false pairs (Err fault) answers af closed h = absurd (cc)
 command_waits start false pairs (Ok c) answers af closed h = took_what pairs c af (need_after start pairs c) (next_of answers) closed h
 
-no_wait : {P : Type 0} (start : Bool) (pairs : List Pair) (trees : Sexps) (sf : Option TextFault) (answers : Sexps) (af : Option TextFault) (closed : Bool) → turn_after start pairs (text true trees sf) (text true answers af) ≡ Waits closed → P
+no_wait : {P : Type 0} (start : Bool) (pairs : List Pair) (trees : Sexps) (sf : Option TextFlaw) (answers : Sexps) (af : Option TextFlaw) (closed : Bool) → turn_after start pairs (text true trees sf) (text true answers af) ≡ Waits closed → P
 no_wait start pairs (Cons t ts) sf answers af closed h = command_waits start (has_exited_after pairs) pairs (command_of t) answers af closed h
 no_wait start pairs Nil (Some fault) answers af closed h = absurd (cc)
 no_wait start pairs Nil None (Cons a rest) af closed h = absurd (cc)
@@ -171,7 +170,7 @@ no_wait start pairs Nil None Nil (Some fault) closed h = absurd (cc)
 no_wait start pairs Nil None Nil None closed h = absurd (cc)
 
 -- so it ends
-ends_there : (start : Bool) (pairs : List Pair) (trees : Sexps) (sf : Option TextFault) (answers : Sexps) (af : Option TextFault) (turn : Turn) → IsRest turn → turn_after start pairs (text true trees sf) (text true answers af) ≡ turn
+ends_there : (start : Bool) (pairs : List Pair) (trees : Sexps) (sf : Option TextFlaw) (answers : Sexps) (af : Option TextFlaw) (turn : Turn) → IsRest turn → turn_after start pairs (text true trees sf) (text true answers af) ≡ turn
     → (fault : Option Line) × (turn_after start pairs (text true trees sf) (text true answers af) ≡ Ends fault)
 ends_there start pairs trees sf answers af GoesOn rests h = absurd rests
 ends_there start pairs trees sf answers af (Waits closed) rests h = no_wait start pairs trees sf answers af closed h
@@ -205,7 +204,7 @@ rests_ended start script answers pairs turn told answers_told rests t =
 
 -- of every text something is read: a law of the reader's crate
 abbrev pub EveryTextReads : Type 0
-EveryTextReads = (bound : ℕ) (ended : Bool) (text : List ℕ) → (trees : Sexps) × (fault : Option TextFault) × Reads bound ended text trees fault
+EveryTextReads = (bound : ℕ) (ended : Bool) (text : List ℕ) → (trees : Sexps) × (fault : Option TextFlaw) × Reads bound ended text trees fault
 
 pub some_report : EveryTextReads → (options : Options) (script answers : List ℕ) → (ls : List Line) × IsReport options script answers ls
 some_report every options script answers =

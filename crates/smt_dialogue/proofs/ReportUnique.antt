@@ -3,7 +3,7 @@ use Rattle.std.proofs.Common.{◌≡◌, ℕ, Bool, true, false, ◌||◌, List,
 use Rattle.std.proofs.lemmas.List.{append-nil}
 use Rattle.smt_text.specs.Reading.{Reads}
 use Rattle.smt_trees.specs.Sexp.{Sexp, Sexps, Nil, Cons}
-use Rattle.smt_faults.specs.declared.text_fault.TextFault.{TextFault}
+use Rattle.smt_faults.specs.declared.text_flaw.TextFlaw.{TextFlaw}
 use Rattle.smt_dialogue.proofs.PairingUnique.{alike, ok_same}
 use Rattle.smt_script.specs.Command.{command_of}
 use Rattle.smt_dialogue.proofs.ReportExists.{text}
@@ -22,13 +22,13 @@ ends_same : {f g : Option Line} → Ends f ≡ Ends g → f ≡ g
 ends_same h = cc
 
 -- where a command takes what it has without a fault, the dialogue goes on
-goes_on_at : (start : Bool) (before : List Pair) (t : Sexp) (ts : Sexps) (p : Pair) (st : Bool) (sf : Option TextFault) (answers : TextSoFar) → command_of t ≡ Ok p.command → taken (is_over answers) (need_after start before p.command) (next_of answers.trees) ≡ Takes p.answer
+goes_on_at : (start : Bool) (before : List Pair) (t : Sexp) (ts : Sexps) (p : Pair) (st : Bool) (sf : Option TextFlaw) (answers : TextSoFar) → command_of t ≡ Ok p.command → taken (is_over answers) (need_after start before p.command) (next_of answers.trees) ≡ Takes p.answer
     → has_exited_after before ≡ false → fault_of_pair before p ≡ None → turn_at start before answers st sf (Cons t ts) ≡ GoesOn
 goes_on_at start before t ts p st sf answers read takes goes_on fault =
     rw goes_on (turn_by start before t answers p.command (Takes p.answer) read takes ∙ rw fault refl)
 
 -- so it is not at rest there
-no_rest : {P : Type 0} (start : Bool) (before : List Pair) (y : Pair) (ys : List Pair) (trees later later' : Sexps) (st : Bool) (sf : Option TextFault) (at' : Bool) (answers rest rest' : Sexps) (af : Option TextFault) (turn : Turn) → IsRest turn → trees ≡ later → AreCommands (y ∷ ys) trees later' → answers ≡ rest → answers ≡ answers_then (y ∷ ys) rest' → AllTake (at' || is_some af) start before (y ∷ ys) rest' → AreFaultless before (y ∷ ys) → turn_at start before (text at' rest af) st sf later ≡ turn → P
+no_rest : {P : Type 0} (start : Bool) (before : List Pair) (y : Pair) (ys : List Pair) (trees later later' : Sexps) (st : Bool) (sf : Option TextFlaw) (at' : Bool) (answers rest rest' : Sexps) (af : Option TextFlaw) (turn : Turn) → IsRest turn → trees ≡ later → AreCommands (y ∷ ys) trees later' → answers ≡ rest → answers ≡ answers_then (y ∷ ys) rest' → AllTake (at' || is_some af) start before (y ∷ ys) rest' → AreFaultless before (y ∷ ys) → turn_at start before (text at' rest af) st sf later ≡ turn → P
 no_rest start before y ys Nil later later' st sf at' answers rest rest' af turn rests c d a b g n e = absurd d
 no_rest start before y ys (Cons t ts) later later' st sf at' answers rest rest' af turn rests c d a b g n e =
     let next : rest ≡ answers_then (y ∷ ys) rest' = sym a ∙ b in
@@ -37,7 +37,7 @@ no_rest start before y ys (Cons t ts) later later' st sf at' answers rest rest' 
     absurd (subst IsRest (sym e ∙ goes) rests)
 
 -- two ways through the same texts are one
-pub one_way : (start : Bool) (before xs ys : List Pair) (trees later later' : Sexps) (st : Bool) (sf : Option TextFault) (at' : Bool) (answers rest rest' : Sexps) (af : Option TextFault) (f g : Turn) → IsRest f → IsRest g → AreCommands xs trees later → AreCommands ys trees later' → answers ≡ answers_then xs rest → answers ≡ answers_then ys rest'
+pub one_way : (start : Bool) (before xs ys : List Pair) (trees later later' : Sexps) (st : Bool) (sf : Option TextFlaw) (at' : Bool) (answers rest rest' : Sexps) (af : Option TextFlaw) (f g : Turn) → IsRest f → IsRest g → AreCommands xs trees later → AreCommands ys trees later' → answers ≡ answers_then xs rest → answers ≡ answers_then ys rest'
     → AllTake (at' || is_some af) start before xs rest → AllTake (at' || is_some af) start before ys rest' → AreFaultless before xs → AreFaultless before ys → turn_at start (before ++ xs) (text at' rest af) st sf later ≡ f → turn_at start (before ++ ys) (text at' rest' af) st sf later' ≡ g → (xs ≡ ys) × (f ≡ g)
 one_way start before [] [] trees later later' st sf at' answers rest rest' af f g u v c d a b m n p q e h =
     let same_trees : later' ≡ later = sym d ∙ c in
@@ -60,7 +60,7 @@ one_way start before (x ∷ xs) (y ∷ ys) (Cons t ts) later later' st sf at' an
 
 -- what is read of a text is one answer: a law of the reader's crate
 abbrev pub OneReading : Type 0
-OneReading = (bound : ℕ) (ended : Bool) (text : List ℕ) (xs ys : Sexps) (f g : Option TextFault) → Reads bound ended text xs f → Reads bound ended text ys g → (xs ≡ ys) × (f ≡ g)
+OneReading = (bound : ℕ) (ended : Bool) (text : List ℕ) (xs ys : Sexps) (f g : Option TextFlaw) → Reads bound ended text xs f → Reads bound ended text ys g → (xs ≡ ys) × (f ≡ g)
 
 -- so a text is read as one
 same_text : OneReading → (told : Bool) (bytes : List ℕ) (x y : TextSoFar) → IsRead told bytes x → IsRead told bytes y → x ≡ y
@@ -68,7 +68,7 @@ same_text one told bytes x y f g =
     let both = one limit told bytes x.trees y.trees x.fault y.fault f.reads g.reads in
     let first : x ≡ record { told = y.told; trees = x.trees; fault = x.fault } = ap (λ (b : Bool). record { told = b; trees = x.trees; fault = x.fault }) (f.told_so ∙ sym g.told_so) in
     let second : record { told = y.told; trees = x.trees; fault = x.fault } ≡ record { told = y.told; trees = y.trees; fault = x.fault } = ap (λ (t : Sexps). record { told = y.told; trees = t; fault = x.fault }) both.0 in
-    first ∙ second ∙ ap (λ (o : Option TextFault). record { told = y.told; trees = y.trees; fault = o }) both.1
+    first ∙ second ∙ ap (λ (o : Option TextFlaw). record { told = y.told; trees = y.trees; fault = o }) both.1
 
 -- the turns of two ways are one, and so are their pairs
 pub one_turn : (start : Bool) (script answers : TextSoFar) (xs ys : List Pair) (f g : Turn) → IsRest f → IsRest g → IsTurn start script answers xs f → IsTurn start script answers ys g → (xs ≡ ys) × (f ≡ g)

@@ -5,7 +5,7 @@ use Rattle.smt_trees.specs.Tree.{sexps_of}
 use Rattle.smt_trees.specs.declared.tree.Tree.{Tree}
 use Rattle.smt_report.specs.declared.line.Line.TheVariants.{ExtraAnswer}
 use Rattle.smt_report.specs.declared.line.Line.TheVariants as lines
-use Rattle.smt_faults.specs.declared.text_fault.TextFault.{TextFault}
+use Rattle.smt_faults.specs.declared.text_flaw.TextFlaw.{TextFlaw}
 use Rattle.smt_dialogue.proofs.PairLemmas.{AllTake-append, AreFaultless-append, answers_taken-le, answers_then-append, checks_in-le}
 use Rattle.std.specs.Result.{IfOk}
 use Rattle.smt_eval.specs.declared.memory.Memory.{Memory}
@@ -47,7 +47,7 @@ AreCommands-push (q ∷ qs) p Nil tree later h read = absurd h
 AreCommands-push (q ∷ qs) p (Cons t ts) tree later h read = (h.0, AreCommands-push qs p ts tree later h.1 read)
 
 -- after one more turn that took up a command
-pub so_far-push : (start : Bool) (s t : State) (script : TextSoFar) (answers : Sexps) (fault : Option TextFault) (tree : Sexp) (later rest left : Sexps)
+pub so_far-push : (start : Bool) (s t : State) (script : TextSoFar) (answers : Sexps) (fault : Option TextFlaw) (tree : Sexp) (later rest left : Sexps)
     → (g : SoFar start s script (whole_text answers fault) (Cons tree later) rest) → TakesUp start g.pairs tree rest left t → SoFar start t script (whole_text answers fault) later left
 so_far-push start s t script answers fault tree later rest left g u =
     let p = pair_of u.command u.answer in
@@ -65,7 +65,7 @@ so_far-push start s t script answers fault tree later rest left g u =
     }
 
 -- how the dialogue ends at a tree
-pub ended-at : (start : Bool) (s t : State) (trees : Sexps) (tree : Sexp) (later answers rest : Sexps) (script_fault answers_fault : Option TextFault) (line : Line)
+pub ended-at : (start : Bool) (s t : State) (trees : Sexps) (tree : Sexp) (later answers rest : Sexps) (script_fault answers_fault : Option TextFlaw) (line : Line)
     → (g : SoFar start s (whole_text trees script_fault) (whole_text answers answers_fault) (Cons tree later) rest) → EndsAt start g.pairs tree (whole_text rest answers_fault) line t
     → HasEnded start t (whole_text trees script_fault) (whole_text answers answers_fault) (Some line)
 ended-at start s t trees tree later answers rest script_fault answers_fault line g e = record {
@@ -102,7 +102,7 @@ pub commands-push : (s t : State) (pairs : List Pair) (p : Pair) → StandsFor s
 commands-push s t pairs p before after = omega (arith, before.commands, after.commands, length-append pairs (p ∷ []))
 
 -- an answer is left over where some are left
-pub left_over : (items : List Tree) (pairs : List Pair) (n : ℕ) (fault : Option TextFault) → 0 < length items → n ≡ answers_taken pairs → turn_of_rest pairs true fault (sexps_of items) ≡ Ends (Some (ExtraAnswer (n + 1)))
+pub left_over : (items : List Tree) (pairs : List Pair) (n : ℕ) (fault : Option TextFlaw) → 0 < length items → n ≡ answers_taken pairs → turn_of_rest pairs true fault (sexps_of items) ≡ Ends (Some (ExtraAnswer (n + 1)))
 left_over [] pairs n fault h is = absurd (omega arith)
 left_over (x ∷ xs) pairs n fault h is = ap (λ (i : ℕ). Ends (Some (ExtraAnswer (i + 1)))) (sym is)
 
@@ -140,7 +140,7 @@ turn_by start pairs tree answers c t read is =
     ap (λ (r : Result Command CommandFault). turn_of_command start pairs r answers) read ∙ ap (turn_of_taken pairs c answers.fault) is
 
 -- a step of a tree that is a command, with what it takes
-pub step_taken : (start : Bool) (r : Result (Option Line) Memory) (s t : State) (tree : Sexp) (answers left : Sexps) (fault : Option TextFault) (c : Command) (o : Option Sexp) → command_of tree ≡ Ok c → answers ≡ with_answer o left
+pub step_taken : (start : Bool) (r : Result (Option Line) Memory) (s t : State) (tree : Sexp) (answers left : Sexps) (fault : Option TextFlaw) (c : Command) (o : Option Sexp) → command_of tree ≡ Ok c → answers ≡ with_answer o left
     → ((pairs : List Pair) → StandsFor s pairs → (has_exited_after pairs ≡ false) × (taken true (need_after start pairs c) (next_of answers) ≡ Takes o))
     → IfOk r (λ line. (pairs : List Pair) → StandsFor s pairs → IsAccepted line pairs (pair_of c o) t) → IfOk r (λ line. (pairs : List Pair) → StandsFor s pairs → IsStep start line pairs tree answers fault left t)
 step_taken start (Err e) s t tree answers left fault c o read next known h = tt

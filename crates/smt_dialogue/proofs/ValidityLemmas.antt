@@ -6,7 +6,7 @@ use Rattle.std.specs.Result.{IfOk}
 use Rattle.smt_text.specs.Grammar.{Forest, limit}
 use Rattle.smt_text.specs.Reading.{Reads}
 use Rattle.smt_trees.specs.Sexp.{Sexp, Sexps, Nil, is_symbol}
-use Rattle.smt_faults.specs.declared.text_fault.TextFault.{TextFault}
+use Rattle.smt_faults.specs.declared.text_flaw.TextFlaw.{TextFlaw}
 use Rattle.smt_dialogue.proofs.FirstFaultLemmas.{any-append, ends_clean, invalid_lines, none_of, valid_lines}
 use Rattle.smt_dialogue.proofs.AssertedLemmas.{comes_from}
 use Rattle.smt_dialogue.proofs.StructureLemmas.{structure_behind}
@@ -61,9 +61,9 @@ fully_paired options script answers st at' ls rs ra j h =
     let one : IsPairing start j.pairs st.trees Nil at'.trees j.ends.rest = subst (λ (t : Sexps). IsPairing start j.pairs st.trees t at'.trees j.ends.rest) clean.trees told in (
       record {
         script_trees = st.trees;
-        script_forest = subst (λ (f : Option TextFault). Reads limit true script st.trees f) clean.script rs.reads;
+        script_forest = subst (λ (f : Option TextFlaw). Reads limit true script st.trees f) clean.script rs.reads;
         answer_trees = at'.trees;
-        answers_forest = subst (λ (f : Option TextFault). Reads limit true answers at'.trees f) clean.answers ra.reads;
+        answers_forest = subst (λ (f : Option TextFlaw). Reads limit true answers at'.trees f) clean.answers ra.reads;
         pairing = subst (λ (t : Sexps). IsPairing start j.pairs st.trees Nil at'.trees t) clean.left one;
       },
       clean.none,

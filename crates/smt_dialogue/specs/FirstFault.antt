@@ -1,7 +1,7 @@
 -- Whose turn it is in a dialogue so far, and which fault ends it. The order in which faults are told is this project's rule.
 use Rattle.std.specs.Prelude.{ℕ, ◌+◌, List, length, Bool, true, false, ◌||◌, Option, Some, None, is_some, Result, Ok, Err, if◌then◌else◌}
 use Rattle.smt_trees.specs.Sexp.{Sexps, Nil, Cons}
-use Rattle.smt_faults.specs.declared.text_fault.TextFault.{TextFault}
+use Rattle.smt_faults.specs.declared.text_flaw.TextFlaw.{TextFlaw}
 use Rattle.smt_script.specs.Command.{Command, command_of}
 use Rattle.smt_faults.specs.declared.command_fault.CommandFault.{CommandFault}
 use Rattle.smt_faults.specs.declared.command_fault.CommandFault.TheVariants.{AfterExit}
@@ -10,7 +10,6 @@ use Rattle.smt_dialogue.specs.Answers.{Taken, Takes, Missing, Unfit, taken}
 use Rattle.smt_dialogue.specs.InForce.{fault_of_pair, has_exited_after, need_after}
 use Rattle.smt_script.specs.Command.{is_check}
 use Rattle.smt_dialogue.specs.Pairs.{Pair, answers_taken, next_of, pair_of}
-use Rattle.smt_report.specs.FaultLine.{text_line}
 use Rattle.smt_report.specs.declared.line.Line.{Line}
 use Rattle.smt_report.specs.declared.line.Line.TheVariants as lines
 use Rattle.smt_report.specs.declared.line.Side.TheVariants.{Script, Answers}
@@ -19,10 +18,10 @@ use Rattle.smt_report.specs.declared.line.Side.TheVariants.{Script, Answers}
 pub record TextSoFar : Type 0 where
   pub told : Bool
   pub trees : Sexps
-  pub fault : Option TextFault
+  pub fault : Option TextFlaw
 
 -- there is no more of a text than these trees and this fault
-abbrev pub whole_text : Sexps → Option TextFault → TextSoFar
+abbrev pub whole_text : Sexps → Option TextFlaw → TextSoFar
 whole_text trees fault = record { told = true; trees = trees; fault = fault }
 
 -- no tree comes behind those that there are
@@ -46,12 +45,12 @@ abbrev pub turn_of_fault : ℕ → Option CommandFault → Turn
 turn_of_fault n None = GoesOn
 turn_of_fault n (Some fault) = Ends (Some (lines.CommandFault n fault))
 
-abbrev pub want_of_answer : ℕ → Option TextFault → Line
+abbrev pub want_of_answer : ℕ → Option TextFlaw → Line
 want_of_answer n None = lines.MissingAnswer n
-want_of_answer n (Some fault) = text_line Answers fault
+want_of_answer n (Some fault) = lines.TextFault Answers fault
 
 -- a command, by what it takes of the answers: its effect decides where that is what it needs. A check that waits closes every window
-abbrev pub turn_of_taken : List Pair → Command → Option TextFault → Taken → Turn
+abbrev pub turn_of_taken : List Pair → Command → Option TextFlaw → Taken → Turn
 turn_of_taken pairs command fault (Takes answer) = turn_of_fault (length pairs + 1) (fault_of_pair pairs (pair_of command answer))
 turn_of_taken pairs command fault answers.Waits = Waits (is_check command)
 turn_of_taken pairs command fault Missing = Ends (Some (want_of_answer (length pairs + 1) fault))
@@ -63,22 +62,22 @@ turn_of_command start pairs (Ok command) answers =
     turn_of_taken pairs command answers.fault (taken (is_over answers) (need_after start pairs command) (next_of answers.trees))
 
 -- after the last answer: the fault of the answers, or their end, for which the dialogue waits
-abbrev pub turn_of_end : Bool → Option TextFault → Turn
-turn_of_end told (Some fault) = Ends (Some (text_line Answers fault))
+abbrev pub turn_of_end : Bool → Option TextFlaw → Turn
+turn_of_end told (Some fault) = Ends (Some (lines.TextFault Answers fault))
 turn_of_end told None = if told then Ends None else Waits true
 
 -- after the last command: an answer that is left over, or else the end of the answers
-abbrev pub turn_of_rest : List Pair → Bool → Option TextFault → Sexps → Turn
+abbrev pub turn_of_rest : List Pair → Bool → Option TextFlaw → Sexps → Turn
 turn_of_rest pairs told fault (Cons answer rest) = Ends (Some (lines.ExtraAnswer (answers_taken pairs + 1)))
 turn_of_rest pairs told fault Nil = turn_of_end told fault
 
 -- the turn behind pairs, of what is left of the script: its trees, its fault, and whether its end was told. No command comes behind an
 -- `exit`
-abbrev pub turn_at : Bool → List Pair → TextSoFar → Bool → Option TextFault → Sexps → Turn
+abbrev pub turn_at : Bool → List Pair → TextSoFar → Bool → Option TextFlaw → Sexps → Turn
 turn_at start pairs answers told fault (Cons tree trees) =
     if has_exited_after pairs then Ends (Some (lines.CommandFault (length pairs + 1) AfterExit))
     else turn_of_command start pairs (command_of tree) answers
-turn_at start pairs answers told (Some fault) Nil = Ends (Some (text_line Script fault))
+turn_at start pairs answers told (Some fault) Nil = Ends (Some (lines.TextFault Script fault))
 turn_at start pairs answers told None Nil =
     if told then turn_of_rest pairs answers.told answers.fault answers.trees else Waits false
 

@@ -17,5 +17,5 @@ mod window;
 
 pub use options::Options;
 pub use smt_eval::Memory;
-pub use smt_report::{CheckAnswer, Claim, Line, Report, Side, Tally, TextFaultKind, Verdict};
+pub use smt_report::{CheckAnswer, Claim, Line, Report, Side, Tally, Verdict};
 pub use validation::validate;

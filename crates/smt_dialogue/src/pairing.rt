@@ -3,7 +3,7 @@
 ghost use Rattle.std.specs.Prelude.{◌≡◌, ◌<◌, ◌≤◌, ◌+◌, ◌^◌, Bool, true, List, Option, [], Ok, Err, Some, None, IfOk, option_map};
 ghost use Rattle.smt_trees.specs.Sexp.{Sexps, Nil};
 ghost use Rattle.smt_trees.specs.Tree.{sexp_of, sexps_of};
-ghost use Rattle.smt_faults.specs.declared.text_fault.TextFault.{TextFault as Fault};
+ghost use Rattle.smt_faults.specs.declared.text_flaw.TextFlaw.{TextFlaw};
 ghost use Rattle.smt_script.specs.CommandView.{command_view};
 ghost use Rattle.smt_script.specs.StackView.{last_of, start_of};
 ghost use Rattle.smt_dialogue.specs.Answers as answering;
@@ -21,7 +21,7 @@ use crate::dialogue::Dialogue;
 use crate::read_text::ReadText;
 use crate::unread_text::{Further, UnreadText};
 use smt_eval::Memory;
-use smt_faults::TextFault;
+use smt_faults::TextFlaw;
 use smt_report::{Line, Report, Side};
 use smt_script::{Command, CommandFault, read_command};
 use smt_text::laws::trees_are_no_more_than_bytes;
@@ -35,8 +35,8 @@ pub(crate) fn judge_all(
 ) -> Result<Report, Memory>
     requires stands { StandsFor (state_of dialogue) [] }
     requires sound { IsSound script }
-    requires left { (trees : Sexps) × (fault : Option Fault) × HasLeft script trees fault }
-    ensures { (trees : Sexps) (fault : Option Fault) → HasLeft script.entry trees fault
+    requires left { (trees : Sexps) × (fault : Option TextFlaw) × HasLeft script trees fault }
+    ensures { (trees : Sexps) (fault : Option TextFlaw) → HasLeft script.entry trees fault
         → IfOk result (λ r. IsJudged (start_of dialogue.stack) (whole_text trees fault) (text_view answers) r.lines.items r.verdict) }
 {
     // What leaves on several paths owns nothing here, or the dialogue alone: the prover takes long over what is owned on each.
@@ -67,8 +67,8 @@ fn last_line(
 ) -> Result<Option<Line>, Memory>
     requires stands { StandsFor (state_of dialogue.old) [] }
     requires sound { IsSound script.old }
-    requires left { (trees : Sexps) × (fault : Option Fault) × HasLeft script.old trees fault }
-    ensures { (trees : Sexps) (fault : Option Fault) → HasLeft script.old trees fault
+    requires left { (trees : Sexps) × (fault : Option TextFlaw) × HasLeft script.old trees fault }
+    ensures { (trees : Sexps) (fault : Option TextFlaw) → HasLeft script.old trees fault
         → IfOk result (λ line. HasEnded (start_of dialogue.old.stack) (state_of dialogue.new) (whole_text trees fault) (text_view answers.old) line) }
 {
     // A law: no count passes the number of the script's bytes.
@@ -85,13 +85,16 @@ fn last_line(
 }
 
 // Behind the last command: the fault of the script, or else what ends the dialogue otherwise.
-fn end_of_script(dialogue: &Dialogue, fault: Option<TextFault>, answers: &ReadText) -> Option<Line>
+fn end_of_script(dialogue: &Dialogue, fault: Option<TextFlaw>, answers: &ReadText) -> Option<Line>
     requires { dialogue.now.answers + 1 < 2 ^ 64 }
     ensures { (start : Bool) (pairs : List Pair) → StandsFor (state_of dialogue.now) pairs
         → turn_after start pairs (whole_text Nil fault) (text_view answers.now) ≡ Ends result }
 {
     match fault {
-        Some(fault) => Some(Line::of_text(Side::Script, fault)),
+        Some(flaw) => Some(Line::TextFault {
+            side: Side::Script,
+            flaw,
+        }),
         None => end_without_fault(dialogue, answers),
     }
 }
@@ -193,11 +196,14 @@ fn accept(
 }
 
 // The line where the command of this number has no answer.
-fn want_of_answer(command: u64, fault: Option<TextFault>) -> Line
+fn want_of_answer(command: u64, fault: Option<TextFlaw>) -> Line
     ensures { result ≡ first_fault.want_of_answer command fault }
 {
     match fault {
-        Some(fault) => Line::of_text(Side::Answers, fault),
+        Some(flaw) => Line::TextFault {
+            side: Side::Answers,
+            flaw,
+        },
         None => Line::MissingAnswer { command },
     }
 }
@@ -212,7 +218,10 @@ fn end_without_fault(dialogue: &Dialogue, answers: &ReadText) -> Option<Line>
         return Some(Line::ExtraAnswer { answer });
     }
     match answers.fault {
-        Some(fault) => Some(Line::of_text(Side::Answers, fault)),
+        Some(flaw) => Some(Line::TextFault {
+            side: Side::Answers,
+            flaw,
+        }),
         None => None,
     }
 }

@@ -1,17 +1,16 @@
 //! Texts, read to their end.
 
-ghost use Rattle.std.specs.Prelude.{◌≡◌, ◌≢◌, true, false, Some, None, IfOk, MatchOption};
+ghost use Rattle.std.specs.Prelude.{◌≡◌, true, false, Some, None, IfOk, MatchOption};
 ghost use Rattle.smt_text.specs.Reading.{Reads};
 ghost use Rattle.smt_trees.specs.Sexp.{Cons};
 ghost use Rattle.smt_trees.specs.Tree.{sexp_of, sexps_of};
-ghost use Rattle.smt_faults.specs.declared.text_fault.TextFault.TheVariants.{Memory as OutOfMemory};
 ghost use Rattle.smt_text.specs.Grammar.{limit};
 ghost use Rattle.smt_dialogue.specs.Answers as answers;
 ghost use Rattle.smt_dialogue.specs.Internal.Steps.{IsUnfit};
 
 use crate::answer::{AnswerForm, has_form};
 use smt_eval::Memory;
-use smt_faults::TextFault;
+use smt_faults::TextFlaw;
 use smt_text::{Next, Reader};
 use smt_trees::Tree;
 use std::alloc::Global;
@@ -21,7 +20,7 @@ use std::collections::VecDeque;
 #[derive(Drop)]
 pub struct ReadText {
     pub trees: VecDeque<Tree>,
-    pub fault: Option<TextFault>,
+    pub fault: Option<TextFlaw>,
 }
 
 impl ReadText {
@@ -51,25 +50,15 @@ pub(crate) fn read_whole(alloc: Global, bytes: &[u8]) -> Result<ReadText, Memory
             Next::Tree(tree) => trees.push_back(tree)?,
             Next::End => return Ok(ReadText { trees, fault: None }),
             Next::Fault(fault) => {
-                return match text_fault(fault) {
-                    Some(fault) => Ok(ReadText {
+                return match fault.flaw() {
+                    Some(flaw) => Ok(ReadText {
                         trees,
-                        fault: Some(fault),
+                        fault: Some(flaw),
                     }),
                     None => Err(Memory),
                 };
             }
             Next::Wait => unreachable!(),
         }
-    }
-}
-
-/// A fault of the text: want of memory is none.
-pub(crate) fn text_fault(fault: TextFault) -> Option<TextFault>
-    ensures { MatchOption result (fault ≡ OutOfMemory) (λ f. (f ≡ fault) × (fault ≢ OutOfMemory)) }
-{
-    match fault {
-        TextFault::Memory => None,
-        _ => Some(fault),
     }
 }

@@ -4,12 +4,11 @@ ghost use Rattle.std.specs.Prelude.{◌≡◌, ◌<◌, true, false, Option, IfO
 ghost use Rattle.smt_text.specs.Grammar.{limit};
 ghost use Rattle.smt_text.specs.Reading.{Reads};
 ghost use Rattle.smt_trees.specs.Sexp.{Sexps};
-ghost use Rattle.smt_faults.specs.declared.text_fault.TextFault.{TextFault as Fault};
+ghost use Rattle.smt_faults.specs.declared.text_flaw.TextFlaw.{TextFlaw};
 ghost use Rattle.smt_dialogue.specs.Internal.UnreadText.{ComesNext, HasLeft, IsSound, size_of};
 
-use crate::read_text::text_fault;
 use smt_eval::Memory;
-use smt_faults::TextFault;
+use smt_faults::TextFlaw;
 use smt_text::laws::{one_reading, read_trees_stay};
 use smt_text::{Next, Reader};
 use smt_trees::Tree;
@@ -33,14 +32,14 @@ pub struct UnreadText<'a> {
 pub enum Further {
     Tree(Tree),
     /// No tree is left: the fault behind the last, if there is one.
-    End(Option<TextFault>),
+    End(Option<TextFlaw>),
 }
 
 impl<'a> UnreadText<'a> {
     /// A text of which nothing was read.
     pub(crate) fn new(alloc: Global, text: &'a [u8]) -> Self
         ensures sound { IsSound result }
-        ensures left { (trees : Sexps) (fault : Option Fault) → Reads limit true text.now trees fault → HasLeft result trees fault }
+        ensures left { (trees : Sexps) (fault : Option TextFlaw) → Reads limit true text.now trees fault → HasLeft result trees fault }
     {
         UnreadText {
             reader: Reader::new(alloc),
@@ -52,9 +51,9 @@ impl<'a> UnreadText<'a> {
     /// Takes the next tree, or tells the end.
     pub(crate) fn next(&mut self) -> Result<Further, Memory>
         requires sound { IsSound self.old }
-        requires left { (trees : Sexps) × (fault : Option Fault) × HasLeft self.old trees fault }
+        requires left { (trees : Sexps) × (fault : Option TextFlaw) × HasLeft self.old trees fault }
         ensures sound { IsSound self.new }
-        ensures next { IfOk result (λ further. (trees : Sexps) (fault : Option Fault) → HasLeft self.old trees fault → ComesNext further self.new trees fault) }
+        ensures next { IfOk result (λ further. (trees : Sexps) (fault : Option TextFlaw) → HasLeft self.old trees fault → ComesNext further self.new trees fault) }
     {
         // Laws: what is read of a text is one answer, and what is read of its beginning stays.
         one_reading();
@@ -65,8 +64,8 @@ impl<'a> UnreadText<'a> {
                 Next::End => return Ok(Further::End(None)),
                 Next::Wait => self.read_on(),
                 Next::Fault(fault) if self.ended => {
-                    return match text_fault(fault) {
-                        Some(fault) => Ok(Further::End(Some(fault))),
+                    return match fault.flaw() {
+                        Some(flaw) => Ok(Further::End(Some(flaw))),
                         None => Err(Memory),
                     };
                 }
@@ -80,7 +79,7 @@ impl<'a> UnreadText<'a> {
         requires sound { IsSound self.old }
         requires goes_on { self.old.ended ≡ false }
         ensures sound { IsSound self.new }
-        ensures left { (trees : Sexps) (fault : Option Fault) → HasLeft self.old trees fault → HasLeft self.new trees fault }
+        ensures left { (trees : Sexps) (fault : Option TextFlaw) → HasLeft self.old trees fault → HasLeft self.new trees fault }
         ensures smaller { size_of self.new < size_of self.old }
     {
         if self.left.is_empty() {

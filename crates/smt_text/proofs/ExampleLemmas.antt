@@ -71,7 +71,11 @@ left_leaves limit prefix (b ∷ text) s e =
         let is : left limit (length (prefix ++ b ∷ [])) next text ≡ left limit (length prefix) s (b ∷ text) =
         ap (λ n. left limit n next text) count ∙ ap
         (λ o. left_by o stuck (λ x. left limit (suc (length prefix)) x text)) (sym h) in
-        let at : Leaves limit (prefix ++ b ∷ text) (left limit (length (prefix ++ b ∷ [])) next text).state (left limit (length (prefix ++ b ∷ [])) next text).fault = subst (λ x. Leaves limit x (left limit (length (prefix ++ b ∷ [])) next text).state (left limit (length (prefix ++ b ∷ [])) next text).fault) (append_assoc prefix (b ∷ []) text) (later next (run-append limit start s prefix (b ∷ []) e ∙ run-cons limit s next b [] h)) in
+        let at : Leaves limit (prefix ++ b ∷ text) (left limit (length (prefix ++ b ∷ [])) next text).state
+        (left limit (length (prefix ++ b ∷ [])) next text).fault = subst
+        (λ x. Leaves limit x (left limit (length (prefix ++ b ∷ [])) next text).state
+        (left limit (length (prefix ++ b ∷ [])) next text).fault) (append_assoc prefix (b ∷ []) text)
+        (later next (run-append limit start s prefix (b ∷ []) e ∙ run-cons limit s next b [] h)) in
         subst (λ (l : Left). Leaves limit (prefix ++ b ∷ text) l.state l.fault) is at
 
 read_at_end : (limit : ℕ) (text : List ℕ) (s : State) (levels : Levels) (t : Bool)

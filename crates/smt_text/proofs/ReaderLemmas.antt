@@ -156,7 +156,8 @@ counted : (old new : Reader) (fed piece : List ℕ) → bytes_fed old ≡ length
     → bytes_fed new ≡ bytes_fed old + length piece → bytes_fed new ≡ length (fed ++ piece)
 counted old new fed piece h e = omega (arith, h, e, length-append fed piece)
 
-pub stands_read : (old new : Reader) (piece : List ℕ) (result : Result (Unit {0}) (Failure TextFlaw)) (fed : List ℕ)
+pub stands_read : (old new : Reader) (piece : List ℕ) (result : Result (Unit {0}) (Failure TextFlaw))
+    (fed : List ℕ)
     (taken : Sexps) → is_finished old ≡ false → is_finished new ≡ false → old.failure ≡ None
     → bytes_fed new ≡ bytes_fed old + length piece → new.failure ≡ result_err result
     → GoesThrough (state_of old) (bytes_fed old) piece result (state_of new) → StandsFor old fed taken
@@ -209,7 +210,8 @@ stuck_more limit text more s fault h = record {
   is = h.is;
 }
 
-skipped : (old new : Reader) (piece fed : List ℕ) (taken : Sexps) (o : Option (Failure TextFlaw)) → is_some o ≡ true
+skipped : (old new : Reader) (piece fed : List ℕ) (taken : Sexps) (o : Option (Failure TextFlaw))
+    → is_some o ≡ true
     → old.failure ≡ o → is_finished new ≡ false → bytes_fed new ≡ length (fed ++ piece)
     → new.failure ≡ old.failure → state_of new ≡ state_of old
     → (old.failure ≡ Some Memory) ⊎ Leaves MAX_DEPTH fed (after_taken taken (state_of old)) (flaw_of old)
@@ -256,14 +258,17 @@ stands_ended reader fed taken fault count e f k =
     (subst (λ x. Reads MAX_DEPTH true fed (append taken (trees_ready reader)) x) (sym f) k, tt) in
     (count, inr (subst (λ b. Keeps b reader fed taken) (sym e) kept))
 
-pub stands_finish : (old new : Reader) (result : Result (Unit {0}) (Failure TextFlaw)) (fed : List ℕ) (taken : Sexps)
+pub stands_finish : (old new : Reader) (result : Result (Unit {0}) (Failure TextFlaw)) (fed : List ℕ)
+    (taken : Sexps)
     → is_finished old ≡ false → is_finished new ≡ true → old.failure ≡ None → bytes_fed new ≡ bytes_fed old
     → new.failure ≡ result_err result → Ends (state_of old) (bytes_fed old) result (state_of new)
     → StandsFor old fed taken → StandsFor new fed taken
 stands_finish old new (Ok done) fed taken e e' n count f ends h =
     let before = runs_on old fed taken h e n in
     let flat = at_top (flush (state_of old)) (depth_of-flush (state_of old) ∙ ends.0) in
-    let closed : flush (after_taken taken (state_of old)) ≡ On [] (append taken (top_of (flush (state_of old)))) = flush_after taken (state_of old) ∙ ap (under taken) flat in
+    let closed : flush (after_taken taken (state_of old))
+    ≡ On [] (append taken (top_of (flush (state_of old)))) =
+    flush_after taken (state_of old) ∙ ap (under taken) flat in
     let ready : top_of (flush (state_of old)) ≡ trees_ready new = ap complete_of ends.2 in
     let whole : may_end (token_in (after_taken taken (state_of old))) ≡ true = ap may_end
     (token_after taken (state_of old)) ∙ ends.1 in
@@ -347,9 +352,12 @@ told : (ended : Bool) (fed : List ℕ) (taken : Sexps) (failure : Failure TextFl
     → (Some failure ≡ Some Memory) ⊎ Reads MAX_DEPTH ended fed taken (flaw_found (Some failure))
     → Answers ended fed taken (Fault (text_failure failure))
 told ended fed taken (failures.Fault flaw) (inl m) = absurd (cc)
-told ended fed taken (failures.Fault (Byte place)) (inr r) = λ flaw e. subst (Reads MAX_DEPTH ended fed taken) e r
-told ended fed taken (failures.Fault (Deep place)) (inr r) = λ flaw e. subst (Reads MAX_DEPTH ended fed taken) e r
-told ended fed taken (failures.Fault (End place)) (inr r) = λ flaw e. subst (Reads MAX_DEPTH ended fed taken) e r
+told ended fed taken (failures.Fault (Byte place)) (inr r) =
+    λ flaw e. subst (Reads MAX_DEPTH ended fed taken) e r
+told ended fed taken (failures.Fault (Deep place)) (inr r) =
+    λ flaw e. subst (Reads MAX_DEPTH ended fed taken) e r
+told ended fed taken (failures.Fault (End place)) (inr r) =
+    λ flaw e. subst (Reads MAX_DEPTH ended fed taken) e r
 told ended fed taken Memory h = λ flaw e. absurd (cc)
 
 pub answers_fault : (reader : Reader) (fed : List ℕ) (taken : Sexps) (failure : Failure TextFlaw)
@@ -374,7 +382,8 @@ answers_tree reader fed taken tree rest fine first h = by (stands_reads reader f
       sexps_of rest,
       flaw_of reader,
       subst
-          (λ x. Reads MAX_DEPTH (is_finished reader) fed (append taken (sexps_of x)) (flaw_of reader)) first r,
+          (λ x. Reads MAX_DEPTH (is_finished reader) fed (append taken (sexps_of x)) (flaw_of reader)) first
+          r,
     )
 
 -- a tree was handed out
@@ -389,7 +398,8 @@ handed ended old new fed taken longer f same all k = (
 )
   where
     on : (b : Bool) → GoesOnFrom b old fed taken → GoesOnFrom b new fed longer
-    on false l = subst (λ x. Leaves MAX_DEPTH fed (after_taken longer (state_of new)) x) (sym (ap flaw_found f))
+    on false l =
+        subst (λ x. Leaves MAX_DEPTH fed (after_taken longer (state_of new)) x) (sym (ap flaw_found f))
         (subst (λ s. Leaves MAX_DEPTH fed s (flaw_of old)) (sym same) l)
     on true l = tt
 
@@ -411,7 +421,8 @@ stands_handed old new fed taken tree count e f same_token same_bytes same_lists 
     same =
         let inner : lists_of new.builder.lists.items [] ≡ lists_of old.builder.lists.items [] = ap
         (λ x. lists_of x []) same_lists in
-        let outer : append (append taken (Cons (sexp_of tree) Nil)) (sexps_of new.builder.ready.items) ≡ append taken (sexps_of old.builder.ready.items) = all in
+        let outer : append (append taken (Cons (sexp_of tree) Nil)) (sexps_of new.builder.ready.items)
+        ≡ append taken (sexps_of old.builder.ready.items) = all in
         cc
 
     by : (old.failure ≡ Some Memory) ⊎ Keeps (is_finished old) old fed taken

@@ -629,7 +629,10 @@ sound_barred : (limit : ℕ) (Last : List ℕ → Type 0) (token : AtomState) (b
     → levels ≡ before → GoesOn limit Last text end next → Spells limit Last before (written ++ b ∷ text) end
 sound_barred limit Last token bytes written levels before b text end next e k m h l later =
     let w : IsWritten InBars bytes written = subst (λ x. IsWritten x bytes written) e h in
-    let made : At AfterBar [] (add (Atom sexp.Symbol bytes) before) ≡ At AfterBar [] (flush (At token bytes levels)) = ap (λ x. At AfterBar [] (add (Atom sexp.Symbol bytes) x)) (sym l) ∙ ap (λ x. At AfterBar [] (flush (At x bytes levels))) (sym e) in
+    let made : At AfterBar [] (add (Atom sexp.Symbol bytes) before)
+    ≡ At AfterBar [] (flush (At token bytes levels)) = ap
+    (λ x. At AfterBar [] (add (Atom sexp.Symbol bytes) x)) (sym l) ∙ ap
+    (λ x. At AfterBar [] (flush (At x bytes levels))) (sym e) in
     sound_longer limit Last written before b text end
     (At AfterBar [] (add (Atom sexp.Symbol bytes) before)) next (ap Some made ∙ m)
     (inr (bytes, refl, w.0, ap (λ x. x ++ b ∷ []) w.1 ∙ ap (λ x. bar ∷ (bytes ++ x ∷ [])) k, refl)) later

@@ -2,7 +2,7 @@
 use Rattle.std.specs.Prelude.{◌≡◌, List, [], ◌∷◌, ◌++◌, ◌+◌, length, Bool, true, false, option_map, Option, Some, None, Ok}
 use Rattle.smt_trees.specs.Sexp.{Sexp, Sexps, Nil, Cons}
 use Rattle.smt_trees.specs.Tree.{sexp_of}
-use Rattle.smt_faults.specs.declared.text_fault.TextFault.{TextFault}
+use Rattle.smt_faults.specs.declared.text_flaw.TextFlaw.{TextFlaw}
 use Rattle.smt_script.specs.Command.{Command, command_of}
 use Rattle.smt_dialogue.specs.Answers as answers
 use Rattle.smt_dialogue.specs.Answers.{Takes, has_form, taken}
@@ -53,11 +53,11 @@ pub record TakesUp (start : Bool) (pairs : List Pair) (tree : Sexp) (answers lef
 
 -- the dialogue ends at the tree, before later ones, with this line
 pub record EndsAt (start : Bool) (pairs : List Pair) (tree : Sexp) (answers : TextSoFar) (line : Line) (new : State) : Type 0 where
-  pub ends : (later : Sexps) (fault : Option TextFault) → turn_after start pairs (whole_text (Cons tree later) fault) answers ≡ Ends (Some line)
+  pub ends : (later : Sexps) (fault : Option TextFlaw) → turn_after start pairs (whole_text (Cons tree later) fault) answers ≡ Ends (Some line)
   pub stands : StandsFor new pairs
 
 -- one step accepted a command, or ended the dialogue with the line of a fault
-abbrev pub IsStep : Bool → Option Line → List Pair → Sexp → Sexps → Option TextFault → Sexps → State → Type 0
+abbrev pub IsStep : Bool → Option Line → List Pair → Sexp → Sexps → Option TextFlaw → Sexps → State → Type 0
 IsStep start None pairs tree answers fault left new = TakesUp start pairs tree answers left new
 IsStep start (Some line) pairs tree answers fault left new = EndsAt start pairs tree (whole_text answers fault) line new
 

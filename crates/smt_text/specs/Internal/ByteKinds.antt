@@ -8,4 +8,5 @@ kind_of b = if is_letter b then 97 else if is_digit b then 48 else 32
 
 -- those of the bytes in turn
 abbrev pub kinds : List ℕ
-kinds = codes "                                 a  aaa   aa aaa0000000000  aaaaaaaaaaaaaaaaaaaaaaaaaaaaaaa   aa aaaaaaaaaaaaaaaaaaaaaaaaaa   a                                                                                                                                 "
+kinds = codes
+    "                                 a  aaa   aa aaa0000000000  aaaaaaaaaaaaaaaaaaaaaaaaaaaaaaa   aa aaaaaaaaaaaaaaaaaaaaaaaaaa   a                                                                                                                                 "

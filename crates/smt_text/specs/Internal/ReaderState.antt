@@ -45,7 +45,8 @@ flaw_found (Some Memory) = None
 -- while more may come, the reader is in the state that these bytes leave, before which these trees were
 -- handed out
 abbrev pub GoesOnFrom : Bool → Reader → List ℕ → Sexps → Type 0
-GoesOnFrom false reader fed taken = Leaves MAX_DEPTH fed (after_taken taken (state_of reader)) (flaw_found reader.failure)
+GoesOnFrom false reader fed taken =
+    Leaves MAX_DEPTH fed (after_taken taken (state_of reader)) (flaw_found reader.failure)
 GoesOnFrom true reader fed taken = Unit {0}
 
 -- nothing but the state has changed

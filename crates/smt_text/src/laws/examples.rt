@@ -77,7 +77,8 @@ pub fn faults()
     ensures no_fraction { Reads limit true (codes "1.)") Nil (Some (Byte 2)) }
     ensures after_a_tree { Reads limit true (codes "(a) 01")
         (Cons (Items (Cons (Atom Symbol (codes "a")) Nil)) Nil) (Some (Byte 5)) }
-    ensures after_a_quoted_symbol { Reads limit true (codes "|a|b") (Cons (Atom Symbol (codes "a")) Nil) (Some (Byte 3)) }
+    ensures after_a_quoted_symbol { Reads limit true (codes "|a|b") (Cons (Atom Symbol (codes "a")) Nil)
+        (Some (Byte 3)) }
     ensures backslash { Reads limit true (124 ∷ 97 ∷ 92 ∷ 98 ∷ 124 ∷ []) Nil (Some (Byte 2)) }
     ensures no_digit { Reads limit true (codes "#xg") Nil (Some (Byte 2)) }
     ensures no_binary_digit { Reads limit true (codes "#b2") Nil (Some (Byte 2)) }
@@ -94,5 +95,6 @@ pub fn nesting()
     ensures past_the_limit { Reads limit true (replicate 1001 40) Nil (Some (Deep 1000)) }
     ensures at_any_limit { (most : ℕ) → 0 < most → Reads most true (replicate most 40) Nil (Some (End most)) }
     ensures past_any_limit { (most : ℕ) → Reads most true (replicate (most + 1) 40) Nil (Some (Deep most)) }
-    ensures no_token_at_any_limit { (most : ℕ) → Reads most true (replicate most 40 ++ codes "#x(") Nil (Some (Byte (most + 2))) }
+    ensures no_token_at_any_limit { (most : ℕ)
+        → Reads most true (replicate most 40 ++ codes "#x(") Nil (Some (Byte (most + 2))) }
 {}

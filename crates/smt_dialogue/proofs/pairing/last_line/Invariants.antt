@@ -3,7 +3,7 @@ use Rattle.std.proofs.Common.{◌≡◌, ◌+◌, ◌-◌, Option, length}
 use Rattle.smt_text.specs.Reader.{bytes_fed}
 use Rattle.smt_trees.specs.Sexp.{Sexps}
 use Rattle.smt_trees.specs.Tree.{sexps_of}
-use Rattle.smt_faults.specs.declared.text_fault.TextFault.{TextFault}
+use Rattle.smt_faults.specs.declared.text_flaw.TextFlaw.{TextFlaw}
 use Rattle.smt_script.specs.StackView.{start_of}
 use Rattle.smt_dialogue.specs.Internal.DialogueState.{state_of}
 use Rattle.smt_dialogue.specs.Internal.ReadText.{text_view}
@@ -14,7 +14,7 @@ use Rattle.smt_dialogue.proofs.pairing.last_line.Given as goal
 abbrev pub invariant-loop-tree : goal.invariant-loop-tree
 invariant-loop-tree l = record {
   sound : IsSound l.script;
-  goes_on : (trees : Sexps) (fault : Option TextFault) → HasLeft l.fn.script trees fault
+  goes_on : (trees : Sexps) (fault : Option TextFlaw) → HasLeft l.fn.script trees fault
       → GoesOn (start_of l.fn.dialogue.stack) (state_of l.dialogue) l.script trees (text_view l.fn.answers) (sexps_of l.answers.trees.items) fault;
   start : start_of l.dialogue.stack ≡ start_of l.fn.dialogue.stack;
   answers_fault : l.answers.fault ≡ l.fn.answers.fault;

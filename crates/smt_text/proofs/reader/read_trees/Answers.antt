@@ -7,8 +7,12 @@ use Rattle.smt_text.proofs.reader.read_trees.Goals as goal
 
 pub loop-tree-preserved : goal.loop-tree-preserved
 loop-tree-preserved c =
-    let pushed : sexps_of c.push.new.self.items ≡ append (sexps_of c.loop-tree.trees.items) (Cons (sexp_of c.in-Tree.tree) Nil) = ap sexps_of c.in_ok-push-in-Tree.ensures.items ∙ sexps_of-append c.loop-tree.trees.items (c.in-Tree.tree ∷ []) in (
+    let pushed : sexps_of c.push.new.self.items
+    ≡ append (sexps_of c.loop-tree.trees.items) (Cons (sexp_of c.in-Tree.tree) Nil) = ap sexps_of
+    c.in_ok-push-in-Tree.ensures.items ∙ sexps_of-append c.loop-tree.trees.items (c.in-Tree.tree ∷ [])
+    in (
       subst (λ (taken : Sexps). StandsFor c.next.new.self c.args.text.now taken) (sym pushed)
-          (c.in-Tree.ensures.stands c.args.text.now (sexps_of c.loop-tree.trees.items) c.loop-tree.invariant.0),
+          (c.in-Tree.ensures.stands c.args.text.now
+          (sexps_of c.loop-tree.trees.items) c.loop-tree.invariant.0),
       c.in-Tree.ensures.finished ∙ c.loop-tree.invariant.1,
     )

@@ -2,7 +2,7 @@ use Rattle.std.proofs.Common.{Bool, Some, ap, refl, subst, sym, ◌∙◌}
 use Rattle.smt_text.specs.Grammar.{limit}
 use Rattle.smt_text.specs.Reading.{Reads}
 use Rattle.smt_trees.specs.Tree.{sexp_of}
-use Rattle.smt_dialogue.proofs.UnreadLemmas.{fault_read, first_left, left_behind, none_left}
+use Rattle.smt_dialogue.proofs.UnreadLemmas.{first_left, left_behind, none_left}
 use Rattle.smt_dialogue.proofs.unread_text.UnreadText.next.Goals as goal
 
 pub returns-in-Tree-clause-next : goal.returns-in-Tree-clause-next
@@ -28,12 +28,13 @@ read_on-requires-clause-goes_on c =
 
 pub returns-in-Some-clause-next : goal.returns-in-Some-clause-next
 returns-in-Some-clause-next c = λ trees fault first.
-    let f = c.in-Fault.fault in
+    let flaw = c.in-Some.flaw in
     let h = c.loop-tree.invariant.left trees fault first in
     let told = sym c.loop-tree.invariant.sound.ended ∙ c.if-self.true in
-    let a = subst (λ (ended : Bool). Reads limit ended h.fed h.taken (Some f)) told (fault_read _ h.fed h.taken f c.in-Some.ensures.1 (c.in-Fault.ensures.right h.fed h.taken h.stands)) in
-    let r = none_left c.one_reading.ensures.one h.fed c.loop-tree.self.left.now h.taken trees (Some f) fault (c.loop-tree.invariant.sound.rest c.if-self.true) a h.reads in
-    (r.0, r.1 ∙ ap Some (sym c.in-Some.ensures.0))
+    let read = c.in-Fault.ensures.right h.fed h.taken h.stands flaw (sym c.flaw.ensures ∙ c.in-Some.is) in
+    let a = subst (λ (ended : Bool). Reads limit ended h.fed h.taken (Some flaw)) told read in
+    none_left c.one_reading.ensures.one h.fed c.loop-tree.self.left.now h.taken trees (Some flaw) fault
+    (c.loop-tree.invariant.sound.rest c.if-self.true) a h.reads
 
 pub loop-tree-preserved : goal.loop-tree-preserved
 loop-tree-preserved c = record {
