@@ -15,7 +15,7 @@ use Rattle.smt_values.specs.Element.{Element, Integer, Vector, Agrees, AllAgree}
 use Rattle.smt_values.specs.KnownOperations.{known_step}
 use Rattle.smt_values.specs.Literals.{numeral_element}
 use Rattle.smt_values.specs.Operations.{DivisionByZero, operate}
-use Rattle.smt_terms.specs.Checking.{is_underscore_tree}
+use Rattle.smt_forms.specs.Heads.{is_underscore_tree}
 use Rattle.smt_forms.specs.Identifier.{Identifier, Plain, Indexed, applied, indexed, operator_of}
 use Rattle.smt_terms.specs.Signature.{Entry, Origin, Declared, Defined, Signature}
 use Rattle.smt_faults.specs.declared.term_fault.TermFault.{TermFault}

@@ -1,5 +1,6 @@
 //! What can be wrong with a command.
 
+use crate::memory::Memory;
 use crate::term_fault::TermFault;
 use std::alloc::{AllocError, AllocFailed};
 use std::fmt;
@@ -56,6 +57,17 @@ impl From<TermFault> for CommandFault {
             TermFault::Memory => CommandFault::Memory,
             _ => CommandFault::Term { fault },
         }
+    }
+}
+
+impl From<Memory> for CommandFault {
+    ghost use Rattle.std.specs.Prelude.{◌≡◌};
+    ghost use Rattle.smt_faults.specs.declared.command_fault.CommandFault.TheVariants.{Memory as OutOfMemory};
+
+    ghost from_gives = { λ _ fault. fault ≡ OutOfMemory };
+
+    fn from(_memory: Memory) -> CommandFault {
+        CommandFault::Memory
     }
 }
 

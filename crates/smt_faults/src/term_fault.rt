@@ -1,5 +1,6 @@
 //! What can be wrong with a term, a sort or a definition.
 
+use crate::memory::Memory;
 use std::alloc::{AllocError, AllocFailed};
 use std::fmt;
 
@@ -45,6 +46,17 @@ impl fmt::Display for TermFault {
             TermFault::Label => "F8",
             TermFault::Memory => "F0",
         })
+    }
+}
+
+impl From<Memory> for TermFault {
+    ghost use Rattle.std.specs.Prelude.{◌≡◌};
+    ghost use Rattle.smt_faults.specs.declared.term_fault.TermFault.TheVariants.{Memory as OutOfMemory};
+
+    ghost from_gives = { λ _ fault. fault ≡ OutOfMemory };
+
+    fn from(_memory: Memory) -> TermFault {
+        TermFault::Memory
     }
 }
 

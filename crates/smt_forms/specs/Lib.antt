@@ -1,5 +1,12 @@
 pub mod Bindings
+pub mod Heads
 pub mod Identifier
 pub mod IdentifierView
+pub mod ItemForm
+pub mod ItemView
+pub mod Labels
 pub mod ParamView
+pub mod Parts
 pub mod ScopeView
+pub mod Variables
+pub mod Internal

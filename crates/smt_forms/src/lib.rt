@@ -7,13 +7,21 @@
 //! `find_variable` the innermost variable of a name.
 #![tactic(auto)]
 
+mod attributes;
 mod bindings;
+mod heads;
 mod identifier;
+mod items;
 pub mod laws;
 mod params;
 mod scope;
+mod variables;
 
+pub use attributes::{are_attributes, label_at};
 pub use bindings::{are_named, split_let, split_named};
 pub use identifier::{Identifier, applied_identifier, are_indexes, indexed_identifier};
+pub use heads::{is_bang, is_let, is_underscore};
+pub use items::{ItemForm, item_form};
 pub use params::{Param, params_of};
 pub use scope::{Variable, find_variable};
+pub use variables::uses_variable;

@@ -14,7 +14,7 @@ use Rattle.smt_terms.specs.Contents.{Contents, Extends, IsWithin, contents_of, f
 use Rattle.smt_terms.specs.Internal.LabelsView.{AreGiven, AreNew, AreSorted, given_terms, label_entry, labels_view}
 use Rattle.smt_terms.specs.Internal.LibraryView.{names_for, names_of_library, ranks_of_library}
 use Rattle.smt_terms.specs.Labels as spec
-use Rattle.smt_terms.specs.Labels.{labels_in}
+use Rattle.smt_forms.specs.Labels.{labels_in}
 use Rattle.smt_terms.specs.Library.{StandsFor}
 use Rattle.smt_terms.specs.Signature.{Entry, Names, Rank, Signature, behind, in_assertion, names_of, rank_of_entry, with_entries, with_entry}
 use Rattle.smt_faults.specs.declared.term_fault.TermFault.TheVariants.{IllSorted}

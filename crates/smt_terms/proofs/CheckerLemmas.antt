@@ -6,10 +6,12 @@ use Rattle.smt_trees.specs.declared.tree.Tree.{Tree}
 use Rattle.smt_trees.specs.declared.reserved.Word.TheVariants.{Bang, Let, Underscore}
 use Rattle.smt_theory.specs.Words.{look_up, result_and_then}
 use Rattle.smt_theory.specs.declared.sort.Sort.{Sort}
-use Rattle.smt_terms.specs.Checking.{is_underscore_tree, sort_in, sorts_in, sort_applied, sort_of_call, sort_unless_variable}
+use Rattle.smt_forms.specs.Heads.{is_underscore_tree}
+use Rattle.smt_terms.specs.Checking.{sort_in, sorts_in, sort_applied, sort_of_call, sort_unless_variable}
 use Rattle.smt_forms.specs.Identifier.{Identifier, Plain, Indexed, applied, indexed}
-use Rattle.smt_terms.specs.Internal.Heads.{is_bang_tree, is_let_tree, names_variable}
-use Rattle.smt_terms.specs.Labels.{labels_in}
+use Rattle.smt_forms.specs.Heads.{is_bang_tree, is_let_tree}
+use Rattle.smt_terms.specs.Internal.Calls.{names_variable}
+use Rattle.smt_forms.specs.Labels.{labels_in}
 use Rattle.smt_terms.specs.Signature.{Names, behind}
 use Rattle.smt_faults.specs.declared.term_fault.TermFault.{TermFault}
 use Rattle.smt_faults.specs.declared.term_fault.TermFault.TheVariants.{IllSorted, Memory}

@@ -10,7 +10,9 @@ use Rattle.smt_theory.specs.declared.sort.Sort.{Sort}
 use Rattle.smt_forms.specs.Bindings.{are_attributes, are_bindings, named_trees}
 use Rattle.smt_terms.specs.Checking.{bound_in, fault_of_labels, sort_applied, sort_in, sort_of_call, sort_of_symbol, sort_unless_variable, sorts_in, unless}
 use Rattle.smt_forms.specs.Identifier.{Identifier, Plain, Indexed, applied}
-use Rattle.smt_terms.specs.Labels.{Unread, any_uses_outer, bindings_use_outer, is_among, labels_among, labels_in, labels_in_bindings, uses_outer}
+use Rattle.smt_terms.specs.Labels.{Unread}
+use Rattle.smt_forms.specs.Variables.{any_uses_outer, bindings_use_outer, is_among, uses_outer}
+use Rattle.smt_forms.specs.Labels.{labels_among, labels_in, labels_in_bindings}
 use Rattle.smt_terms.specs.Signature.{Names, behind}
 use Rattle.smt_faults.specs.declared.term_fault.TermFault.{TermFault}
 use Rattle.smt_faults.specs.declared.term_fault.TermFault.TheVariants.{BoundTwice, Form}
@@ -152,38 +154,6 @@ mutual
       (λ s. closed-bound later inner outer (bound ++ (x, s) ∷ []) rest vs (Unread-behind (labels_in term) names.labels u) n.1)) h
   closed-bound names inner outer bound _ vs u unused h = cc
 
--- ## No variables
-
--- a term uses none of no variables
-mutual
-  pub uses_none : (inner : List (List ℕ)) (t : Sexp) → uses_outer inner [] t ≡ false
-  uses_none inner (Atom Symbol x) = both (not (is_among inner x))
-    where
-      both : (b : Bool) → b && false ≡ false
-      both true = refl
-      both false = refl
-  uses_none inner (Atom kind bytes) = refl
-  uses_none inner (Reserved word) = refl
-  uses_none inner (Items Nil) = refl
-  uses_none inner (Items (Cons (Reserved Underscore) parts)) = refl
-  uses_none inner (Items (Cons (Reserved Let) (Cons (Items bindings) (Cons body Nil)))) =
-      ap (λ b. b || uses_outer (map (λ b. b.0) (named_trees bindings) ++ inner) [] body) (bindings_use_none inner bindings) ∙ uses_none (map (λ b. b.0) (named_trees bindings) ++ inner) body
-  uses_none inner (Items (Cons (Reserved Bang) (Cons term attributes))) = uses_none inner term
-  uses_none inner (Items (Cons head args)) = any_uses_none inner args
-
-  any_uses_none : (inner : List (List ℕ)) (ts : Sexps) → any_uses_outer inner [] ts ≡ false
-  any_uses_none inner Nil = refl
-  any_uses_none inner (Cons x xs) = ap (λ b. b || any_uses_outer inner [] xs) (uses_none inner x) ∙ any_uses_none inner xs
-
-  bindings_use_none : (inner : List (List ℕ)) (bs : Sexps) → bindings_use_outer inner [] bs ≡ false
-  bindings_use_none inner (Cons (Items (Cons (Atom Symbol x) (Cons term Nil))) rest) =
-      ap (λ b. b || bindings_use_outer inner [] rest) (uses_none inner term) ∙ bindings_use_none inner rest
-  bindings_use_none inner _ = refl
-
 -- a term that uses no variable has its sort over none
 pub closed : (names : Names) (scope : Scope) (t : Sexp) (sort : Sort) → names.labels ≡ Unread → uses_outer [] scope t ≡ false → sort_in names scope t ≡ Ok sort → sort_in names [] t ≡ Ok sort
 closed names scope t sort u unused h = closed-sort names [] scope t sort u unused h
-
--- nor of an empty scope
-pub uses_no_variable : (scope : Scope) (t : Sexp) → scope ≡ [] → uses_outer [] scope t ≡ false
-uses_no_variable scope t h = ap (λ vs. uses_outer [] vs t) h ∙ uses_none [] t

@@ -14,7 +14,9 @@ use Rattle.smt_forms.specs.Bindings.{are_attributes, are_bindings}
 use Rattle.smt_terms.specs.Checking.{bound_in, fault_of_label, fault_of_labels, sort_in, sort_of_call, sorts_in, unless}
 use Rattle.smt_terms.specs.Definitions.{definition}
 use Rattle.smt_forms.specs.Identifier.{applied}
-use Rattle.smt_terms.specs.Labels.{Labels, Refused, Given, Unread, is_among, labels_among, labels_in, labels_in_all, labels_in_bindings, uses_variable, with_labels}
+use Rattle.smt_terms.specs.Labels.{Labels, Refused, Given, Unread, with_labels}
+use Rattle.smt_forms.specs.Variables.{is_among, uses_variable}
+use Rattle.smt_forms.specs.Labels.{labels_among, labels_in, labels_in_all, labels_in_bindings}
 use Rattle.smt_terms.specs.Signature.{Entry, Names, Rank, Signature, behind, entry_named, in_assertion, is_taken, names_of, rank_of_entry, ranks_of, unlabelled, unlabelled_over}
 use Rattle.smt_terms.specs.WellSorted.{AreIntroduced, Keeps}
 use Rattle.smt_faults.specs.declared.term_fault.TermFault.{TermFault}

@@ -10,7 +10,8 @@ use Rattle.smt_theory.specs.declared.theories.Theories.{Theories}
 use Rattle.smt_terms.specs.Checking.{unless}
 use Rattle.smt_terms.specs.Definitions.{definition_in, parameters_named}
 use Rattle.smt_terms.specs.Internal.LibraryView.{names_of_library, sort_names}
-use Rattle.smt_terms.specs.Items.{ItemForm, declared_named, defined_as, form_in, has_rank_of, if_declared, item_form, item_in, items_before, name_fault}
+use Rattle.smt_forms.specs.ItemForm.{ItemForm, item_form}
+use Rattle.smt_terms.specs.Items.{declared_named, defined_as, form_in, has_rank_of, if_declared, item_in, items_before, name_fault}
 use Rattle.smt_terms.specs.Labels.{Refused}
 use Rattle.smt_terms.specs.Library.{HasTheoriesOf, StandsFor, is_declared, places_from}
 use Rattle.smt_terms.specs.Signature as signature

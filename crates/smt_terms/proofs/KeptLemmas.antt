@@ -13,7 +13,8 @@ use Rattle.smt_theory.specs.declared.sort.Sort.{Sort}
 use Rattle.smt_forms.specs.Bindings.{are_attributes, are_bindings}
 use Rattle.smt_terms.specs.Checking.{bound_in, fault_of_label, fault_of_labels, sort_applied, sort_in, sort_of_call, sort_of_operator, sort_of_plain, sort_of_symbol, sort_unless_variable, sorts_in, unless}
 use Rattle.smt_forms.specs.Identifier.{Identifier, Plain, Indexed, applied, indexed}
-use Rattle.smt_terms.specs.Labels.{Labels, Unread, labels_among, labels_in, labels_in_bindings, with_labels}
+use Rattle.smt_terms.specs.Labels.{Labels, Unread, with_labels}
+use Rattle.smt_forms.specs.Labels.{labels_among, labels_in, labels_in_bindings}
 use Rattle.smt_terms.specs.Signature.{Names, Rank, behind, unlabelled}
 use Rattle.smt_terms.specs.SortTrees.{bit_vectors, integers}
 use Rattle.smt_terms.specs.WellSorted.{Keeps}

@@ -7,14 +7,17 @@ use Rattle.smt_trees.specs.declared.reserved.Word.TheVariants.{Bang, Let, Unders
 use Rattle.smt_trees.specs.Tree.{sexp_of}
 use Rattle.smt_theory.specs.Words.{look_up}
 use Rattle.smt_theory.specs.declared.sort.Sort.{Sort}
-use Rattle.smt_terms.specs.Checking.{fault_of_label, fault_of_labels, is_underscore_tree, sort_in, sort_of_call, sort_of_plain, sort_unless_variable}
+use Rattle.smt_terms.specs.Checking.{fault_of_label, fault_of_labels, sort_in, sort_of_call, sort_of_plain, sort_unless_variable}
+use Rattle.smt_forms.specs.Heads.{is_underscore_tree}
 use Rattle.smt_forms.specs.Identifier.{Identifier, Plain, Indexed}
-use Rattle.smt_terms.specs.Internal.Attributes.{label_of_tree}
-use Rattle.smt_terms.specs.Internal.Heads.{is_bang_tree, is_let_tree}
+use Rattle.smt_forms.specs.Labels.{label_of_tree}
+use Rattle.smt_forms.specs.Heads.{is_bang_tree, is_let_tree}
 use Rattle.smt_terms.specs.Internal.LabelsView.{AreGiven, AreSorted, given_names, given_terms, labels_view}
 use Rattle.smt_terms.specs.Internal.LibraryView.{names_for, names_of_library}
 use Rattle.smt_terms.specs.Labels as spec
-use Rattle.smt_terms.specs.Labels.{is_among, labels_among, labels_in, labels_in_all, uses_variable, with_labels}
+use Rattle.smt_forms.specs.Variables.{is_among, uses_variable}
+use Rattle.smt_forms.specs.Labels.{labels_among, labels_in, labels_in_all}
+use Rattle.smt_terms.specs.Labels.{with_labels}
 use Rattle.smt_terms.specs.Signature.{Names, Rank, behind, is_taken, unlabelled}
 use Rattle.smt_faults.specs.declared.term_fault.TermFault.{TermFault}
 use Rattle.smt_faults.specs.declared.term_fault.TermFault.TheVariants.{Label as IsLabel, Memory, NotFresh}

@@ -6,7 +6,6 @@ pub mod CheckerLemmas
 pub mod KeptLemmas
 pub mod LabelLemmas
 pub mod ClosedLemmas
-pub mod UsesLemmas
 pub mod IntroducedLemmas
 pub mod AssertionLemmas
 pub mod BinderLemmas
@@ -21,5 +20,4 @@ pub mod DefinitionLemmas
 pub mod DefinitionSortLemmas
 pub mod ItemSortLemmas
 pub mod NoMemoryLemmas
-pub mod PartLemmas
 pub mod WrittenLemmas

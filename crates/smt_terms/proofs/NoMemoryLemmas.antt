@@ -20,11 +20,14 @@ use Rattle.smt_terms.specs.Checking.{sort_of_rank, sort_of_operator, sort_of_pla
 use Rattle.smt_forms.specs.Bindings.{are_attributes, are_bindings, are_named_trees, named_trees}
 use Rattle.smt_terms.specs.Definitions.{defined_in, definition, definition_in, parameters_named}
 use Rattle.smt_forms.specs.Identifier.{Identifier, Plain, Indexed, all_indexes, applied, indexed, word_fault}
-use Rattle.smt_terms.specs.Items.{ItemForm, declared_named, defined_as, form_in, has_rank_of, item_form, item_in, items_before, name_fault}
+use Rattle.smt_forms.specs.ItemForm.{ItemForm, item_form}
+use Rattle.smt_terms.specs.Items.{declared_named, defined_as, form_in, has_rank_of, item_in, items_before, name_fault}
 use Rattle.std.specs.Option.{option_or}
 use Rattle.smt_theory.specs.declared.sort.Sort.TheVariants.{Bool as Boolean}
 use Rattle.smt_terms.specs.Assertions.{asserted_in, label_entries}
-use Rattle.smt_terms.specs.Labels.{Labels, Refused, Given, Unread, is_among, labels_among, labels_in, labels_in_bindings, uses_variable}
+use Rattle.smt_terms.specs.Labels.{Labels, Refused, Given, Unread}
+use Rattle.smt_forms.specs.Variables.{is_among, uses_variable}
+use Rattle.smt_forms.specs.Labels.{labels_among, labels_in, labels_in_bindings}
 use Rattle.smt_terms.specs.Signature.{Entry, Names, Rank, Signature, behind, declaration, declared_in, entry_named, in_assertion, is_taken, names_of, rank_named, sort_names_of}
 use Rattle.smt_terms.specs.SortTrees.{SortNames, abbreviated_in, bit_vector_sort, bit_vectors, indexed_sort, integers, is_some_tree, is_sort_taken, sort_named, sort_of_list, sort_of_word, sorts_named}
 use Rattle.smt_terms.specs.SortTrees as sorts

@@ -11,8 +11,10 @@ use Rattle.smt_forms.specs.Bindings.{are_named_trees, named_trees}
 use Rattle.smt_terms.specs.Assertions.{asserted_in, label_entries, label_or_none}
 use Rattle.smt_terms.specs.Checking.{sort_in}
 use Rattle.smt_terms.specs.Definitions.{defined_in, definition, definition_in, parameters_named}
-use Rattle.smt_terms.specs.Items.{ItemForm, declared_named, defined_as, form_in, has_rank_of, item_form, item_in, items_before, name_fault}
-use Rattle.smt_terms.specs.Labels.{Labels, Given, labels_in, with_labels}
+use Rattle.smt_forms.specs.ItemForm.{ItemForm, item_form}
+use Rattle.smt_terms.specs.Items.{declared_named, defined_as, form_in, has_rank_of, item_in, items_before, name_fault}
+use Rattle.smt_terms.specs.Labels.{Labels, Given, with_labels}
+use Rattle.smt_forms.specs.Labels.{labels_in}
 use Rattle.smt_terms.specs.Signature.{Entry, Defined, Names, Rank, Signature, declaration, declared_in, in_assertion, is_taken, names_of, sort_names_of}
 use Rattle.smt_terms.specs.SortTrees.{SortNames, sort_named, sorts_named}
 use Rattle.smt_terms.specs.Written.{AreLabelsOf, IsDeclaredAs, IsDefinedAs, IsPrintedAs}

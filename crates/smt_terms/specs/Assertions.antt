@@ -8,7 +8,7 @@ use Rattle.smt_theory.specs.declared.sort.Sort.{Sort}
 use Rattle.smt_theory.specs.declared.sort.Sort.TheVariants.{Bool as Boolean}
 use Rattle.smt_terms.specs.Checking.{sort_in}
 use Rattle.smt_terms.specs.Definitions.{definition}
-use Rattle.smt_terms.specs.Labels.{labels_in}
+use Rattle.smt_forms.specs.Labels.{labels_in}
 use Rattle.smt_terms.specs.Signature.{Entry, Names, in_assertion, unlabelled}
 use Rattle.smt_faults.specs.declared.term_fault.TermFault.{TermFault}
 use Rattle.smt_faults.specs.declared.term_fault.TermFault.TheVariants.{IllSorted}

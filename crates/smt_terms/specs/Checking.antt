@@ -15,7 +15,9 @@ use Rattle.smt_theory.specs.declared.op.OpFault.TheVariants as ops
 use Rattle.smt_theory.specs.declared.sort.Sort.{Sort}
 use Rattle.smt_forms.specs.Bindings.{are_attributes, are_bindings}
 use Rattle.smt_forms.specs.Identifier.{Identifier, Plain, Indexed, applied, indexed}
-use Rattle.smt_terms.specs.Labels.{Labels, Refused, Given, Unread, is_among, labels_among, labels_in, labels_in_bindings, uses_variable}
+use Rattle.smt_terms.specs.Labels.{Labels, Refused, Given, Unread}
+use Rattle.smt_forms.specs.Variables.{is_among, uses_variable}
+use Rattle.smt_forms.specs.Labels.{labels_among, labels_in, labels_in_bindings}
 use Rattle.smt_terms.specs.Signature.{Names, Rank, behind, is_taken}
 use Rattle.smt_terms.specs.SortTrees.{bit_vectors, integers}
 use Rattle.smt_faults.specs.declared.term_fault.TermFault.{TermFault}
@@ -58,11 +60,6 @@ sort_unless_variable (Some sort) found = Err IllSorted
 abbrev pub sort_of_call : Names → List (List ℕ × Sort) → Identifier → List Sort → Result Sort TermFault
 sort_of_call names scope (Plain f) args = sort_unless_variable (look_up scope f) (sort_applied names (Plain f) args)
 sort_of_call names scope (Indexed f indexes) args = sort_applied names (Indexed f indexes) args
-
--- whether a list that begins so is an identifier with indexes
-abbrev pub is_underscore_tree : Sexp → Bool
-is_underscore_tree (Reserved Underscore) = true
-is_underscore_tree _ = false
 
 -- a fault, or what comes where there is none
 abbrev pub unless : {A : Type 0} → Option TermFault → Result A TermFault → Result A TermFault

@@ -1,5 +1,3 @@
 pub mod LibraryView
 pub mod LabelsView
-pub mod ItemView
-pub mod Attributes
-pub mod Heads
+pub mod Calls

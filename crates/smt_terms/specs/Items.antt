@@ -14,21 +14,6 @@ use Rattle.smt_terms.specs.SortTrees.{sort_named}
 use Rattle.smt_faults.specs.declared.term_fault.TermFault.{TermFault}
 use Rattle.smt_faults.specs.declared.term_fault.TermFault.TheVariants.{Form, Unsupported, IllSorted, BoundTwice, NotFresh}
 
--- the parts of an item: a name, parameters, a sort and a body
-pub record ItemForm : Type 0 where
-  pub name : List ℕ
-  pub parameters : List (List ℕ × Sexp)
-  pub sort : Sexp
-  pub body : Sexp
-
--- the parts of an item, or what is wrong with its form
-abbrev pub item_form : Sexp → Result ItemForm TermFault
-item_form (Items (Cons (Reserved DefineFunRec) rest)) = Err Unsupported
-item_form (Items (Cons (Reserved DefineFunsRec) rest)) = Err Unsupported
-item_form (Items (Cons (Reserved DefineFun) (Cons (Atom Symbol x) (Cons (Items parameters) (Cons sort (Cons body Nil)))))) =
-    if are_named_trees parameters then Ok (record { name = x; parameters = named_trees parameters; sort = sort; body = body }) else Err Form
-item_form _ = Err Form
-
 -- the entry, if a command declared it
 abbrev pub if_declared : Entry → Origin → Option Entry
 if_declared e (Declared command) = Some e

@@ -6,7 +6,6 @@ pub mod Definitions
 pub mod Assertions
 pub mod Items
 pub mod WellSorted
-pub mod Parts
 pub mod Written
 pub mod Contents
 pub mod Library

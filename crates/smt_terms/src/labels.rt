@@ -4,7 +4,7 @@ ghost use Rattle.std.specs.Prelude.{◌≡◌, ◌++◌, ◌∷◌, [], map, byt
 ghost use Rattle.smt_trees.specs.Tree.{sexp_of};
 ghost use Rattle.smt_terms.specs.Internal.LabelsView.{given_names, given_terms, labels_view};
 ghost use Rattle.smt_terms.specs.Labels as spec;
-ghost use Rattle.smt_terms.specs.Labels.{is_among};
+ghost use Rattle.smt_forms.specs.Variables.{is_among};
 ghost use Rattle.smt_faults.specs.declared.term_fault.TermFault.TheVariants.{Memory};
 
 use smt_faults::TermFault;

@@ -8,9 +8,8 @@ ghost use Rattle.smt_terms.specs.Checking.{sort_in};
 ghost use Rattle.smt_terms.specs.Assertions.{asserted_in};
 ghost use Rattle.smt_terms.specs.Contents.{Contents, Extends, IsBelow, IsWithin, first_of};
 ghost use Rattle.smt_terms.specs.Definitions.{defined_in};
-ghost use Rattle.smt_terms.specs.Labels.{labels_in, uses_variable};
+ghost use Rattle.smt_forms.specs.Labels.{labels_in};
 ghost use Rattle.smt_terms.specs.Library.{IsTermOf};
-ghost use Rattle.smt_terms.specs.Parts.{IsLabelled, OccursFree, own_labels, parts_of};
 ghost use Rattle.smt_terms.specs.Items.{declared_named, item_in};
 ghost use Rattle.smt_terms.specs.Signature.{Entry, KeepsRank, Names, Signature, declared_in, entry_named, is_taken, names_of, sort_names_of};
 ghost use Rattle.smt_terms.specs.SortTrees.{SortNames, abbreviated_in};
@@ -92,21 +91,6 @@ pub fn items_are_as_printed()
 pub fn assertions_bring_their_labels()
     ensures { (names : Names) (term : Sexp) (es : List Entry)
         → asserted_in names term ≡ Ok es → AreLabelsOf names (labels_in term) es }
-{}
-
-/// The labels of a term are those that its annotations give (SMT-LIB 2.6, section 3.6.5): where `(! t .. :named x ..)` stands in it,
-/// `x` labels `t`, and each label stands so. Those of the term's parts come first, one part behind another, and then its own.
-pub fn labels_are_annotations()
-    ensures standing { (term : Sexp) (label : List ℕ × Sexp)
-        → Contains (labels_in term) label ↔ IsLabelled term label }
-    ensures ordered { (term : Sexp)
-        → labels_in term ≡ flat_map (λ p. labels_in p.1) (parts_of term) ++ own_labels term }
-{}
-
-/// A term uses variables that are bound outside it exactly where the name of one occurs free in it (SMT-LIB 2.6, section 3.6.1).
-pub fn used_variables_occur_free()
-    ensures { (scope : List (List ℕ × Sort)) (term : Sexp) → (uses_variable scope term ≡ true)
-        ↔ ((x : List ℕ) × Contains (map (λ v. v.0) scope) x × OccursFree x term) }
 {}
 
 /// Names are the same exactly where the test of their bytes says so.

@@ -8,16 +8,12 @@
 //! answers `Found::Defined(0)` for `x`.
 #![tactic(auto)]
 
-mod attributes;
 mod definitions;
-mod heads;
-mod item_form;
 mod labels;
 pub mod laws;
 mod library;
 mod scope;
 mod sorts;
-mod variables;
 
 pub use library::{Declared, Definition, Found, Library, Mark, TermId};
 pub use smt_faults::TermFault;

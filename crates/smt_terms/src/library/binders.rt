@@ -7,21 +7,20 @@ ghost use Rattle.smt_trees.specs.declared.reserved.Word.TheVariants.{Bang, Let};
 ghost use Rattle.smt_forms.specs.Bindings as bindings;
 ghost use Rattle.smt_forms.specs.Bindings.{are_named_trees};
 ghost use Rattle.smt_terms.specs.Checking.{bound_in, fault_of_label, fault_of_labels, sort_in};
-ghost use Rattle.smt_terms.specs.Internal.Attributes.{label_of_tree};
+ghost use Rattle.smt_forms.specs.Labels.{label_of_tree};
 ghost use Rattle.smt_terms.specs.Internal.LabelsView.{AreGiven, given_names, labels_view};
 ghost use Rattle.smt_terms.specs.Internal.LibraryView.{names_for, names_of_library};
-ghost use Rattle.smt_terms.specs.Labels.{is_among, labels_among, labels_in, labels_in_bindings};
+ghost use Rattle.smt_forms.specs.Variables.{is_among};
+ghost use Rattle.smt_forms.specs.Labels.{labels_among, labels_in, labels_in_bindings};
 ghost use Rattle.smt_terms.specs.Signature.{is_taken, unlabelled};
 ghost use Rattle.smt_forms.specs.ScopeView.{scope_view};
 ghost use Rattle.smt_faults.specs.declared.term_fault.TermFault.TheVariants.{Memory};
 
-use crate::attributes::{are_attributes, label_at};
 use crate::labels::Labels;
 use crate::library::Library;
 use crate::scope::push_variable;
-use crate::variables::uses_variable;
 use smt_faults::TermFault;
-use smt_forms::{Variable, are_named, find_variable, split_let, split_named};
+use smt_forms::{Variable, are_attributes, are_named, find_variable, label_at, split_let, split_named, uses_variable};
 use smt_theory::Sort;
 use smt_trees::{Tree, split_first};
 

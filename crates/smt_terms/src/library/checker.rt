@@ -8,23 +8,22 @@ ghost use Rattle.smt_theory.specs.Width.{width_of};
 ghost use Rattle.smt_theory.specs.Words.{look_up};
 ghost use Rattle.smt_terms.specs.Checking as checking;
 ghost use Rattle.smt_terms.specs.Checking.{sort_in, sorts_in, sort_of_name};
-ghost use Rattle.smt_terms.specs.Internal.Heads.{names_variable};
+ghost use Rattle.smt_terms.specs.Internal.Calls.{names_variable};
 ghost use Rattle.smt_forms.specs.ScopeView.{scope_view};
 ghost use Rattle.smt_forms.specs.Identifier.{Plain};
 ghost use Rattle.smt_forms.specs.IdentifierView.{identifier_view};
 ghost use Rattle.smt_terms.specs.Internal.LabelsView.{AreGiven, labels_view};
 ghost use Rattle.smt_terms.specs.Internal.LibraryView.{names_for, names_of_library};
-ghost use Rattle.smt_terms.specs.Labels.{labels_in, labels_in_all};
+ghost use Rattle.smt_forms.specs.Labels.{labels_in, labels_in_all};
 ghost use Rattle.smt_terms.specs.SortTrees.{bit_vectors, integers};
 ghost use Rattle.smt_faults.specs.declared.term_fault.TermFault.TheVariants.{Memory};
 
-use crate::heads::{is_bang, is_let, is_underscore};
 use crate::labels::Labels;
 use crate::library::{Entry, Library};
 use crate::sorts;
 use smallvec::SmallVec;
 use smt_faults::TermFault;
-use smt_forms::{Identifier, Variable, applied_identifier, find_variable, indexed_identifier};
+use smt_forms::{Identifier, Variable, applied_identifier, find_variable, indexed_identifier, is_bang, is_let, is_underscore};
 use smt_theory::{Op, OpFault, Sort, Width, op_of, rank};
 use smt_trees::{Tree, Trees, split_first};
 

@@ -17,11 +17,10 @@ ghost use Rattle.smt_terms.specs.SortTrees.{sort_named};
 ghost use Rattle.smt_faults.specs.declared.term_fault.TermFault.TheVariants.{Memory};
 
 use crate::definitions::{sorted_params_of, sorts_of_variables};
-use crate::item_form::item_form;
 use crate::library::checker::are_same;
 use crate::library::{Entry, Found, Library};
 use smt_faults::TermFault;
-use smt_forms::Variable;
+use smt_forms::{Variable, item_form};
 use smt_theory::Sort;
 use smt_trees::Tree;
 

@@ -1,5 +1,5 @@
 use Rattle.std.proofs.Common.{◌≡◌, drop, map}
-use Rattle.smt_terms.specs.Labels.{is_among}
+use Rattle.smt_forms.specs.Variables.{is_among}
 use Rattle.smt_terms.proofs.labels.has_name.Given as goal
 
 abbrev pub invariant-loop-label : goal.invariant-loop-label

@@ -8,7 +8,7 @@ use Rattle.smt_terms.specs.Checking.{sort_in, sort_of_call}
 use Rattle.smt_forms.specs.IdentifierView.{identifier_view}
 use Rattle.smt_terms.specs.Internal.LabelsView.{labels_view}
 use Rattle.smt_terms.specs.Internal.LibraryView.{names_for, names_of_library}
-use Rattle.smt_terms.specs.Labels.{labels_in, labels_in_all, labels_in_bindings}
+use Rattle.smt_forms.specs.Labels.{labels_in, labels_in_all, labels_in_bindings}
 use Rattle.smt_forms.specs.ScopeView.{scope_view}
 use Rattle.smt_terms.specs.Signature.{unlabelled}
 use Rattle.smt_terms.proofs.BinderLemmas.{annotated, bang_in, bound_in-next, fault_of_annotated, fault_of_annotation, fault_of_bindings, let_in, let_of_body}

@@ -6,7 +6,7 @@ use Rattle.smt_forms.specs.Bindings.{are_named_trees}
 use Rattle.smt_terms.specs.Checking.{bound_in, sorts_in}
 use Rattle.smt_terms.specs.Internal.LabelsView.{labels_view}
 use Rattle.smt_terms.specs.Internal.LibraryView.{names_for, names_of_library}
-use Rattle.smt_terms.specs.Labels.{labels_in_all, labels_in_bindings}
+use Rattle.smt_forms.specs.Labels.{labels_in_all, labels_in_bindings}
 use Rattle.smt_forms.specs.ScopeView.{scope_view}
 use Rattle.smt_terms.proofs.CheckerLemmas.{sorts_behind}
 use Rattle.smt_terms.proofs.LabelLemmas.{AreGivenOf}

@@ -2,7 +2,7 @@ use Rattle.std.proofs.Common.{ap, ◌∙◌}
 use Rattle.std.proofs.lemmas.Result.{IfErr-weaker, on_ok_weaker}
 use Rattle.smt_trees.specs.Tree.{sexp_of}
 use Rattle.smt_terms.specs.Definitions.{definition_in}
-use Rattle.smt_terms.specs.Internal.ItemView.{form_of}
+use Rattle.smt_forms.specs.ItemView.{form_of}
 use Rattle.smt_terms.specs.Items.{item_in}
 use Rattle.smt_forms.specs.ScopeView.{scope_view}
 use Rattle.smt_terms.specs.Signature.{names_of}

@@ -2,10 +2,10 @@ use Rattle.std.proofs.Common.{ap, ◌∙◌}
 use Rattle.std.proofs.lemmas.List.{map-append}
 use Rattle.std.proofs.lemmas.Result.{err_from_is_err_and}
 use Rattle.smt_trees.specs.Tree.{sexp_of, sexps_of}
-use Rattle.smt_terms.specs.Internal.Attributes.{label_of_tree}
+use Rattle.smt_forms.specs.Labels.{label_of_tree}
 use Rattle.smt_terms.specs.Internal.LabelsView.{labels_view}
 use Rattle.smt_terms.specs.Internal.LibraryView.{names_for, names_of_library}
-use Rattle.smt_terms.specs.Labels.{labels_among}
+use Rattle.smt_forms.specs.Labels.{labels_among}
 use Rattle.smt_forms.specs.ScopeView.{scope_view}
 use Rattle.smt_terms.proofs.LabelLemmas.{AreGivenOf-next, carried_fault, faults-fault, faults-next, labels_among-first, names_behind, with_term}
 use Rattle.smt_terms.proofs.library.Library.give_labels.Goals as goal

@@ -4,7 +4,7 @@ use Rattle.smt_trees.specs.Tree.{sexp_of, sexps_of}
 use Rattle.smt_terms.specs.Checking.{fault_of_labels}
 use Rattle.smt_terms.specs.Internal.LabelsView.{labels_view}
 use Rattle.smt_terms.specs.Internal.LibraryView.{names_for, names_of_library}
-use Rattle.smt_terms.specs.Labels.{labels_among}
+use Rattle.smt_forms.specs.Labels.{labels_among}
 use Rattle.smt_forms.specs.ScopeView.{scope_view}
 use Rattle.smt_terms.proofs.LabelLemmas.{AreGivenOf, with_term}
 use Rattle.smt_terms.proofs.library.Library.give_labels.Given as goal

@@ -1,9 +1,9 @@
 use Rattle.std.proofs.Common.{◌≡◌, ◌+◌, ◌*◌, ◌≤◌, map}
 use Rattle.smt_trees.specs.Sexp.{weight, weight_all}
 use Rattle.smt_trees.specs.Tree.{sexp_of, sexps_of}
-use Rattle.smt_terms.specs.Labels.{any_uses_outer, bindings_use_outer}
+use Rattle.smt_forms.specs.Variables.{any_uses_outer, bindings_use_outer}
 use Rattle.smt_forms.specs.ScopeView.{scope_view}
-use Rattle.smt_terms.proofs.variables.+uses.Given as goal
+use Rattle.smt_forms.proofs.variables.+uses.Given as goal
 
 abbrev pub decreases-uses_outer : goal.decreases-uses_outer
 decreases-uses_outer l = 2 * weight (sexp_of l.term.now)

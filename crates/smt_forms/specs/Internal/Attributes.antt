@@ -1,8 +1,7 @@
 -- Attributes, by the trees that they begin with.
-use Rattle.std.specs.Prelude.{ℕ, List, [], Bool, true, false, Option, Some, None}
+use Rattle.std.specs.Prelude.{ℕ, List, Bool, true, false, Option, Some, None}
 use Rattle.smt_trees.specs.Sexp.{Sexp, Sexps, Atom, Cons, Keyword}
 use Rattle.smt_forms.specs.Bindings.{is_label}
-use Rattle.smt_terms.specs.Labels.{label_at}
 
 -- the first tree, if it is a keyword
 abbrev pub first_keyword : Sexps → Option (List ℕ)
@@ -22,8 +21,3 @@ abbrev pub has_value : Sexps → Bool
 has_value (Cons (Atom Keyword k) rest) = false
 has_value (Cons value rest) = true
 has_value _ = false
-
--- the label that a tree with what stands behind it is, if it is one
-abbrev pub label_of_tree : Sexp → Sexps → List (List ℕ)
-label_of_tree (Atom Keyword k) rest = label_at k rest
-label_of_tree _ rest = []

@@ -5,7 +5,7 @@ use Rattle.std.specs.List.{Contains}
 use Rattle.smt_trees.specs.Sexp.{Sexp, Sexps, Atom, Reserved, Items, Nil, Cons, Keyword, Symbol, append}
 use Rattle.smt_trees.specs.declared.reserved.Word.TheVariants.{Bang, Let, Underscore}
 use Rattle.smt_forms.specs.Bindings.{named_trees}
-use Rattle.smt_terms.specs.Labels.{labels_among}
+use Rattle.smt_forms.specs.Labels.{labels_among}
 
 abbrev pub trees_of : Sexps → List Sexp
 trees_of Nil = []

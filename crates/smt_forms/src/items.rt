@@ -1,28 +1,29 @@
-//! The parts of an item of a model.
+//! The parts of an item of a model. This file knows no names: what an item may define is said elsewhere.
 
 ghost use Rattle.std.specs.Prelude.{◌≡◌, MatchOption, MatchResult};
 ghost use Rattle.smt_trees.specs.Sexp.{Cons, Items, Nil, Reserved};
 ghost use Rattle.smt_trees.specs.Tree.{sexp_of, sexps_of};
 ghost use Rattle.smt_trees.specs.declared.reserved.Word.TheVariants.{DefineFun};
-ghost use Rattle.smt_terms.specs.Internal.ItemView.{form_of};
-ghost use Rattle.smt_terms.specs.Items as items;
+ghost use Rattle.smt_forms.specs.ItemView.{form_of};
+ghost use Rattle.smt_forms.specs.ItemForm as items;
 ghost use Rattle.smt_faults.specs.declared.term_fault.TermFault.TheVariants.{Form};
 
+use crate::bindings::are_named;
 use smt_faults::TermFault;
-use smt_forms::are_named;
 use smt_trees::{Tree, Word, split_first};
 
-// The parts of an item.
+/// The parts of an item (SMT-LIB 2.6, section 4.2.6): its name without bars, its parameters, each a list of a symbol and the tree of a
+/// sort, the tree of its sort, and its body.
 #[derive(Clone, Copy)]
-pub(crate) struct ItemForm<'a> {
-    pub(crate) name: &'a [u8],
-    pub(crate) parameters: &'a [Tree],
-    pub(crate) sort: &'a Tree,
-    pub(crate) body: &'a Tree,
+pub struct ItemForm<'a> {
+    pub name: &'a [u8],
+    pub parameters: &'a [Tree],
+    pub sort: &'a Tree,
+    pub body: &'a Tree,
 }
 
-// The parts of an item, or what is wrong with its form.
-pub(crate) fn item_form(item: &Tree) -> Result<ItemForm<'_>, TermFault>
+/// The parts of an item, or what is wrong with its form: `Unsupported` for a recursive definition, else `Form`.
+pub fn item_form(item: &Tree) -> Result<ItemForm<'_>, TermFault>
     ensures { MatchResult result (λ form. items.item_form (sexp_of item.now) ≡ Ok (form_of form)) (λ fault. items.item_form (sexp_of item.now) ≡ Err fault) }
 {
     let Tree::List(parts) = item else {

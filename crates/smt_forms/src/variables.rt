@@ -1,30 +1,29 @@
-//! The variables that a term uses.
+//! The variables that a term uses, those bound inside it apart. This file knows no name but those of variables, and no sort of a term.
 
-ghost use Rattle.std.specs.Prelude.{◌≡◌, ◌∷◌, ◌++◌, ◌&&◌, [], not, map, is_some, bytes_eq, IfErr, IfOk, OnOk};
+ghost use Rattle.std.specs.Prelude.{◌≡◌, ◌∷◌, ◌++◌, ◌&&◌, [], not, map, is_some, bytes_eq, IfOk, OnOk};
 ghost use Rattle.smt_trees.specs.Sexp.{Cons, Items, Reserved};
 ghost use Rattle.smt_trees.specs.Tree.{sexp_of, sexps_of};
 ghost use Rattle.smt_trees.specs.declared.reserved.Word.TheVariants.{Bang, Let};
 ghost use Rattle.smt_theory.specs.Words.{look_up};
 ghost use Rattle.smt_forms.specs.Bindings.{named_trees};
-ghost use Rattle.smt_terms.specs.Labels as labels;
+ghost use Rattle.smt_forms.specs.Variables as variables;
 ghost use Rattle.smt_forms.specs.ScopeView.{scope_view};
-ghost use Rattle.smt_faults.specs.declared.term_fault.TermFault.TheVariants.{Memory};
 
+use crate::bindings::{split_let, split_named};
 use crate::heads::{is_bang, is_let, is_underscore};
-use smt_faults::TermFault;
-use smt_forms::{Variable, find_variable, split_let, split_named};
+use crate::scope::{Variable, find_variable};
+use smt_faults::Memory;
 use smt_theory::Sort;
 use smt_trees::{Tree, Trees, split_first};
 use std::alloc::Global;
 
-/// Whether a term that is well sorted uses one of these variables, which are bound outside it. Only want of memory is refused.
-pub(crate) fn uses_variable(
+/// Whether a term that is well sorted uses one of these variables, which are bound outside it.
+pub fn uses_variable(
     alloc: Global,
     scope: &[Variable<'_, Sort>],
     term: &Tree,
-) -> Result<bool, TermFault>
-    ensures used { IfOk result (λ used. used ≡ labels.uses_variable (scope_view scope.now) (sexp_of term.now)) }
-    ensures refused { IfErr result (λ fault. fault ≡ Memory) }
+) -> Result<bool, Memory>
+    ensures { IfOk result (λ used. used ≡ variables.uses_variable (scope_view scope.now) (sexp_of term.now)) }
 {
     if scope.is_empty() {
         return Ok(false);
@@ -39,9 +38,8 @@ fn uses_outer<'a>(
     inner: &[&'a [u8]],
     scope: &[Variable<'_, Sort>],
     term: &'a Tree,
-) -> Result<bool, TermFault>
-    ensures used { IfOk result (λ used. used ≡ labels.uses_outer (map (λ n. n.now) inner.now) (scope_view scope.now) (sexp_of term.now)) }
-    ensures refused { IfErr result (λ fault. fault ≡ Memory) }
+) -> Result<bool, Memory>
+    ensures { IfOk result (λ used. used ≡ variables.uses_outer (map (λ n. n.now) inner.now) (scope_view scope.now) (sexp_of term.now)) }
 {
     match term {
         Tree::Symbol(name) => Ok(is_outer(inner, scope, name.as_slice())),
@@ -58,9 +56,8 @@ fn list_uses_outer<'a>(
     inner: &[&'a [u8]],
     scope: &[Variable<'_, Sort>],
     parts: &'a Trees,
-) -> Result<bool, TermFault>
-    ensures used { IfOk result (λ used. used ≡ labels.uses_outer (map (λ n. n.now) inner.now) (scope_view scope.now) (Items parts.now)) }
-    ensures refused { IfErr result (λ fault. fault ≡ Memory) }
+) -> Result<bool, Memory>
+    ensures { IfOk result (λ used. used ≡ variables.uses_outer (map (λ n. n.now) inner.now) (scope_view scope.now) (Items parts.now)) }
 {
     let Some((head, args)) = split_first(parts.as_slice()) else {
         return Ok(false);
@@ -84,9 +81,8 @@ fn let_uses_outer<'a>(
     inner: &[&'a [u8]],
     scope: &[Variable<'_, Sort>],
     args: &'a [Tree],
-) -> Result<bool, TermFault>
-    ensures used { IfOk result (λ used. used ≡ labels.uses_outer (map (λ n. n.now) inner.now) (scope_view scope.now) (Items (Cons (Reserved Let) (sexps_of args.now)))) }
-    ensures refused { IfErr result (λ fault. fault ≡ Memory) }
+) -> Result<bool, Memory>
+    ensures { IfOk result (λ used. used ≡ variables.uses_outer (map (λ n. n.now) inner.now) (scope_view scope.now) (Items (Cons (Reserved Let) (sexps_of args.now)))) }
 {
     let Some((bindings, body)) = split_let(args) else {
         return any_uses_outer(alloc, inner, scope, args);
@@ -105,9 +101,8 @@ fn annotated_uses_outer<'a>(
     inner: &[&'a [u8]],
     scope: &[Variable<'_, Sort>],
     args: &'a [Tree],
-) -> Result<bool, TermFault>
-    ensures used { IfOk result (λ used. used ≡ labels.uses_outer (map (λ n. n.now) inner.now) (scope_view scope.now) (Items (Cons (Reserved Bang) (sexps_of args.now)))) }
-    ensures refused { IfErr result (λ fault. fault ≡ Memory) }
+) -> Result<bool, Memory>
+    ensures { IfOk result (λ used. used ≡ variables.uses_outer (map (λ n. n.now) inner.now) (scope_view scope.now) (Items (Cons (Reserved Bang) (sexps_of args.now)))) }
 {
     let Some((term, _)) = split_first(args) else {
         return Ok(false);
@@ -122,9 +117,8 @@ fn any_uses_outer<'a>(
     inner: &[&'a [u8]],
     scope: &[Variable<'_, Sort>],
     terms: &'a [Tree],
-) -> Result<bool, TermFault>
-    ensures used { IfOk result (λ used. used ≡ labels.any_uses_outer (map (λ n. n.now) inner.now) (scope_view scope.now) (sexps_of terms.now)) }
-    ensures refused { IfErr result (λ fault. fault ≡ Memory) }
+) -> Result<bool, Memory>
+    ensures { IfOk result (λ used. used ≡ variables.any_uses_outer (map (λ n. n.now) inner.now) (scope_view scope.now) (sexps_of terms.now)) }
 {
     let mut left = terms;
     while let Some((term, rest)) = split_first(left) {
@@ -143,9 +137,8 @@ fn bindings_use_outer<'a>(
     inner: &[&'a [u8]],
     scope: &[Variable<'_, Sort>],
     bindings: &'a [Tree],
-) -> Result<bool, TermFault>
-    ensures used { IfOk result (λ used. used ≡ labels.bindings_use_outer (map (λ n. n.now) inner.now) (scope_view scope.now) (sexps_of bindings.now)) }
-    ensures refused { IfErr result (λ fault. fault ≡ Memory) }
+) -> Result<bool, Memory>
+    ensures { IfOk result (λ used. used ≡ variables.bindings_use_outer (map (λ n. n.now) inner.now) (scope_view scope.now) (sexps_of bindings.now)) }
 {
     let mut left = bindings;
     while let Some((_, term, rest)) = split_named(left) {
@@ -157,14 +150,13 @@ fn bindings_use_outer<'a>(
     Ok(false)
 }
 
-// The names that bindings bring, before the inner ones around them. Only want of memory is refused.
+// The names that bindings bring, before the inner ones around them.
 fn inner_names<'a>(
     alloc: Global,
     inner: &[&'a [u8]],
     bindings: &'a [Tree],
-) -> Result<Vec<&'a [u8]>, TermFault>
-    ensures names { IfOk result (λ names. map (λ n. n.now) names.items ≡ map (λ b. b.0) (named_trees (sexps_of bindings.now)) ++ map (λ n. n.now) inner.now) }
-    ensures refused { IfErr result (λ fault. fault ≡ Memory) }
+) -> Result<Vec<&'a [u8]>, Memory>
+    ensures { IfOk result (λ names. map (λ n. n.now) names.items ≡ map (λ b. b.0) (named_trees (sexps_of bindings.now)) ++ map (λ n. n.now) inner.now) }
 {
     let mut names = Vec::new(alloc);
     let mut left = bindings;
@@ -176,25 +168,22 @@ fn inner_names<'a>(
     Ok(names)
 }
 
-fn push_name<'a>(names: &mut Vec<&'a [u8]>, name: &'a [u8]) -> Result<(), TermFault>
-    ensures pushed { OnOk result (map (λ n. n.now) names.new.items ≡ map (λ n. n.now) names.old.items ++ name.now ∷ []) }
-    ensures refused { IfErr result (λ fault. fault ≡ Memory) }
+fn push_name<'a>(names: &mut Vec<&'a [u8]>, name: &'a [u8]) -> Result<(), Memory>
+    ensures { OnOk result (map (λ n. n.now) names.new.items ≡ map (λ n. n.now) names.old.items ++ name.now ∷ []) }
 {
-    match names.push(name) {
-        Ok(()) => Ok(()),
-        Err(_) => Err(TermFault::Memory),
-    }
+    names.push(name)?;
+    Ok(())
 }
 
 // Whether a name is that of an outer variable, which no inner one hides.
 fn is_outer(inner: &[&[u8]], scope: &[Variable<'_, Sort>], name: &[u8]) -> bool
-    ensures { result ≡ not (labels.is_among (map (λ n. n.now) inner.now) name.now) && is_some (look_up (scope_view scope.now) name.now) }
+    ensures { result ≡ not (variables.is_among (map (λ n. n.now) inner.now) name.now) && is_some (look_up (scope_view scope.now) name.now) }
 {
     !is_among(inner, name) && find_variable(scope, name).is_some()
 }
 
 fn is_among(names: &[&[u8]], name: &[u8]) -> bool
-    ensures { result ≡ labels.is_among (map (λ n. n.now) names.now) name.now }
+    ensures { result ≡ variables.is_among (map (λ n. n.now) names.now) name.now }
 {
     for other in names {
         if is_same(name, *other) {

@@ -1,5 +1,5 @@
 use Rattle.std.proofs.Common.{rules}
-use Rattle.smt_terms.proofs.attributes.go_on.Goals as goal
+use Rattle.smt_forms.proofs.attributes.go_on.Goals as goal
 
 pub returns-in_default-behind_attribute : goal.returns-in_default-behind_attribute
 returns-in_default-behind_attribute c = search rules

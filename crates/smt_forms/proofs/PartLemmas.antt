@@ -9,11 +9,27 @@ use Rattle.smt_trees.specs.Sexp.{Sexp, Sexps, Atom, Reserved, Items, Nil, Cons, 
 use Rattle.smt_trees.specs.declared.reserved.Word.TheVariants.{Bang, Let, Underscore}
 use Rattle.smt_theory.specs.Words.{look_up}
 use Rattle.smt_forms.specs.Bindings.{is_label, named_trees}
-use Rattle.smt_terms.specs.Labels.{any_uses_outer, bindings_use_outer, is_among, label_at, labels_among, labels_in, labels_in_all, labels_in_bindings, uses_outer, uses_variable}
-use Rattle.smt_terms.specs.Parts.{IsLabelled, IsNamedBy, OccursFree, Alone, Inside, StandsIn, Itself, InPart, own_labels, parts_of, trees_of}
-use Rattle.smt_terms.proofs.CheckerLemmas.{Scope}
-use Rattle.smt_terms.proofs.ClosedLemmas.{names_in, neither}
-use Rattle.smt_terms.proofs.NameLemmas.{same_name, same_self}
+use Rattle.smt_forms.specs.Variables.{any_uses_outer, bindings_use_outer, is_among, uses_outer, uses_variable}
+use Rattle.smt_forms.specs.Labels.{label_at, labels_among, labels_in, labels_in_all, labels_in_bindings}
+use Rattle.smt_forms.specs.Parts.{IsLabelled, IsNamedBy, OccursFree, Alone, Inside, StandsIn, Itself, InPart, own_labels, parts_of, trees_of}
+use Rattle.std.specs.Cmp.Lexicographic.{same_text}
+use Rattle.std.proofs.lemmas.Cmp.{nat_list_eq_equiv}
+use Rattle.smt_forms.proofs.UsesLemmas.{Scope}
+
+-- names that pass the test are the same, and one passes it with itself
+same_name : (x y : List ℕ) → bytes_eq x y ≡ true → x ≡ y
+same_name x y h = same_text x y (sym h)
+
+same_self : (x : List ℕ) → bytes_eq x x ≡ true
+same_self x = nat_list_eq_equiv.refl x
+
+neither : (a b : Bool) → a || b ≡ false → (a ≡ false) × (b ≡ false)
+neither true b h = cc
+neither false b h = (refl, h)
+
+-- the names of variables
+abbrev names_in : Scope → List (List ℕ)
+names_in scope = map (λ v. v.0) scope
 
 -- a term with the names that are bound for it
 abbrev Part : Type 0

@@ -1,16 +1,17 @@
-//! The attributes of annotated terms.
+//! The attributes of annotated terms, labels among them. This file knows no names: whether a label may be given is said elsewhere.
 
 ghost use Rattle.std.specs.Prelude.{◌≡◌, ◌≤◌, ◌∷◌, [], false, None, MatchOption};
 ghost use Rattle.smt_trees.specs.Sexp.{Atom, Cons, Keyword, weight_all};
 ghost use Rattle.smt_trees.specs.Tree.{sexp_of, sexps_of};
 ghost use Rattle.smt_forms.specs.Bindings as bindings;
 ghost use Rattle.smt_forms.specs.Bindings.{is_symbol_tree, go_on_behind};
-ghost use Rattle.smt_terms.specs.Internal.Attributes.{first_keyword, has_value, is_keyword_tree, is_label_tree, label_of_tree};
+ghost use Rattle.smt_forms.specs.Internal.Attributes.{first_keyword, has_value, is_keyword_tree, is_label_tree};
+ghost use Rattle.smt_forms.specs.Labels.{label_of_tree};
 
 use smt_trees::{Tree, split_first};
 
-// Whether these are the attributes of a term: one or more.
-pub(crate) fn are_attributes(trees: &[Tree]) -> bool
+/// Whether these are the attributes of a term: one or more (SMT-LIB 2.6, section 3.6.5).
+pub fn are_attributes(trees: &[Tree]) -> bool
     ensures { result ≡ bindings.are_attributes (sexps_of trees.now) }
 {
     split_first(trees).is_some() && go_on(trees)
@@ -75,8 +76,8 @@ fn split_value(trees: &[Tree]) -> Option<(&Tree, &[Tree])>
     Some((value, rest))
 }
 
-// The label that an attribute is, if it is one: by its first tree and what stands behind it.
-pub(crate) fn label_at<'a>(tree: &Tree, rest: &'a [Tree]) -> Option<&'a [u8]>
+/// The label that an attribute is, if it is one: by its first tree and what stands behind it (SMT-LIB 2.6, section 3.6.5).
+pub fn label_at<'a>(tree: &Tree, rest: &'a [Tree]) -> Option<&'a [u8]>
     ensures { MatchOption result (label_of_tree (sexp_of tree.now) (sexps_of rest.now) ≡ []) (λ name. label_of_tree (sexp_of tree.now) (sexps_of rest.now) ≡ name.now ∷ []) }
 {
     if !is_label_word(tree) {

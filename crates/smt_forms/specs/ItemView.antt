@@ -1,8 +1,8 @@
 -- What a contract sees of the parts of an item.
 use Rattle.smt_trees.specs.Tree.{sexp_of, sexps_of}
 use Rattle.smt_forms.specs.Bindings.{named_trees}
-use Rattle.smt_terms.specs.Items as items
-use Rattle.smt_terms.specs.declared.item_form.ItemForm.{ItemForm}
+use Rattle.smt_forms.specs.ItemForm as items
+use Rattle.smt_forms.specs.declared.items.ItemForm.{ItemForm}
 
 abbrev pub form_of : ItemForm → items.ItemForm
 form_of form = record { name = form.name.now; parameters = named_trees (sexps_of form.parameters.now); sort = sexp_of form.sort.now; body = sexp_of form.body.now }
