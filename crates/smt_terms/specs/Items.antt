@@ -1,18 +1,17 @@
 -- SMT-LIB 2.6, section 4.2.6: the items of a printed model, which are definitions. The order of the faults is this project's rule.
 use Rattle.std.specs.Prelude.{ℕ, List, [], Bool, true, not, ◌&&◌, Option, Some, None, is_some, option_and_then, Result, Ok, Err, map, if◌then◌else◌}
-use Rattle.smt_trees.specs.Sexp.{Sexp, Atom, Reserved, Items, Nil, Cons, Symbol}
-use Rattle.smt_trees.specs.declared.reserved.Word.TheVariants.{DefineFun, DefineFunRec, DefineFunsRec}
+use Rattle.smt_trees.specs.Sexp.{Sexp}
 use Rattle.smt_theory.specs.Ranks.{are_exactly}
 use Rattle.smt_theory.specs.Sort.{is_same_sort}
 use Rattle.smt_theory.specs.Words.{result_and_then}
 use Rattle.smt_theory.specs.declared.sort.Sort.{Sort}
-use Rattle.smt_forms.specs.Bindings.{are_named_trees, named_trees}
+use Rattle.smt_forms.specs.ItemForm.{ItemForm, item_form}
 use Rattle.smt_terms.specs.Checking.{unless}
 use Rattle.smt_terms.specs.Definitions.{definition_in, parameters_named}
 use Rattle.smt_terms.specs.Signature.{Entry, Origin, Declared, Defined, Signature, entry_named, is_taken, names_of, no_names, sort_names_of}
 use Rattle.smt_terms.specs.SortTrees.{sort_named}
 use Rattle.smt_faults.specs.declared.term_fault.TermFault.{TermFault}
-use Rattle.smt_faults.specs.declared.term_fault.TermFault.TheVariants.{Form, Unsupported, IllSorted, BoundTwice, NotFresh}
+use Rattle.smt_faults.specs.declared.term_fault.TermFault.TheVariants.{IllSorted, BoundTwice, NotFresh}
 
 -- the entry, if a command declared it
 abbrev pub if_declared : Entry → Origin → Option Entry

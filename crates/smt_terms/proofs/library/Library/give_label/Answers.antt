@@ -12,7 +12,7 @@ returns-clause-labels c =
     let names = names_of_library c.args.self.now in
     on_ok c.push.result _ _
     (λ p. AreGiven-push names c.args.labels.now c.push.new.self c.args.name.now c.args.sort.now (sexp_of c.args.term.now) p.0 c.push.ensures.refuses p.1 p.2 p.3 p.4
-    (closed (unlabelled names) (scope_view c.args.scope.now) (sexp_of c.args.term.now) c.args.sort.now refl (sym c.in_ok-uses_variable.ensures.used ∙ c.if-branch.false) c.requires)) c.push.ensures.pushed
+    (closed (unlabelled names) (scope_view c.args.scope.now) (sexp_of c.args.term.now) c.args.sort.now refl (sym c.in_ok-uses_variable.ensures ∙ c.if-branch.false) c.requires)) c.push.ensures.pushed
 
 pub returns-then-branch-clause-fault : goal.returns-then-branch-clause-fault
 returns-then-branch-clause-fault c = search rules
