@@ -1,13 +1,12 @@
 //! The parameters of definitions.
 
-ghost use Rattle.std.specs.Prelude.{◌≡◌, map, IfErr, IfOk};
+ghost use Rattle.std.specs.Prelude.{◌≡◌, map, IfOk};
 ghost use Rattle.smt_trees.specs.Tree.{sexps_of};
 ghost use Rattle.smt_forms.specs.Bindings.{named_trees};
 ghost use Rattle.smt_forms.specs.ParamView.{param_view};
-ghost use Rattle.smt_faults.specs.declared.term_fault.TermFault.TheVariants.{Memory};
 
 use crate::bindings::split_named;
-use smt_faults::TermFault;
+use smt_faults::Memory;
 use smt_trees::Tree;
 use std::alloc::Global;
 
@@ -18,18 +17,14 @@ pub struct Param<'a> {
     pub sort: &'a Tree,
 }
 
-/// The parameters that trees are, each a list of a symbol and the tree of a sort, up to the first that is none. Only want of memory is
-/// refused.
-pub fn params_of(alloc: Global, trees: &[Tree]) -> Result<Vec<Param<'_>>, TermFault>
-    ensures params { IfOk result (λ params. map param_view params.items ≡ named_trees (sexps_of trees.now)) }
-    ensures refused { IfErr result (λ fault. fault ≡ Memory) }
+/// The parameters that trees are, each a list of a symbol and the tree of a sort, up to the first that is none.
+pub fn params_of(alloc: Global, trees: &[Tree]) -> Result<Vec<Param<'_>>, Memory>
+    ensures { IfOk result (λ params. map param_view params.items ≡ named_trees (sexps_of trees.now)) }
 {
     let mut params = Vec::new(alloc);
     let mut left = trees;
     while let Some((name, sort, rest)) = split_named(left) {
-        if params.push(Param { name, sort }).is_err() {
-            return Err(TermFault::Memory);
-        }
+        params.push(Param { name, sort })?;
         left = rest;
     }
     Ok(params)

@@ -7,11 +7,11 @@ ghost use Rattle.smt_terms.specs.Definitions.{parameters_named};
 ghost use Rattle.smt_terms.specs.Internal.LibraryView.{sort_names};
 ghost use Rattle.smt_forms.specs.ParamView.{param_view};
 ghost use Rattle.smt_forms.specs.ScopeView.{scope_view};
-ghost use Rattle.smt_faults.specs.declared.term_fault.TermFault.TheVariants.{Memory};
+ghost use Rattle.smt_faults.specs.declared.term_fault.TermFault.TheVariants.{Memory as OutOfMemory};
 
 use crate::scope::push_variable;
 use crate::sorts::SortNames;
-use smt_faults::TermFault;
+use smt_faults::{Memory, TermFault};
 use smt_forms::{Param, Variable, find_variable, params_of};
 use smt_theory::Sort;
 use smt_trees::Tree;
@@ -25,7 +25,7 @@ pub(crate) fn sorted_params<'a>(
     params: &[Param<'a>],
 ) -> Result<Vec<Variable<'a, Sort>>, TermFault>
     ensures { MatchResult result (λ variables. parameters_named (sort_names sorts.now) [] (map param_view params.now) ≡ Ok (scope_view variables.items))
-        (λ fault. (fault ≡ Memory) ⊎ (parameters_named (sort_names sorts.now) [] (map param_view params.now) ≡ Err fault)) }
+        (λ fault. (fault ≡ OutOfMemory) ⊎ (parameters_named (sort_names sorts.now) [] (map param_view params.now) ≡ Err fault)) }
 {
     let mut variables = Vec::new(alloc);
     push_sorted(&mut variables, sorts, params)?;
@@ -40,7 +40,7 @@ fn push_sorted<'a>(
 ) -> Result<(), TermFault>
     requires { variables.old.items ≡ [] }
     ensures { MatchResult result (λ _. parameters_named (sort_names sorts.now) [] (map param_view params.now) ≡ Ok (scope_view variables.new.items))
-        (λ fault. (fault ≡ Memory) ⊎ (parameters_named (sort_names sorts.now) [] (map param_view params.now) ≡ Err fault)) }
+        (λ fault. (fault ≡ OutOfMemory) ⊎ (parameters_named (sort_names sorts.now) [] (map param_view params.now) ≡ Err fault)) }
 {
     for param in params {
         let value = sorts.sort_of(param.sort)?;
@@ -59,19 +59,18 @@ pub(crate) fn sorted_params_of<'a>(
     trees: &'a [Tree],
 ) -> Result<Vec<Variable<'a, Sort>>, TermFault>
     ensures { MatchResult result (λ variables. parameters_named (sort_names sorts.now) [] (named_trees (sexps_of trees.now)) ≡ Ok (scope_view variables.items))
-        (λ fault. (fault ≡ Memory) ⊎ (parameters_named (sort_names sorts.now) [] (named_trees (sexps_of trees.now)) ≡ Err fault)) }
+        (λ fault. (fault ≡ OutOfMemory) ⊎ (parameters_named (sort_names sorts.now) [] (named_trees (sexps_of trees.now)) ≡ Err fault)) }
 {
     let params = params_of(alloc, trees)?;
     sorted_params(alloc, sorts, params.as_slice())
 }
 
-// The parameters of a definition that variables are, under names of their own. Only want of memory is refused.
+// The parameters of a definition that variables are, under names of their own.
 pub(crate) fn named_parameters(
     alloc: Global,
     variables: &[Variable<'_, Sort>],
-) -> Result<Vec<(Vec<u8>, Sort)>, TermFault>
-    ensures named { IfOk result (λ params. map (λ p. (p.0.items, p.1)) params.items ≡ scope_view variables.now) }
-    ensures refused { IfErr result (λ fault. fault ≡ Memory) }
+) -> Result<Vec<(Vec<u8>, Sort)>, Memory>
+    ensures { IfOk result (λ params. map (λ p. (p.0.items, p.1)) params.items ≡ scope_view variables.now) }
 {
     let mut params = Vec::new(alloc);
     for variable in variables {
@@ -81,19 +80,16 @@ pub(crate) fn named_parameters(
     Ok(params)
 }
 
-// The sorts of variables, in order. Only want of memory is refused.
+// The sorts of variables, in order.
 pub(crate) fn sorts_of_variables(
     alloc: Global,
     variables: &[Variable<'_, Sort>],
-) -> Result<Vec<Sort>, TermFault>
-    ensures sorts { IfOk result (λ sorts. sorts.items ≡ map (λ p. p.1) (scope_view variables.now)) }
-    ensures refused { IfErr result (λ fault. fault ≡ Memory) }
+) -> Result<Vec<Sort>, Memory>
+    ensures { IfOk result (λ sorts. sorts.items ≡ map (λ p. p.1) (scope_view variables.now)) }
 {
     let mut sorts = Vec::new(alloc);
     for variable in variables {
-        if sorts.push(variable.value).is_err() {
-            return Err(TermFault::Memory);
-        }
+        sorts.push(variable.value)?;
     }
     Ok(sorts)
 }

@@ -5,9 +5,8 @@ ghost use Rattle.smt_trees.specs.Tree.{sexp_of};
 ghost use Rattle.smt_terms.specs.Internal.LabelsView.{given_names, given_terms, labels_view};
 ghost use Rattle.smt_terms.specs.Labels as spec;
 ghost use Rattle.smt_forms.specs.Variables.{is_among};
-ghost use Rattle.smt_faults.specs.declared.term_fault.TermFault.TheVariants.{Memory};
 
-use smt_faults::TermFault;
+use smt_faults::Memory;
 use smt_theory::Sort;
 use smt_trees::Tree;
 use std::alloc::Global;
@@ -64,17 +63,16 @@ impl Labels {
         has_name(self.given.as_slice(), name)
     }
 
-    /// Adds a label of a term of this sort. Only want of memory is refused.
+    /// Adds a label of a term of this sort.
     pub(crate) fn push(
         &mut self,
         alloc: Global,
         name: &[u8],
         sort: Sort,
         term: &Tree,
-    ) -> Result<(), TermFault>
+    ) -> Result<(), Memory>
         ensures pushed { OnOk result ((l : Label) × (self.new.given.items ≡ self.old.given.items ++ l ∷ []) × (l.name.items ≡ name.now) × (l.sort ≡ sort) × (sexp_of l.body ≡ sexp_of term.now)) }
         ensures refuses { self.new.refused ≡ self.old.refused }
-        ensures refused { IfErr result (λ fault. fault ≡ Memory) }
     {
         let name = Vec::from_slice(alloc, name)?;
         let body = term.copy(alloc)?;

@@ -20,7 +20,7 @@ ghost use Rattle.smt_theory.specs.Operators.{is_plain_operator};
 use crate::labels::Labels;
 use crate::sorts::SortNames;
 use indexmap::IndexMap;
-use smt_faults::TermFault;
+use smt_faults::{Memory, TermFault};
 use smt_theory::{Sort, Theories, op_of};
 use smt_trees::Tree;
 use std::alloc::Global;
@@ -103,7 +103,7 @@ impl Library {
     ghost use Rattle.smt_terms.specs.Signature.{Rank, Signature, declaration, declared_in, entry_named, is_taken, names_of, no_names, rank_named, sort_names_of, with_abbreviation, with_entry};
     ghost use Rattle.smt_terms.specs.SortTrees.{abbreviated_in};
     ghost use Rattle.smt_theory.specs.declared.sort.Sort.{Sort};
-    ghost use Rattle.smt_faults.specs.declared.term_fault.TermFault.TheVariants.{Memory};
+    ghost use Rattle.smt_faults.specs.declared.term_fault.TermFault.TheVariants.{Memory as OutOfMemory};
     ghost use Rattle.smt_terms.specs.declared.library.TermId as id;
 
     /// A library of these theories without names.
@@ -176,7 +176,7 @@ impl Library {
         ensures declared { OnOk result ((s : Signature) → StandsFor self.old s → (e : signature.Entry)
             × (declared_in s command name.now (sexps_of params.now) (sexp_of sort.now) ≡ Ok e) × StandsFor self.new (with_entry s e)) }
         ensures refused { IfErr result (λ fault. (s : Signature) → StandsFor self.old s
-            → (fault ≡ Memory) ⊎ (declared_in s command name.now (sexps_of params.now) (sexp_of sort.now) ≡ Err fault)) }
+            → (fault ≡ OutOfMemory) ⊎ (declared_in s command name.now (sexps_of params.now) (sexp_of sort.now) ≡ Err fault)) }
         ensures unchanged { OnErr result ((s : Signature) → StandsFor self.old s → StandsFor self.new s) }
         ensures grown { Extends (contents_of self.old) (contents_of self.new) }
     {
@@ -184,7 +184,7 @@ impl Library {
             return Err(TermFault::NotFresh);
         }
         let declared = self.declaration(command, params, sort)?;
-        self.add_declared(name, declared)
+        Ok(self.add_declared(name, declared)?)
     }
 
     /// Makes a name abbreviate the sort of a tree (SMT-LIB 2.6, section 4.2.3, `define-sort` without parameters). It stands for that sort,
@@ -194,7 +194,7 @@ impl Library {
         ensures abbreviated { OnOk result ((s : Signature) → StandsFor self.old s → (found : Sort)
             × (abbreviated_in (sort_names_of s) name.now (sexp_of sort.now) ≡ Ok found) × StandsFor self.new (with_abbreviation s name.now found)) }
         ensures refused { IfErr result (λ fault. (s : Signature) → StandsFor self.old s
-            → (fault ≡ Memory) ⊎ (abbreviated_in (sort_names_of s) name.now (sexp_of sort.now) ≡ Err fault)) }
+            → (fault ≡ OutOfMemory) ⊎ (abbreviated_in (sort_names_of s) name.now (sexp_of sort.now) ≡ Err fault)) }
         ensures unchanged { OnErr result ((s : Signature) → StandsFor self.old s → StandsFor self.new s) }
         ensures grown { Extends (contents_of self.old) (contents_of self.new) }
     {
@@ -206,7 +206,7 @@ impl Library {
     pub fn check(&mut self, term: &Tree) -> Result<(TermId, Sort), TermFault>
         ensures answer { (s : Signature) → StandsFor self.old s
             → MatchResult result (λ p. (sort_in (names_of s) [] (sexp_of term.now) ≡ Ok p.1) × IsTerm self.new p.0 (sexp_of term.now))
-            (λ fault. (fault ≡ Memory) ⊎ (sort_in (names_of s) [] (sexp_of term.now) ≡ Err fault)) }
+            (λ fault. (fault ≡ OutOfMemory) ⊎ (sort_in (names_of s) [] (sexp_of term.now) ≡ Err fault)) }
         ensures kept { (s : Signature) → StandsFor self.old s → StandsFor self.new s }
         ensures grown { Extends (contents_of self.old) (contents_of self.new) }
     {
@@ -224,9 +224,8 @@ impl Library {
     }
 
     // Adds a copy of a term.
-    pub(super) fn add_term(&mut self, term: &Tree) -> Result<TermId, TermFault>
+    pub(super) fn add_term(&mut self, term: &Tree) -> Result<TermId, Memory>
         ensures term { IfOk result (λ i. IsTerm self.new i (sexp_of term.now)) }
-        ensures refused { IfErr result (λ fault. fault ≡ Memory) }
         ensures kept { (s : Signature) → StandsFor self.old s → StandsFor self.new s }
         ensures names { names_of_library self.new ≡ names_of_library self.old }
         ensures sorts { self.new.sorts ≡ self.old.sorts }
@@ -234,14 +233,13 @@ impl Library {
     {
         match term.copy(self.alloc) {
             Ok(copy) => self.push_term(copy),
-            Err(_) => Err(TermFault::Memory),
+            Err(_) => Err(Memory),
         }
     }
 
     // Adds a term.
-    fn push_term(&mut self, term: Tree) -> Result<TermId, TermFault>
+    fn push_term(&mut self, term: Tree) -> Result<TermId, Memory>
         ensures term { IfOk result (λ i. IsTerm self.new i (sexp_of term)) }
-        ensures refused { IfErr result (λ fault. fault ≡ Memory) }
         ensures kept { (s : Signature) → StandsFor self.old s → StandsFor self.new s }
         ensures names { names_of_library self.new ≡ names_of_library self.old }
         ensures sorts { self.new.sorts ≡ self.old.sorts }
@@ -312,7 +310,7 @@ impl Library {
     // A declaration by the command, as the next name.
     fn declaration(&self, command: u64, params: &[Tree], sort: &Tree) -> Result<Declared, TermFault>
         ensures rank { MatchResult result (λ d. rank_named (sort_names self.now.sorts) (sexps_of params.now) (sexp_of sort.now) ≡ Ok (record { parameters = d.params.items; sort = d.result }))
-            (λ fault. (fault ≡ Memory) ⊎ (rank_named (sort_names self.now.sorts) (sexps_of params.now) (sexp_of sort.now) ≡ Err fault)) }
+            (λ fault. (fault ≡ OutOfMemory) ⊎ (rank_named (sort_names self.now.sorts) (sexps_of params.now) (sexp_of sort.now) ≡ Err fault)) }
         ensures next { IfOk result (λ d. (d.command ≡ command) × (d.name ≡ name_count self.now)) }
     {
         let params = self.sorts.sorts_of(self.alloc, params)?;
@@ -327,12 +325,11 @@ impl Library {
 
     // Adds a declared name at the end, or changes nothing.
     #[tactic(auto, using(crate::proofs::ContentsLemmas::extends_itself))]
-    fn add_declared(&mut self, name: &[u8], declared: Declared) -> Result<(), TermFault>
+    fn add_declared(&mut self, name: &[u8], declared: Declared) -> Result<(), Memory>
         requires absent { look_up (names_of_library self.old).ranks name.now ≡ None }
         requires next { declared.name ≡ name_count self.old }
         ensures added { OnOk result ((s : Signature) → StandsFor self.old s
             → StandsFor self.new (with_entry s (declaration name.now declared.command (record { parameters = declared.params.items; sort = declared.result })))) }
-        ensures refused { IfErr result (λ fault. fault ≡ Memory) }
         ensures unchanged { OnErr result ((s : Signature) → StandsFor self.old s → StandsFor self.new s) }
         ensures grown { Extends (contents_of self.old) (contents_of self.new) }
     {
@@ -352,11 +349,10 @@ impl Library {
     }
 
     // Adds a name alone at the end, or changes nothing.
-    fn insert(&mut self, name: &[u8], entry: Entry) -> Result<(), TermFault>
+    fn insert(&mut self, name: &[u8], entry: Entry) -> Result<(), Memory>
         requires { look_up (names_of_library self.old).ranks name.now ≡ None }
         ensures ranks { OnOk result (ranks_of_library self.new ≡ ranks_of_library self.old ++ (name.now, rank_of entry) ∷ []) }
         ensures places { OnOk result (places_of_library self.new ≡ places_of_library self.old ++ (name.now, entry.place) ∷ []) }
-        ensures refused { IfErr result (λ fault. fault ≡ Memory) }
         ensures unchanged { OnErr result ((ranks_of_library self.new ≡ ranks_of_library self.old) × (places_of_library self.new ≡ places_of_library self.old)) }
         ensures sorts { self.new.sorts ≡ self.old.sorts }
         ensures declared { self.new.declared.items ≡ self.old.declared.items }

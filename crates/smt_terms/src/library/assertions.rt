@@ -10,12 +10,12 @@ ghost use Rattle.smt_terms.specs.Internal.LibraryView.{ranks_of_library};
 ghost use Rattle.smt_terms.specs.Library.{IsTerm, StandsFor};
 ghost use Rattle.smt_terms.specs.Signature as signature;
 ghost use Rattle.smt_terms.specs.Signature.{Signature, names_of, rank_of_entry, with_entries, with_entry};
-ghost use Rattle.smt_faults.specs.declared.term_fault.TermFault.TheVariants.{Memory};
+ghost use Rattle.smt_faults.specs.declared.term_fault.TermFault.TheVariants.{Memory as OutOfMemory};
 
 use crate::labels::{Label, Labels};
 use crate::library::items::are_equal;
 use crate::library::{Library, TermId};
-use smt_faults::TermFault;
+use smt_faults::{Memory, TermFault};
 use smt_theory::Sort;
 use smt_trees::Tree;
 
@@ -32,7 +32,7 @@ impl Library {
             × (asserted_in (names_of s) (sexp_of term) ≡ Ok labels) × StandsFor self.new (with_entries s labels)) }
         ensures term { IfOk result (λ i. IsTerm self.new i (sexp_of term)) }
         ensures refused { IfErr result (λ fault. (s : Signature) → StandsFor self.old s
-            → (fault ≡ Memory) ⊎ (asserted_in (names_of s) (sexp_of term) ≡ Err fault)) }
+            → (fault ≡ OutOfMemory) ⊎ (asserted_in (names_of s) (sexp_of term) ≡ Err fault)) }
         ensures unchanged { OnErr result ((s : Signature) → StandsFor self.old s → StandsFor self.new s) }
         ensures grown { Extends (contents_of self.old) (contents_of self.new) }
     {
@@ -44,9 +44,9 @@ impl Library {
         let mark = self.mark();
         match self.add_assertion(labels.given.as_slice(), term) {
             Ok(term) => Ok(term),
-            Err(fault) => {
+            Err(Memory) => {
                 self.cut(mark);
-                Err(fault)
+                Err(TermFault::Memory)
             }
         }
     }
@@ -58,7 +58,7 @@ impl Library {
             × (asserted_in (names_of s) (sexp_of term.now) ≡ Ok labels) × StandsFor self.new (with_entries s labels)) }
         ensures term { IfOk result (λ i. IsTerm self.new i (sexp_of term.now)) }
         ensures refused { IfErr result (λ fault. (s : Signature) → StandsFor self.old s
-            → (fault ≡ Memory) ⊎ (asserted_in (names_of s) (sexp_of term.now) ≡ Err fault)) }
+            → (fault ≡ OutOfMemory) ⊎ (asserted_in (names_of s) (sexp_of term.now) ≡ Err fault)) }
         ensures unchanged { OnErr result ((s : Signature) → StandsFor self.old s → StandsFor self.new s) }
         ensures grown { Extends (contents_of self.old) (contents_of self.new) }
     {
@@ -66,12 +66,11 @@ impl Library {
         self.assert(copy)
     }
 
-    // Adds the term of an assertion, and the labels that it gave. Only want of memory is refused; then some of them may have been added.
-    fn add_assertion(&mut self, labels: &[Label], term: Tree) -> Result<TermId, TermFault>
+    // Adds the term of an assertion, and the labels that it gave. Where memory is refused, some of them may have been added.
+    fn add_assertion(&mut self, labels: &[Label], term: Tree) -> Result<TermId, Memory>
         requires { AreNew (ranks_of_library self.old) labels.now }
         ensures added { OnOk result ((s : Signature) → StandsFor self.old s → StandsFor self.new (with_entries s (map label_entry labels.now))) }
         ensures term { IfOk result (λ i. IsTerm self.new i (sexp_of term)) }
-        ensures refused { IfErr result (λ fault. fault ≡ Memory) }
         ensures grown { Extends (contents_of self.old) (contents_of self.new) }
     {
         let number = self.push_term(term)?;
@@ -79,11 +78,10 @@ impl Library {
         Ok(number)
     }
 
-    // Adds labels, each as a constant that its term defines. Only want of memory is refused; then some of them may have been added.
-    fn add_labels(&mut self, labels: &[Label]) -> Result<(), TermFault>
+    // Adds labels, each as a constant that its term defines. Where memory is refused, some of them may have been added.
+    fn add_labels(&mut self, labels: &[Label]) -> Result<(), Memory>
         requires { AreNew (ranks_of_library self.old) labels.now }
         ensures added { OnOk result ((s : Signature) → StandsFor self.old s → StandsFor self.new (with_entries s (map label_entry labels.now))) }
-        ensures refused { IfErr result (λ fault. fault ≡ Memory) }
         ensures grown { Extends (contents_of self.old) (contents_of self.new) }
     {
         let mut left = labels;
@@ -94,11 +92,10 @@ impl Library {
         Ok(())
     }
 
-    fn add_label(&mut self, label: &Label) -> Result<(), TermFault>
+    fn add_label(&mut self, label: &Label) -> Result<(), Memory>
         requires { look_up (ranks_of_library self.old) label.now.name.items ≡ None }
         ensures added { OnOk result ((s : Signature) → StandsFor self.old s → StandsFor self.new (with_entry s (label_entry label.now))) }
         ensures ranks { OnOk result (ranks_of_library self.new ≡ ranks_of_library self.old ++ (label.now.name.items, rank_of_entry (label_entry label.now)) ∷ []) }
-        ensures refused { IfErr result (λ fault. fault ≡ Memory) }
         ensures grown { Extends (contents_of self.old) (contents_of self.new) }
     {
         let body = self.add_term(&label.body)?;

@@ -163,7 +163,7 @@ impl Library {
         if self.is_in_use(labels, name) {
             return Err(TermFault::NotFresh);
         }
-        labels.push(self.alloc, name, *sort, term)
+        Ok(labels.push(self.alloc, name, *sort, term)?)
     }
 
     // Whether a name is taken, or that of a label that was given.

@@ -12,13 +12,13 @@ ghost use Rattle.smt_forms.specs.ParamView.{param_view};
 ghost use Rattle.smt_forms.specs.ScopeView.{scope_view};
 ghost use Rattle.smt_terms.specs.Signature as signature;
 ghost use Rattle.smt_terms.specs.Signature.{Signature, names_of, with_entry};
-ghost use Rattle.smt_faults.specs.declared.term_fault.TermFault.TheVariants.{Memory};
+ghost use Rattle.smt_faults.specs.declared.term_fault.TermFault.TheVariants.{Memory as OutOfMemory};
 
 use crate::definitions::{named_parameters, sorted_params, sorts_of_variables};
 use crate::labels::Labels;
 use crate::library::items::are_equal;
 use crate::library::{Definition, Entry, Found, Library, TermId};
-use smt_faults::TermFault;
+use smt_faults::{Memory, TermFault};
 use smt_forms::{Param, Variable};
 use smt_theory::Sort;
 use smt_trees::Tree;
@@ -42,7 +42,7 @@ impl Library {
         ensures defined { OnOk result ((s : Signature) → StandsFor self.old s → (e : signature.Entry)
             × (defined_in s name.now (map param_view params.now) (sexp_of sort.now) (sexp_of body.now) ≡ Ok e) × StandsFor self.new (with_entry s e)) }
         ensures refused { IfErr result (λ fault. (s : Signature) → StandsFor self.old s
-            → (fault ≡ Memory) ⊎ (defined_in s name.now (map param_view params.now) (sexp_of sort.now) (sexp_of body.now) ≡ Err fault)) }
+            → (fault ≡ OutOfMemory) ⊎ (defined_in s name.now (map param_view params.now) (sexp_of sort.now) (sexp_of body.now) ≡ Err fault)) }
         ensures unchanged { OnErr result ((s : Signature) → StandsFor self.old s → StandsFor self.new s) }
         ensures grown { Extends (contents_of self.old) (contents_of self.new) }
     {
@@ -68,7 +68,7 @@ impl Library {
         ensures added { OnOk result ((s : Signature) → StandsFor self.old s → (e : signature.Entry)
             × (definition_in (names_of s) name.now (scope_view parameters.now) sort (sexp_of body.now) ≡ Ok e) × StandsFor self.new (with_entry s e)) }
         ensures refused { IfErr result (λ fault. (s : Signature) → StandsFor self.old s
-            → (fault ≡ Memory) ⊎ (definition_in (names_of s) name.now (scope_view parameters.now) sort (sexp_of body.now) ≡ Err fault)) }
+            → (fault ≡ OutOfMemory) ⊎ (definition_in (names_of s) name.now (scope_view parameters.now) sort (sexp_of body.now) ≡ Err fault)) }
         ensures unchanged { OnErr result ((s : Signature) → StandsFor self.old s → StandsFor self.new s) }
         ensures grown { Extends (contents_of self.old) (contents_of self.new) }
         ensures sorts { self.new.sorts ≡ self.old.sorts }
@@ -78,7 +78,7 @@ impl Library {
             return Err(TermFault::IllSorted);
         }
         let body = self.add_term(body)?;
-        self.insert_definition(name, parameters, sort, body)
+        Ok(self.insert_definition(name, parameters, sort, body)?)
     }
 
     // Adds the definition of a new name at the end, or changes no name.
@@ -89,12 +89,11 @@ impl Library {
         parameters: &[Variable<'_, Sort>],
         sort: Sort,
         body: TermId,
-    ) -> Result<(), TermFault>
+    ) -> Result<(), Memory>
         requires { look_up (names_of_library self.old).ranks name.now ≡ None }
         ensures added { OnOk result ((s : Signature) (t : Sexp) → StandsFor self.old s → IsTerm self.old body t
             → StandsFor self.new (with_entry s (definition name.now (scope_view parameters.now) sort t))) }
         ensures ranks { OnOk result (ranks_of_library self.new ≡ ranks_of_library self.old ++ (name.now, record { parameters = map (λ p. p.1) (scope_view parameters.now); sort = sort }) ∷ []) }
-        ensures refused { IfErr result (λ fault. fault ≡ Memory) }
         ensures unchanged { OnErr result ((s : Signature) → StandsFor self.old s → StandsFor self.new s) }
         ensures grown { Extends (contents_of self.old) (contents_of self.new) }
         ensures sorts { self.new.sorts ≡ self.old.sorts }

@@ -14,23 +14,21 @@ ghost use Rattle.smt_forms.specs.ScopeView.{scope_view};
 ghost use Rattle.smt_terms.specs.Signature as signature;
 ghost use Rattle.smt_terms.specs.Signature.{Signature, is_taken, names_of, no_names, rank_of_entry, with_entry};
 ghost use Rattle.smt_terms.specs.SortTrees.{sort_named};
-ghost use Rattle.smt_faults.specs.declared.term_fault.TermFault.TheVariants.{Memory};
+ghost use Rattle.smt_faults.specs.declared.term_fault.TermFault.TheVariants.{Memory as OutOfMemory};
 
 use crate::definitions::{sorted_params_of, sorts_of_variables};
 use crate::library::checker::are_same;
 use crate::library::{Entry, Found, Library};
-use smt_faults::TermFault;
+use smt_faults::{Memory, TermFault};
 use smt_forms::{Variable, item_form};
 use smt_theory::Sort;
 use smt_trees::Tree;
 
 impl Library {
-    /// A library for the items of a model of these names (SMT-LIB 2.6, section 4.2.6): of the same theories, and without names. Only
-    /// want of memory is refused.
-    pub fn for_model(&self) -> Result<Library, TermFault>
+    /// A library for the items of a model of these names (SMT-LIB 2.6, section 4.2.6): of the same theories, and without names.
+    pub fn for_model(&self) -> Result<Library, Memory>
         ensures names { IfOk result (λ library. (s : Signature) → StandsFor self.now s → StandsFor library (no_names s.theories)) }
         ensures theories { IfOk result (λ library. HasTheoriesOf library self.now) }
-        ensures refused { IfErr result (λ fault. fault ≡ Memory) }
     {
         Ok(Library::new(self.alloc, self.sorts.theories))
     }
@@ -50,7 +48,7 @@ impl Library {
         ensures defined { OnOk result ((s m : Signature) → StandsFor script.now s → StandsFor self.old m
             → (e : signature.Entry) × (item_in s m.entries (sexp_of item.now) ≡ Ok e) × StandsFor self.new (with_entry m e)) }
         ensures refused { IfErr result (λ fault. (s m : Signature) → StandsFor script.now s → StandsFor self.old m
-            → (fault ≡ Memory) ⊎ (item_in s m.entries (sexp_of item.now) ≡ Err fault)) }
+            → (fault ≡ OutOfMemory) ⊎ (item_in s m.entries (sexp_of item.now) ≡ Err fault)) }
         ensures unchanged { OnErr result ((m : Signature) → StandsFor self.old m → StandsFor self.new m) }
         ensures grown { Extends (contents_of self.old) (contents_of self.new) }
         ensures theories { HasTheoriesOf self.new script.now }
@@ -65,17 +63,16 @@ impl Library {
         self.add_definition(form.name, parameters.as_slice(), sort, form.body)
     }
 
-    // Whether the script declares the name with this rank, if it declares it. Only want of memory is refused.
+    // Whether the script declares the name with this rank, if it declares it.
     fn has_declared_rank(
         &self,
         script: &Library,
         name: &[u8],
         parameters: &[Variable<'_, Sort>],
         sort: Sort,
-    ) -> Result<bool, TermFault>
-        ensures rank { IfOk result (λ kept. (s : Signature) → StandsFor script.now s
+    ) -> Result<bool, Memory>
+        ensures { IfOk result (λ kept. (s : Signature) → StandsFor script.now s
             → kept ≡ has_rank_of (declared_named s.entries name.now) (map (λ p. p.1) (scope_view parameters.now)) sort) }
-        ensures refused { IfErr result (λ fault. fault ≡ Memory) }
     {
         let sorts = sorts_of_variables(self.alloc, parameters)?;
         Ok(script.keeps_rank(name, sorts.as_slice(), sort))

@@ -5,5 +5,5 @@ use Rattle.smt_forms.proofs.params.params_of.Goals as goal
 pub loop-name-preserved : goal.loop-name-preserved
 loop-name-preserved c = grind (arith, common_steps)
 
-pub returns-clause-params : goal.returns-clause-params
-returns-clause-params c = search rules
+pub returns : goal.returns
+returns c = search rules

@@ -17,7 +17,7 @@ returns-in_err-define-clause-refused c =
     let sort = sexp_of c.args.sort.now in
     let body = sexp_of c.args.body.now in
     let params = named_trees (sexps_of c.args.params.now) in
-    let named = ap (λ qs. map param_view qs) c.as_slice.ensures.value ∙ c.in_ok-params.ensures.params in
+    let named = ap (λ qs. map param_view qs) c.as_slice.ensures.value ∙ c.in_ok-params.ensures in
     rw p.1
     (λ n cs h.
     let s = signature_in_force cs in
@@ -34,7 +34,7 @@ returns-in_err-define-clause-unchanged c =
 pub returns-clause-effect : goal.returns-clause-effect
 returns-clause-effect c =
     let P : List (List ℕ × Sexp) → Type 0 = λ ps. DefinesIn c.args.self.now.library c.define.new.self c.args.name.now ps (sexp_of c.args.sort.now) (sexp_of c.args.body.now) in
-    let named = ap (λ qs. map param_view qs) c.as_slice.ensures.value ∙ c.in_ok-params.ensures.params in
+    let named = ap (λ qs. map param_view qs) c.as_slice.ensures.value ∙ c.in_ok-params.ensures in
     λ n.
     define_effect c.contents_are_kept.ensures c.args.self.now c.define.new.self n c.args.name.now (named_trees (sexps_of c.args.params.now)) (sexp_of c.args.sort.now) (sexp_of c.args.body.now)
     (subst P named c.in_ok-define.ensures.defined) c.in_ok-define.ensures.grown

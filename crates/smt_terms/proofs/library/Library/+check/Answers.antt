@@ -89,7 +89,7 @@ bound_by-loop-name-preserved t c =
           ∙ bound_in-next (names_for c.args.self.now (labels_view c.loop-name.labels)) (names_for c.args.self.now (labels_view c.sort_of.new.labels)) (scope_view c.args.scope.now) (scope_view c.loop-name.bound.items)
           (scope_view c.push_variable.new.variables.items) c.in-Some.name.now term (sexps_of c.in-Some.rest.now) (sexps_of c.loop-name.left.now) c.in_ok-value.value
           (names_behind c.args.self.now names c.loop-name.labels c.sort_of.new.labels (labels_in term) c.in_ok-value.ensures.labels) c.in-Some.ensures
-          (grind (arith, c.as_slice.ensures.value, c.find_variable.ensures, c.is_some.ensures, c.if-is_some.false)) c.in_ok-value.ensures.sort c.in_ok-push_variable.ensures.pushed;
+          (grind (arith, c.as_slice.ensures.value, c.find_variable.ensures, c.is_some.ensures, c.if-is_some.false)) c.in_ok-value.ensures.sort c.in_ok-push_variable.ensures;
       given = AreGivenOf-next names c.args.labels.now c.loop-name.labels c.sort_of.new.labels (labels_in_bindings (sexps_of c.args.bindings.now)) (labels_in_bindings (sexps_of c.loop-name.left.now)) (labels_in term)
           (labels_in_bindings (sexps_of c.in-Some.rest.now)) c.loop-name.invariant.given (ap labels_in_bindings c.in-Some.ensures) c.in_ok-value.ensures.labels;
       named = sym (ap are_named_trees c.in-Some.ensures) ∙ c.loop-name.invariant.named;

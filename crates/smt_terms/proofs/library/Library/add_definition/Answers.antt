@@ -1,5 +1,4 @@
 use Rattle.std.proofs.Common.{rules, true, ap, sym, ◌∙◌}
-use Rattle.std.proofs.lemmas.Result.{on_ok_weaker}
 use Rattle.smt_trees.specs.Tree.{sexp_of}
 use Rattle.smt_terms.specs.Checking.{sort_in}
 use Rattle.smt_terms.specs.Definitions.{definition}
@@ -16,15 +15,16 @@ pub returns-clause-added : goal.returns-clause-added
 returns-clause-added c =
     let ps = scope_view c.args.parameters.now in
     let body = sexp_of c.args.body.now in
-    on_ok_weaker c.insert_definition.result
-    (λ added s stands. (
+    λ s stands. (
       definition c.args.name.now ps c.args.sort body,
-      definition_by (names_of s) (names_of_library c.args.self.now) c.args.name.now ps c.args.sort c.in_ok-sort_of.field-0 body true (names_as c.args.self.now s stands)
-          (ap (λ (l : Labels). sort_in (names_for c.args.self.now l) ps body) (sym c.refused-labels.ensures.view) ∙ c.in_ok-sort_of.ensures.sort)
+      definition_by (names_of s) (names_of_library c.args.self.now) c.args.name.now ps c.args.sort
+          c.in_ok-sort_of.field-0 body true (names_as c.args.self.now s stands)
+          (ap (λ (l : Labels). sort_in (names_for c.args.self.now l) ps body) (sym c.refused-labels.ensures.view)
+          ∙ c.in_ok-sort_of.ensures.sort)
           (sym c.are_equal.ensures ∙ c.if-not-are_equal.false),
-      added s body (c.in_ok-body.ensures.kept s stands) c.in_ok-body.ensures.term,
-    ))
-    c.insert_definition.ensures.added
+      c.in_ok-insert_definition.ensures.added s body (c.in_ok-body.ensures.kept s stands)
+          c.in_ok-body.ensures.term,
+    )
 
 pub returns-clause-grown : goal.returns-clause-grown
 returns-clause-grown c = extends_on _ _ _ c.in_ok-body.ensures.grown c.insert_definition.ensures.grown
@@ -49,9 +49,3 @@ returns-in_err-body-clause-unchanged c = search rules
 
 pub returns-in_err-body-clause-grown : goal.returns-in_err-body-clause-grown
 returns-in_err-body-clause-grown c = search rules
-
-pub returns-clause-refused : goal.returns-clause-refused
-returns-clause-refused c = search rules
-
-pub returns-clause-unchanged : goal.returns-clause-unchanged
-returns-clause-unchanged c = search rules

@@ -6,6 +6,3 @@ returns-clause-names c = search rules
 
 pub returns-clause-theories : goal.returns-clause-theories
 returns-clause-theories c = search rules
-
-pub returns-clause-refused : goal.returns-clause-refused
-returns-clause-refused c = search rules

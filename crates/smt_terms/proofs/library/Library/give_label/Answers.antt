@@ -4,15 +4,17 @@ use Rattle.smt_terms.specs.Internal.LibraryView.{names_of_library}
 use Rattle.smt_forms.specs.ScopeView.{scope_view}
 use Rattle.smt_terms.specs.Signature.{unlabelled}
 use Rattle.smt_terms.proofs.ClosedLemmas.{closed}
-use Rattle.smt_terms.proofs.LabelLemmas.{AreGiven-push, on_ok}
+use Rattle.smt_terms.proofs.LabelLemmas.{AreGiven-push}
 use Rattle.smt_terms.proofs.library.Library.give_label.Goals as goal
 
 pub returns-clause-labels : goal.returns-clause-labels
 returns-clause-labels c =
-    let names = names_of_library c.args.self.now in
-    on_ok c.push.result _ _
-    (λ p. AreGiven-push names c.args.labels.now c.push.new.self c.args.name.now c.args.sort.now (sexp_of c.args.term.now) p.0 c.push.ensures.refuses p.1 p.2 p.3 p.4
-    (closed (unlabelled names) (scope_view c.args.scope.now) (sexp_of c.args.term.now) c.args.sort.now refl (sym c.in_ok-uses_variable.ensures ∙ c.if-branch.false) c.requires)) c.push.ensures.pushed
+    let p = c.in_ok-push.ensures.pushed in
+    AreGiven-push (names_of_library c.args.self.now) c.args.labels.now c.push.new.self c.args.name.now
+    c.args.sort.now (sexp_of c.args.term.now) p.0 c.push.ensures.refuses p.1 p.2 p.3 p.4
+    (closed (unlabelled (names_of_library c.args.self.now)) (scope_view c.args.scope.now)
+    (sexp_of c.args.term.now) c.args.sort.now refl
+    (sym c.in_ok-uses_variable.ensures ∙ c.if-branch.false) c.requires)
 
 pub returns-then-branch-clause-fault : goal.returns-then-branch-clause-fault
 returns-then-branch-clause-fault c = search rules

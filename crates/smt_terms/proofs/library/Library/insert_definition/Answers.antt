@@ -49,15 +49,15 @@ returns-in-Err-clause-grown c =
 
 pub returns-in-Ok-clause-added : goal.returns-in-Ok-clause-added
 returns-in-Ok-clause-added c = λ s t stands body.
-    stands_defined (contents_of c.args.self.now) (contents_of c.insert.new.self) s c.args.name.now (scope_view c.args.parameters.now) _ t c.requires c.in_ok-from_slice.ensures.items c.in_ok-named_parameters.ensures.named body
+    stands_defined (contents_of c.args.self.now) (contents_of c.insert.new.self) s c.args.name.now (scope_view c.args.parameters.now) _ t c.requires c.in_ok-from_slice.ensures.items c.in_ok-named_parameters.ensures body
     (ap (λ (z : SortNames). z.theories) c.insert.ensures.sorts) (ap abbreviations_of c.insert.ensures.sorts)
-    (c.in-Ok.ensures.ranks ∙ ap (λ (ps : List Sort). ranks_of_library c.args.self.now ++ (c.args.name.now, record { parameters = ps; sort = c.args.sort }) ∷ []) c.in_ok-sorts_of_variables.ensures.sorts)
+    (c.in-Ok.ensures.ranks ∙ ap (λ (ps : List Sort). ranks_of_library c.args.self.now ++ (c.args.name.now, record { parameters = ps; sort = c.args.sort }) ∷ []) c.in_ok-sorts_of_variables.ensures)
     (c.in-Ok.ensures.places ∙ ap (λ (n : ℕ). places_of_library c.args.self.now ++ (c.args.name.now, place.Defined n) ∷ []) (counted c.args.self.now.definitions c.len.result c.len.ensures))
     (ap (map declaration_view) c.insert.ensures.declared) (c.insert.ensures.definitions ∙ c.in_ok-push.ensures.items) (λ i t is. rw c.insert.ensures.terms is) stands
 
 pub returns-in-Ok-clause-ranks : goal.returns-in-Ok-clause-ranks
 returns-in-Ok-clause-ranks c =
-    c.in-Ok.ensures.ranks ∙ ap (λ (ps : List Sort). ranks_of_library c.args.self.now ++ (c.args.name.now, record { parameters = ps; sort = c.args.sort }) ∷ []) c.in_ok-sorts_of_variables.ensures.sorts
+    c.in-Ok.ensures.ranks ∙ ap (λ (ps : List Sort). ranks_of_library c.args.self.now ++ (c.args.name.now, record { parameters = ps; sort = c.args.sort }) ∷ []) c.in_ok-sorts_of_variables.ensures
 
 pub returns-in-Ok-clause-grown : goal.returns-in-Ok-clause-grown
 returns-in-Ok-clause-grown c = record {
