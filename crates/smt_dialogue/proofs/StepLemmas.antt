@@ -8,7 +8,7 @@ use Rattle.smt_report.specs.declared.line.Line.TheVariants as lines
 use Rattle.smt_faults.specs.declared.text_flaw.TextFlaw.{TextFlaw}
 use Rattle.smt_dialogue.proofs.PairLemmas.{AllTake-append, AreFaultless-append, answers_taken-le, answers_then-append, checks_in-le}
 use Rattle.std.specs.Result.{IfOk}
-use Rattle.smt_eval.specs.declared.memory.Memory.{Memory}
+use Rattle.smt_faults.specs.declared.memory.Memory.{Memory}
 use Rattle.smt_script.specs.Command.{Command, command_of}
 use Rattle.smt_faults.specs.declared.command_fault.CommandFault.{CommandFault}
 use Rattle.smt_faults.specs.declared.command_fault.CommandFault.TheVariants.{AfterExit}

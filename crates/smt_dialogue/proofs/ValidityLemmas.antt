@@ -44,7 +44,7 @@ use Rattle.smt_report.specs.declared.claim.Claim.TheVariants as claims
 use Rattle.smt_report.specs.declared.line.CheckAnswer.{CheckAnswer}
 use Rattle.smt_report.specs.declared.line.Line.{Line}
 use Rattle.smt_report.specs.declared.line.Line.TheVariants as lines
-use Rattle.smt_eval.specs.declared.memory.Memory.{Memory}
+use Rattle.smt_faults.specs.declared.memory.Memory.{Memory}
 use Rattle.smt_report.specs.declared.report.Report.{Report}
 use Rattle.smt_report.specs.declared.verdict.Tally.{Tally}
 use Rattle.smt_report.specs.declared.verdict.Verdict.{Verdict}

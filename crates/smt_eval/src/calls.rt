@@ -14,8 +14,8 @@ ghost use Rattle.smt_eval.specs.Known.{known_defined, known_in, known_of, known_
 
 use crate::definitions::{Definitions, definition_at, place_of};
 use crate::evaluator::known_value;
-use crate::memory::Memory;
 use crate::scope::bind;
+use smt_faults::Memory;
 use smt_forms::Identifier;
 use smt_theory::{Op, OpFault, Sort, op_of};
 use smt_trees::Tree;

@@ -1,6 +1,6 @@
 //! Terms that have been checked, whatever they are kept as.
 
-use crate::memory::Memory;
+use smt_faults::Memory;
 use smt_values::Value;
 
 /// A closed term, with the structure that it stands over.

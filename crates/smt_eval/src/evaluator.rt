@@ -16,8 +16,8 @@ ghost use Rattle.smt_eval.specs.Known.{known_by, known_of, knowns_bound, knowns_
 
 use crate::calls::{known_applied, known_at, known_of_operator, known_plain};
 use crate::definitions::{Definitions, place_of};
-use crate::memory::Memory;
 use crate::scope::push_variable;
+use smt_faults::Memory;
 use smt_forms::{
     Variable, applied_identifier, find_variable, indexed_identifier, split_let, split_named,
 };

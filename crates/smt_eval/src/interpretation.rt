@@ -18,7 +18,7 @@ ghost use Rattle.smt_eval.specs.declared.interpretation.ModelFault.TheVariants.{
 use crate::calls::kept_value;
 use crate::definitions::Definitions;
 use crate::laws::{models_are_complete, structures_are_distinct};
-use crate::memory::Memory;
+use smt_faults::Memory;
 use smt_terms::laws::faults_are_no_memory;
 use smt_terms::{Library, TermFault};
 use smt_trees::{Tree, Trees, split_first};

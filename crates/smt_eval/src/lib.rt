@@ -12,11 +12,10 @@ mod definitions;
 mod evaluator;
 mod interpretation;
 pub mod laws;
-mod memory;
 pub mod plain;
 mod scope;
 
 pub use checked::Checked;
 pub use interpretation::{Interpretation, ModelFault};
-pub use memory::Memory;
 pub use plain::eval;
+pub use smt_faults::Memory;

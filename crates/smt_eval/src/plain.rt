@@ -13,7 +13,7 @@ use crate::checked::Checked;
 use crate::definitions::Definitions;
 use crate::evaluator::known_value;
 use crate::interpretation::Interpretation;
-use crate::memory::Memory;
+use smt_faults::Memory;
 use smt_terms::{Library, TermId};
 use smt_trees::Tree;
 use smt_values::Value;

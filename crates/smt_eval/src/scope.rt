@@ -5,7 +5,7 @@ ghost use Rattle.std.specs.List.{zip};
 ghost use Rattle.smt_values.specs.Element.{known_element, known_elements};
 ghost use Rattle.smt_eval.specs.Internal.Evaluation.{known_scope};
 
-use crate::memory::Memory;
+use smt_faults::Memory;
 use smt_forms::Variable;
 use smt_theory::Sort;
 use smt_values::Value;

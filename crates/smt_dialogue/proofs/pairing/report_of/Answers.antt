@@ -1,7 +1,7 @@
 -- What the turns came to is what is reported.
 use Rattle.std.proofs.Common.{Option, Result, sym, subst}
 use Rattle.std.specs.Result.{IfOk}
-use Rattle.smt_eval.specs.declared.memory.Memory.{Memory}
+use Rattle.smt_faults.specs.declared.memory.Memory.{Memory}
 use Rattle.smt_report.specs.declared.line.Line.{Line}
 use Rattle.smt_dialogue.proofs.StepLemmas.{judged-ended}
 use Rattle.smt_dialogue.specs.Internal.DialogueState.{state_of}
