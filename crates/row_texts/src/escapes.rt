@@ -1,4 +1,4 @@
-//! The texts of fields, which stand for bytes.
+//! The texts of fields, which stand for bytes. This file knows no field and no row.
 //!
 //! | written | stands for |
 //! |---|---|

@@ -1,4 +1,4 @@
-//! Rows of items: each item of a model that a library takes, or its fault.
+//! Rows of items: each item of a model that a library takes, or its fault. This file evaluates nothing.
 
 ghost use Rattle.smt_terms.specs.Library.{HasTheoriesOf};
 

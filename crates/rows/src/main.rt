@@ -1,4 +1,12 @@
-//! rows: prints what the crates answer to the rows of the files that its words name.
+//! rows: prints what the crates answer to the rows of the files that its words name. No claim rests on it.
+//!
+//! Of a file that holds a row of terms it prints the row's title and each term with its sort:
+//!
+//! ```text
+//! terms: over p                                   // terms over p
+//! declare: p Bool                                 // p Bool => declared
+//! term: (not p)                                   // (not p) => Bool
+//! ```
 #![tactic(auto)]
 
 mod commands;

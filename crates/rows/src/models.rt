@@ -1,4 +1,4 @@
-//! Rows of models: each with the names that it defines, or its first fault.
+//! Rows of models: each with the names that it defines, or its first fault. This file evaluates nothing.
 
 ghost use Rattle.std.specs.Prelude.{IfOk, MatchOption};
 ghost use Rattle.smt_eval.specs.Interpretation.{Fits};

@@ -1,4 +1,4 @@
-//! What a library says of its names.
+//! What a library says of its names. This file changes no library.
 
 use anyhow::Result;
 use row_texts::Field;

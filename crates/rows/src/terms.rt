@@ -1,4 +1,5 @@
-//! Rows of terms: each with its sort, or the first fault that is told of it; and of definitions, assertions and names.
+//! Rows of terms: each with its sort, or the first fault that is told of it; and of definitions, assertions
+//! and names. This file evaluates nothing.
 
 use crate::names::{print_counts, print_name, write_sort};
 use crate::trees::{declare, print_answer, refuse, tree_of, trees_of};

@@ -1,4 +1,4 @@
-//! Rows of texts: each with what is read of it, whole and in pieces.
+//! Rows of texts: each with what is read of it, whole and in pieces. This file knows no term.
 
 ghost use Rattle.std.specs.Prelude.{◌≤◌, length};
 

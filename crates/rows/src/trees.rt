@@ -1,4 +1,5 @@
-//! The trees that fields hold, logics, declarations, and what is answered to them.
+//! The trees that fields hold, logics, declarations, and what is answered to them. This file knows no kind of
+//! row.
 
 ghost use Rattle.smt_terms.specs.Library.{StandsFor};
 ghost use Rattle.smt_terms.specs.Signature.{Signature};

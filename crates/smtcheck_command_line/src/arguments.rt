@@ -1,4 +1,5 @@
-//! What a command line asks for.
+//! What a command line asks for, and why it can't be taken. This file reads no words, and knows of `clap` only
+//! the error.
 
 use clap::Error;
 
@@ -9,8 +10,8 @@ pub struct Settings<'a> {
     pub script: &'a str,
     /// The file with the answers.
     pub answers: &'a str,
-    /// Whether the solver prints `success` from the start.
-    pub start: bool,
+    /// Whether the solver prints `success` before the script sets `:print-success`.
+    pub print_success: bool,
 }
 
 /// Why a command line can't be taken.
