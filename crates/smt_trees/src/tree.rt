@@ -1,4 +1,4 @@
-//! S-expressions, as the reader hands them out.
+//! S-expressions, as the reader hands them out. This file reads no text, and knows no term.
 
 ghost use Rattle.std.specs.Prelude.{◌≡◌, IfOk, IfSome, MatchOption};
 ghost use Rattle.smt_trees.specs.Sexp as sexp;
