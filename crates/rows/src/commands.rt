@@ -14,8 +14,8 @@ use std::alloc::Global;
 use std::io;
 use std::io::Write;
 
-/// Prints what is answered to commands, in order, and then what the stack holds. Each command has the number of its place behind
-/// `start`, from 1, also where an earlier one was refused.
+/// Prints what is answered to commands, in order, and then what the stack holds. Each command has the number
+/// of its place behind `start`, from 1, also where an earlier one was refused.
 pub(crate) fn print<W: Write>(alloc: Global, out: &mut W, fields: &[Field]) -> Result<()> {
     let (print_success, fields) = split_print_success(fields)?;
     let mut stack = Stack::new(alloc, print_success);
@@ -67,7 +67,8 @@ fn print_answer<W: Write>(
     }
 }
 
-// Whether the solver prints `success` before a command sets it, as the first field says, and the fields behind it. Where none says so, it does.
+// Whether the solver prints `success` before a command sets it, as the first field says, and the fields
+// behind it. Where none says so, it does.
 fn split_print_success<'a, 'b>(fields: &'b [Field<'a>]) -> Result<(bool, &'b [Field<'a>])> {
     match fields.split_first() {
         Some((first, rest)) if first.key == "start" => Ok((is_on(first)?, rest)),
@@ -93,7 +94,8 @@ fn take(stack: &mut Stack, number: u64, tree: Tree) -> Result<(), CommandFault>
     stack.take(number, command)
 }
 
-// Prints what is in force: names, the numbers of the commands of the assertions, levels, and what the solver was told.
+// Prints what is in force: names, the numbers of the commands of the assertions, levels, and what the solver
+// was told.
 fn print_stack<W: Write>(out: &mut W, stack: &Stack) -> io::Result<()> {
     print_counts(out, "names", stack.library())?;
     print_assertions(out, stack.assertions())?;

@@ -86,7 +86,8 @@ fn print_answers<W: Write>(
     }
 }
 
-// Prints what is answered to a row over a library of the logic that its first field names, or of all theories.
+// Prints what is answered to a row over a library of the logic that its first field names, or of all
+// theories.
 fn print_over_library<W: Write>(
     alloc: Global,
     out: &mut W,

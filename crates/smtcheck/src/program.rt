@@ -13,8 +13,8 @@ const NO_REPORT: u8 = 4;
 /// The status of a command line that was refused, or asked for help.
 const REFUSED: u8 = 5;
 
-/// Runs the program, and answers its exit status: 0 to 3 by the verdict, 4 where there is no report, and 5 where the command line was
-/// refused or asked for help.
+/// Runs the program, and answers its exit status: 0 to 3 by the verdict, 4 where there is no report, and 5
+/// where the command line was refused or asked for help.
 pub(crate) fn run_program<R: Files + Env + AllocGlobal + Print + Eprint>(rt: &R) -> u8 {
     let words = match words(rt) {
         Ok(words) => words,

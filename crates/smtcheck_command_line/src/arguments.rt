@@ -1,5 +1,5 @@
-//! What a command line asks for, and why it can't be taken. This file reads no words, and knows of `clap` only
-//! the error.
+//! What a command line asks for, and why it can't be taken. This file reads no words, and knows of `clap`
+//! only the error.
 
 use clap::Error;
 

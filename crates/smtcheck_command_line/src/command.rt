@@ -16,15 +16,15 @@ use std::alloc::{AllocError, Global};
 const ABOUT: &str = "Checks the models that an SMT solver printed.
 
 SCRIPT is the SMT-LIB 2.6 script that the solver read, and ANSWERS the text that it printed for it. Each \
-answer is paired with its command, and every `sat` is checked by evaluating the printed model in each assertion \
-that was in force.";
+answer is paired with its command, and every `sat` is checked by evaluating the printed model in each \
+assertion that was in force.";
 
 const PRINT_SUCCESS: &str =
     "Whether the solver prints `success`, from the start, for each command that has no answer of its own.
 
 off: for z3, cvc5 and cvc4, which print it only once the script says (set-option :print-success true)
-on:  for SMTInterpol and others that keep to the default of SMT-LIB, and for a run that was told to print it, \
-such as `z3 smtlib2_compliant=true` or `cvc5 --print-success`
+on:  for SMTInterpol and others that keep to the default of SMT-LIB, and for a run that was told to print \
+it, such as `z3 smtlib2_compliant=true` or `cvc5 --print-success`
 
 A script's own (set-option :print-success ..) is followed from there on.";
 

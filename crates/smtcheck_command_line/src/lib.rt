@@ -1,5 +1,5 @@
-//! The command line of the program: what it may say, and what it asks for. This crate opens no file, and knows
-//! no dialogue.
+//! The command line of the program: what it may say, and what it asks for. This crate opens no file, and
+//! knows no dialogue.
 //!
 //! ```text
 //! let words = ["smtcheck", "--print-success", "off", "script.smt2", "answers.txt"];
