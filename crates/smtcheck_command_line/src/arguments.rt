@@ -2,6 +2,7 @@
 //! only the error.
 
 use clap::Error;
+use std::{error, fmt};
 
 /// What the command line asks for.
 #[derive(Clone, Copy, Debug, PartialEq, Eq)]
@@ -22,3 +23,14 @@ pub enum LineFault {
     /// It is not in form, or asks for help: the text to print is that of the error.
     Refused(Error),
 }
+
+impl fmt::Display for LineFault {
+    fn fmt<W: fmt::Write>(&self, f: &mut fmt::Formatter<W>) -> fmt::Result {
+        match self {
+            LineFault::Memory => f.write_str("out of memory"),
+            LineFault::Refused(error) => write!(f, "{error}"),
+        }
+    }
+}
+
+impl error::Error for LineFault {}
