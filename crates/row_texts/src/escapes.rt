@@ -95,7 +95,7 @@ impl Reader {
         Ok(())
     }
 
-    // Takes one byte, and answers the state behind it.
+    // Consumes one byte, and answers the state behind it.
     fn take(&mut self, byte: u8) -> Result<State> {
         match self.state {
             State::Outside => Ok(self.take_outside(byte)?),

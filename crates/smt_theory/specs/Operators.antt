@@ -123,7 +123,7 @@ IsOfTheories theories (Core op) = Unit {0}
 IsOfTheories theories (Ints op) = IsTrue theories.ints
 IsOfTheories theories (Bits op) = IsTrue theories.bits
 
--- some operator of the theories that takes no indexes, or that takes some, has this name
+-- some operator of the theories without indexes, or with some, has this name
 abbrev pub IsPlainName : Theories → List ℕ → Type 0
 IsPlainName theories symbol =
     (op : Op) × IsOfTheories theories op × IsNameOf op symbol × (indexes_of op ≡ [])

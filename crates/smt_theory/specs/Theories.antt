@@ -1,5 +1,5 @@
--- The logics that are taken, with the theories that each has besides Core. Which are taken is this project's
--- own choice.
+-- The logics that are supported, with the theories that each has besides Core. Which are supported is this
+-- project's own choice.
 use Rattle.std.specs.Prelude.{ℕ, List, [], ◌∷◌, Bool, true, false, ◌||◌, Option, Some, None, bytes_eq, codes}
 use Rattle.std.specs.Prelude.{if◌then◌else◌}
 use Rattle.std.specs.List.{list_any}

@@ -4,8 +4,8 @@
 //! adds. Bit vectors are up to 128 bits wide.
 //!
 //! A logic has theories (`theories_of`), a symbol with its indexes is an operator of theories (`op_of`), and
-//! an operator has a result's sort for the sorts of its arguments (`rank`). Nothing here takes memory, knows
-//! a text or a value.
+//! an operator has a result's sort for the sorts of its arguments (`rank`). Nothing here allocates, or
+//! knows a text or a value.
 //!
 //! **The contract for the layer above**: `rank` gives a sort exactly where the table of ranks, `HasRank` of
 //! `specs/Ranks.antt`, has the operator with these arguments and that result. The table has one line for each

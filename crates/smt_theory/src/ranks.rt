@@ -1,4 +1,4 @@
-//! Ranks: the sorts that operators take and give. This file knows no operator's name, and no value.
+//! Ranks: the sorts of the arguments and of the results of operators. This file knows no operator's name, and no value.
 
 ghost use Rattle.std.specs.Prelude.{◌≡◌, ◌↔◌, Option, Some, nat_lt, ◌||◌, ◌&&◌};
 ghost use Rattle.std.specs.List.{list_all};

@@ -1,4 +1,4 @@
-//! The bytes of an atom, of which few take no memory of their own. This file knows no kind of atom.
+//! The bytes of an atom, of which few need no memory of their own. This file knows no kind of atom.
 
 ghost use Rattle.std.specs.Prelude.{◌≡◌, ◌≤◌, ℕ, List, [], IfOk, IfSome, length, take};
 
@@ -91,7 +91,7 @@ impl Bytes {
         }
     }
 
-    /// A copy of the bytes that takes no memory, if they are few.
+    /// A copy of the bytes that allocates nothing, if they are few.
     #[inline(always)]
     pub(crate) fn short_copy(&self) -> Option<Bytes>
         ensures { IfSome result (λ b. b ≡ self.now) }

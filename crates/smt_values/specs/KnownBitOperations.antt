@@ -1,6 +1,6 @@
 -- What an operator on bit vectors is known to make of vectors that are all known: the standard's result,
--- where the arguments are of widths that the operator takes and the result's width is within this project's
--- limit.
+-- where the arguments are of widths that the operator has a rank for and the result's width is within this
+-- project's limit.
 use Rattle.std.specs.Prelude.{◌%◌, ◌^◌, ◌==◌, List, [], ◌∷◌, Option, Some, None, option_and_then, option_map}
 use Rattle.std.specs.Prelude.{if◌then◌else◌}
 use Rattle.smt_bits.specs.BitVector.{BitVector, vector}

@@ -1,7 +1,7 @@
 //! Values, and the operators of SMT-LIB 2.6 on them.
 //!
 //! A value is a truth value, an integer that fits 128 bits, or a bit vector of at most 128 bits; where a
-//! value is missing, an element is open: the program does not know it. Nothing here takes memory, knows a
+//! value is missing, an element is open: the program does not know it. Nothing here allocates, or knows a
 //! text or a name.
 //!
 //! **The contract for the layer above**: `apply` gives what is known of an operator's result, `known_step` of
