@@ -1,6 +1,6 @@
 -- The command line of the program, in the words in which clap says what a parse gives.
 use Rattle.std.specs.Prelude.{◌≡◌, ◌==◌, ℕ, Bool, true, false, not, Some, ⊤, codes, is_some, List, [], ◌∷◌}
-use Rattle.std.specs.Prelude.{MatchResult, Result, if◌then◌else◌}
+use Rattle.std.specs.Prelude.{MatchResult, None, Option, Result, if◌then◌else◌}
 use Rattle.std.specs.Borrow.{Bor}
 use Rattle.clap.specs.Words.{App, IsAmong, IsParsedFrom, Rule, Text, fault_of, first_of, first_value}
 use Rattle.clap.specs.Words.{found_of, kind_of, matches_of, new_app, new_rule, with_rule}
@@ -101,3 +101,8 @@ abbrev pub TakesOption : List Text → Result Settings LineFault → Type 0
 TakesOption words r = (name script answers : Text) (prints : Bool)
     → words ≡ name ∷ codes "--print-success" ∷ success_word prints ∷ script ∷ answers ∷ []
     → is_plain script ≡ true → is_plain answers ≡ true → Gives script answers prints r
+
+-- what a fault says; of the text of its own errors clap promises nothing
+abbrev pub text_of_line_fault : LineFault → Option Text
+text_of_line_fault line.Memory = Some (codes "out of memory")
+text_of_line_fault (line.Refused e) = None

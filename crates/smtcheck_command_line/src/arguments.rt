@@ -25,6 +25,10 @@ pub enum LineFault {
 }
 
 impl fmt::Display for LineFault {
+    ghost use Rattle.smtcheck_command_line.specs.Settings.{text_of_line_fault};
+
+    ghost output = { text_of_line_fault };
+
     fn fmt<W: fmt::Write>(&self, f: &mut fmt::Formatter<W>) -> fmt::Result {
         match self {
             LineFault::Memory => f.write_str("out of memory"),
