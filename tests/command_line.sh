@@ -1,6 +1,6 @@
 #!/bin/sh
-# Runs the program on command lines: which files and which start they name, or how they are refused, to the byte. Needs what `rt ci`
-# has built. Says nothing where all is well.
+# Runs the program on command lines: which files and which `--print-success` they name, or how they are refused, to the byte. Needs
+# what `rt ci` has built. Says nothing where all is well.
 set -e
 cd "$(dirname "$0")/.."
 program=$PWD/crates/smtcheck/out/smtcheck
@@ -20,8 +20,8 @@ run() {
     "$program" $1 >output 2>errors || status=$?
 }
 
-# named LINE SCRIPT ANSWERS START: the line names these two files and this start. A line that named others, or another start, would
-# have another status.
+# named LINE SCRIPT ANSWERS PRINT_SUCCESS: the line names these two files, and says this of `success`. A line that named others, or
+# said something else, would have another status.
 named() {
     rm -f ./*
     echo '(set-logic QF_UF)' >"./$2"

@@ -1,4 +1,4 @@
-//! The texts of fields, which stand for bytes.
+//! The texts of fields, which stand for bytes. This file knows no field and no row.
 //!
 //! | written | stands for |
 //! |---|---|
@@ -95,7 +95,7 @@ impl Reader {
         Ok(())
     }
 
-    // Takes one byte, and answers the state behind it.
+    // Consumes one byte, and answers the state behind it.
     fn take(&mut self, byte: u8) -> Result<State> {
         match self.state {
             State::Outside => Ok(self.take_outside(byte)?),

@@ -1,8 +1,8 @@
-//! The form of the files.
+//! The form of the files of rows. This file knows no key, and no escape.
 //!
-//! A file is rows, with an empty line or more between them. A row is fields, each on a line of its own, such as `term: (and p q)`; the
-//! first is its title, whose key is the row's kind. A line that begins with two spaces continues the field above it, and one that
-//! begins with `#` is a comment.
+//! A file is rows, with an empty line or more between them. A row is fields, each on a line of its own, such
+//! as `term: (and p q)`; the first is its title, whose key is the row's kind. A line that begins with two
+//! spaces continues the field above it, and one that begins with `#` is a comment.
 
 use crate::escapes::unescape;
 use anyhow::{Context, Result, bail};

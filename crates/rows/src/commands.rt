@@ -1,4 +1,5 @@
-//! Rows of commands: each with what is answered to it, and then what is in force.
+//! Rows of commands: each with what is answered to it, and then what is in force. This file reads no solver's
+//! answers, and evaluates nothing.
 
 ghost use Rattle.std.specs.Prelude.{◌<◌, ◌≤◌};
 ghost use Rattle.smt_script.specs.StackView.{last_of};
@@ -13,11 +14,11 @@ use std::alloc::Global;
 use std::io;
 use std::io::Write;
 
-/// Prints what is answered to commands, in order, and then what the stack holds. Each command has the number of its place behind
-/// `start`, from 1, also where an earlier one was refused.
+/// Prints what is answered to commands, in order, and then what the stack holds. Each command has the number
+/// of its place behind `start`, from 1, also where an earlier one was refused.
 pub(crate) fn print<W: Write>(alloc: Global, out: &mut W, fields: &[Field]) -> Result<()> {
-    let (start, fields) = split_start(fields)?;
-    let mut stack = Stack::new(alloc, start);
+    let (print_success, fields) = split_print_success(fields)?;
+    let mut stack = Stack::new(alloc, print_success);
     print_commands(alloc, out, &mut stack, fields)
 }
 
@@ -66,20 +67,21 @@ fn print_answer<W: Write>(
     }
 }
 
-// Whether the solver prints `success` at the start, as the first field says, and the fields behind it. Where none says so, it does.
-fn split_start<'a, 'b>(fields: &'b [Field<'a>]) -> Result<(bool, &'b [Field<'a>])> {
+// Whether the solver prints `success` before a command sets it, as the first field says, and the fields
+// behind it. Where none says so, it does.
+fn split_print_success<'a, 'b>(fields: &'b [Field<'a>]) -> Result<(bool, &'b [Field<'a>])> {
     match fields.split_first() {
         Some((first, rest)) if first.key == "start" => Ok((is_on(first)?, rest)),
         _ => Ok((true, fields)),
     }
 }
 
-/// Whether the solver prints `success` at the start, as a field says.
-pub(crate) fn is_on(start: &Field) -> Result<bool> {
-    match start.text.as_str() {
+/// Whether the solver prints `success` before a command sets it, as a field says.
+pub(crate) fn is_on(field: &Field) -> Result<bool> {
+    match field.text.as_str() {
         "on" => Ok(true),
         "off" => Ok(false),
-        _ => bail!("line {}: the start is `on` or `off`", start.line),
+        _ => bail!("line {}: the start is `on` or `off`", field.line),
     }
 }
 
@@ -92,7 +94,8 @@ fn take(stack: &mut Stack, number: u64, tree: Tree) -> Result<(), CommandFault>
     stack.take(number, command)
 }
 
-// Prints what is in force: names, the numbers of the commands of the assertions, levels, and what the solver was told.
+// Prints what is in force: names, the numbers of the commands of the assertions, levels, and what the solver
+// was told.
 fn print_stack<W: Write>(out: &mut W, stack: &Stack) -> io::Result<()> {
     print_counts(out, "names", stack.library())?;
     print_assertions(out, stack.assertions())?;

@@ -1,4 +1,4 @@
-//! Rows of dialogues: each with its report and the exit status.
+//! Rows of dialogues: each with its report and the exit status. This file looks into no report.
 
 use crate::commands::is_on;
 use crate::trees::want_key;
@@ -17,7 +17,7 @@ pub(crate) fn print<W: Write>(
     title: &Field,
     fields: &[Field],
 ) -> Result<()> {
-    let [script, answers, start] = fields else {
+    let [script, answers, print_success] = fields else {
         bail!(
             "line {}: a dialogue has a script, answers and a start",
             title.line
@@ -25,9 +25,9 @@ pub(crate) fn print<W: Write>(
     };
     want_key(script, "script")?;
     want_key(answers, "answers")?;
-    want_key(start, "start")?;
+    want_key(print_success, "start")?;
     let options = Options {
-        print_success: is_on(start)?,
+        print_success: is_on(print_success)?,
     };
     print_dialogue(alloc, out, script, answers, options)
 }

@@ -1,4 +1,4 @@
-//! Rows of items: each item of a model that a library takes, or its fault.
+//! Rows of items: each item of a model that a library takes, or its fault. This file evaluates nothing.
 
 ghost use Rattle.smt_terms.specs.Library.{HasTheoriesOf};
 
@@ -11,8 +11,9 @@ use std::alloc::Global;
 use std::io;
 use std::io::Write;
 
-/// Prints what is answered to declarations, and then to items of a model of the declared names, in order. Each declaration is the
-/// command of its place behind the logic. An item that is refused defines nothing, and those behind it are answered all the same.
+/// Prints what is answered to declarations, and then to items of a model of the declared names, in order.
+/// Each declaration is the command of its place behind the logic. An item that is refused defines nothing,
+/// and those behind it are answered all the same.
 pub(crate) fn print<W: Write>(
     alloc: Global,
     out: &mut W,

@@ -1,4 +1,12 @@
-//! rows: prints what the crates answer to the rows of the files that its words name.
+//! rows: prints what the crates answer to the rows of the files that its words name. No claim rests on it.
+//!
+//! Of a file that holds a row of terms it prints the row's title and each term with its sort:
+//!
+//! ```text
+//! terms: over p                                   // terms over p
+//! declare: p Bool                                 // p Bool => declared
+//! term: (not p)                                   // (not p) => Bool
+//! ```
 #![tactic(auto)]
 
 mod commands;
@@ -78,7 +86,8 @@ fn print_answers<W: Write>(
     }
 }
 
-// Prints what is answered to a row over a library of the logic that its first field names, or of all theories.
+// Prints what is answered to a row over a library of the logic that its first field names, or of all
+// theories.
 fn print_over_library<W: Write>(
     alloc: Global,
     out: &mut W,

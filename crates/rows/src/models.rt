@@ -1,4 +1,4 @@
-//! Rows of models: each with the names that it defines, or its first fault.
+//! Rows of models: each with the names that it defines, or its first fault. This file evaluates nothing.
 
 ghost use Rattle.std.specs.Prelude.{IfOk, MatchOption};
 ghost use Rattle.smt_eval.specs.Interpretation.{Fits};
@@ -15,7 +15,8 @@ use std::alloc::Global;
 use std::io;
 use std::io::Write;
 
-/// Prints what is answered to declarations and models, in order. Each declaration is the command of its place behind the logic.
+/// Prints what is answered to declarations and models, in order. Each declaration is the command of its place
+/// behind the logic.
 pub(crate) fn print<W: Write>(
     alloc: Global,
     out: &mut W,
@@ -46,7 +47,8 @@ fn print_if_defined<W: Write>(
     Ok(())
 }
 
-/// Prints what is answered to a model of the declared names, and answers its interpretation, if it has no fault.
+/// Prints what is answered to a model of the declared names, and answers its interpretation, if it has no
+/// fault.
 pub(crate) fn print_model<W: Write>(
     alloc: Global,
     out: &mut W,

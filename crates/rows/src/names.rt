@@ -1,4 +1,4 @@
-//! What a library says of its names.
+//! What a library says of its names. This file changes no library.
 
 use anyhow::Result;
 use row_texts::Field;
@@ -32,7 +32,8 @@ pub(crate) fn print_counts<W: Write>(
     writeln!(out, "{title} => {declared} declared, {definitions} defined")
 }
 
-/// Writes where a library has a name, by its place among the declared names or among the definitions, from 0, and its rank.
+/// Writes where a library has a name, by its place among the declared names or among the definitions, from 0,
+/// and its rank.
 pub(crate) fn write_found<W: Write>(out: &mut W, library: &Library, name: &[u8]) -> io::Result<()> {
     match library.find(name) {
         Some(Found::Declared(place)) => {
@@ -56,7 +57,8 @@ pub(crate) fn write_sort<W: Write>(out: &mut W, sort: &Sort) -> io::Result<()> {
     }
 }
 
-// Writes the command of a declared name and its rank, as ` by command 2: (Int Bool) Int`, or that nothing is at its place.
+// Writes the command of a declared name and its rank, as ` by command 2: (Int Bool) Int`, or that nothing is
+// at its place.
 fn write_declared<W: Write>(out: &mut W, declared: Option<&Declared>) -> io::Result<()> {
     let Some(declared) = declared else {
         return write!(out, ", and is not there");
@@ -70,7 +72,8 @@ fn write_declared<W: Write>(out: &mut W, declared: Option<&Declared>) -> io::Res
     write_sort(out, &declared.result)
 }
 
-// Writes the parameters of a definition and the sort of its result, as `: ((a Int) (b Bool)) Int`, or that nothing is at its place.
+// Writes the parameters of a definition and the sort of its result, as `: ((a Int) (b Bool)) Int`, or that
+// nothing is at its place.
 fn write_definition<W: Write>(out: &mut W, definition: Option<&Definition>) -> io::Result<()> {
     let Some(definition) = definition else {
         return write!(out, ", and is not there");

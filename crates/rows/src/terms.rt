@@ -1,4 +1,5 @@
-//! Rows of terms: each with its sort, or the first fault that is told of it; and of definitions, assertions and names.
+//! Rows of terms: each with its sort, or the first fault that is told of it; and of definitions, assertions
+//! and names. This file evaluates nothing.
 
 use crate::names::{print_counts, print_name, write_sort};
 use crate::trees::{declare, print_answer, refuse, tree_of, trees_of};
@@ -10,7 +11,8 @@ use smt_trees::Tree;
 use std::alloc::Global;
 use std::io::Write;
 
-/// Prints what is answered to the fields, in order. Each declaration is the command of its place behind the logic.
+/// Prints what is answered to the fields, in order. Each declaration is the command of its place behind the
+/// logic.
 pub(crate) fn print<W: Write>(
     alloc: Global,
     out: &mut W,
@@ -66,7 +68,8 @@ fn write_checked<W: Write>(
     Ok(())
 }
 
-// Defines the name that a field holds, and prints the answer. Behind the name stand the parameters, the sort and the body.
+// Defines the name that a field holds, and prints the answer. Behind the name stand the parameters, the sort
+// and the body.
 fn define<W: Write>(
     alloc: Global,
     out: &mut W,

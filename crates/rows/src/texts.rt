@@ -1,4 +1,4 @@
-//! Rows of texts: each with what is read of it, whole and in pieces.
+//! Rows of texts: each with what is read of it, whole and in pieces. This file knows no term.
 
 ghost use Rattle.std.specs.Prelude.{◌≤◌, length};
 
@@ -35,7 +35,8 @@ fn write_read<W: Write>(alloc: Global, out: &mut W, text: &[u8]) -> Result<()> {
     Ok(())
 }
 
-// Cuts a text at every two places. Where something else is read of the pieces, writes the first two such places, and what it is.
+// Cuts a text at every two places. Where something else is read of the pieces, writes the first two such
+// places, and what it is.
 fn write_other<W: Write>(alloc: Global, out: &mut W, text: &[u8], whole: &[u8]) -> Result<()> {
     for first in 0..text.len() {
         for second in first..text.len() {

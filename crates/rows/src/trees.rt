@@ -1,4 +1,5 @@
-//! The trees that fields hold, logics, declarations, and what is answered to them.
+//! The trees that fields hold, logics, declarations, and what is answered to them. This file knows no kind of
+//! row.
 
 ghost use Rattle.smt_terms.specs.Library.{StandsFor};
 ghost use Rattle.smt_terms.specs.Signature.{Signature};
@@ -38,7 +39,8 @@ pub(crate) fn parts_of(alloc: Global, field: &Field) -> Result<Trees> {
     }
 }
 
-/// The theories of the logic that the first field names, and the fields behind it. Where none is named there are all theories.
+/// The theories of the logic that the first field names, and the fields behind it. Where none is named there
+/// are all theories.
 pub(crate) fn split_logic<'a, 'b>(
     alloc: Global,
     fields: &'b [Field<'a>],
@@ -54,8 +56,8 @@ pub(crate) fn split_logic<'a, 'b>(
     }
 }
 
-/// Declares the name that a field holds, by the command of this number, and prints the answer. Behind the name stand the sort, or the
-/// list of the parameters' sorts and the result's.
+/// Declares the name that a field holds, by the command of this number, and prints the answer. Behind the
+/// name stand the sort, or the list of the parameters' sorts and the result's.
 pub(crate) fn declare<W: Write>(
     alloc: Global,
     out: &mut W,

@@ -1,4 +1,5 @@
-//! Rows of values: terms over the definitions of a model, each with its known value.
+//! Rows of values: terms over the definitions of a model, each with its known value. This file computes no
+//! value itself.
 
 ghost use Rattle.smt_eval.specs.Interpretation.{Fits};
 ghost use Rattle.smt_terms.specs.Library.{StandsFor};

@@ -1,5 +1,6 @@
 -- What the lowest m of the machine's 128 bits are.
-use Rattle.std.proofs.Common.{◌≡◌, ℕ, ◌+◌, ◌-◌, ◌*◌, ◌/◌, ◌%◌, ◌^◌, ◌<◌, ◌≤◌, sym, ap, ◌∙◌, arith, ne_eqb, div-le_self, lt_of_le_of_lt, pow_pos, pow-add, add-mul, one-mul, div-add-mod'}
+use Rattle.std.proofs.Common.{◌≡◌, ℕ, ◌+◌, ◌-◌, ◌*◌, ◌/◌, ◌%◌, ◌^◌, ◌<◌, ◌≤◌, sym, ap, ◌∙◌, arith, ne_eqb}
+use Rattle.std.proofs.Common.{div-le_self, lt_of_le_of_lt, pow_pos, pow-add, add-mul, one-mul, div-add-mod'}
 use Rattle.std.proofs.Math.Nat.{add-mod_right, add-mul-mod_self_right, mod-eq_of_lt, mod-le}
 use Rattle.std.proofs.lemmas.Nat.{div-mul-add, mod-mul-add}
 use Rattle.std.proofs.Math.Pow.{mod-mod-pow}
@@ -11,7 +12,8 @@ whole m within =
     let some : 0 < p = pow_pos (128 - m) in
     let sum : 128 ≡ 128 - m + m = omega arith in
     let is : p ≡ 1 + (p - 1) = omega arith in
-    ap (λ k. 2 ^ k) sum ∙ pow-add 2 (128 - m) m ∙ ap (λ x. x * 2 ^ m) is ∙ add-mul 1 (p - 1) (2 ^ m) ∙ ap (λ x. x + (p - 1) * 2 ^ m) (one-mul (2 ^ m))
+    ap (λ k. 2 ^ k) sum ∙ pow-add 2 (128 - m) m ∙ ap (λ x. x * 2 ^ m) is ∙ add-mul 1 (p - 1) (2 ^ m) ∙ ap
+    (λ x. x + (p - 1) * 2 ^ m) (one-mul (2 ^ m))
 
 pub shorter : (m n : ℕ) → m ≤ 128 → n % 2 ^ 128 % 2 ^ m ≡ n % 2 ^ m
 shorter m n within =
@@ -19,18 +21,21 @@ shorter m n within =
     ap (λ k. n % 2 ^ k % 2 ^ m) sum ∙ mod-mod-pow n (128 - m) m
 
 -- of `wrapping_sub`
-pub difference : (m s t : ℕ) → m ≤ 128 → t < 2 ^ m → (s + (2 ^ 128 - t)) % 2 ^ 128 % 2 ^ m ≡ (s + (2 ^ m - t)) % 2 ^ m
+pub difference : (m s t : ℕ) → m ≤ 128 → t < 2 ^ m
+    → (s + (2 ^ 128 - t)) % 2 ^ 128 % 2 ^ m ≡ (s + (2 ^ m - t)) % 2 ^ m
 difference m s t within below =
     let p = 2 ^ (128 - m) - 1 in
     let all = whole m within in
     let turned : s + (2 ^ 128 - t) ≡ s + (2 ^ m - t) + p * 2 ^ m = omega arith in
-    shorter m (s + (2 ^ 128 - t)) within ∙ ap (λ n. n % 2 ^ m) turned ∙ add-mul-mod_self_right (s + (2 ^ m - t)) p (2 ^ m)
+    shorter m (s + (2 ^ 128 - t)) within ∙ ap (λ n. n % 2 ^ m) turned ∙ add-mul-mod_self_right
+    (s + (2 ^ m - t)) p (2 ^ m)
 
 -- of `wrapping_neg`
 pub negation : (m r s : ℕ) → m ≤ 128 → s < 2 ^ m → (r + s) % 2 ^ 128 ≡ 0 → r % 2 ^ m ≡ (2 ^ m - s) % 2 ^ m
 negation m r s within below none =
     let k = (r + s) / 2 ^ m in
-    let rest : (r + s) % 2 ^ m ≡ 0 = sym (shorter m (r + s) within) ∙ ap (λ n. n % 2 ^ m) none ∙ mod-eq_of_lt (pow_pos m) in
+    let rest : (r + s) % 2 ^ m ≡ 0 = sym (shorter m (r + s) within) ∙ ap (λ n. n % 2 ^ m) none ∙ mod-eq_of_lt
+    (pow_pos m) in
     let turned : r + 2 ^ m ≡ 2 ^ m - s + k * 2 ^ m = omega (arith, div-add-mod' (r + s) (2 ^ m)) in
     sym (add-mod_right r (2 ^ m)) ∙ ap (λ n. n % 2 ^ m) turned ∙ add-mul-mod_self_right (2 ^ m - s) k (2 ^ m)
 
@@ -54,5 +59,8 @@ remainder m s t some below = rw (ne_eqb t 0 some) (mod-eq_of_lt (lt_of_le_of_lt 
 
 pub quotient_one : (m s t q r : ℕ) → s ≡ q * t + r → r < t → (q ≡ bvudiv m s t) × (r ≡ bvurem m s t)
 quotient_one m s t q r is less =
-    let some : t ≡ 0 → ⊥ = λ none. omega arith in
-    (rw (ne_eqb t 0 some) (sym (ap (λ n. n / t) is ∙ div-mul-add q t r less)), rw (ne_eqb t 0 some) (sym (ap (λ n. n % t) is ∙ mod-mul-add q t r less)))
+    let some : t ≡ 0 → ⊥ = λ none. omega arith in (
+      rw (ne_eqb t 0 some) (sym (ap (λ n. n / t) is ∙ div-mul-add q t r less)),
+      rw (ne_eqb t 0 some)
+          (sym (ap (λ n. n % t) is ∙ mod-mul-add q t r less)),
+    )

@@ -1,6 +1,8 @@
 -- What the code of the parts computes.
-use Rattle.std.proofs.Common.{◌≡◌, ℕ, add_comm, zero, suc, ◌+◌, ◌-◌, ◌*◌, ◌/◌, ◌%◌, ◌^◌, ◌<◌, ◌≤◌, sym, ap, subst, ◌∙◌, arith, bit_or}
-use Rattle.std.proofs.lemmas.Nat.{pow_pos, pow-add, mul-add-lt, or_shifted, shl_whole, or_mod, mod-pow-add, mul-le, mod_below, mod_low, shl-shr, shr_high, shr_le, shr_below, shr_split}
+use Rattle.std.proofs.Common.{◌≡◌, ℕ, add_comm, zero, suc, ◌+◌, ◌-◌, ◌*◌, ◌/◌, ◌%◌, ◌^◌, ◌<◌, ◌≤◌, sym, ap}
+use Rattle.std.proofs.Common.{subst, ◌∙◌, arith, bit_or}
+use Rattle.std.proofs.lemmas.Nat.{pow_pos, pow-add, mul-add-lt, or_shifted, shl_whole, or_mod, mod-pow-add}
+use Rattle.std.proofs.lemmas.Nat.{mul-le, mod_below, mod_low, shl-shr, shr_high, shr_le, shr_below, shr_split}
 use Rattle.std.proofs.Math.Nat.{mod-eq_of_lt, mod-one, div-eq_of_lt, div-one, mul-mod_left, zero-mul}
 use Rattle.std.proofs.Math.Pow.{mod-mod-pow, shr_mod}
 use Rattle.smt_bits.specs.Operators as meaning
@@ -27,7 +29,8 @@ mod_wider m i s below =
 pub rotated_none : (m s : ℕ) → s < 2 ^ m → s ≡ meaning.rotated_left 0 m s
 rotated_none m s below =
     let left : m ≡ m - 0 = omega arith in
-    subst (λ w. s ≡ s % 2 ^ w * 2 ^ 0 + s / 2 ^ w) left (omega (arith, mod-eq_of_lt below, div-eq_of_lt below))
+    subst (λ w. s ≡ s % 2 ^ w * 2 ^ 0 + s / 2 ^ w) left
+    (omega (arith, mod-eq_of_lt below, div-eq_of_lt below))
 
 pub rotated_whole : (m s : ℕ) → s ≡ meaning.rotated_left m m s
 rotated_whole m s =
@@ -57,7 +60,9 @@ or_rotated k m s below within most =
     let low : s / 2 ^ (m - k) < 2 ^ k = shr_below s k (m - k) (rw parts below) in
     let fits : s / 2 ^ (m - k) < 2 ^ m = omega (arith, shr_le s (m - k)) in
     or_mod (s * 2 ^ k % 2 ^ 128) (s / 2 ^ (m - k)) m
-    ∙ ap (λ x. bit_or x (s / 2 ^ (m - k) % 2 ^ m)) (ap (λ w. s * 2 ^ k % 2 ^ w % 2 ^ m) (sym whole) ∙ mod-mod-pow (s * 2 ^ k) (128 - m) m ∙ shl_mod k m s within)
+    ∙ ap (λ x. bit_or x (s / 2 ^ (m - k) % 2 ^ m))
+    (ap (λ w. s * 2 ^ k % 2 ^ w % 2 ^ m) (sym whole) ∙ mod-mod-pow (s * 2 ^ k)
+    (128 - m) m ∙ shl_mod k m s within)
     ∙ ap (λ x. bit_or (s % 2 ^ (m - k) * 2 ^ k) x) (mod-eq_of_lt fits)
     ∙ or_shifted (s % 2 ^ (m - k)) k (s / 2 ^ (m - k)) low
 
@@ -74,11 +79,23 @@ times_more k m = omega arith
 pub times_within : (k i m : ℕ) → k < i → k * m + m ≤ i * m
 times_within k i m less = omega (arith, mul-le (k + 1) m i m (omega arith) (omega arith), times_more k m)
 
-pub ruleset parts = (or_concat, mod_wider, rotated_none, rotated_whole, rotated_back, or_rotated, repeat_once, repeat_more, times_more, times_within)
+pub ruleset parts = (
+  or_concat,
+  mod_wider,
+  rotated_none,
+  rotated_whole,
+  rotated_back,
+  or_rotated,
+  repeat_once,
+  repeat_more,
+  times_more,
+  times_within,
+)
 
 -- ---- laws
 
-pub parts_whole : (m j s : ℕ) → 1 ≤ j → j < m → s < 2 ^ m → meaning.concat j (meaning.extract (m - 1) j s) (meaning.extract (j - 1) 0 s) ≡ s
+pub parts_whole : (m j s : ℕ) → 1 ≤ j → j < m → s < 2 ^ m
+    → meaning.concat j (meaning.extract (m - 1) j s) (meaning.extract (j - 1) 0 s) ≡ s
 parts_whole m j s some less below =
     let high : m - 1 - j + 1 ≡ m - j = omega arith in
     let low : j - 1 - 0 + 1 ≡ j = omega arith in
@@ -90,7 +107,8 @@ parts_whole m j s some less below =
     ∙ shr_split s j
 
 -- two parts in the other order, and back
-turned_back : (j k s : ℕ) → s < 2 ^ (j + k) → let turned = s % 2 ^ j * 2 ^ k + s / 2 ^ j in turned % 2 ^ k * 2 ^ j + turned / 2 ^ k ≡ s
+turned_back : (j k s : ℕ) → s < 2 ^ (j + k) → let turned = s % 2 ^ j * 2 ^ k + s / 2 ^ j
+    in turned % 2 ^ k * 2 ^ j + turned / 2 ^ k ≡ s
 turned_back j k s below =
     let low : s / 2 ^ j < 2 ^ k = shr_below s k j (rw (add_comm k j) below) in
     ap (λ q. q * 2 ^ j + (s % 2 ^ j * 2 ^ k + s / 2 ^ j) / 2 ^ k) (mod_low (s % 2 ^ j) k (s / 2 ^ j) low)
@@ -99,7 +117,8 @@ turned_back j k s below =
 
 turned_below : (j k s : ℕ) → s < 2 ^ (j + k) → s % 2 ^ j * 2 ^ k + s / 2 ^ j < 2 ^ (j + k)
 turned_below j k s below =
-    concat_below j k (s % 2 ^ j) (s / 2 ^ j) (mod_below s (2 ^ j) (pow_pos j)) (shr_below s k j (rw (add_comm k j) below))
+    concat_below j k (s % 2 ^ j) (s / 2 ^ j) (mod_below s (2 ^ j) (pow_pos j))
+    (shr_below s k j (rw (add_comm k j) below))
 
 pub left_back : (i m s : ℕ) → 1 ≤ m → s < 2 ^ m → meaning.rotate_right i m (meaning.rotate_left i m s) ≡ s
 left_back i m s some below =
@@ -117,13 +136,15 @@ pub left_below : (i m s : ℕ) → 1 ≤ m → s < 2 ^ m → meaning.rotate_left
 left_below i m s some below =
     let less = mod_below i m some in
     let parts : m - i % m + i % m ≡ m = omega arith in
-    subst (λ w. s % 2 ^ (m - i % m) * 2 ^ (i % m) + s / 2 ^ (m - i % m) < 2 ^ w) parts (turned_below (m - i % m) (i % m) s (rw parts below))
+    subst (λ w. s % 2 ^ (m - i % m) * 2 ^ (i % m) + s / 2 ^ (m - i % m) < 2 ^ w) parts
+    (turned_below (m - i % m) (i % m) s (rw parts below))
 
 pub right_below : (i m s : ℕ) → 1 ≤ m → s < 2 ^ m → meaning.rotate_right i m s < 2 ^ m
 right_below i m s some below =
     let less = mod_below i m some in
     let parts : i % m + (m - i % m) ≡ m = omega arith in
-    subst (λ w. s % 2 ^ (i % m) * 2 ^ (m - i % m) + s / 2 ^ (i % m) < 2 ^ w) parts (turned_below (i % m) (m - i % m) s (rw parts below))
+    subst (λ w. s % 2 ^ (i % m) * 2 ^ (m - i % m) + s / 2 ^ (i % m) < 2 ^ w) parts
+    (turned_below (i % m) (m - i % m) s (rw parts below))
 
 pub extract_below : (i j s : ℕ) → meaning.extract i j s < 2 ^ (i - j + 1)
 extract_below i j s = mod_below (s / 2 ^ j) (2 ^ (i - j + 1)) (pow_pos (i - j + 1))
@@ -132,4 +153,5 @@ pub repeat_below : (i m s : ℕ) → s < 2 ^ m → meaning.repeat i m s < 2 ^ (i
 repeat_below zero m s below = subst (λ w. 0 < 2 ^ w) (sym (zero-mul m)) (pow_pos 0)
 repeat_below (suc i) m s below =
     let next : i * m + m ≡ suc i * m = omega arith in
-    subst (λ w. meaning.repeat (suc i) m s < 2 ^ w) next (concat_below (i * m) m (meaning.repeat i m s) s (repeat_below i m s below) below)
+    subst (λ w. meaning.repeat (suc i) m s < 2 ^ w) next
+    (concat_below (i * m) m (meaning.repeat i m s) s (repeat_below i m s below) below)

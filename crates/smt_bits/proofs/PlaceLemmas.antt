@@ -1,8 +1,11 @@
 -- Shifts and parts, bit by bit.
-use Rattle.std.proofs.Common.{◌≡◌, ℕ, zero, suc, ◌+◌, ◌-◌, ◌*◌, ◌/◌, ◌%◌, ◌^◌, ◌<◌, ◌≤◌, pos, negsuc, Bool, true, false, cond, Some, None, sym, ap, ◌∙◌, ⊎_elim, arith, add-zero, add_comm, lt_of_le_of_lt}
+use Rattle.std.proofs.Common.{◌≡◌, ℕ, zero, suc, ◌+◌, ◌-◌, ◌*◌, ◌/◌, ◌%◌, ◌^◌, ◌<◌, ◌≤◌, pos, negsuc, Bool}
+use Rattle.std.proofs.Common.{true, false, cond, Some, None, sym, ap, ◌∙◌, ⊎_elim, arith, add-zero, add_comm}
+use Rattle.std.proofs.Common.{lt_of_le_of_lt}
 use Rattle.std.proofs.lemmas.Bool.{cases_lt}
 use Rattle.std.proofs.lemmas.Nat.{mod_below, pow_pos, shr_below, shr_le, shr_split}
-use Rattle.std.proofs.lemmas.Nat.Bits.{bit_at-lt, bit_at-zero, bit_at_above, bit_at_cat_high, bit_at_cat_low, bit_at_ones, same_from_bits_below}
+use Rattle.std.proofs.lemmas.Nat.Bits.{bit_at-lt, bit_at-zero, bit_at_above, bit_at_cat_high, bit_at_cat_low}
+use Rattle.std.proofs.lemmas.Nat.Bits.{bit_at_ones, same_from_bits_below}
 use Rattle.std.proofs.Math.Nat.{add-mod-mod, add-mod_right, mod-eq_of_lt, two-pow-succ}
 use Rattle.std.proofs.Math.Pow.{pow_mono}
 use Rattle.std.specs.Int.{bit_at, int_div_euclid}
@@ -11,18 +14,22 @@ use Rattle.smt_bits.proofs.BitwiseLemmas.{bits_same, complement_is}
 use Rattle.smt_bits.proofs.PartLemmas.{mod_wider}
 use Rattle.smt_bits.proofs.SignedReadingLemmas.{modulo_below, signed_high, signed_low}
 use Rattle.smt_bits.specs.BitVector.{BitVector, IsVector, modulo, signed, vector}
-use Rattle.smt_bits.specs.Operators.{bvashr, bvlshr, bvnot, bvshl, concat, extract, repeat, rotate_left, rotate_right, rotated_left, rotated_right, sign_extend}
+use Rattle.smt_bits.specs.Operators.{bvashr, bvlshr, bvnot, bvshl, concat, extract, repeat, rotate_left}
+use Rattle.smt_bits.specs.Operators.{rotate_right, rotated_left, rotated_right, sign_extend}
 use Rattle.smt_bits.specs.Parts.{zero_extension}
 
 -- ---- the lowest bits, and those from a place on
 
 at_lowest : (n w k : ℕ) → k < w → bit_at (n % 2 ^ w) k ≡ bit_at n k
-at_lowest n w k within = sym (bit_at_cat_low (n / 2 ^ w) w (n % 2 ^ w) k within) ∙ ap (λ x. bit_at x k) (shr_split n w)
+at_lowest n w k within =
+    sym (bit_at_cat_low (n / 2 ^ w) w (n % 2 ^ w) k within) ∙ ap (λ x. bit_at x k) (shr_split n w)
 
 at_from : (n j k : ℕ) → bit_at (n / 2 ^ j) k ≡ bit_at n (j + k)
 at_from n j k =
     let place : k ≡ j + k - j = omega arith in
-    ap (bit_at (n / 2 ^ j)) place ∙ sym (bit_at_cat_high (n / 2 ^ j) j (n % 2 ^ j) (j + k) (mod_below n (2 ^ j) (pow_pos j)) (omega arith)) ∙ ap (λ x. bit_at x (j + k)) (shr_split n j)
+    ap (bit_at (n / 2 ^ j)) place ∙ sym
+    (bit_at_cat_high (n / 2 ^ j) j (n % 2 ^ j) (j + k) (mod_below n (2 ^ j) (pow_pos j)) (omega arith)) ∙
+    ap (λ x. bit_at x (j + k)) (shr_split n j)
 
 -- ---- parts
 
@@ -49,11 +56,13 @@ repeat_at (suc i) m s k below within =
     ⊎_elim
     (λ low. concat_low m (repeat i m s) s k low ∙ ap (bit_at s) (sym (mod-eq_of_lt low)))
     (λ past.
-    bit_at_cat_high (repeat i m s) m s k below past ∙ repeat_at i m s (k - m) below (omega arith) ∙ ap (bit_at s) (place_more m k past))
+    bit_at_cat_high (repeat i m s) m s k below past ∙ repeat_at i m s (k - m) below (omega arith) ∙ ap
+    (bit_at s) (place_more m k past))
     (cases_lt k m)
 
 -- of rotations by less than the width
-rotated_at : (m r s k : ℕ) → r < m → k < m → s < 2 ^ m → bit_at (rotated_left r m s) ((k + r) % m) ≡ bit_at s k
+rotated_at : (m r s k : ℕ) → r < m → k < m → s < 2 ^ m
+    → bit_at (rotated_left r m s) ((k + r) % m) ≡ bit_at s k
 rotated_at m r s k less within below = ⊎_elim up around (cases_lt (k + r) m)
   where
     parts : r + (m - r) ≡ m
@@ -65,7 +74,8 @@ rotated_at m r s k less within below = ⊎_elim up around (cases_lt (k + r) m)
     up : k + r < m → bit_at (rotated_left r m s) ((k + r) % m) ≡ bit_at s k
     up h =
         let place : (k + r) % m ≡ r + k = mod-eq_of_lt h ∙ add_comm k r in
-        ap (bit_at (rotated_left r m s)) place ∙ concat_high r (s % 2 ^ (m - r)) (s / 2 ^ (m - r)) k low ∙ at_lowest s (m - r) k (omega arith)
+        ap (bit_at (rotated_left r m s)) place ∙ concat_high r (s % 2 ^ (m - r))
+        (s / 2 ^ (m - r)) k low ∙ at_lowest s (m - r) k (omega arith)
 
     around : m ≤ k + r → bit_at (rotated_left r m s) ((k + r) % m) ≡ bit_at s k
     around h =
@@ -73,13 +83,16 @@ rotated_at m r s k less within below = ⊎_elim up around (cases_lt (k + r) m)
         let sum : k + r ≡ j + m = omega arith in
         let place : (k + r) % m ≡ j = ap (λ x. x % m) sum ∙ add-mod_right j m ∙ mod-eq_of_lt (omega arith) in
         let back : m - r + j ≡ k = omega arith in
-        ap (bit_at (rotated_left r m s)) place ∙ concat_low r (s % 2 ^ (m - r)) (s / 2 ^ (m - r)) j (omega arith) ∙ at_from s (m - r) j ∙ ap (bit_at s) back
+        ap (bit_at (rotated_left r m s)) place ∙ concat_low r (s % 2 ^ (m - r)) (s / 2 ^ (m - r)) j
+        (omega arith) ∙ at_from s (m - r) j ∙ ap (bit_at s) back
 
 pub rotate_left_at : (i m s k : ℕ) → s < 2 ^ m → k < m → bit_at (rotate_left i m s) ((k + i) % m) ≡ bit_at s k
 rotate_left_at i m s k below within =
-    ap (bit_at (rotate_left i m s)) (sym (add-mod-mod k i m)) ∙ rotated_at m (i % m) s k (mod_below i m (omega arith)) within below
+    ap (bit_at (rotate_left i m s)) (sym (add-mod-mod k i m)) ∙ rotated_at m (i % m) s k
+    (mod_below i m (omega arith)) within below
 
-rotated_back_at : (m r s k : ℕ) → r < m → k < m → s < 2 ^ m → bit_at (rotated_right r m s) k ≡ bit_at s ((k + r) % m)
+rotated_back_at : (m r s k : ℕ) → r < m → k < m → s < 2 ^ m
+    → bit_at (rotated_right r m s) k ≡ bit_at s ((k + r) % m)
 rotated_back_at m r s k less within below = ⊎_elim down around (cases_lt (k + r) m)
   where
     parts : m - r + r ≡ m
@@ -99,21 +112,26 @@ rotated_back_at m r s k less within below = ⊎_elim down around (cases_lt (k + 
         let sum : k + r ≡ j + m = omega arith in
         let place : (k + r) % m ≡ j = ap (λ x. x % m) sum ∙ add-mod_right j m ∙ mod-eq_of_lt (omega arith) in
         let up : k ≡ m - r + j = omega arith in
-        ap (bit_at (rotated_right r m s)) up ∙ concat_high (m - r) (s % 2 ^ r) (s / 2 ^ r) j low ∙ at_lowest s r j (omega arith) ∙ ap (bit_at s) (sym place)
+        ap (bit_at (rotated_right r m s)) up ∙ concat_high (m - r) (s % 2 ^ r)
+        (s / 2 ^ r) j low ∙ at_lowest s r j (omega arith) ∙ ap (bit_at s) (sym place)
 
-pub rotate_right_at : (i m s k : ℕ) → s < 2 ^ m → k < m → bit_at (rotate_right i m s) k ≡ bit_at s ((k + i) % m)
+pub rotate_right_at : (i m s k : ℕ) → s < 2 ^ m → k < m
+    → bit_at (rotate_right i m s) k ≡ bit_at s ((k + i) % m)
 rotate_right_at i m s k below within =
-    rotated_back_at m (i % m) s k (mod_below i m (omega arith)) within below ∙ ap (bit_at s) (add-mod-mod k i m)
+    rotated_back_at m (i % m) s k (mod_below i m (omega arith)) within below ∙ ap (bit_at s)
+    (add-mod-mod k i m)
 
 -- ---- shifts
 
 pub shl_at : (m s t k : ℕ) → t + k < m → bit_at (bvshl m s t) (t + k) ≡ bit_at s k
-shl_at m s t k within = at_lowest (s * 2 ^ t) m (t + k) within ∙ ap (λ x. bit_at x (t + k)) (sym (add-zero (s * 2 ^ t))) ∙ concat_high t s 0 k (pow_pos t)
+shl_at m s t k within = at_lowest (s * 2 ^ t) m (t + k) within ∙ ap (λ x. bit_at x (t + k))
+    (sym (add-zero (s * 2 ^ t))) ∙ concat_high t s 0 k (pow_pos t)
 
 pub shl_zeros : (m s t k : ℕ) → k < t → bit_at (bvshl m s t) k ≡ 0
 shl_zeros m s t k low =
     ⊎_elim
-    (λ within. at_lowest (s * 2 ^ t) m k within ∙ ap (λ x. bit_at x k) (sym (add-zero (s * 2 ^ t))) ∙ concat_low t s 0 k low ∙ bit_at-zero k)
+    (λ within. at_lowest (s * 2 ^ t) m k within ∙ ap (λ x. bit_at x k)
+    (sym (add-zero (s * 2 ^ t))) ∙ concat_low t s 0 k low ∙ bit_at-zero k)
     (λ past. bit_at_above (bvshl m s t) m k (mod_below (s * 2 ^ t) (2 ^ m) (pow_pos m)) past)
     (cases_lt k m)
 
@@ -144,11 +162,13 @@ sign_high h s below high =
     let double = two-pow-succ h in
     let is : s ≡ 1 * 2 ^ h + (s - 2 ^ h) = omega arith in
     let none : h - h ≡ 0 = omega arith in
-    ap (λ x. bit_at x h) is ∙ bit_at_cat_high 1 h (s - 2 ^ h) h (omega arith) (omega arith) ∙ ap (bit_at 1) none
+    ap (λ x. bit_at x h) is ∙ bit_at_cat_high 1 h (s - 2 ^ h) h (omega arith) (omega arith) ∙ ap
+    (bit_at 1) none
 
 ashr_low : (m s t : ℕ) → s < 2 ^ m → 2 * s < 2 ^ m → bvashr m s t ≡ s / 2 ^ t
 ashr_low m s t below low =
-    ap (λ z. modulo m (int_div_euclid z (pos (2 ^ t)))) (signed_low m s low) ∙ mod-eq_of_lt (lt_of_le_of_lt (shr_le s t) below)
+    ap (λ z. modulo m (int_div_euclid z (pos (2 ^ t)))) (signed_low m s low) ∙ mod-eq_of_lt
+    (lt_of_le_of_lt (shr_le s t) below)
 
 ashr_high : (m s t : ℕ) → s < 2 ^ m → 2 ^ m ≤ 2 * s → bvashr m s t ≡ 2 ^ m - suc ((2 ^ m - suc s) / 2 ^ t)
 ashr_high m s t below high =
@@ -159,17 +179,20 @@ ashr_high m s t below high =
     ap (λ z. modulo m (int_div_euclid z (pos (2 ^ t)))) (signed_high m s k (omega arith) high) ∙ is
 
 -- of a number below 0 shifted: the bits of its complement, turned
-ashr_turned : (m s t k : ℕ) → s < 2 ^ m → 2 ^ m ≤ 2 * s → k < m → bit_at (bvashr m s t) k ≡ 1 - bit_at (2 ^ m - suc s) (t + k)
+ashr_turned : (m s t k : ℕ) → s < 2 ^ m → 2 ^ m ≤ 2 * s → k < m
+    → bit_at (bvashr m s t) k ≡ 1 - bit_at (2 ^ m - suc s) (t + k)
 ashr_turned m s t k below high within =
     let c = 2 ^ m - suc s in
     ap (λ x. bit_at x k) (ashr_high m s t below high)
-    ∙ complement_at m (c / 2 ^ t) k (lt_of_le_of_lt (shr_le c t) (omega arith)) within ∙ ap (λ b. 1 - b) (at_from c t k)
+    ∙ complement_at m (c / 2 ^ t) k (lt_of_le_of_lt (shr_le c t) (omega arith)) within ∙ ap (λ b. 1 - b)
+    (at_from c t k)
 
 pub ashr_at : (m s t k : ℕ) → s < 2 ^ m → t + k < m → bit_at (bvashr m s t) k ≡ bit_at s (t + k)
 ashr_at m s t k below within =
     ⊎_elim
     (λ low. ap (λ x. bit_at x k) (ashr_low m s t below low) ∙ at_from s t k)
-    (λ high. ashr_turned m s t k below high (omega arith) ∙ ap (λ b. 1 - b) (complement_at m s (t + k) below within) ∙ turned (bit_at s (t + k)) (bit_at-lt s (t + k)))
+    (λ high. ashr_turned m s t k below high (omega arith) ∙ ap (λ b. 1 - b)
+    (complement_at m s (t + k) below within) ∙ turned (bit_at s (t + k)) (bit_at-lt s (t + k)))
     (cases_lt (2 * s) (2 ^ m))
 
 pub ashr_sign : (m s t k : ℕ) → s < 2 ^ m → k < m → m ≤ t + k → bit_at (bvashr m s t) k ≡ bit_at s (m - 1)
@@ -177,14 +200,17 @@ ashr_sign zero s t k below within past = absurd (omega arith)
 ashr_sign (suc h) s t k below within past =
     let highest : h ≡ suc h - 1 = omega arith in
     ⊎_elim
-    (λ low. ap (λ x. bit_at x k) (ashr_low (suc h) s t below low) ∙ at_from s t k ∙ bit_at_above s (suc h) (t + k) below past ∙ sym (sign_low h s low))
+    (λ low. ap (λ x. bit_at x k) (ashr_low (suc h) s t below low) ∙ at_from s t k ∙ bit_at_above s (suc h)
+    (t + k) below past ∙ sym (sign_low h s low))
     (λ high. ashr_turned (suc h) s t k below high within
-    ∙ ap (λ b. 1 - b) (bit_at_above (2 ^ suc h - suc s) (suc h) (t + k) (omega arith) past) ∙ sym (sign_high h s below high))
+    ∙ ap (λ b. 1 - b) (bit_at_above (2 ^ suc h - suc s) (suc h) (t + k) (omega arith) past) ∙ sym
+    (sign_high h s below high))
     (cases_lt (2 * s) (2 ^ suc h))
     ∙ ap (bit_at s) highest
 
 -- by the whole width or more
-ashr_past : (m s t b : ℕ) → s < 2 ^ m → m ≤ t → bit_at s (m - 1) ≡ b → (n : ℕ) → n < 2 ^ m → ((k : ℕ) → k < m → bit_at n k ≡ b) → bvashr m s t ≡ n
+ashr_past : (m s t b : ℕ) → s < 2 ^ m → m ≤ t → bit_at s (m - 1) ≡ b → (n : ℕ) → n < 2 ^ m
+    → ((k : ℕ) → k < m → bit_at n k ≡ b) → bvashr m s t ≡ n
 ashr_past m s t b below past sign n fits each =
     same_from_bits_below m (bvashr m s t) n (modulo_below m (int_div_euclid (signed m s) (pos (2 ^ t)))) fits
     (λ k within. ashr_sign m s t k below within (omega arith) ∙ sign ∙ sym (each k within))
@@ -193,7 +219,8 @@ pub ashr_zeros : (m s t : ℕ) → s < 2 ^ m → m ≤ t → bit_at s (m - 1) �
 ashr_zeros m s t below past sign = ashr_past m s t 0 below past sign 0 (pow_pos m) (λ k within. bit_at-zero k)
 
 pub ashr_ones : (m s t : ℕ) → s < 2 ^ m → m ≤ t → bit_at s (m - 1) ≡ 1 → bvashr m s t ≡ 2 ^ m - 1
-ashr_ones m s t below past sign = ashr_past m s t 1 below past sign (2 ^ m - 1) (omega (arith, pow_pos m)) (bit_at_ones m)
+ashr_ones m s t below past sign =
+    ashr_past m s t 1 below past sign (2 ^ m - 1) (omega (arith, pow_pos m)) (bit_at_ones m)
 
 -- ---- extensions
 
@@ -207,40 +234,52 @@ extend_high i m s below high =
     let is : modulo (m + i) (negsuc k) ≡ 2 ^ (m + i) - suc k = omega (arith, same) in
     ap (modulo (m + i)) (signed_high m s k (omega arith) high) ∙ is
 
-extend_turned : (i m s k : ℕ) → s < 2 ^ m → 2 ^ m ≤ 2 * s → k < m + i → bit_at (sign_extend i m s) k ≡ 1 - bit_at (2 ^ m - suc s) k
+extend_turned : (i m s k : ℕ) → s < 2 ^ m → 2 ^ m ≤ 2 * s → k < m + i
+    → bit_at (sign_extend i m s) k ≡ 1 - bit_at (2 ^ m - suc s) k
 extend_turned i m s k below high within =
     let wider : 2 ^ m ≤ 2 ^ (m + i) = pow_mono (omega arith) in
-    ap (λ x. bit_at x k) (extend_high i m s below high) ∙ complement_at (m + i) (2 ^ m - suc s) k (omega arith) within
+    ap (λ x. bit_at x k) (extend_high i m s below high) ∙ complement_at (m + i) (2 ^ m - suc s) k
+    (omega arith) within
 
 pub sign_extend_at : (i m s k : ℕ) → s < 2 ^ m → k < m → bit_at (sign_extend i m s) k ≡ bit_at s k
 sign_extend_at i m s k below within =
     ⊎_elim
     (λ low. ap (λ x. bit_at x k) (extend_low i m s below low))
-    (λ high. extend_turned i m s k below high (omega arith) ∙ ap (λ b. 1 - b) (complement_at m s k below within) ∙ turned (bit_at s k) (bit_at-lt s k))
+    (λ high. extend_turned i m s k below high (omega arith) ∙ ap (λ b. 1 - b)
+    (complement_at m s k below within) ∙ turned (bit_at s k) (bit_at-lt s k))
     (cases_lt (2 * s) (2 ^ m))
 
-pub sign_extend_sign : (i m s k : ℕ) → s < 2 ^ m → m ≤ k → k < m + i → bit_at (sign_extend i m s) k ≡ bit_at s (m - 1)
+pub sign_extend_sign : (i m s k : ℕ) → s < 2 ^ m → m ≤ k → k < m + i
+    → bit_at (sign_extend i m s) k ≡ bit_at s (m - 1)
 sign_extend_sign i zero s k below past within =
-    ap (λ x. bit_at x k) (extend_low i 0 s below (omega arith)) ∙ bit_at_above s 0 k below past ∙ sym (bit_at_above s 0 0 below (omega arith))
+    ap (λ x. bit_at x k) (extend_low i 0 s below (omega arith)) ∙ bit_at_above s 0 k below past ∙ sym
+    (bit_at_above s 0 0 below (omega arith))
 sign_extend_sign i (suc h) s k below past within =
     let highest : h ≡ suc h - 1 = omega arith in
     ⊎_elim
-    (λ low. ap (λ x. bit_at x k) (extend_low i (suc h) s below low) ∙ bit_at_above s (suc h) k below past ∙ sym (sign_low h s low))
+    (λ low. ap (λ x. bit_at x k) (extend_low i (suc h) s below low) ∙ bit_at_above s
+    (suc h) k below past ∙ sym (sign_low h s low))
     (λ high. extend_turned i (suc h) s k below high within
-    ∙ ap (λ b. 1 - b) (bit_at_above (2 ^ suc h - suc s) (suc h) k (omega arith) past) ∙ sym (sign_high h s below high))
+    ∙ ap (λ b. 1 - b) (bit_at_above (2 ^ suc h - suc s) (suc h) k (omega arith) past) ∙ sym
+    (sign_high h s below high))
     (cases_lt (2 * s) (2 ^ suc h))
     ∙ ap (bit_at s) highest
 
 -- the bits of a vector that is extended with zeros
-zero_extended : (i : ℕ) (v w : BitVector) → zero_extension i v ≡ Some w → (w.width ≡ v.width + i) × (w.number ≡ v.number)
+zero_extended : (i : ℕ) (v w : BitVector) → zero_extension i v ≡ Some w
+    → (w.width ≡ v.width + i) × (w.number ≡ v.number)
 zero_extended i v w h = by (nat_le (v.width + i) 128) h
   where
-    by : (b : Bool) → cond b (Some (vector (v.width + i) v.number)) None ≡ Some w → (w.width ≡ v.width + i) × (w.number ≡ v.number)
-    by true e = let is : vector (v.width + i) v.number ≡ w = cc in (sym (ap (λ (x : BitVector). x.width) is), sym (ap (λ (x : BitVector). x.number) is))
+    by : (b : Bool) → cond b (Some (vector (v.width + i) v.number)) None ≡ Some w
+        → (w.width ≡ v.width + i) × (w.number ≡ v.number)
+    by true e = let is : vector (v.width + i) v.number ≡ w = cc
+        in (sym (ap (λ (x : BitVector). x.width) is), sym (ap (λ (x : BitVector). x.number) is))
     by false e = cc
 
-pub zero_extend_at : (i : ℕ) (v w : BitVector) (k : ℕ) → zero_extension i v ≡ Some w → bit_at w.number k ≡ bit_at v.number k
+pub zero_extend_at : (i : ℕ) (v w : BitVector) (k : ℕ) → zero_extension i v ≡ Some w
+    → bit_at w.number k ≡ bit_at v.number k
 zero_extend_at i v w k h = ap (λ n. bit_at n k) (zero_extended i v w h).1
 
-pub zero_extend_zeros : (i : ℕ) (v w : BitVector) (k : ℕ) → IsVector v → zero_extension i v ≡ Some w → v.width ≤ k → bit_at w.number k ≡ 0
+pub zero_extend_zeros : (i : ℕ) (v w : BitVector) (k : ℕ) → IsVector v → zero_extension i v ≡ Some w
+    → v.width ≤ k → bit_at w.number k ≡ 0
 zero_extend_zeros i v w k is h past = zero_extend_at i v w k h ∙ bit_at_above v.number v.width k is.1 past

@@ -1,5 +1,6 @@
 -- The signed reading, and the way back.
-use Rattle.std.proofs.Common.{◌≡◌, ◌≢◌, ℕ, zero, suc, ◌+◌, ◌-◌, ◌*◌, ◌%◌, ◌^◌, ◌<◌, ◌≤◌, ℤ, pos, negsuc, ◌-ℤ◌, neg_ℤ, cond, refl, sym, ap, subst, ◌∙◌, ⊎_elim, arith, le-leb, lt_of_lt_of_le}
+use Rattle.std.proofs.Common.{◌≡◌, ◌≢◌, ℕ, zero, suc, ◌+◌, ◌-◌, ◌*◌, ◌%◌, ◌^◌, ◌<◌, ◌≤◌, ℤ, pos, negsuc, ◌-ℤ◌}
+use Rattle.std.proofs.Common.{neg_ℤ, cond, refl, sym, ap, subst, ◌∙◌, ⊎_elim, arith, le-leb, lt_of_lt_of_le}
 use Rattle.std.proofs.lemmas.Bool.{cases_lt, lt-leb}
 use Rattle.std.proofs.lemmas.Int.{ints}
 use Rattle.std.proofs.lemmas.Nat.{mod_below, pow_pos}
@@ -42,22 +43,26 @@ signed_within h s below =
     let double = two-pow-succ h in
     ⊎_elim
     (λ low. subst (λ z. mag z < 2 ^ h) (sym (signed_low (suc h) s low)) (omega arith))
-    (λ high. subst (λ z. mag z < 2 ^ h) (sym (signed_high (suc h) s (2 ^ suc h - suc s) (omega arith) high)) (omega arith))
+    (λ high. subst (λ z. mag z < 2 ^ h) (sym (signed_high (suc h) s (2 ^ suc h - suc s) (omega arith) high))
+    (omega arith))
     (cases_lt (2 * s) (2 ^ suc h))
 
-pub signed_extended : (i m s : ℕ) → 1 ≤ m → s < 2 ^ m → signed (m + i) (modulo (m + i) (signed m s)) ≡ signed m s
+pub signed_extended : (i m s : ℕ) → 1 ≤ m → s < 2 ^ m
+    → signed (m + i) (modulo (m + i) (signed m s)) ≡ signed m s
 signed_extended i zero s some below = absurd (omega arith)
 signed_extended i (suc h) s some below =
     let sum : suc (h + i) ≡ suc h + i = omega arith in
     let fits = lt_of_lt_of_le (signed_within h s below) (pow_mono (omega arith)) in
-    subst (λ w. signed w (modulo w (signed (suc h) s)) ≡ signed (suc h) s) sum (signed_modulo (h + i) (signed (suc h) s) fits)
+    subst (λ w. signed w (modulo w (signed (suc h) s)) ≡ signed (suc h) s) sum
+    (signed_modulo (h + i) (signed (suc h) s) fits)
 
 pub modulo_below : (m : ℕ) (z : ℤ) → modulo m z < 2 ^ m
 modulo_below m (pos n) = mod_below n (2 ^ m) (pow_pos m)
 modulo_below m (negsuc n) = omega (arith, pow_pos m)
 
 pub signed_nonzero : (m t : ℕ) → t < 2 ^ m → t ≢ 0 → signed m t ≢ pos 0
-signed_nonzero m t below some none = some (sym (modulo_signed m t below) ∙ ap (modulo m) none ∙ mod-eq_of_lt (pow_pos m))
+signed_nonzero m t below some none =
+    some (sym (modulo_signed m t below) ∙ ap (modulo m) none ∙ mod-eq_of_lt (pow_pos m))
 
 -- ---- absolute values
 

@@ -1,6 +1,8 @@
--- SMT-LIB 2.6, theory FixedSizeBitVectors and logic QF_BV: what the operators make of bit vectors. s and t are numbers of m bits,
--- unless another width is said; a number stands for its bits, or for an integer modulo 2 ^ m.
-use Rattle.std.specs.Prelude.{ℕ, zero, suc, ◌+◌, ◌-◌, ◌*◌, ◌/◌, ◌%◌, ◌^◌, ℤ, pos, neg_ℤ, int_lt, int_div, int_rem, Bool, ◌==◌, if◌then◌else◌}
+-- SMT-LIB 2.6, theory FixedSizeBitVectors and logic QF_BV: what the operators make of bit vectors. s and t
+-- are numbers of m bits, unless another width is said; a number stands for its bits, or for an integer modulo
+-- 2 ^ m.
+use Rattle.std.specs.Prelude.{ℕ, zero, suc, ◌+◌, ◌-◌, ◌*◌, ◌/◌, ◌%◌, ◌^◌, ℤ, pos, neg_ℤ, int_lt, int_div}
+use Rattle.std.specs.Prelude.{int_rem, Bool, ◌==◌, if◌then◌else◌}
 use Rattle.std.specs.Int.{bit_at, int_div_euclid, int_rem_euclid}
 use Rattle.smt_bits.specs.BitVector.{from_bits, is_negative, modulo, signed}
 
@@ -51,7 +53,8 @@ bvxnor m s t = from_bits (λ i. 1 - (bit_at s i + bit_at t i) % 2) m
 -- ---- signed division. `int_div` rounds towards 0, and `int_rem` has the dividend's sign
 
 abbrev pub bvsdiv : ℕ → ℕ → ℕ → ℕ
-bvsdiv m s t = if t == 0 then (if is_negative m s then 1 else 2 ^ m - 1) else modulo m (int_div (signed m s) (signed m t))
+bvsdiv m s t = if t == 0 then (if is_negative m s then 1 else 2 ^ m - 1)
+    else modulo m (int_div (signed m s) (signed m t))
 
 abbrev pub bvsrem : ℕ → ℕ → ℕ → ℕ
 bvsrem m s t = if t == 0 then s else modulo m (int_rem (signed m s) (signed m t))

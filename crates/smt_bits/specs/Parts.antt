@@ -1,5 +1,5 @@
--- The operators that change the width (SMT-LIB 2.6, theory FixedSizeBitVectors and logic QF_BV), where the result's width is within
--- this project's limit and the indexes are ones that the standard allows.
+-- The operators that change the width (SMT-LIB 2.6, theory FixedSizeBitVectors and logic QF_BV), where the
+-- result's width is within this project's limit and the indexes are ones that the standard allows.
 use Rattle.std.specs.Prelude.{ℕ, ◌+◌, ◌-◌, ◌*◌, Option, Some, None, nat_le, nat_lt, ◌&&◌, if◌then◌else◌}
 use Rattle.smt_bits.specs.BitVector.{BitVector, vector}
 use Rattle.smt_bits.specs.Operators as meaning
@@ -13,7 +13,8 @@ concatenation s t =
 
 -- bits i down to j
 abbrev pub extraction : ℕ → ℕ → BitVector → Option BitVector
-extraction i j s = if nat_le j i && nat_lt i s.width then Some (vector (i - j + 1) (meaning.extract i j s.number)) else None
+extraction i j s =
+    if nat_le j i && nat_lt i s.width then Some (vector (i - j + 1) (meaning.extract i j s.number)) else None
 
 -- i times s, for i from 1 on
 abbrev pub repetition : ℕ → BitVector → Option BitVector

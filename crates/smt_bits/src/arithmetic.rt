@@ -1,4 +1,5 @@
-//! Arithmetic modulo powers of two (SMT-LIB 2.6, theory FixedSizeBitVectors; `bvsub` is of logic QF_BV).
+//! Arithmetic modulo powers of two (SMT-LIB 2.6, theory FixedSizeBitVectors; `bvsub` is of logic QF_BV). No
+//! function here changes a width, or reads a sign.
 
 ghost use Rattle.std.specs.Prelude.{◌≡◌};
 ghost use Rattle.smt_bits.specs.BitVector.{vector};

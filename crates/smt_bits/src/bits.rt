@@ -1,4 +1,4 @@
-//! Bit vectors.
+//! Bit vectors: a width, and a number that fits it. This file knows no operator.
 
 ghost use Rattle.std.specs.Prelude.{◌≡◌, ◌-◌, ◌<◌, ◌%◌, ◌^◌};
 ghost use Rattle.smt_bits.specs.BitVector.{modulo, signed, vector};
@@ -6,7 +6,8 @@ ghost use Rattle.smt_bits.specs.BitVector.{modulo, signed, vector};
 use smt_theory::Width;
 use std::marker::Model;
 
-/// A bit vector of 1 to 128 bits (SMT-LIB 2.6, theory FixedSizeBitVectors). Contracts see it as its width and its number.
+/// A bit vector of 1 to 128 bits (SMT-LIB 2.6, theory FixedSizeBitVectors). Contracts see it as its width and
+/// its number.
 #[derive(Clone, Copy, PartialEq, Eq)]
 pub struct Bits {
     width: Width,

@@ -1,4 +1,5 @@
 //! Operators that go bit by bit (SMT-LIB 2.6, theory FixedSizeBitVectors; from `bvxor` on, of logic QF_BV).
+//! No function here changes a width.
 
 ghost use Rattle.std.specs.Prelude.{◌≡◌};
 ghost use Rattle.smt_bits.specs.BitVector.{vector};

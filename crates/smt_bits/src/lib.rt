@@ -1,12 +1,12 @@
 //! Bit vectors of SMT-LIB 2.6, and the operators on them.
 //!
-//! A bit vector ([`Bits`]) has 1 to 128 bits, and is made of its width and a number, or of the digits of a constant. There is a
-//! function for each operator of the theory FixedSizeBitVectors and each that the logic QF_BV adds, under the operator's own name.
-//! Nothing here takes memory, knows a term or a sort.
+//! A bit vector ([`Bits`]) has 1 to 128 bits, and is made of its width and a number, or of the digits of a
+//! constant. There is a function for each operator of the theory FixedSizeBitVectors and each that the logic
+//! QF_BV adds, under the operator's own name. Nothing here allocates, or knows a term or a sort.
 //!
-//! **The contract for the layer above**: each function gives the vector, or the truth value, that `specs/Operators.antt` has for the
-//! operator, on numbers of any size: the words of 128 bits stand in the code alone. What the definitions come to is said by the laws
-//! of [`laws`].
+//! **The contract for the layer above**: each function gives the vector, or the truth value, that
+//! `specs/Operators.antt` has for the operator, on numbers of any size: the words of 128 bits stand in the
+//! code alone. What the definitions come to is said by the laws of [`laws`].
 //!
 //! A call, of `(bvudiv #x07 #x02)`:
 //!

@@ -1,4 +1,4 @@
-//! Bit vectors as constants are spelled.
+//! Bit vectors as constants are spelled. This file knows no operator.
 
 ghost use Rattle.std.specs.Prelude.{◌≡◌, ◌+◌, ◌*◌, ◌%◌, ◌^◌, ◌≤◌};
 ghost use Rattle.std.specs.Char.{digit_value};
@@ -8,16 +8,18 @@ ghost use Rattle.smt_bits.specs.Literals.{bin_vector, hex_vector, known_constant
 use crate::bits::Bits;
 use smt_theory::{Width, digit};
 
-/// The bit vector that hexadecimal digits of either case spell, four bits a digit (SMT-LIB 2.6, section 3.1 and theory
-/// FixedSizeBitVectors); `None` where there is none or more than 32. What comes of other bytes than digits is of no interest.
+/// The bit vector that hexadecimal digits of either case spell, four bits a digit (SMT-LIB 2.6, section 3.1
+/// and theory FixedSizeBitVectors); `None` where there is none or more than 32. What comes of other bytes
+/// than digits is of no interest.
 pub fn hex(digits: &[u8]) -> Option<Bits>
     ensures { result ≡ known_constant 16 4 digits.now }
 {
     constant(16, 4, digits)
 }
 
-/// The bit vector that binary digits spell, one bit a digit (SMT-LIB 2.6, section 3.1 and theory FixedSizeBitVectors); `None` where
-/// there is none or more than 128. What comes of other bytes than digits is of no interest.
+/// The bit vector that binary digits spell, one bit a digit (SMT-LIB 2.6, section 3.1 and theory
+/// FixedSizeBitVectors); `None` where there is none or more than 128. What comes of other bytes than digits
+/// is of no interest.
 pub fn bin(digits: &[u8]) -> Option<Bits>
     ensures { result ≡ known_constant 2 1 digits.now }
 {

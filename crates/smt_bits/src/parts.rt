@@ -1,4 +1,4 @@
-//! Parts of bit vectors, put together and taken apart.
+//! Parts of bit vectors, put together and taken apart. No function here reads a number as signed.
 #![tactic(auto, using(crate::proofs::PartLemmas::parts))]
 
 ghost use Rattle.std.specs.Prelude.{◌≡◌, ◌+◌, ◌≤◌};
@@ -51,7 +51,8 @@ pub fn zero_extend(i: u64, s: Bits) -> Option<Bits>
     Some(Bits::new(extended(s.width(), i)?, s.number()))
 }
 
-/// `(_ sign_extend i)`: the bits of s after i copies of the highest. `None` where they pass 128 bits together.
+/// `(_ sign_extend i)`: the bits of s after i copies of the highest. `None` where they pass 128 bits
+/// together.
 pub fn sign_extend(i: u64, s: Bits) -> Option<Bits>
     ensures { result ≡ sign_extension i s }
 {
@@ -80,7 +81,8 @@ fn extended(width: Width, i: u64) -> Option<Width>
     Width::new(width.bits().checked_add(i)?)
 }
 
-// To the left by k, at most the whole width. By 0 and by m nothing is shifted, since 128 is no shift of a `u128`.
+// To the left by k, at most the whole width. By 0 and by m nothing is shifted, since 128 is no shift of a
+// `u128`.
 fn rotated(k: u64, s: Bits) -> Bits
     requires { k ≤ s.width }
     ensures { result ≡ vector s.width (meaning.rotated_left k s.width s.number) }

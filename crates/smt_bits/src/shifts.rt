@@ -1,4 +1,5 @@
-//! Shifts by a vector's number (SMT-LIB 2.6, theory FixedSizeBitVectors; `bvashr` is of logic QF_BV).
+//! Shifts by a vector's number (SMT-LIB 2.6, theory FixedSizeBitVectors; `bvashr` is of logic QF_BV). No
+//! function here changes a width.
 
 ghost use Rattle.std.specs.Prelude.{◌≡◌, ◌*◌, ◌/◌, ◌%◌, ◌^◌};
 ghost use Rattle.smt_bits.specs.BitVector.{vector};
@@ -22,7 +23,8 @@ pub fn bvlshr(s: Bits, t: Bits) -> Bits
     Bits::new(s.width(), shifted_right(s.number(), t.number()))
 }
 
-/// `bvashr`: the signed reading's quotient by 2^t rounded down, so that the highest bit is copied in. Asks for two vectors of one width.
+/// `bvashr`: the signed reading's quotient by 2^t rounded down, so that the highest bit is copied in. Asks
+/// for two vectors of one width.
 pub fn bvashr(s: Bits, t: Bits) -> Bits
     requires { s.width ≡ t.width }
     ensures { result ≡ vector s.width (meaning.bvashr s.width s.number t.number) }

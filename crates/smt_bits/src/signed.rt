@@ -1,4 +1,4 @@
-//! Operators on the signed reading.
+//! Operators on the signed reading, and `bvcomp`. No function here gives an integer: each gives a bit vector.
 
 ghost use Rattle.std.specs.Prelude.{◌≡◌, ◌≢◌, pos};
 ghost use Rattle.smt_bits.specs.BitVector.{vector};
@@ -7,8 +7,8 @@ ghost use Rattle.smt_bits.specs.Operators as meaning;
 use crate::bits::Bits;
 use smt_theory::Width;
 
-/// `bvsdiv`: the quotient of the signed readings, rounded towards 0. By 0 it is 1 for a negative dividend, and -1 for others. Asks
-/// for two vectors of one width.
+/// `bvsdiv`: the quotient of the signed readings, rounded towards 0. By 0 it is 1 for a negative dividend,
+/// and -1 for others. Asks for two vectors of one width.
 pub fn bvsdiv(s: Bits, t: Bits) -> Bits
     requires { s.width ≡ t.width }
     ensures { result ≡ vector s.width (meaning.bvsdiv s.width s.number t.number) }
@@ -20,7 +20,8 @@ pub fn bvsdiv(s: Bits, t: Bits) -> Bits
     Bits::from_signed(s.width(), s.signed().wrapping_div(t.signed()))
 }
 
-/// `bvsrem`: the remainder of that division, with the dividend's sign. By 0 it is the dividend. Asks for two vectors of one width.
+/// `bvsrem`: the remainder of that division, with the dividend's sign. By 0 it is the dividend. Asks for two
+/// vectors of one width.
 pub fn bvsrem(s: Bits, t: Bits) -> Bits
     requires { s.width ≡ t.width }
     ensures { result ≡ vector s.width (meaning.bvsrem s.width s.number t.number) }
@@ -31,8 +32,8 @@ pub fn bvsrem(s: Bits, t: Bits) -> Bits
     Bits::from_signed(s.width(), s.signed().wrapping_rem(t.signed()))
 }
 
-/// `bvsmod`: the remainder of the division that rounds down, with the divisor's sign. By 0 it is the dividend. Asks for two vectors
-/// of one width.
+/// `bvsmod`: the remainder of the division that rounds down, with the divisor's sign. By 0 it is the
+/// dividend. Asks for two vectors of one width.
 pub fn bvsmod(s: Bits, t: Bits) -> Bits
     requires { s.width ≡ t.width }
     ensures { result ≡ vector s.width (meaning.bvsmod s.width s.number t.number) }

@@ -1,5 +1,7 @@
 -- Operators on bit vectors are found by their own names and indexes, and by no others.
-use Rattle.std.proofs.Common.{◌≡◌, ℕ, ◌<◌, ◌≤◌, ◌^◌, ◌++◌, ◌==◌, Bool, true, false, cond, ◌&&◌, List, [], ◌∷◌, Option, Some, None, Result, Ok, nat_lt, nat_le, refl, sym, ap, ◌∙◌, subst, rules}
+use Rattle.std.proofs.Common.{◌≡◌, ℕ, ◌<◌, ◌≤◌, ◌^◌, ◌++◌, ◌==◌, Bool, true, false, cond, ◌&&◌, List, [], ◌∷◌}
+use Rattle.std.proofs.Common.{Option, Some, None, Result, Ok, nat_lt, nat_le, refl, sym, ap, ◌∙◌, subst}
+use Rattle.std.proofs.Common.{rules}
 use Rattle.std.specs.Prelude.{IsTrue, bytes_eq, codes, find, option_map, ok_or}
 use Rattle.std.specs.Option.{option_and_then, option_or}
 use Rattle.std.specs.Str.Parse.{digits_value}
@@ -7,35 +9,51 @@ use Rattle.std.proofs.Math.Pow.{pow_mono}
 use Rattle.std.proofs.lemmas.List.Folds.{find-append}
 use Rattle.std.proofs.lemmas.Slice.Eq.{bytes_eq-Decides}
 use Rattle.smt_theory.proofs.DigitLemmas.{large_below_word}
-use Rattle.smt_theory.proofs.FindLemmas.{map-some, ok_or-Ok}
-use Rattle.smt_theory.specs.BitsOperators.{AreInRange, IsBitsName, binary_plain, bits_indexes, bits_name, bits_named, bitwise_plain, comparison_plain, constant_by, constant_digits, extract_by, indexed_bits, indexed_constant, named_among, only_number, repeat_by}
+use Rattle.smt_theory.proofs.LookUpLemmas.{map-some, ok_or-Ok}
+use Rattle.smt_theory.specs.BitsOperators.{AreInRange, IsBitsName, binary_plain, bits_indexes, bits_name}
+use Rattle.smt_theory.specs.BitsOperators.{bits_named, bitwise_plain, comparison_plain, constant_by}
+use Rattle.smt_theory.specs.BitsOperators.{constant_digits, extract_by, indexed_bits, indexed_constant}
+use Rattle.smt_theory.specs.BitsOperators.{named_among, only_number, repeat_by}
 use Rattle.smt_theory.specs.Numbers.{below_word, is_numeral}
 use Rattle.smt_theory.specs.Operators.{core_named, divisible_by, ints_named, op_by}
 use Rattle.smt_theory.specs.Width.{width_of}
 use Rattle.smt_theory.specs.Index.{IndexView}
 use Rattle.smt_theory.specs.Index.{Number, Large, Name}
-use Rattle.smt_theory.specs.declared.op.BitsBinary.TheVariants.{Nand, Nor, Xnor, Subtract, DivideUnsigned, RemainderUnsigned, DivideSigned, RemainderSigned, ModuloSigned, ShiftLeft, ShiftRight, ShiftRightSigned}
-use Rattle.smt_theory.specs.declared.op.BitsComparison.TheVariants.{UnsignedLess, UnsignedAtMost, UnsignedGreater, UnsignedAtLeast, SignedLess, SignedAtMost, SignedGreater, SignedAtLeast}
+use Rattle.smt_theory.specs.declared.op.BitsBinary.TheVariants.{Nand, Nor, Xnor, Subtract, DivideUnsigned}
+use Rattle.smt_theory.specs.declared.op.BitsBinary.TheVariants.{RemainderUnsigned, DivideSigned}
+use Rattle.smt_theory.specs.declared.op.BitsBinary.TheVariants.{RemainderSigned, ModuloSigned, ShiftLeft}
+use Rattle.smt_theory.specs.declared.op.BitsBinary.TheVariants.{ShiftRight, ShiftRightSigned}
+use Rattle.smt_theory.specs.declared.op.BitsComparison.TheVariants.{UnsignedLess, UnsignedAtMost}
+use Rattle.smt_theory.specs.declared.op.BitsComparison.TheVariants.{UnsignedGreater, UnsignedAtLeast}
+use Rattle.smt_theory.specs.declared.op.BitsComparison.TheVariants.{SignedLess, SignedAtMost, SignedGreater}
+use Rattle.smt_theory.specs.declared.op.BitsComparison.TheVariants.{SignedAtLeast}
 use Rattle.smt_theory.specs.declared.op.BitsFolded.TheVariants.{And, Or, Xor, Add, Multiply}
 use Rattle.smt_theory.specs.declared.op.BitsOp.{BitsOp}
-use Rattle.smt_theory.specs.declared.op.BitsOp.TheVariants.{Constant, Concat, Extract, Unary, Folded, Binary, Comparison, Comp, Repeat, ZeroExtend, SignExtend, RotateLeft, RotateRight}
+use Rattle.smt_theory.specs.declared.op.BitsOp.TheVariants.{Constant, Concat, Extract, Unary, Folded, Binary}
+use Rattle.smt_theory.specs.declared.op.BitsOp.TheVariants.{Comparison, Comp, Repeat, ZeroExtend, SignExtend}
+use Rattle.smt_theory.specs.declared.op.BitsOp.TheVariants.{RotateLeft, RotateRight}
 use Rattle.smt_theory.specs.declared.op.BitsUnary.TheVariants.{Not, Negate}
 use Rattle.smt_theory.specs.declared.op.Op.TheVariants.{Bits}
 use Rattle.smt_theory.specs.declared.op.OpFault.{OpFault}
 use Rattle.smt_theory.specs.declared.op.OpFault.TheVariants.{Unknown, Index as WrongIndex}
 use Rattle.smt_theory.specs.declared.theories.Theories.{Theories}
 
-option_or-option_or : {A : Type 0} (a b c : Option A) → option_or a (option_or b c) ≡ option_or (option_or a b) c
+option_or-option_or : {A : Type 0} (a b c : Option A)
+    → option_or a (option_or b c) ≡ option_or (option_or a b) c
 option_or-option_or None b c = refl
 option_or-option_or (Some x) b c = refl
 
 -- a name that is not `concat` is looked for in the three lists
 pub bits_named-lists : (symbol : List ℕ) → bytes_eq symbol (codes "concat") ≡ false
-    → bits_named symbol ≡ option_or (option_or (named_among bitwise_plain symbol) (named_among binary_plain symbol)) (named_among comparison_plain symbol)
+    → bits_named symbol ≡ option_or
+    (option_or (named_among bitwise_plain symbol) (named_among binary_plain symbol))
+    (named_among comparison_plain symbol)
 bits_named-lists symbol h =
     let named = λ (op : BitsOp). bytes_eq symbol (bits_name op) in
-    let e : bits_named symbol ≡ find named (bitwise_plain ++ (binary_plain ++ comparison_plain)) = rw h refl in
-    e ∙ find-append named bitwise_plain (binary_plain ++ comparison_plain) ∙ ap (option_or (find named bitwise_plain)) (find-append named binary_plain comparison_plain)
+    let e : bits_named symbol ≡ find named (bitwise_plain ++ (binary_plain ++ comparison_plain)) = rw h refl
+    in
+    e ∙ find-append named bitwise_plain (binary_plain ++ comparison_plain) ∙ ap
+    (option_or (find named bitwise_plain)) (find-append named binary_plain comparison_plain)
     ∙ option_or-option_or (find named bitwise_plain) (find named binary_plain) (find named comparison_plain)
 
 -- a number that fits no word is no constant's
@@ -48,7 +66,8 @@ within (Some n) width h = by (nat_le 1 n) (nat_le n 128) (search rules) h
     by true false le h = cc
     by false b le h = cc
 
-pub constant_by-large : (digits : List ℕ) (indexes : List IndexView) (width : ℕ) → option_and_then width_of (only_number indexes) ≡ Some width
+pub constant_by-large : (digits : List ℕ) (indexes : List IndexView) (width : ℕ)
+    → option_and_then width_of (only_number indexes) ≡ Some width
     → below_word (digits_value 10 digits) ≡ None → constant_by digits indexes ≡ None
 constant_by-large digits indexes width is large =
     let limit : 2 ^ width ≤ 2 ^ 128 = pow_mono (within (only_number indexes) width is) in
@@ -71,7 +90,8 @@ only_number-own (Number n ∷ x ∷ indexes) i h = cc
 only_number-own (Large ∷ x ∷ indexes) i h = cc
 only_number-own (Name s ∷ x ∷ indexes) i h = cc
 
-extract_own : (symbol : List ℕ) (indexes : List IndexView) (op : BitsOp) → symbol ≡ codes "extract" → extract_by indexes ≡ Some op → IsFound symbol indexes op
+extract_own : (symbol : List ℕ) (indexes : List IndexView) (op : BitsOp) → symbol ≡ codes "extract"
+    → extract_by indexes ≡ Some op → IsFound symbol indexes op
 extract_own symbol [] op is h = cc
 extract_own symbol (Large ∷ indexes) op is h = cc
 extract_own symbol (Name s ∷ indexes) op is h = cc
@@ -81,35 +101,47 @@ extract_own symbol (Number i ∷ Name s ∷ indexes) op is h = cc
 extract_own symbol (Number i ∷ Number j ∷ x ∷ indexes) op is h = cc
 extract_own symbol (Number i ∷ Number j ∷ []) op is h = by (nat_le j i) (search rules) h
   where
-    by : (b : Bool) → (b ≡ true → j ≤ i) → cond b (Some (Extract i j)) None ≡ Some op → IsFound symbol (Number i ∷ Number j ∷ []) op
-    by true le h = let e : Extract i j ≡ op = cc in subst (IsFound symbol (Number i ∷ Number j ∷ [])) e (le refl, is, refl)
+    by : (b : Bool) → (b ≡ true → j ≤ i) → cond b (Some (Extract i j)) None ≡ Some op
+        → IsFound symbol (Number i ∷ Number j ∷ []) op
+    by true le h = let e : Extract i j ≡ op = cc
+        in subst (IsFound symbol (Number i ∷ Number j ∷ [])) e (le refl, is, refl)
     by false le h = cc
 
-repeat_own : (symbol : List ℕ) (indexes : List IndexView) (op : BitsOp) → symbol ≡ codes "repeat" → repeat_by indexes ≡ Some op → IsFound symbol indexes op
+repeat_own : (symbol : List ℕ) (indexes : List IndexView) (op : BitsOp) → symbol ≡ codes "repeat"
+    → repeat_by indexes ≡ Some op → IsFound symbol indexes op
 repeat_own symbol indexes op is h = of (only_number indexes) (only_number-own indexes) h
   where
-    by : (i : ℕ) → indexes ≡ Number i ∷ [] → (b : Bool) → (b ≡ true → 0 < i) → cond b (Some (Repeat i)) None ≡ Some op → IsFound symbol indexes op
-    by i own true positive h = let e : Repeat i ≡ op = cc in subst (IsFound symbol indexes) e (positive refl, is, own)
+    by : (i : ℕ) → indexes ≡ Number i ∷ [] → (b : Bool) → (b ≡ true → 0 < i)
+        → cond b (Some (Repeat i)) None ≡ Some op → IsFound symbol indexes op
+    by i own true positive h =
+        let e : Repeat i ≡ op = cc in subst (IsFound symbol indexes) e (positive refl, is, own)
     by i own false positive h = cc
 
-    of : (o : Option ℕ) → ((i : ℕ) → o ≡ Some i → indexes ≡ Number i ∷ []) → option_and_then (λ i. cond (nat_lt 0 i) (Some (Repeat i)) None) o ≡ Some op
+    of : (o : Option ℕ) → ((i : ℕ) → o ≡ Some i → indexes ≡ Number i ∷ [])
+        → option_and_then (λ i. cond (nat_lt 0 i) (Some (Repeat i)) None) o ≡ Some op
         → IsFound symbol indexes op
     of None own h = cc
     of (Some i) own h = by i (own i refl) (nat_lt 0 i) (search rules) h
 
 -- of an operator that takes one index of any number
-extended_own : (symbol : List ℕ) (indexes : List IndexView) (make : ℕ → BitsOp) (op : BitsOp) → ((i : ℕ) → IsFound symbol (Number i ∷ []) (make i))
+extended_own : (symbol : List ℕ) (indexes : List IndexView) (make : ℕ → BitsOp) (op : BitsOp)
+    → ((i : ℕ) → IsFound symbol (Number i ∷ []) (make i))
     → option_map make (only_number indexes) ≡ Some op → IsFound symbol indexes op
 extended_own symbol indexes make op each h =
     let found = map-some make (only_number indexes) op h in
-    subst (IsFound symbol indexes) found.2 (subst (λ is. IsFound symbol is (make found.0)) (sym (only_number-own indexes found.0 found.1)) (each found.0))
+    subst (IsFound symbol indexes) found.2
+    (subst (λ is. IsFound symbol is (make found.0)) (sym (only_number-own indexes found.0 found.1))
+    (each found.0))
 
-pub constant_digits-own : (symbol digits : List ℕ) → constant_digits symbol ≡ Some digits → (symbol ≡ codes "bv" ++ digits) × IsTrue (is_numeral digits)
+pub constant_digits-own : (symbol digits : List ℕ) → constant_digits symbol ≡ Some digits
+    → (symbol ≡ codes "bv" ++ digits) × IsTrue (is_numeral digits)
 constant_digits-own [] digits h = cc
 constant_digits-own (b ∷ []) digits h = cc
-constant_digits-own (b ∷ v ∷ rest) digits h = by (b == 98) (v == 118) (is_numeral rest) (search rules) (search rules) (λ e. e) h
+constant_digits-own (b ∷ v ∷ rest) digits h =
+    by (b == 98) (v == 118) (is_numeral rest) (search rules) (search rules) (λ e. e) h
   where
-    by : (x y z : Bool) → (x ≡ true → b ≡ 98) → (y ≡ true → v ≡ 118) → (z ≡ true → is_numeral rest ≡ true) → cond ((x && y) && z) (Some rest) None ≡ Some digits
+    by : (x y z : Bool) → (x ≡ true → b ≡ 98) → (y ≡ true → v ≡ 118) → (z ≡ true → is_numeral rest ≡ true)
+        → cond ((x && y) && z) (Some rest) None ≡ Some digits
         → (b ∷ v ∷ rest ≡ codes "bv" ++ digits) × IsTrue (is_numeral digits)
     by true true true f g n h =
         let e : rest ≡ digits = cc in
@@ -120,62 +152,80 @@ constant_digits-own (b ∷ v ∷ rest) digits h = by (b == 98) (v == 118) (is_nu
     by true false z f g n h = cc
     by false y z f g n h = cc
 
-constant_own : (symbol digits : List ℕ) (indexes : List IndexView) (op : BitsOp) → (symbol ≡ codes "bv" ++ digits) × IsTrue (is_numeral digits)
+constant_own : (symbol digits : List ℕ) (indexes : List IndexView) (op : BitsOp)
+    → (symbol ≡ codes "bv" ++ digits) × IsTrue (is_numeral digits)
     → constant_by digits indexes ≡ Some op → IsFound symbol indexes op
 constant_own symbol digits indexes op is h = of (only_number indexes) (only_number-own indexes) h
   where
     make : ℕ → Option BitsOp
-    make width = cond (nat_lt (digits_value 10 digits) (2 ^ width)) (Some (Constant (digits_value 10 digits) width)) None
+    make width = cond (nat_lt (digits_value 10 digits) (2 ^ width))
+        (Some (Constant (digits_value 10 digits) width)) None
 
-    fits : (n : ℕ) → indexes ≡ Number n ∷ [] → 1 ≤ n → n ≤ 128 → (b : Bool) → (b ≡ true → digits_value 10 digits < 2 ^ n)
+    fits : (n : ℕ) → indexes ≡ Number n ∷ [] → 1 ≤ n → n ≤ 128 → (b : Bool)
+        → (b ≡ true → digits_value 10 digits < 2 ^ n)
         → cond b (Some (Constant (digits_value 10 digits) n)) None ≡ Some op → IsFound symbol indexes op
     fits n own some within true below h =
         let e : Constant (digits_value 10 digits) n ≡ op = cc in
         subst (IsFound symbol indexes) e ((some, within, below refl), (digits, is.0, is.1, refl), own)
     fits n own some within false below h = cc
 
-    by : (n : ℕ) → indexes ≡ Number n ∷ [] → (a b : Bool) → (a ≡ true → 1 ≤ n) → (b ≡ true → n ≤ 128) → option_and_then make (cond (a && b) (Some n) None) ≡ Some op
+    by : (n : ℕ) → indexes ≡ Number n ∷ [] → (a b : Bool) → (a ≡ true → 1 ≤ n) → (b ≡ true → n ≤ 128)
+        → option_and_then make (cond (a && b) (Some n) None) ≡ Some op
         → IsFound symbol indexes op
-    by n own true true some within h = fits n own (some refl) (within refl) (nat_lt (digits_value 10 digits) (2 ^ n)) (search rules) h
+    by n own true true some within h =
+        fits n own (some refl) (within refl) (nat_lt (digits_value 10 digits) (2 ^ n)) (search rules) h
     by n own true false some within h = cc
     by n own false b some within h = cc
 
-    of : (o : Option ℕ) → ((n : ℕ) → o ≡ Some n → indexes ≡ Number n ∷ []) → option_and_then make (option_and_then width_of o) ≡ Some op → IsFound symbol indexes op
+    of : (o : Option ℕ) → ((n : ℕ) → o ≡ Some n → indexes ≡ Number n ∷ [])
+        → option_and_then make (option_and_then width_of o) ≡ Some op → IsFound symbol indexes op
     of None own h = cc
     of (Some n) own h = by n (own n refl) (nat_le 1 n) (nat_le n 128) (search rules) (search rules) h
 
-indexed_constant-own : (symbol : List ℕ) (indexes : List IndexView) (op : BitsOp) → indexed_constant (constant_digits symbol) indexes ≡ Ok op → IsFound symbol indexes op
+indexed_constant-own : (symbol : List ℕ) (indexes : List IndexView) (op : BitsOp)
+    → indexed_constant (constant_digits symbol) indexes ≡ Ok op → IsFound symbol indexes op
 indexed_constant-own symbol indexes op h = by (constant_digits symbol) (constant_digits-own symbol) h
   where
-    by : (o : Option (List ℕ)) → ((digits : List ℕ) → o ≡ Some digits → (symbol ≡ codes "bv" ++ digits) × IsTrue (is_numeral digits)) → indexed_constant o indexes ≡ Ok op
+    by : (o : Option (List ℕ))
+        → ((digits : List ℕ) → o ≡ Some digits → (symbol ≡ codes "bv" ++ digits) × IsTrue (is_numeral digits))
+        → indexed_constant o indexes ≡ Ok op
         → IsFound symbol indexes op
     by None own h = cc
-    by (Some digits) own h = constant_own symbol digits indexes op (own digits refl) (ok_or-Ok (constant_by digits indexes) WrongIndex op h)
+    by (Some digits) own h = constant_own symbol digits indexes op (own digits refl)
+        (ok_or-Ok (constant_by digits indexes) WrongIndex op h)
 
 -- one name after another
-named_or : {G : Type 0} (symbol name : List ℕ) (found : Option BitsOp) (others : Result BitsOp OpFault) (op : BitsOp) → (symbol ≡ name → found ≡ Some op → G)
+named_or : {G : Type 0} (symbol name : List ℕ) (found : Option BitsOp) (others : Result BitsOp OpFault)
+    (op : BitsOp) → (symbol ≡ name → found ≡ Some op → G)
     → (others ≡ Ok op → G) → cond (bytes_eq symbol name) (ok_or found WrongIndex) others ≡ Ok op → G
-named_or {G} symbol name found others op this other h = by (bytes_eq symbol name) (bytes_eq-Decides symbol name).0 h
+named_or {G} symbol name found others op this other h =
+    by (bytes_eq symbol name) (bytes_eq-Decides symbol name).0 h
   where
     by : (b : Bool) → (b ≡ true → symbol ≡ name) → cond b (ok_or found WrongIndex) others ≡ Ok op → G
     by true is h = this (is refl) (ok_or-Ok found WrongIndex op h)
     by false is h = other h
 
-pub indexed_bits-own : (symbol : List ℕ) (indexes : List IndexView) (op : BitsOp) → indexed_bits symbol indexes ≡ Ok op
+pub indexed_bits-own : (symbol : List ℕ) (indexes : List IndexView) (op : BitsOp)
+    → indexed_bits symbol indexes ≡ Ok op
     → AreInRange op × IsBitsName op symbol × (indexes ≡ bits_indexes op)
 indexed_bits-own symbol indexes op =
     named_or symbol (codes "extract") (extract_by indexes) _ op (extract_own symbol indexes op)
     (named_or symbol (codes "repeat") (repeat_by indexes) _ op (repeat_own symbol indexes op)
-    (named_or symbol (codes "zero_extend") (option_map ZeroExtend (only_number indexes)) _ op (λ is. extended_own symbol indexes ZeroExtend op (λ i. (tt, is, refl)))
-    (named_or symbol (codes "sign_extend") (option_map SignExtend (only_number indexes)) _ op (λ is. extended_own symbol indexes SignExtend op (λ i. (tt, is, refl)))
-    (named_or symbol (codes "rotate_left") (option_map RotateLeft (only_number indexes)) _ op (λ is. extended_own symbol indexes RotateLeft op (λ i. (tt, is, refl)))
-    (named_or symbol (codes "rotate_right") (option_map RotateRight (only_number indexes)) _ op (λ is. extended_own symbol indexes RotateRight op (λ i. (tt, is, refl)))
+    (named_or symbol (codes "zero_extend") (option_map ZeroExtend (only_number indexes)) _ op
+    (λ is. extended_own symbol indexes ZeroExtend op (λ i. (tt, is, refl)))
+    (named_or symbol (codes "sign_extend") (option_map SignExtend (only_number indexes)) _ op
+    (λ is. extended_own symbol indexes SignExtend op (λ i. (tt, is, refl)))
+    (named_or symbol (codes "rotate_left") (option_map RotateLeft (only_number indexes)) _ op
+    (λ is. extended_own symbol indexes RotateLeft op (λ i. (tt, is, refl)))
+    (named_or symbol (codes "rotate_right") (option_map RotateRight (only_number indexes)) _ op
+    (λ is. extended_own symbol indexes RotateRight op (λ i. (tt, is, refl)))
     (indexed_constant-own symbol indexes op))))))
 
 -- ---- each is found
 
 -- a plain operator on bit vectors has no name of another theory's
-plain_found : (theories : Theories) (symbol : List ℕ) (op : BitsOp) → IsTrue theories.bits → core_named symbol ≡ None → ints_named symbol ≡ None → bits_named symbol ≡ Some op
+plain_found : (theories : Theories) (symbol : List ℕ) (op : BitsOp) → IsTrue theories.bits
+    → core_named symbol ≡ None → ints_named symbol ≡ None → bits_named symbol ≡ Some op
     → op_by theories symbol [] ≡ Ok (Bits op)
 plain_found theories symbol op here core ints is = rw (core, ints, here, is) (by theories.ints)
   where
@@ -183,60 +233,102 @@ plain_found theories symbol op here core ints is = rw (core, ints, here, is) (by
     by true = refl
     by false = refl
 
-indexed_found : (theories : Theories) (symbol : List ℕ) (i : IndexView) (indexes : List IndexView) (op : BitsOp) → IsTrue theories.bits → bytes_eq symbol (codes "divisible") ≡ false
+indexed_found : (theories : Theories) (symbol : List ℕ) (i : IndexView) (indexes : List IndexView)
+    (op : BitsOp) → IsTrue theories.bits → bytes_eq symbol (codes "divisible") ≡ false
     → indexed_bits symbol (i ∷ indexes) ≡ Ok op → op_by theories symbol (i ∷ indexes) ≡ Ok (Bits op)
-indexed_found theories symbol i indexes op here other is = rw (other, here, is) (by (ok_or (divisible_by (i ∷ indexes)) WrongIndex) (Ok (Bits op)) theories.ints)
+indexed_found theories symbol i indexes op here other is =
+    rw (other, here, is) (by (ok_or (divisible_by (i ∷ indexes)) WrongIndex) (Ok (Bits op)) theories.ints)
   where
     by : {A : Type 0} (a x : A) (b : Bool) → cond (b && false) a x ≡ x
     by a x true = refl
     by a x false = refl
 
-constant_found : (digits : List ℕ) (n : ℕ) → 1 ≤ n → n ≤ 128 → digits_value 10 digits < 2 ^ n → constant_by digits (Number n ∷ []) ≡ Some (Constant (digits_value 10 digits) n)
+constant_found : (digits : List ℕ) (n : ℕ) → 1 ≤ n → n ≤ 128 → digits_value 10 digits < 2 ^ n
+    → constant_by digits (Number n ∷ []) ≡ Some (Constant (digits_value 10 digits) n)
 constant_found digits n some within below =
     let a : nat_le 1 n ≡ true = search rules in
     let b : nat_le n 128 ≡ true = search rules in
     let c : nat_lt (digits_value 10 digits) (2 ^ n) ≡ true = search rules in
     rw (a, b, c) refl
 
-pub bits_found : (theories : Theories) (symbol : List ℕ) (op : BitsOp) → IsTrue theories.bits → AreInRange op → IsBitsName op symbol
+pub bits_found : (theories : Theories) (symbol : List ℕ) (op : BitsOp) → IsTrue theories.bits → AreInRange op
+    → IsBitsName op symbol
     → op_by theories symbol (bits_indexes op) ≡ Ok (Bits op)
-bits_found theories symbol Concat here range h = rw h (plain_found theories (codes "concat") Concat here refl refl refl)
-bits_found theories symbol (Unary Not) here range h = rw h (plain_found theories (codes "bvnot") (Unary Not) here refl refl refl)
-bits_found theories symbol (Unary Negate) here range h = rw h (plain_found theories (codes "bvneg") (Unary Negate) here refl refl refl)
-bits_found theories symbol (Folded And) here range h = rw h (plain_found theories (codes "bvand") (Folded And) here refl refl refl)
-bits_found theories symbol (Folded Or) here range h = rw h (plain_found theories (codes "bvor") (Folded Or) here refl refl refl)
-bits_found theories symbol (Folded Xor) here range h = rw h (plain_found theories (codes "bvxor") (Folded Xor) here refl refl refl)
-bits_found theories symbol (Folded Add) here range h = rw h (plain_found theories (codes "bvadd") (Folded Add) here refl refl refl)
-bits_found theories symbol (Folded Multiply) here range h = rw h (plain_found theories (codes "bvmul") (Folded Multiply) here refl refl refl)
-bits_found theories symbol (Binary Nand) here range h = rw h (plain_found theories (codes "bvnand") (Binary Nand) here refl refl refl)
-bits_found theories symbol (Binary Nor) here range h = rw h (plain_found theories (codes "bvnor") (Binary Nor) here refl refl refl)
-bits_found theories symbol (Binary Xnor) here range h = rw h (plain_found theories (codes "bvxnor") (Binary Xnor) here refl refl refl)
-bits_found theories symbol (Binary Subtract) here range h = rw h (plain_found theories (codes "bvsub") (Binary Subtract) here refl refl refl)
-bits_found theories symbol (Binary DivideUnsigned) here range h = rw h (plain_found theories (codes "bvudiv") (Binary DivideUnsigned) here refl refl refl)
-bits_found theories symbol (Binary RemainderUnsigned) here range h = rw h (plain_found theories (codes "bvurem") (Binary RemainderUnsigned) here refl refl refl)
-bits_found theories symbol (Binary DivideSigned) here range h = rw h (plain_found theories (codes "bvsdiv") (Binary DivideSigned) here refl refl refl)
-bits_found theories symbol (Binary RemainderSigned) here range h = rw h (plain_found theories (codes "bvsrem") (Binary RemainderSigned) here refl refl refl)
-bits_found theories symbol (Binary ModuloSigned) here range h = rw h (plain_found theories (codes "bvsmod") (Binary ModuloSigned) here refl refl refl)
-bits_found theories symbol (Binary ShiftLeft) here range h = rw h (plain_found theories (codes "bvshl") (Binary ShiftLeft) here refl refl refl)
-bits_found theories symbol (Binary ShiftRight) here range h = rw h (plain_found theories (codes "bvlshr") (Binary ShiftRight) here refl refl refl)
-bits_found theories symbol (Binary ShiftRightSigned) here range h = rw h (plain_found theories (codes "bvashr") (Binary ShiftRightSigned) here refl refl refl)
-bits_found theories symbol (Comparison UnsignedLess) here range h = rw h (plain_found theories (codes "bvult") (Comparison UnsignedLess) here refl refl refl)
-bits_found theories symbol (Comparison UnsignedAtMost) here range h = rw h (plain_found theories (codes "bvule") (Comparison UnsignedAtMost) here refl refl refl)
-bits_found theories symbol (Comparison UnsignedGreater) here range h = rw h (plain_found theories (codes "bvugt") (Comparison UnsignedGreater) here refl refl refl)
-bits_found theories symbol (Comparison UnsignedAtLeast) here range h = rw h (plain_found theories (codes "bvuge") (Comparison UnsignedAtLeast) here refl refl refl)
-bits_found theories symbol (Comparison SignedLess) here range h = rw h (plain_found theories (codes "bvslt") (Comparison SignedLess) here refl refl refl)
-bits_found theories symbol (Comparison SignedAtMost) here range h = rw h (plain_found theories (codes "bvsle") (Comparison SignedAtMost) here refl refl refl)
-bits_found theories symbol (Comparison SignedGreater) here range h = rw h (plain_found theories (codes "bvsgt") (Comparison SignedGreater) here refl refl refl)
-bits_found theories symbol (Comparison SignedAtLeast) here range h = rw h (plain_found theories (codes "bvsge") (Comparison SignedAtLeast) here refl refl refl)
-bits_found theories symbol Comp here range h = rw h (plain_found theories (codes "bvcomp") Comp here refl refl refl)
-bits_found theories symbol (ZeroExtend i) here range h = rw h (indexed_found theories (codes "zero_extend") (Number i) [] (ZeroExtend i) here refl refl)
-bits_found theories symbol (SignExtend i) here range h = rw h (indexed_found theories (codes "sign_extend") (Number i) [] (SignExtend i) here refl refl)
-bits_found theories symbol (RotateLeft i) here range h = rw h (indexed_found theories (codes "rotate_left") (Number i) [] (RotateLeft i) here refl refl)
-bits_found theories symbol (RotateRight i) here range h = rw h (indexed_found theories (codes "rotate_right") (Number i) [] (RotateRight i) here refl refl)
+bits_found theories symbol Concat here range h =
+    rw h (plain_found theories (codes "concat") Concat here refl refl refl)
+bits_found theories symbol (Unary Not) here range h =
+    rw h (plain_found theories (codes "bvnot") (Unary Not) here refl refl refl)
+bits_found theories symbol (Unary Negate) here range h =
+    rw h (plain_found theories (codes "bvneg") (Unary Negate) here refl refl refl)
+bits_found theories symbol (Folded And) here range h =
+    rw h (plain_found theories (codes "bvand") (Folded And) here refl refl refl)
+bits_found theories symbol (Folded Or) here range h =
+    rw h (plain_found theories (codes "bvor") (Folded Or) here refl refl refl)
+bits_found theories symbol (Folded Xor) here range h =
+    rw h (plain_found theories (codes "bvxor") (Folded Xor) here refl refl refl)
+bits_found theories symbol (Folded Add) here range h =
+    rw h (plain_found theories (codes "bvadd") (Folded Add) here refl refl refl)
+bits_found theories symbol (Folded Multiply) here range h =
+    rw h (plain_found theories (codes "bvmul") (Folded Multiply) here refl refl refl)
+bits_found theories symbol (Binary Nand) here range h =
+    rw h (plain_found theories (codes "bvnand") (Binary Nand) here refl refl refl)
+bits_found theories symbol (Binary Nor) here range h =
+    rw h (plain_found theories (codes "bvnor") (Binary Nor) here refl refl refl)
+bits_found theories symbol (Binary Xnor) here range h =
+    rw h (plain_found theories (codes "bvxnor") (Binary Xnor) here refl refl refl)
+bits_found theories symbol (Binary Subtract) here range h =
+    rw h (plain_found theories (codes "bvsub") (Binary Subtract) here refl refl refl)
+bits_found theories symbol (Binary DivideUnsigned) here range h =
+    rw h (plain_found theories (codes "bvudiv") (Binary DivideUnsigned) here refl refl refl)
+bits_found theories symbol (Binary RemainderUnsigned) here range h =
+    rw h (plain_found theories (codes "bvurem") (Binary RemainderUnsigned) here refl refl refl)
+bits_found theories symbol (Binary DivideSigned) here range h =
+    rw h (plain_found theories (codes "bvsdiv") (Binary DivideSigned) here refl refl refl)
+bits_found theories symbol (Binary RemainderSigned) here range h =
+    rw h (plain_found theories (codes "bvsrem") (Binary RemainderSigned) here refl refl refl)
+bits_found theories symbol (Binary ModuloSigned) here range h =
+    rw h (plain_found theories (codes "bvsmod") (Binary ModuloSigned) here refl refl refl)
+bits_found theories symbol (Binary ShiftLeft) here range h =
+    rw h (plain_found theories (codes "bvshl") (Binary ShiftLeft) here refl refl refl)
+bits_found theories symbol (Binary ShiftRight) here range h =
+    rw h (plain_found theories (codes "bvlshr") (Binary ShiftRight) here refl refl refl)
+bits_found theories symbol (Binary ShiftRightSigned) here range h =
+    rw h (plain_found theories (codes "bvashr") (Binary ShiftRightSigned) here refl refl refl)
+bits_found theories symbol (Comparison UnsignedLess) here range h =
+    rw h (plain_found theories (codes "bvult") (Comparison UnsignedLess) here refl refl refl)
+bits_found theories symbol (Comparison UnsignedAtMost) here range h =
+    rw h (plain_found theories (codes "bvule") (Comparison UnsignedAtMost) here refl refl refl)
+bits_found theories symbol (Comparison UnsignedGreater) here range h =
+    rw h (plain_found theories (codes "bvugt") (Comparison UnsignedGreater) here refl refl refl)
+bits_found theories symbol (Comparison UnsignedAtLeast) here range h =
+    rw h (plain_found theories (codes "bvuge") (Comparison UnsignedAtLeast) here refl refl refl)
+bits_found theories symbol (Comparison SignedLess) here range h =
+    rw h (plain_found theories (codes "bvslt") (Comparison SignedLess) here refl refl refl)
+bits_found theories symbol (Comparison SignedAtMost) here range h =
+    rw h (plain_found theories (codes "bvsle") (Comparison SignedAtMost) here refl refl refl)
+bits_found theories symbol (Comparison SignedGreater) here range h =
+    rw h (plain_found theories (codes "bvsgt") (Comparison SignedGreater) here refl refl refl)
+bits_found theories symbol (Comparison SignedAtLeast) here range h =
+    rw h (plain_found theories (codes "bvsge") (Comparison SignedAtLeast) here refl refl refl)
+bits_found theories symbol Comp here range h =
+    rw h (plain_found theories (codes "bvcomp") Comp here refl refl refl)
+bits_found theories symbol (ZeroExtend i) here range h =
+    rw h (indexed_found theories (codes "zero_extend") (Number i) [] (ZeroExtend i) here refl refl)
+bits_found theories symbol (SignExtend i) here range h =
+    rw h (indexed_found theories (codes "sign_extend") (Number i) [] (SignExtend i) here refl refl)
+bits_found theories symbol (RotateLeft i) here range h =
+    rw h (indexed_found theories (codes "rotate_left") (Number i) [] (RotateLeft i) here refl refl)
+bits_found theories symbol (RotateRight i) here range h =
+    rw h (indexed_found theories (codes "rotate_right") (Number i) [] (RotateRight i) here refl refl)
 bits_found theories symbol (Extract i j) here range h =
-    let le : nat_le j i ≡ true = search rules in rw h (indexed_found theories (codes "extract") (Number i) (Number j ∷ []) (Extract i j) here refl (rw le refl))
+    let le : nat_le j i ≡ true = search rules
+    in rw h (indexed_found theories (codes "extract") (Number i) (Number j ∷ []) (Extract i j) here refl
+    (rw le refl))
 bits_found theories symbol (Repeat i) here range h =
-    let positive : nat_lt 0 i ≡ true = search rules in rw h (indexed_found theories (codes "repeat") (Number i) [] (Repeat i) here refl (rw positive refl))
+    let positive : nat_lt 0 i ≡ true = search rules
+    in rw h (indexed_found theories (codes "repeat") (Number i) [] (Repeat i) here refl
+    (rw positive refl))
 bits_found theories symbol (Constant number n) here range h =
     let named = constant_found h.0 n range.0 range.1 (rw h.3 range.2) in
-    rw h.1 (indexed_found theories (codes "bv" ++ h.0) (Number n) [] (Constant number n) here refl (rw (h.2, named, h.3) refl))
+    rw h.1 (indexed_found theories (codes "bv" ++ h.0) (Number n) [] (Constant number n) here refl
+    (rw (h.2, named, h.3) refl))

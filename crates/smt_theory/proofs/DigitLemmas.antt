@@ -1,5 +1,7 @@
 -- Digits are read from the left.
-use Rattle.std.proofs.Common.{◌≡◌, ℕ, ◌+◌, ◌*◌, ◌^◌, ◌<◌, ◌≤◌, Bool, true, false, cond, List, [], ◌∷◌, Some, None, length, drop, get_or, nat_lt, refl, sym, ap, ◌∙◌, add-one, drop-cons, arith, rules}
+use Rattle.std.proofs.Common.{◌≡◌, ℕ, ◌+◌, ◌*◌, ◌^◌, ◌<◌, ◌≤◌, Bool, true, false, cond, List, [], ◌∷◌, Some}
+use Rattle.std.proofs.Common.{None, length, drop, get_or, nat_lt, refl, sym, ap, ◌∙◌, add-one, drop-cons}
+use Rattle.std.proofs.Common.{arith, rules}
 use Rattle.std.proofs.Math.Nat.{mul-le-mul_left}
 use Rattle.std.specs.Char.{digit_value}
 use Rattle.std.specs.Str.Parse.{digits_value_after}
@@ -7,8 +9,10 @@ use Rattle.smt_theory.specs.Numbers.{below_word}
 
 -- one digit more
 pub digits_at : (base value : ℕ) (bytes : List ℕ) (i : ℕ) → i < length bytes
-    → digits_value_after base value (drop i bytes) ≡ digits_value_after base (value * base + digit_value (get_or bytes i 0)) (drop (i + 1) bytes)
-digits_at base value bytes i below = ap (digits_value_after base value) (drop-cons bytes i 0 below ∙ ap (λ n. get_or bytes i 0 ∷ drop n bytes) (sym (add-one i)))
+    → digits_value_after base value (drop i bytes)
+    ≡ digits_value_after base (value * base + digit_value (get_or bytes i 0)) (drop (i + 1) bytes)
+digits_at base value bytes i below = ap (digits_value_after base value)
+    (drop-cons bytes i 0 below ∙ ap (λ n. get_or bytes i 0 ∷ drop n bytes) (sym (add-one i)))
 
 -- what has been read stays below the whole
 pub digits_value_after-ge : (base n : ℕ) (bytes : List ℕ) → 0 < base → n ≤ digits_value_after base n bytes

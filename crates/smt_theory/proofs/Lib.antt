@@ -1,8 +1,8 @@
-mod FindLemmas
+mod LookUpLemmas
 pub mod BitsOperatorLemmas
 pub mod OperatorLemmas
 pub mod OperatorFaultLemmas
 pub mod DigitLemmas
 pub mod RankLemmas
 pub mod BitsRankLemmas
-pub mod TableLemmas
+pub mod RankTableLemmas

@@ -1,11 +1,16 @@
 -- Operators are found by their own names and indexes, and by no others.
-use Rattle.std.proofs.Common.{◌≡◌, inl, inr, ℕ, ◌<◌, Bool, true, false, cond, ◌&&◌, List, [], ◌∷◌, Option, Some, None, Result, Ok, Err, length, map, nat_eq, nat_lt, refl, sym, subst, rules}
+use Rattle.std.proofs.Common.{◌≡◌, inl, inr, ℕ, ◌<◌, Bool, true, false, cond, ◌&&◌, List, [], ◌∷◌, Option}
+use Rattle.std.proofs.Common.{Some, None, Result, Ok, Err, length, map, nat_eq, nat_lt, refl, sym, subst}
+use Rattle.std.proofs.Common.{rules}
 use Rattle.std.specs.Prelude.{IsTrue, bytes_eq, codes, option_map, ok_or}
 use Rattle.std.proofs.lemmas.Slice.Eq.{bytes_eq-Decides}
 use Rattle.smt_theory.proofs.BitsOperatorLemmas.{bits_found, indexed_bits-own}
-use Rattle.smt_theory.proofs.FindLemmas.{Each, find_named, map-some, ok_or-Ok, option_or-some, when-some}
-use Rattle.smt_theory.specs.BitsOperators.{AreInRange, IsBitsName, bits_indexes, bits_name, bits_named, bits_plain, indexed_bits}
-use Rattle.smt_theory.specs.Operators.{core_name, ints_name, core_plain, ints_plain, core_named, ints_named, plain_op, divisible_by, indexed_op, op_by, indexes_of, IsNameOf, IsOperatorOf}
+use Rattle.smt_theory.proofs.LookUpLemmas.{Each, find_named, map-some, ok_or-Ok, option_or-some, when-some}
+use Rattle.smt_theory.specs.BitsOperators.{AreInRange, IsBitsName, bits_indexes, bits_name, bits_named}
+use Rattle.smt_theory.specs.BitsOperators.{bits_plain, indexed_bits}
+use Rattle.smt_theory.specs.Operators.{core_name, ints_name, core_plain, ints_plain, core_named, ints_named}
+use Rattle.smt_theory.specs.Operators.{plain_op, divisible_by, indexed_op, op_by, indexes_of, IsNameOf}
+use Rattle.smt_theory.specs.Operators.{IsOperatorOf}
 use Rattle.smt_theory.specs.Index.{IndexView, index_view}
 use Rattle.smt_theory.specs.Index.{Number, Large, Name}
 use Rattle.smt_theory.specs.Words.{result_and_then}
@@ -14,7 +19,8 @@ use Rattle.smt_theory.specs.declared.op.Arithmetic.TheVariants.{Minus, Plus, Tim
 use Rattle.smt_theory.specs.declared.op.BitsOp.{BitsOp}
 use Rattle.smt_theory.specs.declared.op.Comparison.TheVariants.{AtMost, Less, AtLeast, Greater}
 use Rattle.smt_theory.specs.declared.op.CoreOp.{CoreOp}
-use Rattle.smt_theory.specs.declared.op.CoreOp.TheVariants.{True, False, Not, Implies, And, Or, Xor, Equal, Distinct, Ite}
+use Rattle.smt_theory.specs.declared.op.CoreOp.TheVariants.{True, False, Not, Implies, And, Or, Xor, Equal}
+use Rattle.smt_theory.specs.declared.op.CoreOp.TheVariants.{Distinct, Ite}
 use Rattle.smt_theory.specs.declared.op.IntsOp.{IntsOp}
 use Rattle.smt_theory.specs.declared.op.IntsOp.TheVariants.{Arithmetic, Comparison, Mod, Abs, Divisible}
 use Rattle.smt_theory.specs.declared.op.Op.{Op}
@@ -24,7 +30,8 @@ use Rattle.smt_theory.specs.declared.op.OpFault.TheVariants.{Unknown, Index as W
 use Rattle.smt_theory.specs.declared.theories.Theories.{Theories}
 
 -- with an index
-pub op_by_indexed : (theories : Theories) (symbol : List ℕ) (indexes : List Index) → nat_eq (length indexes) 0 ≡ false
+pub op_by_indexed : (theories : Theories) (symbol : List ℕ) (indexes : List Index)
+    → nat_eq (length indexes) 0 ≡ false
     → op_by theories symbol (map index_view indexes) ≡ indexed_op theories symbol (map index_view indexes)
 op_by_indexed theories symbol [] h = cc
 op_by_indexed theories symbol (index ∷ indexes) h = refl
@@ -40,85 +47,108 @@ IsPlain theories op = (indexes_of (Ints op) ≡ []) × (IsTrue theories.ints →
 each_plain : (theories : Theories) → Each (IsPlain theories) ints_plain
 each_plain theories = search rules
 
-core_own : (theories : Theories) (symbol : List ℕ) (op : Op) → option_map Core (core_named symbol) ≡ Some op → IsFound theories symbol [] op
+core_own : (theories : Theories) (symbol : List ℕ) (op : Op) → option_map Core (core_named symbol) ≡ Some op
+    → IsFound theories symbol [] op
 core_own theories symbol op h =
     let found = map-some Core (core_named symbol) op h in
-    subst (λ op. IsFound theories symbol [] op) found.2 (tt, (find_named core_name (λ _. Unit {0}) symbol core_plain found.0 (search rules) found.1).0, refl)
+    subst (λ op. IsFound theories symbol [] op) found.2
+    (tt, (find_named core_name (λ _. Unit {0}) symbol core_plain found.0 (search rules) found.1).0, refl)
 
-ints_own : (theories : Theories) (symbol : List ℕ) (op : Op) → IsTrue theories.ints → option_map Ints (ints_named symbol) ≡ Some op → IsFound theories symbol [] op
+ints_own : (theories : Theories) (symbol : List ℕ) (op : Op) → IsTrue theories.ints
+    → option_map Ints (ints_named symbol) ≡ Some op → IsFound theories symbol [] op
 ints_own theories symbol op ints h =
     let found = map-some Ints (ints_named symbol) op h in
-    let own = find_named ints_name (IsPlain theories) symbol ints_plain found.0 (each_plain theories) found.1 in
+    let own = find_named ints_name (IsPlain theories) symbol ints_plain found.0 (each_plain theories) found.1
+    in
     subst (λ op. IsFound theories symbol [] op) found.2 (own.1.1 ints, own.0, sym own.1.0)
 
 -- a plain operator on bit vectors is in range without indexes
 abbrev IsPlainBits : BitsOp → Type 0
-IsPlainBits op = AreInRange op × ((symbol : List ℕ) → symbol ≡ bits_name op → IsBitsName op symbol) × ([] ≡ bits_indexes op)
+IsPlainBits op = AreInRange op × ((symbol : List ℕ) → symbol ≡ bits_name op → IsBitsName op symbol)
+    × ([] ≡ bits_indexes op)
 
 each_plain_bits : Each IsPlainBits bits_plain
 each_plain_bits = search rules
 
-bits_own : (theories : Theories) (symbol : List ℕ) (op : Op) → IsTrue theories.bits → option_map Bits (bits_named symbol) ≡ Some op → IsFound theories symbol [] op
+bits_own : (theories : Theories) (symbol : List ℕ) (op : Op) → IsTrue theories.bits
+    → option_map Bits (bits_named symbol) ≡ Some op → IsFound theories symbol [] op
 bits_own theories symbol op bits h =
     let found = map-some Bits (bits_named symbol) op h in
     let own = find_named bits_name IsPlainBits symbol bits_plain found.0 each_plain_bits found.1 in
     subst (λ op. IsFound theories symbol [] op) found.2 ((bits, own.1.0), own.1.1 symbol own.0, own.1.2)
 
-plain_own : (theories : Theories) (symbol : List ℕ) (op : Op) → ok_or (plain_op theories symbol) Unknown ≡ Ok op → IsFound theories symbol [] op
+plain_own : (theories : Theories) (symbol : List ℕ) (op : Op)
+    → ok_or (plain_op theories symbol) Unknown ≡ Ok op → IsFound theories symbol [] op
 plain_own theories symbol op h =
-    elim (option_or-some (option_map Core (core_named symbol)) _ op (ok_or-Ok (plain_op theories symbol) Unknown op h)) [
+    elim (option_or-some (option_map Core (core_named symbol)) _ op
+    (ok_or-Ok (plain_op theories symbol) Unknown op h)) [
       | inl e ↦ core_own theories symbol op e
       | inr e ↦ elim (option_or-some (cond theories.ints (option_map Ints (ints_named symbol)) None) _ op e) [
-        | inl e ↦ (let own = when-some theories.ints (option_map Ints (ints_named symbol)) op e in ints_own theories symbol op own.0 own.1)
-        | inr e ↦ (let own = when-some theories.bits (option_map Bits (bits_named symbol)) op e in bits_own theories symbol op own.0 own.1)
+        | inl e ↦ (let own = when-some theories.ints (option_map Ints (ints_named symbol)) op e
+            in ints_own theories symbol op own.0 own.1)
+        | inr e ↦ (let own = when-some theories.bits (option_map Bits (bits_named symbol)) op e
+            in bits_own theories symbol op own.0 own.1)
       ]
     ]
 
-divisible_own : (indexes : List IndexView) (op : Op) → divisible_by indexes ≡ Some op → (n : ℕ) × (op ≡ Ints (Divisible n)) × (indexes ≡ Number n ∷ []) × (0 < n)
+divisible_own : (indexes : List IndexView) (op : Op) → divisible_by indexes ≡ Some op
+    → (n : ℕ) × (op ≡ Ints (Divisible n)) × (indexes ≡ Number n ∷ []) × (0 < n)
 divisible_own [] op h = cc
 divisible_own (Large ∷ indexes) op h = cc
 divisible_own (Name s ∷ indexes) op h = cc
 divisible_own (Number n ∷ i ∷ indexes) op h = cc
 divisible_own (Number n ∷ []) op h = by (nat_lt 0 n) (search rules) h
   where
-    by : (b : Bool) → (b ≡ true → 0 < n) → cond b (Some (Ints (Divisible n))) None ≡ Some op → (k : ℕ) × (op ≡ Ints (Divisible k)) × (Number n ∷ [] ≡ Number k ∷ []) × (0 < k)
+    by : (b : Bool) → (b ≡ true → 0 < n) → cond b (Some (Ints (Divisible n))) None ≡ Some op
+        → (k : ℕ) × (op ≡ Ints (Divisible k)) × (Number n ∷ [] ≡ Number k ∷ []) × (0 < k)
     by true is h = (n, cc, refl, is refl)
     by false is h = cc
 
-bits_indexed_own : (theories : Theories) (symbol : List ℕ) (indexes : List IndexView) (op : Op) (found : Result BitsOp OpFault) → indexed_bits symbol indexes ≡ found
-    → IsTrue theories.bits → result_and_then found (λ op. Ok (Bits op)) ≡ Ok op → IsFound theories symbol indexes op
+bits_indexed_own : (theories : Theories) (symbol : List ℕ) (indexes : List IndexView) (op : Op)
+    (found : Result BitsOp OpFault) → indexed_bits symbol indexes ≡ found
+    → IsTrue theories.bits → result_and_then found (λ op. Ok (Bits op)) ≡ Ok op
+    → IsFound theories symbol indexes op
 bits_indexed_own theories symbol indexes op (Err fault) is bits h = cc
 bits_indexed_own theories symbol indexes op (Ok o) is bits h =
     let own = indexed_bits-own symbol indexes o is in
     let e : Bits o ≡ op = cc in
     subst (λ op. IsFound theories symbol indexes op) e ((bits, own.0), own.1, own.2)
 
-indexed_own : (theories : Theories) (symbol : List ℕ) (indexes : List IndexView) (op : Op) → indexed_op theories symbol indexes ≡ Ok op
+indexed_own : (theories : Theories) (symbol : List ℕ) (indexes : List IndexView) (op : Op)
+    → indexed_op theories symbol indexes ≡ Ok op
     → IsFound theories symbol indexes op
 indexed_own theories symbol indexes op h =
-    by theories.ints (bytes_eq symbol (codes "divisible")) theories.bits (λ e. e) (bytes_eq-Decides symbol (codes "divisible")).0 (λ e. e) h
+    by theories.ints (bytes_eq symbol (codes "divisible")) theories.bits (λ e. e)
+    (bytes_eq-Decides symbol (codes "divisible")).0 (λ e. e) h
   where
-    found : IsTrue theories.ints → symbol ≡ codes "divisible" → (o : Option Op) → divisible_by indexes ≡ o → ok_or o WrongIndex ≡ Ok op → IsFound theories symbol indexes op
+    found : IsTrue theories.ints → symbol ≡ codes "divisible" → (o : Option Op) → divisible_by indexes ≡ o
+        → ok_or o WrongIndex ≡ Ok op → IsFound theories symbol indexes op
     found ints is None e h = cc
     found ints is (Some x) e h =
         let own = divisible_own indexes x e in
         let e : Ints (Divisible own.0) ≡ op = (let a = own.1 in cc) in
         subst (λ op. IsFound theories symbol indexes op) e ((ints, own.3), is, own.2)
 
-    or_bits : (bits : Bool) → (bits ≡ true → IsTrue theories.bits) → cond bits (result_and_then (indexed_bits symbol indexes) (λ op. Ok (Bits op))) (Err Unknown) ≡ Ok op
+    or_bits : (bits : Bool) → (bits ≡ true → IsTrue theories.bits)
+        → cond bits (result_and_then (indexed_bits symbol indexes) (λ op. Ok (Bits op))) (Err Unknown) ≡ Ok op
         → IsFound theories symbol indexes op
-    or_bits true b h = bits_indexed_own theories symbol indexes op (indexed_bits symbol indexes) refl (b refl) h
+    or_bits true b h =
+        bits_indexed_own theories symbol indexes op (indexed_bits symbol indexes) refl (b refl) h
     or_bits false b h = cc
 
-    by : (ints named bits : Bool) → (ints ≡ true → IsTrue theories.ints) → (named ≡ true → symbol ≡ codes "divisible") → (bits ≡ true → IsTrue theories.bits)
-        → cond (ints && named) (ok_or (divisible_by indexes) WrongIndex) (cond bits (result_and_then (indexed_bits symbol indexes) (λ op. Ok (Bits op))) (Err Unknown)) ≡ Ok op
+    by : (ints named bits : Bool) → (ints ≡ true → IsTrue theories.ints)
+        → (named ≡ true → symbol ≡ codes "divisible") → (bits ≡ true → IsTrue theories.bits)
+        → cond (ints && named) (ok_or (divisible_by indexes) WrongIndex)
+        (cond bits (result_and_then (indexed_bits symbol indexes) (λ op. Ok (Bits op))) (Err Unknown))
+        ≡ Ok op
         → IsFound theories symbol indexes op
     by true true bits i n b h = found (i refl) (n refl) (divisible_by indexes) refl h
     by true false bits i n b h = or_bits bits b h
     by false named bits i n b h = or_bits bits b h
 
 -- what is found is one of the theories' operators, with its own name and indexes
-pub op_by-own : (theories : Theories) (symbol : List ℕ) (indexes : List IndexView) (op : Op) → op_by theories symbol indexes ≡ Ok op
+pub op_by-own : (theories : Theories) (symbol : List ℕ) (indexes : List IndexView) (op : Op)
+    → op_by theories symbol indexes ≡ Ok op
     → IsOperatorOf theories op × IsNameOf op symbol × (indexes ≡ indexes_of op)
 op_by-own theories symbol [] op h = plain_own theories symbol op h
 op_by-own theories symbol (index ∷ indexes) op h = indexed_own theories symbol (index ∷ indexes) op h
@@ -136,7 +166,8 @@ core_found theories Equal = refl
 core_found theories Distinct = refl
 core_found theories Ite = refl
 
-ints_found : (theories : Theories) (op : IntsOp) → IsOperatorOf theories (Ints op) → op_by theories (ints_name op) (indexes_of (Ints op)) ≡ Ok (Ints op)
+ints_found : (theories : Theories) (op : IntsOp) → IsOperatorOf theories (Ints op)
+    → op_by theories (ints_name op) (indexes_of (Ints op)) ≡ Ok (Ints op)
 ints_found theories (Arithmetic Minus) h = rw h refl
 ints_found theories (Arithmetic Plus) h = rw h refl
 ints_found theories (Arithmetic Times) h = rw h refl
@@ -147,10 +178,12 @@ ints_found theories (Comparison AtMost) h = rw h refl
 ints_found theories (Comparison Less) h = rw h refl
 ints_found theories (Comparison AtLeast) h = rw h refl
 ints_found theories (Comparison Greater) h = rw h refl
-ints_found theories (Divisible n) h = let positive : nat_lt 0 n ≡ true = (let below = h.1 in search rules) in rw (h.0, positive) refl
+ints_found theories (Divisible n) h =
+    let positive : nat_lt 0 n ≡ true = (let below = h.1 in search rules) in rw (h.0, positive) refl
 
 pub op_by-name : (theories : Theories) (symbol : List ℕ) (indexes : List IndexView) (op : Op)
-    → IsOperatorOf theories op × IsNameOf op symbol × (indexes ≡ indexes_of op) → op_by theories symbol indexes ≡ Ok op
+    → IsOperatorOf theories op × IsNameOf op symbol × (indexes ≡ indexes_of op)
+    → op_by theories symbol indexes ≡ Ok op
 op_by-name theories symbol indexes (Core op) h = rw (h.1, h.2) (core_found theories op)
 op_by-name theories symbol indexes (Ints op) h = rw (h.1, h.2) (ints_found theories op h.0)
 op_by-name theories symbol indexes (Bits op) h = rw h.2 (bits_found theories symbol op h.0.0 h.0.1 h.1)

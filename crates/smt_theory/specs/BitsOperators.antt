@@ -1,15 +1,25 @@
 -- SMT-LIB 2.6, theory FixedSizeBitVectors and logic QF_BV: the operators by name and indexes.
-use Rattle.std.specs.Prelude.{ℕ, ◌≡◌, ◌<◌, ◌≤◌, ◌^◌, ◌++◌, List, [], ◌∷◌, Bool, false, ◌&&◌, ◌==◌, IsTrue, Option, Some, None, Result, Err, option_map, ok_or, nat_le, nat_lt, find, bytes_eq, codes, if◌then◌else◌}
+use Rattle.std.specs.Prelude.{ℕ, ◌≡◌, ◌<◌, ◌≤◌, ◌^◌, ◌++◌, List, [], ◌∷◌, Bool, false, ◌&&◌, ◌==◌, IsTrue}
+use Rattle.std.specs.Prelude.{Option, Some, None, Result, Err, option_map, ok_or, nat_le, nat_lt, find}
+use Rattle.std.specs.Prelude.{bytes_eq, codes, if◌then◌else◌}
 use Rattle.std.specs.Option.{option_and_then}
 use Rattle.std.specs.Str.Parse.{digits_value}
 use Rattle.smt_theory.specs.Index.{IndexView, Number}
 use Rattle.smt_theory.specs.Numbers.{is_numeral}
 use Rattle.smt_theory.specs.Width.{width_of}
-use Rattle.smt_theory.specs.declared.op.BitsBinary.TheVariants.{Nand, Nor, Xnor, Subtract, DivideUnsigned, RemainderUnsigned, DivideSigned, RemainderSigned, ModuloSigned, ShiftLeft, ShiftRight, ShiftRightSigned}
-use Rattle.smt_theory.specs.declared.op.BitsComparison.TheVariants.{UnsignedLess, UnsignedAtMost, UnsignedGreater, UnsignedAtLeast, SignedLess, SignedAtMost, SignedGreater, SignedAtLeast}
+use Rattle.smt_theory.specs.declared.op.BitsBinary.TheVariants.{Nand, Nor, Xnor, Subtract, DivideUnsigned}
+use Rattle.smt_theory.specs.declared.op.BitsBinary.TheVariants.{RemainderUnsigned, DivideSigned}
+use Rattle.smt_theory.specs.declared.op.BitsBinary.TheVariants.{RemainderSigned, ModuloSigned, ShiftLeft}
+use Rattle.smt_theory.specs.declared.op.BitsBinary.TheVariants.{ShiftRight, ShiftRightSigned}
+use Rattle.smt_theory.specs.declared.op.BitsComparison.TheVariants.{UnsignedLess, UnsignedAtMost}
+use Rattle.smt_theory.specs.declared.op.BitsComparison.TheVariants.{UnsignedGreater, UnsignedAtLeast}
+use Rattle.smt_theory.specs.declared.op.BitsComparison.TheVariants.{SignedLess, SignedAtMost, SignedGreater}
+use Rattle.smt_theory.specs.declared.op.BitsComparison.TheVariants.{SignedAtLeast}
 use Rattle.smt_theory.specs.declared.op.BitsFolded.TheVariants.{And, Or, Xor, Add, Multiply}
 use Rattle.smt_theory.specs.declared.op.BitsOp.{BitsOp}
-use Rattle.smt_theory.specs.declared.op.BitsOp.TheVariants.{Constant, Concat, Extract, Unary, Folded, Binary, Comparison, Comp, Repeat, ZeroExtend, SignExtend, RotateLeft, RotateRight}
+use Rattle.smt_theory.specs.declared.op.BitsOp.TheVariants.{Constant, Concat, Extract, Unary, Folded, Binary}
+use Rattle.smt_theory.specs.declared.op.BitsOp.TheVariants.{Comparison, Comp, Repeat, ZeroExtend, SignExtend}
+use Rattle.smt_theory.specs.declared.op.BitsOp.TheVariants.{RotateLeft, RotateRight}
 use Rattle.smt_theory.specs.declared.op.BitsUnary.TheVariants.{Not, Negate}
 use Rattle.smt_theory.specs.declared.op.OpFault.{OpFault}
 use Rattle.smt_theory.specs.declared.op.OpFault.TheVariants.{Unknown, Index as WrongIndex}
@@ -60,11 +70,15 @@ bitwise_plain =
 
 abbrev pub binary_plain : List BitsOp
 binary_plain =
-    Binary Nand ∷ Binary Nor ∷ Binary Xnor ∷ Binary Subtract ∷ Binary DivideUnsigned ∷ Binary RemainderUnsigned ∷ Binary DivideSigned ∷ Binary RemainderSigned ∷ Binary ModuloSigned ∷ Binary ShiftLeft ∷ Binary ShiftRight ∷ Binary ShiftRightSigned ∷ []
+    Binary Nand ∷ Binary Nor ∷ Binary Xnor ∷ Binary Subtract ∷ Binary DivideUnsigned
+    ∷ Binary RemainderUnsigned ∷ Binary DivideSigned ∷ Binary RemainderSigned ∷ Binary ModuloSigned
+    ∷ Binary ShiftLeft ∷ Binary ShiftRight ∷ Binary ShiftRightSigned ∷ []
 
 abbrev pub comparison_plain : List BitsOp
 comparison_plain =
-    Comparison UnsignedLess ∷ Comparison UnsignedAtMost ∷ Comparison UnsignedGreater ∷ Comparison UnsignedAtLeast ∷ Comparison SignedLess ∷ Comparison SignedAtMost ∷ Comparison SignedGreater ∷ Comparison SignedAtLeast ∷ []
+    Comparison UnsignedLess ∷ Comparison UnsignedAtMost ∷ Comparison UnsignedGreater
+    ∷ Comparison UnsignedAtLeast ∷ Comparison SignedLess ∷ Comparison SignedAtMost
+    ∷ Comparison SignedGreater ∷ Comparison SignedAtLeast ∷ []
 
 abbrev pub bits_plain : List BitsOp
 bits_plain = Concat ∷ (bitwise_plain ++ (binary_plain ++ comparison_plain))
@@ -83,7 +97,8 @@ begins_with_bv _ = false
 
 -- the numeral in a constant's name
 abbrev pub constant_digits : List ℕ → Option (List ℕ)
-constant_digits (b ∷ v ∷ digits) = if begins_with_bv (b ∷ v ∷ digits) && is_numeral digits then Some digits else None
+constant_digits (b ∷ v ∷ digits) =
+    if begins_with_bv (b ∷ v ∷ digits) && is_numeral digits then Some digits else None
 constant_digits _ = None
 
 -- the number that is the only index
@@ -93,7 +108,9 @@ only_number _ = None
 
 abbrev pub constant_by : List ℕ → List IndexView → Option BitsOp
 constant_by digits indexes =
-    option_and_then (λ width. if nat_lt (digits_value 10 digits) (2 ^ width) then Some (Constant (digits_value 10 digits) width) else None) (option_and_then width_of (only_number indexes))
+    option_and_then (λ width. if nat_lt (digits_value 10 digits) (2 ^ width)
+    then Some (Constant (digits_value 10 digits) width) else None)
+    (option_and_then width_of (only_number indexes))
 
 abbrev pub extract_by : List IndexView → Option BitsOp
 extract_by (Number i ∷ Number j ∷ []) = if nat_le j i then Some (Extract i j) else None
@@ -112,10 +129,14 @@ abbrev pub indexed_bits : List ℕ → List IndexView → Result BitsOp OpFault
 indexed_bits symbol indexes =
     if bytes_eq symbol (codes "extract") then ok_or (extract_by indexes) WrongIndex
     else if bytes_eq symbol (codes "repeat") then ok_or (repeat_by indexes) WrongIndex
-    else if bytes_eq symbol (codes "zero_extend") then ok_or (option_map ZeroExtend (only_number indexes)) WrongIndex
-    else if bytes_eq symbol (codes "sign_extend") then ok_or (option_map SignExtend (only_number indexes)) WrongIndex
-    else if bytes_eq symbol (codes "rotate_left") then ok_or (option_map RotateLeft (only_number indexes)) WrongIndex
-    else if bytes_eq symbol (codes "rotate_right") then ok_or (option_map RotateRight (only_number indexes)) WrongIndex
+    else if bytes_eq symbol (codes "zero_extend")
+    then ok_or (option_map ZeroExtend (only_number indexes)) WrongIndex
+    else if bytes_eq symbol (codes "sign_extend")
+    then ok_or (option_map SignExtend (only_number indexes)) WrongIndex
+    else if bytes_eq symbol (codes "rotate_left")
+    then ok_or (option_map RotateLeft (only_number indexes)) WrongIndex
+    else if bytes_eq symbol (codes "rotate_right")
+    then ok_or (option_map RotateRight (only_number indexes)) WrongIndex
     else indexed_constant (constant_digits symbol) indexes
 
 -- ---- the form of each operator
@@ -123,7 +144,8 @@ indexed_bits symbol indexes =
 -- whether a symbol is the operator's name: of a constant it is `bv` with a numeral of its number
 abbrev pub IsBitsName : BitsOp → List ℕ → Type 0
 IsBitsName (Constant number width) symbol =
-    (digits : List ℕ) × (symbol ≡ codes "bv" ++ digits) × IsTrue (is_numeral digits) × (digits_value 10 digits ≡ number)
+    (digits : List ℕ) × (symbol ≡ codes "bv" ++ digits) × IsTrue (is_numeral digits)
+    × (digits_value 10 digits ≡ number)
 IsBitsName op symbol = symbol ≡ bits_name op
 
 abbrev pub bits_indexes : BitsOp → List IndexView

@@ -1,5 +1,8 @@
--- SMT-LIB 2.6, theories Core, Ints and FixedSizeBitVectors, and logic QF_BV: the operators by name and indexes.
-use Rattle.std.specs.Prelude.{ℕ, ◌≡◌, ◌≢◌, ◌<◌, List, [], ◌∷◌, Bool, ◌&&◌, IsTrue, Option, Some, None, Result, Ok, Err, is_some, option_map, ok_or, nat_lt, find, bytes_eq, codes, if◌then◌else◌}
+-- SMT-LIB 2.6, theories Core, Ints and FixedSizeBitVectors, and logic QF_BV: the operators by name and
+-- indexes.
+use Rattle.std.specs.Prelude.{ℕ, ◌≡◌, ◌≢◌, ◌<◌, List, [], ◌∷◌, Bool, ◌&&◌, IsTrue, Option, Some, None, Result}
+use Rattle.std.specs.Prelude.{Ok, Err, is_some, option_map, ok_or, nat_lt, find, bytes_eq, codes}
+use Rattle.std.specs.Prelude.{if◌then◌else◌}
 use Rattle.std.specs.Option.{option_or}
 use Rattle.smt_theory.specs.BitsOperators.{AreInRange, IsBitsName, bits_indexes, bits_named, indexed_bits}
 use Rattle.smt_theory.specs.Index.{IndexView, Number}
@@ -7,7 +10,8 @@ use Rattle.smt_theory.specs.Words.{result_and_then}
 use Rattle.smt_theory.specs.declared.op.Arithmetic.TheVariants.{Minus, Plus, Times, Div}
 use Rattle.smt_theory.specs.declared.op.Comparison.TheVariants.{AtMost, Less, AtLeast, Greater}
 use Rattle.smt_theory.specs.declared.op.CoreOp.{CoreOp}
-use Rattle.smt_theory.specs.declared.op.CoreOp.TheVariants.{True, False, Not, Implies, And, Or, Xor, Equal, Distinct, Ite}
+use Rattle.smt_theory.specs.declared.op.CoreOp.TheVariants.{True, False, Not, Implies, And, Or, Xor, Equal}
+use Rattle.smt_theory.specs.declared.op.CoreOp.TheVariants.{Distinct, Ite}
 use Rattle.smt_theory.specs.declared.op.IntsOp.{IntsOp}
 use Rattle.smt_theory.specs.declared.op.IntsOp.TheVariants.{Arithmetic, Comparison, Mod, Abs, Divisible}
 use Rattle.smt_theory.specs.declared.op.Op.{Op}
@@ -49,7 +53,8 @@ core_plain = True ∷ False ∷ Not ∷ Implies ∷ And ∷ Or ∷ Xor ∷ Equal
 
 abbrev pub ints_plain : List IntsOp
 ints_plain =
-    Arithmetic Minus ∷ Arithmetic Plus ∷ Arithmetic Times ∷ Arithmetic Div ∷ Mod ∷ Abs ∷ Comparison AtMost ∷ Comparison Less ∷ Comparison AtLeast ∷ Comparison Greater ∷ []
+    Arithmetic Minus ∷ Arithmetic Plus ∷ Arithmetic Times ∷ Arithmetic Div ∷ Mod ∷ Abs ∷ Comparison AtMost
+    ∷ Comparison Less ∷ Comparison AtLeast ∷ Comparison Greater ∷ []
 
 abbrev pub core_named : List ℕ → Option CoreOp
 core_named symbol = find (λ op. bytes_eq symbol (core_name op)) core_plain
@@ -60,7 +65,9 @@ ints_named symbol = find (λ op. bytes_eq symbol (ints_name op)) ints_plain
 -- the plain operator of a name
 abbrev pub plain_op : Theories → List ℕ → Option Op
 plain_op theories symbol =
-    option_or (option_map Core (core_named symbol)) (option_or (if theories.ints then option_map Ints (ints_named symbol) else None) (if theories.bits then option_map Bits (bits_named symbol) else None))
+    option_or (option_map Core (core_named symbol))
+    (option_or (if theories.ints then option_map Ints (ints_named symbol) else None)
+    (if theories.bits then option_map Bits (bits_named symbol) else None))
 
 -- whether a name is a plain operator's, so that nothing new may have it
 abbrev pub is_plain_operator : Theories → List ℕ → Bool
@@ -116,7 +123,7 @@ IsOfTheories theories (Core op) = Unit {0}
 IsOfTheories theories (Ints op) = IsTrue theories.ints
 IsOfTheories theories (Bits op) = IsTrue theories.bits
 
--- some operator of the theories that takes no indexes, or that takes some, has this name
+-- some operator of the theories without indexes, or with some, has this name
 abbrev pub IsPlainName : Theories → List ℕ → Type 0
 IsPlainName theories symbol =
     (op : Op) × IsOfTheories theories op × IsNameOf op symbol × (indexes_of op ≡ [])
@@ -124,3 +131,8 @@ IsPlainName theories symbol =
 abbrev pub IsIndexedName : Theories → List ℕ → Type 0
 IsIndexedName theories symbol =
     (op : Op) × IsOfTheories theories op × IsNameOf op symbol × (indexes_of op ≢ [])
+
+-- what a fault of an identifier says
+abbrev pub text_of_op_fault : OpFault → List ℕ
+text_of_op_fault Unknown = codes "unknown operator"
+text_of_op_fault WrongIndex = codes "wrong indexes"

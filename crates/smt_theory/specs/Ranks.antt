@@ -1,6 +1,9 @@
--- SMT-LIB 2.6, theories Core, Ints and FixedSizeBitVectors, and logic QF_BV: the ranks of the operators. `HasRank` is the table;
--- `rank_of` computes from it. That no bit vector is wider than 128 is this project's own.
-use Rattle.std.specs.Prelude.{ℕ, ◌≡◌, ◌<◌, ◌≤◌, ◌+◌, ◌-◌, ◌*◌, ◌^◌, List, [], ◌∷◌, Bool, false, ◌&&◌, ◌||◌, ◌==◌, ◌⊎◌, Option, Some, None, option_map, nat_le, nat_lt, length, map, All, if◌then◌else◌}
+-- SMT-LIB 2.6, theories Core, Ints and FixedSizeBitVectors, and logic QF_BV: the ranks of the operators.
+-- `HasRank` is the table; `rank_of` computes from it. That no bit vector is wider than 128 is this project's
+-- own.
+use Rattle.std.specs.Prelude.{ℕ, ◌≡◌, ◌<◌, ◌≤◌, ◌+◌, ◌-◌, ◌*◌, ◌^◌, List, [], ◌∷◌, Bool, false, ◌&&◌, ◌||◌}
+use Rattle.std.specs.Prelude.{◌==◌, ◌⊎◌, Option, Some, None, option_map, nat_le, nat_lt, length, map, All}
+use Rattle.std.specs.Prelude.{if◌then◌else◌}
 use Rattle.std.specs.List.{list_all, sum}
 use Rattle.std.specs.Bool.{then_some}
 use Rattle.std.specs.Option.{option_and_then}
@@ -10,7 +13,8 @@ use Rattle.smt_theory.specs.declared.op.Arithmetic.TheVariants.{Minus, Plus, Tim
 use Rattle.smt_theory.specs.declared.op.BitsOp.{BitsOp}
 use Rattle.smt_theory.specs.declared.op.BitsOp.TheVariants as bits
 use Rattle.smt_theory.specs.declared.op.CoreOp.{CoreOp}
-use Rattle.smt_theory.specs.declared.op.CoreOp.TheVariants.{True, False, Not, Implies, And, Or, Xor, Equal, Distinct, Ite}
+use Rattle.smt_theory.specs.declared.op.CoreOp.TheVariants.{True, False, Not, Implies, And, Or, Xor, Equal}
+use Rattle.smt_theory.specs.declared.op.CoreOp.TheVariants.{Distinct, Ite}
 use Rattle.smt_theory.specs.declared.op.IntsOp.{IntsOp}
 use Rattle.smt_theory.specs.declared.op.IntsOp.TheVariants.{Arithmetic, Comparison, Mod, Abs, Divisible}
 use Rattle.smt_theory.specs.declared.op.Op.{Op}
@@ -54,18 +58,24 @@ HasIntsRank (Divisible n) args result = ((0 < n) × (args ≡ Int ∷ [])) × (r
 
 -- theory FixedSizeBitVectors, with what logic QF_BV adds
 abbrev pub HasBitsRank : BitsOp → List Sort → Sort → Type 0
-HasBitsRank (bits.Constant number n) args result = (1 ≤ n) × (n ≤ 128) × (number < 2 ^ n) × (args ≡ []) × (result ≡ Bits n)
+HasBitsRank (bits.Constant number n) args result =
+    (1 ≤ n) × (n ≤ 128) × (number < 2 ^ n) × (args ≡ []) × (result ≡ Bits n)
 HasBitsRank bits.Concat args result =
-    (widths : List ℕ) × (args ≡ map Bits widths) × (2 ≤ length widths) × (sum widths ≤ 128) × (result ≡ Bits (sum widths))
-HasBitsRank (bits.Extract i j) args result = (m : ℕ) × (args ≡ Bits m ∷ []) × (j ≤ i) × (i < m) × (result ≡ Bits (i - j + 1))
+    (widths : List ℕ) × (args ≡ map Bits widths) × (2 ≤ length widths) × (sum widths ≤ 128)
+    × (result ≡ Bits (sum widths))
+HasBitsRank (bits.Extract i j) args result =
+    (m : ℕ) × (args ≡ Bits m ∷ []) × (j ≤ i) × (i < m) × (result ≡ Bits (i - j + 1))
 HasBitsRank (bits.Unary op) args result = (m : ℕ) × (args ≡ Bits m ∷ []) × (result ≡ Bits m)
 HasBitsRank (bits.Folded op) args result = (m : ℕ) × AreSeveral (Bits m) args × (result ≡ Bits m)
 HasBitsRank (bits.Binary op) args result = (m : ℕ) × (args ≡ Bits m ∷ Bits m ∷ []) × (result ≡ Bits m)
 HasBitsRank (bits.Comparison op) args result = (m : ℕ) × (args ≡ Bits m ∷ Bits m ∷ []) × (result ≡ Boolean)
 HasBitsRank bits.Comp args result = (m : ℕ) × (args ≡ Bits m ∷ Bits m ∷ []) × (result ≡ Bits 1)
-HasBitsRank (bits.Repeat i) args result = (m : ℕ) × (args ≡ Bits m ∷ []) × (1 ≤ i) × (i * m ≤ 128) × (result ≡ Bits (i * m))
-HasBitsRank (bits.ZeroExtend i) args result = (m : ℕ) × (args ≡ Bits m ∷ []) × (m + i ≤ 128) × (result ≡ Bits (m + i))
-HasBitsRank (bits.SignExtend i) args result = (m : ℕ) × (args ≡ Bits m ∷ []) × (m + i ≤ 128) × (result ≡ Bits (m + i))
+HasBitsRank (bits.Repeat i) args result =
+    (m : ℕ) × (args ≡ Bits m ∷ []) × (1 ≤ i) × (i * m ≤ 128) × (result ≡ Bits (i * m))
+HasBitsRank (bits.ZeroExtend i) args result =
+    (m : ℕ) × (args ≡ Bits m ∷ []) × (m + i ≤ 128) × (result ≡ Bits (m + i))
+HasBitsRank (bits.SignExtend i) args result =
+    (m : ℕ) × (args ≡ Bits m ∷ []) × (m + i ≤ 128) × (result ≡ Bits (m + i))
 HasBitsRank (bits.RotateLeft i) args result = (m : ℕ) × (args ≡ Bits m ∷ []) × (result ≡ Bits m)
 HasBitsRank (bits.RotateRight i) args result = (m : ℕ) × (args ≡ Bits m ∷ []) × (result ≡ Bits m)
 
@@ -88,7 +98,8 @@ are_several_of_one [] = false
 are_several_of_one (arg ∷ args) = are_several arg (arg ∷ args)
 
 abbrev pub choice_rank : List Sort → Option Sort
-choice_rank (condition ∷ chosen ∷ other ∷ []) = if is_same_sort condition Boolean && is_same_sort chosen other then Some chosen else None
+choice_rank (condition ∷ chosen ∷ other ∷ []) =
+    if is_same_sort condition Boolean && is_same_sort chosen other then Some chosen else None
 choice_rank _ = None
 
 abbrev pub core_rank : CoreOp → List Sort → Option Sort
@@ -133,7 +144,8 @@ within_limit width = if nat_le width 128 then Some width else None
 -- the width of these bit vectors behind so many bits
 abbrev pub width_behind : ℕ → List Sort → Option ℕ
 width_behind before [] = Some before
-width_behind before (Bits m ∷ args) = option_and_then (λ width. width_behind width args) (within_limit (before + m))
+width_behind before (Bits m ∷ args) =
+    option_and_then (λ width. width_behind width args) (within_limit (before + m))
 width_behind before _ = None
 
 -- the width of two or more bit vectors one behind the other
@@ -148,7 +160,8 @@ abbrev pub repeat_width : ℕ → ℕ → Option ℕ
 repeat_width i m = if nat_le 1 i then within_limit (i * m) else None
 
 abbrev pub constant_width : ℕ → ℕ → List Sort → Option ℕ
-constant_width number n args = if nat_le 1 n && nat_le n 128 && nat_lt number (2 ^ n) && are_exactly [] args then Some n else None
+constant_width number n args =
+    if nat_le 1 n && nat_le n 128 && nat_lt number (2 ^ n) && are_exactly [] args then Some n else None
 
 abbrev pub bits_rank : BitsOp → List Sort → Option Sort
 bits_rank (bits.Constant number n) args = option_map Bits (constant_width number n args)
@@ -160,8 +173,10 @@ bits_rank (bits.Binary op) args = option_map Bits (two_width args)
 bits_rank (bits.Comparison op) args = option_map (λ m. Boolean) (two_width args)
 bits_rank bits.Comp args = option_map (λ m. Bits 1) (two_width args)
 bits_rank (bits.Repeat i) args = option_map Bits (option_and_then (repeat_width i) (one_width args))
-bits_rank (bits.ZeroExtend i) args = option_map Bits (option_and_then (λ m. within_limit (m + i)) (one_width args))
-bits_rank (bits.SignExtend i) args = option_map Bits (option_and_then (λ m. within_limit (m + i)) (one_width args))
+bits_rank (bits.ZeroExtend i) args =
+    option_map Bits (option_and_then (λ m. within_limit (m + i)) (one_width args))
+bits_rank (bits.SignExtend i) args =
+    option_map Bits (option_and_then (λ m. within_limit (m + i)) (one_width args))
 bits_rank (bits.RotateLeft i) args = option_map Bits (one_width args)
 bits_rank (bits.RotateRight i) args = option_map Bits (one_width args)
 

@@ -1,4 +1,4 @@
-//! Indexes of identifiers.
+//! Indexes of identifiers. This file knows no operator, and reads no digits.
 
 /// An index of an identifier `(_ symbol index ..)` (SMT-LIB 2.6, section 3.3).
 #[derive(Clone, Copy)]

@@ -1,13 +1,15 @@
 //! Sorts, theories and operators of SMT-LIB 2.6.
 //!
-//! The theories are Core, Ints and FixedSizeBitVectors, the last with the operators that the logic QF_BV adds. Bit vectors are up to
-//! 128 bits wide.
+//! The theories are Core, Ints and FixedSizeBitVectors, the last with the operators that the logic QF_BV
+//! adds. Bit vectors are up to 128 bits wide.
 //!
-//! A logic has theories (`theories_of`), a symbol with its indexes is an operator of theories (`op_of`), and an operator has a
-//! result's sort for the sorts of its arguments (`rank`). Nothing here takes memory, knows a text or a value.
+//! A logic has theories (`theories_of`), a symbol with its indexes is an operator of theories (`op_of`), and
+//! an operator has a result's sort for the sorts of its arguments (`rank`). Nothing here allocates, or
+//! knows a text or a value.
 //!
-//! **The contract for the layer above**: `rank` gives a sort exactly where the table of ranks, `HasRank` of `specs/Ranks.antt`,
-//! has the operator with these arguments and that result. The table has one line for each row of the standard's theory files.
+//! **The contract for the layer above**: `rank` gives a sort exactly where the table of ranks, `HasRank` of
+//! `specs/Ranks.antt`, has the operator with these arguments and that result. The table has one line for each
+//! row of the standard's theory files.
 //!
 //! A call, of `(< 1 2 3)` in the logic `QF_LIA`:
 //!
@@ -24,6 +26,7 @@ mod numbers;
 mod op;
 mod ranks;
 mod sort;
+mod symbols;
 mod theories;
 mod width;
 

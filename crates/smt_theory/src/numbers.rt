@@ -1,4 +1,4 @@
-//! Numbers from their digits.
+//! Numbers from their digits. This file knows no sort, and no atom.
 
 ghost use Rattle.std.specs.Prelude.{◌≡◌, ◌+◌, ◌*◌, ◌^◌, ◌<◌};
 ghost use Rattle.std.specs.Char.{digit_value, is_ascii_digit};
@@ -7,8 +7,8 @@ ghost use Rattle.std.specs.Str.Parse.{digits_value};
 ghost use Rattle.smt_theory.specs.Numbers.{below_word};
 ghost use Rattle.smt_theory.specs.Numbers as numbers;
 
-/// The number that digits spell in a base; `None` where it is 2^128 or more. Digits from ten on are letters of either case, leading
-/// zeros change nothing, and what comes of other bytes is of no interest.
+/// The number that digits spell in a base; `None` where it is 2^128 or more. Digits from ten on are letters
+/// of either case, leading zeros change nothing, and what comes of other bytes is of no interest.
 pub fn number(base: u8, digits: &[u8]) -> Option<u128>
     requires { 0 < base }
     ensures { result ≡ below_word (digits_value base digits.now) }

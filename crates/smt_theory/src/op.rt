@@ -1,9 +1,12 @@
-//! Operators, by the theory that they are of.
+//! Operators, by the theory that they are of, and why an identifier is none. This file finds no operator by
+//! its name, and gives none a rank.
 
 mod bits_names;
 pub(crate) mod names;
 
 use crate::width::Width;
+use std::error::Error;
+use std::fmt;
 
 /// An operator of a theory, with its indexes.
 #[derive(Clone, Copy)]
@@ -166,10 +169,26 @@ pub enum BitsComparison {
 }
 
 /// Why an identifier is no operator.
-#[derive(Clone, Copy)]
+#[derive(Clone, Copy, Debug)]
 pub enum OpFault {
     /// No operator has that name in that form: plain where there is no index, indexed where there is one.
     Unknown,
     /// The name is an indexed operator's, and the indexes are wrong in number, kind or range.
     Index,
 }
+
+impl fmt::Display for OpFault {
+    ghost use Rattle.std.specs.Prelude.{Some};
+    ghost use Rattle.smt_theory.specs.Operators.{text_of_op_fault};
+
+    ghost output = { λ x. Some (text_of_op_fault x) };
+
+    fn fmt<W: fmt::Write>(&self, f: &mut fmt::Formatter<W>) -> fmt::Result {
+        f.write_str(match self {
+            OpFault::Unknown => "unknown operator",
+            OpFault::Index => "wrong indexes",
+        })
+    }
+}
+
+impl Error for OpFault {}

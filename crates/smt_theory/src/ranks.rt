@@ -1,8 +1,9 @@
-//! Ranks: the sorts that operators take and give.
+//! Ranks: the sorts of the arguments and of the results of operators. This file knows no operator's name, and no value.
 
 ghost use Rattle.std.specs.Prelude.{◌≡◌, ◌↔◌, Option, Some, nat_lt, ◌||◌, ◌&&◌};
 ghost use Rattle.std.specs.List.{list_all};
-ghost use Rattle.smt_theory.specs.Ranks.{HasRank, rank_of, core_rank, ints_rank, choice_rank, are_exactly, are_several, are_several_of_one};
+ghost use Rattle.smt_theory.specs.Ranks.{HasRank, rank_of, core_rank, ints_rank, choice_rank, are_exactly};
+ghost use Rattle.smt_theory.specs.Ranks.{are_several, are_several_of_one};
 ghost use Rattle.smt_theory.specs.Sort.{is_same_sort};
 ghost use Rattle.smt_theory.specs.declared.sort.Sort.{Sort};
 

@@ -1,9 +1,9 @@
-//! Theories, and the logics that choose them.
+//! Theories, and the logics that choose them. This file knows no operator.
 
 ghost use Rattle.std.specs.Prelude.{◌≡◌};
 ghost use Rattle.smt_theory.specs.Theories.{theories_named, is_logic_of_bit_vectors, is_logic_of_integers};
 
-use crate::op::names::is_named;
+use crate::symbols::is_named;
 
 /// The theories that a logic has besides Core.
 #[derive(Clone, Copy)]
@@ -14,8 +14,8 @@ pub struct Theories {
     pub bits: bool,
 }
 
-/// The theories of the logic of this name; `None` for a name that is not taken. Which logics are taken is this project's own
-/// choice, and a logic chooses theories alone: `ALL` is all that there are.
+/// The theories of the logic of this name; `None` where it is not supported. Which logics are supported
+/// is this project's own choice, and a logic chooses theories alone: `ALL` is all that there are.
 pub fn theories_of(logic: &[u8]) -> Option<Theories>
     ensures { result ≡ theories_named logic.now }
 {

@@ -1,11 +1,12 @@
-//! Widths of bit vectors.
+//! Widths of bit vectors, and their limit. This file knows no bit vector.
 
 ghost use Rattle.std.specs.Prelude.{◌≡◌, ◌≤◌, ◌^◌, nat_lt};
 ghost use Rattle.smt_theory.specs.Width.{width_of};
 
 use std::marker::Model;
 
-/// The width of a bit vector, in bits: 1 to 128. Contracts see it as a number. The upper limit is this project's own.
+/// The width of a bit vector, in bits: 1 to 128. Contracts see it as a number. The upper limit is this
+/// project's own.
 #[derive(Clone, Copy, PartialEq, Eq)]
 pub struct Width {
     bits: u8,

@@ -3,7 +3,8 @@ use Rattle.std.specs.Prelude.{List, [], ◌∷◌}
 use Rattle.smt_trees.specs.Sexp as sexp
 use Rattle.smt_trees.specs.Sexp.{Sexp, Sexps, Atom, Items, Nil, Cons}
 use Rattle.smt_trees.specs.declared.tree.Tree.{Tree}
-use Rattle.smt_trees.specs.declared.tree.Tree.TheVariants.{Numeral, Decimal, Hex, Bin, Text, Symbol, Reserved, Keyword, List as Listed}
+use Rattle.smt_trees.specs.declared.tree.Tree.TheVariants.{Numeral, Decimal, Hex, Bin, Text, Symbol, Reserved}
+use Rattle.smt_trees.specs.declared.tree.Tree.TheVariants.{Keyword, List as Listed}
 
 -- the S-expression that a tree is
 abbrev pub sexp_of : Tree → Sexp

@@ -1,4 +1,4 @@
-//! The bytes of an atom.
+//! The bytes of an atom, of which few need no memory of their own. This file knows no kind of atom.
 
 ghost use Rattle.std.specs.Prelude.{◌≡◌, ◌≤◌, ℕ, List, [], IfOk, IfSome, length, take};
 
@@ -59,7 +59,8 @@ impl Bytes {
         })
     }
 
-    /// The bytes of a vector, which is empty then. Many bytes are not copied, and few leave the vector its memory.
+    /// The bytes of a vector, which is empty then. Many bytes are not copied, and few leave the vector its
+    /// memory.
     pub fn taken_from(alloc: Global, bytes: &mut Vec<u8>) -> Result<Self, AllocError>
         ensures taken { IfOk result (λ b. b ≡ bytes.old.items) }
         ensures emptied { IfOk result (λ b. bytes.new.items ≡ []) }
@@ -90,7 +91,7 @@ impl Bytes {
         }
     }
 
-    /// A copy of the bytes that takes no memory, if they are few.
+    /// A copy of the bytes that allocates nothing, if they are few.
     #[inline(always)]
     pub(crate) fn short_copy(&self) -> Option<Bytes>
         ensures { IfSome result (λ b. b ≡ self.now) }

@@ -1,4 +1,4 @@
-//! S-expressions, as the reader hands them out.
+//! S-expressions, as the reader hands them out. This file reads no text, and knows no term.
 
 ghost use Rattle.std.specs.Prelude.{◌≡◌, IfOk, IfSome, MatchOption};
 ghost use Rattle.smt_trees.specs.Sexp as sexp;
@@ -61,7 +61,7 @@ impl Model for Trees {
 }
 
 impl Trees {
-    /// The trees of a vector, which takes no memory.
+    /// The trees of a vector; nothing is allocated.
     pub fn new(items: Vec<Tree>) -> Self
         ensures { result ≡ sexps_of items.items }
     {
@@ -75,7 +75,7 @@ impl Trees {
         self.items.as_slice()
     }
 
-    /// The vector of these trees, which takes no memory.
+    /// The vector of these trees; nothing is allocated.
     pub fn into_vec(self) -> Vec<Tree>
         ensures { sexps_of result.items ≡ self }
     {

@@ -1,5 +1,8 @@
--- Arguments that are all known, and are of the sorts of a rank, give a result that is known, unless it is an integer.
-use Rattle.std.proofs.Common.{◌≡◌, ◌≢◌, ◌⊎◌, inl, inr, ℕ, suc, ◌+◌, ◌*◌, ◌≤◌, ◌<◌, Bool, true, false, not, cond, List, [], ◌∷◌, Option, Some, None, is_some, length, nat_lt, nat_le, refl, sym, ap, subst, arith, rules}
+-- Arguments that are all known, and are of the sorts of a rank, give a result that is known, unless it is an
+-- integer.
+use Rattle.std.proofs.Common.{◌≡◌, ◌≢◌, ◌⊎◌, inl, inr, ℕ, suc, ◌+◌, ◌*◌, ◌≤◌, ◌<◌, Bool, true, false, not}
+use Rattle.std.proofs.Common.{cond, List, [], ◌∷◌, Option, Some, None, is_some, length, nat_lt, nat_le, refl}
+use Rattle.std.proofs.Common.{sym, ap, subst, arith, rules}
 use Rattle.std.specs.List.{list_all, list_any, sum}
 use Rattle.std.specs.Prelude.{All, ◌==◌, IsSome, map, option_map}
 use Rattle.smt_bits.specs.BitVector.{BitVector, vector}
@@ -8,11 +11,15 @@ use Rattle.smt_theory.specs.Ranks.{HasRank, AreSeveral}
 use Rattle.smt_theory.specs.declared.op.Arithmetic.TheVariants.{Minus, Plus, Times, Div}
 use Rattle.smt_theory.specs.declared.op.BitsFolded.{BitsFolded}
 use Rattle.smt_theory.specs.declared.op.BitsOp.{BitsOp}
-use Rattle.smt_theory.specs.declared.op.BitsOp.TheVariants.{Constant, Concat, Extract, Unary, Folded, Binary, Comparison, Comp, Repeat, ZeroExtend, SignExtend, RotateLeft, RotateRight}
+use Rattle.smt_theory.specs.declared.op.BitsOp.TheVariants.{Constant, Concat, Extract, Unary, Folded, Binary}
+use Rattle.smt_theory.specs.declared.op.BitsOp.TheVariants.{Comparison, Comp, Repeat, ZeroExtend, SignExtend}
+use Rattle.smt_theory.specs.declared.op.BitsOp.TheVariants.{RotateLeft, RotateRight}
 use Rattle.smt_theory.specs.declared.op.CoreOp.{CoreOp}
-use Rattle.smt_theory.specs.declared.op.CoreOp.TheVariants.{True, False, Not, Implies, And, Or, Xor, Equal, Distinct, Ite}
+use Rattle.smt_theory.specs.declared.op.CoreOp.TheVariants.{True, False, Not, Implies, And, Or, Xor, Equal}
+use Rattle.smt_theory.specs.declared.op.CoreOp.TheVariants.{Distinct, Ite}
 use Rattle.smt_theory.specs.declared.op.IntsOp.{IntsOp}
-use Rattle.smt_theory.specs.declared.op.IntsOp.TheVariants.{Arithmetic as Left, Comparison as Chain, Mod, Abs, Divisible}
+use Rattle.smt_theory.specs.declared.op.IntsOp.TheVariants.{Arithmetic as Left, Comparison as Chain, Mod, Abs}
+use Rattle.smt_theory.specs.declared.op.IntsOp.TheVariants.{Divisible}
 use Rattle.smt_theory.specs.declared.op.Op.{Op}
 use Rattle.smt_theory.specs.declared.op.Op.TheVariants.{Core, Ints, Bits}
 use Rattle.smt_theory.specs.declared.sort.Sort.{Sort}
@@ -21,7 +28,8 @@ use Rattle.smt_values.proofs.BitSortLemmas.{one, sum-cons, two, vector_is}
 use Rattle.smt_values.specs.BitOperations.{folded_vector}
 use Rattle.smt_values.specs.Element.{Element, Truth, Integer, Vector, IsOfSort, AreOfSorts}
 use Rattle.smt_values.specs.KnownBitOperations.{known_bits, known_folded}
-use Rattle.smt_values.specs.KnownOperations.{as_disjunction, decided, is_known, known_core, known_integers, known_step, known_truth, known_vectors}
+use Rattle.smt_values.specs.KnownOperations.{as_disjunction, decided, is_known, known_core, known_integers}
+use Rattle.smt_values.specs.KnownOperations.{known_step, known_truth, known_vectors}
 use Rattle.smt_values.specs.Lists.{all_known, steps_from}
 use Rattle.smt_values.specs.Operations.{integer_of, truth_of, vector_of}
 
@@ -32,18 +40,23 @@ abbrev AreAll : Sort → List Element → Type 0
 AreAll sort [] = Unit {0}
 AreAll sort (e ∷ es) = IsOfSort sort e × AreAll sort es
 
-all_of : (sort : Sort) (sorts : List Sort) (es : List Element) → All (λ s. s ≡ sort) sorts → AreOfSorts sorts es → AreAll sort es
+all_of : (sort : Sort) (sorts : List Sort) (es : List Element) → All (λ s. s ≡ sort) sorts
+    → AreOfSorts sorts es → AreAll sort es
 all_of sort [] [] each h = tt
 all_of sort [] (e ∷ es) each h = absurd h
 all_of sort (s ∷ sorts) [] each h = absurd h
-all_of sort (s ∷ sorts) (e ∷ es) each h =
-    (subst (λ s. IsOfSort s e) (each 0 sort (omega arith)) h.0, all_of sort sorts es (λ i d below. each (suc i) d (omega arith)) h.1)
+all_of sort (s ∷ sorts) (e ∷ es) each h = (
+  subst (λ s. IsOfSort s e) (each 0 sort (omega arith)) h.0,
+  all_of sort sorts es
+      (λ i d below. each (suc i) d (omega arith)) h.1,
+)
 
 themselves : (es : List Element) → all_known (map Some es) ≡ Some es
 themselves [] = refl
 themselves (e ∷ es) = ap (option_map (λ xs. e ∷ xs)) (themselves es)
 
-truths : (es : List Element) → AreAll Boolean es → all_known (map known_truth (map Some es)) ≡ Some (map truth_of es)
+truths : (es : List Element) → AreAll Boolean es
+    → all_known (map known_truth (map Some es)) ≡ Some (map truth_of es)
 truths [] h = refl
 truths (Truth b ∷ es) h = ap (option_map (λ bs. b ∷ bs)) (truths es h.1)
 truths (Integer z ∷ es) h = absurd h.0
@@ -60,13 +73,16 @@ abbrev AreVectors : List Sort → Type 0
 AreVectors [] = Unit {0}
 AreVectors (s ∷ sorts) = ((m : ℕ) × (s ≡ BitsSort m)) × AreVectors sorts
 
-vectors : (sorts : List Sort) (es : List Element) → AreVectors sorts → AreOfSorts sorts es → known_vectors (map Some es) ≡ Some (map vector_of es)
+vectors : (sorts : List Sort) (es : List Element) → AreVectors sorts → AreOfSorts sorts es
+    → known_vectors (map Some es) ≡ Some (map vector_of es)
 vectors [] [] each h = refl
 vectors [] (e ∷ es) each h = absurd h
 vectors (s ∷ sorts) [] each h = absurd h
-vectors (s ∷ sorts) (e ∷ es) each h = by e (subst (λ s. IsOfSort s e) each.0.1 h.0) (vectors sorts es each.1 h.1)
+vectors (s ∷ sorts) (e ∷ es) each h =
+    by e (subst (λ s. IsOfSort s e) each.0.1 h.0) (vectors sorts es each.1 h.1)
   where
-    by : (e : Element) → IsOfSort (BitsSort each.0.0) e → known_vectors (map Some es) ≡ Some (map vector_of es)
+    by : (e : Element) → IsOfSort (BitsSort each.0.0) e
+        → known_vectors (map Some es) ≡ Some (map vector_of es)
         → known_vectors (map Some (e ∷ es)) ≡ Some (map vector_of (e ∷ es))
     by (Truth b) h rest = absurd h
     by (Integer z) h rest = absurd h
@@ -74,7 +90,11 @@ vectors (s ∷ sorts) (e ∷ es) each h = by e (subst (λ s. IsOfSort s e) each.
 
 several_vectors : (m : ℕ) (sorts : List Sort) → All (λ s. s ≡ BitsSort m) sorts → AreVectors sorts
 several_vectors m [] each = tt
-several_vectors m (s ∷ sorts) each = ((m, each 0 (BitsSort m) (omega arith)), several_vectors m sorts (λ i d below. each (suc i) d (omega arith)))
+several_vectors m (s ∷ sorts) each = (
+  (m, each 0 (BitsSort m) (omega arith)),
+  several_vectors m sorts
+      (λ i d below. each (suc i) d (omega arith)),
+)
 
 width_vectors : (widths : List ℕ) → AreVectors (map BitsSort widths)
 width_vectors [] = tt
@@ -82,16 +102,19 @@ width_vectors (m ∷ widths) = ((m, refl), width_vectors widths)
 
 -- ---- theory Core
 
-either : {A : Type 0} (a b : Bool) (x y : A) → (a ≡ true) ⊎ (b ≡ true) → IsSome (cond a (Some x) (cond b (Some y) None))
+either : {A : Type 0} (a b : Bool) (x y : A) → (a ≡ true) ⊎ (b ≡ true)
+    → IsSome (cond a (Some x) (cond b (Some y) None))
 either true b x y h = refl
 either false true x y h = refl
 either false false x y h = elim h [ inl e ↦ cc | inr e ↦ cc ]
 
 decided_known : (d : Bool) (es : List Element) → AreAll Boolean es → IsSome (decided d (map Some es))
 decided_known d es h =
-    either (list_any (is_known d) (map Some es)) (list_all (is_known (not d)) (map Some es)) (Truth d) (Truth (not d)) (by d es h)
+    either (list_any (is_known d) (map Some es)) (list_all (is_known (not d)) (map Some es)) (Truth d)
+    (Truth (not d)) (by d es h)
   where
-    by : (d : Bool) (es : List Element) → AreAll Boolean es → (list_any (is_known d) (map Some es) ≡ true) ⊎ (list_all (is_known (not d)) (map Some es) ≡ true)
+    by : (d : Bool) (es : List Element) → AreAll Boolean es
+        → (list_any (is_known d) (map Some es) ≡ true) ⊎ (list_all (is_known (not d)) (map Some es) ≡ true)
     by d [] h = inr refl
     by true (Truth true ∷ es) h = inl refl
     by true (Truth false ∷ es) h = by true es h.1
@@ -101,11 +124,13 @@ decided_known d es h =
     by d (Vector v ∷ es) h = absurd h.0
 
 -- what `=>` makes of its arguments are truth values too
-disjunction : (es : List Element) → AreAll Boolean es → (fs : List Element) × AreAll Boolean fs × (as_disjunction (map Some es) ≡ map Some fs)
+disjunction : (es : List Element) → AreAll Boolean es
+    → (fs : List Element) × AreAll Boolean fs × (as_disjunction (map Some es) ≡ map Some fs)
 disjunction [] h = ([], tt, refl)
 disjunction (e ∷ []) h = (e ∷ [], h, refl)
 disjunction (Truth b ∷ e ∷ es) h =
-    let rest = disjunction (e ∷ es) h.1 in (Truth (not b) ∷ rest.0, (tt, rest.1), ap (λ xs. Some (Truth (not b)) ∷ xs) rest.2)
+    let rest = disjunction (e ∷ es) h.1
+    in (Truth (not b) ∷ rest.0, (tt, rest.1), ap (λ xs. Some (Truth (not b)) ∷ xs) rest.2)
 disjunction (Integer z ∷ e ∷ es) h = absurd h.0
 disjunction (Vector v ∷ e ∷ es) h = absurd h.0
 
@@ -123,7 +148,8 @@ negation (Integer z ∷ []) h = absurd h.0
 negation (Vector v ∷ []) h = absurd h.0
 negation (e ∷ f ∷ es) h = absurd h.1
 
-choice : (sort : Sort) (es : List Element) → AreOfSorts (Boolean ∷ sort ∷ sort ∷ []) es → IsSome (known_core Ite (map Some es))
+choice : (sort : Sort) (es : List Element) → AreOfSorts (Boolean ∷ sort ∷ sort ∷ []) es
+    → IsSome (known_core Ite (map Some es))
 choice sort [] h = absurd h
 choice sort (c ∷ []) h = absurd h.1
 choice sort (c ∷ a ∷ []) h = absurd h.1.1
@@ -133,12 +159,14 @@ choice sort (Integer z ∷ a ∷ b ∷ []) h = absurd h.0
 choice sort (Vector v ∷ a ∷ b ∷ []) h = absurd h.0
 choice sort (c ∷ a ∷ b ∷ d ∷ es) h = absurd h.1.1.1
 
-pub core_known : (op : CoreOp) (sorts : List Sort) (sort : Sort) (es : List Element) → HasRank (Core op) sorts sort → AreOfSorts sorts es → IsSome (known_step (Core op) (map Some es))
+pub core_known : (op : CoreOp) (sorts : List Sort) (sort : Sort) (es : List Element)
+    → HasRank (Core op) sorts sort → AreOfSorts sorts es → IsSome (known_step (Core op) (map Some es))
 core_known True sorts sort es r h = refl
 core_known False sorts sort es r h = refl
 core_known Not sorts sort es r h = negation es (subst (λ ss. AreOfSorts ss es) r.0 h)
 core_known Implies sorts sort es r h =
-    let rest = disjunction es (all_of Boolean sorts es r.0.1 h) in subst (λ xs. IsSome (decided true xs)) (sym rest.2) (decided_known true rest.0 rest.1)
+    let rest = disjunction es (all_of Boolean sorts es r.0.1 h)
+    in subst (λ xs. IsSome (decided true xs)) (sym rest.2) (decided_known true rest.0 rest.1)
 core_known And sorts sort es r h = decided_known false es (all_of Boolean sorts es r.0.1 h)
 core_known Or sorts sort es r h = decided_known true es (all_of Boolean sorts es r.0.1 h)
 core_known Xor sorts sort es r h = some_of _ _ (map truth_of es) (truths es (all_of Boolean sorts es r.0.1 h))
@@ -148,14 +176,17 @@ core_known Ite sorts sort es r h = choice sort es (subst (λ ss. AreOfSorts ss e
 
 -- ---- theory Ints
 
-divisible : (n : ℕ) (es : List Element) → 0 < n → AreOfSorts (Int ∷ []) es → IsSome (known_step (Ints (Divisible n)) (map Some es))
+divisible : (n : ℕ) (es : List Element) → 0 < n → AreOfSorts (Int ∷ []) es
+    → IsSome (known_step (Ints (Divisible n)) (map Some es))
 divisible n [] some h = absurd h
 divisible n (Integer z ∷ []) some h = let positive : nat_lt 0 n ≡ true = search rules in rw positive refl
 divisible n (Truth b ∷ []) some h = absurd h.0
 divisible n (Vector v ∷ []) some h = absurd h.0
 divisible n (e ∷ f ∷ es) some h = absurd h.1
 
-pub ints_known : (op : IntsOp) (sorts : List Sort) (sort : Sort) (es : List Element) → HasRank (Ints op) sorts sort → AreOfSorts sorts es → sort ≢ Int → IsSome (known_step (Ints op) (map Some es))
+pub ints_known : (op : IntsOp) (sorts : List Sort) (sort : Sort) (es : List Element)
+    → HasRank (Ints op) sorts sort → AreOfSorts sorts es → sort ≢ Int
+    → IsSome (known_step (Ints op) (map Some es))
 ints_known (Left Minus) sorts sort es r h other = absurd (other r.1)
 ints_known (Left Plus) sorts sort es r h other = absurd (other r.1)
 ints_known (Left Times) sorts sort es r h other = absurd (other r.1)
@@ -163,17 +194,21 @@ ints_known (Left Div) sorts sort es r h other = absurd (other r.1)
 ints_known Mod sorts sort es r h other = absurd (other r.1)
 ints_known Abs sorts sort es r h other = absurd (other r.1)
 ints_known (Chain op) sorts sort es r h other = rw (integers es (all_of Int sorts es r.0.1 h)) refl
-ints_known (Divisible n) sorts sort es r h other = divisible n es r.0.0 (subst (λ ss. AreOfSorts ss es) r.0.1 h)
+ints_known (Divisible n) sorts sort es r h other =
+    divisible n es r.0.0 (subst (λ ss. AreOfSorts ss es) r.0.1 h)
 
 -- each operator takes an integer
 several_need : (sorts : List Sort) → AreSeveral Int sorts → All (λ s. s ≢ Int) sorts → ⊥
-several_need sorts several none = none 0 Int (let two = several.0 in omega arith) (several.1 0 Int (let two = several.0 in omega arith))
+several_need sorts several none =
+    none 0 Int (let two = several.0 in omega arith) (several.1 0 Int (let two = several.0 in omega arith))
 
 first_need : (sorts rest : List Sort) → sorts ≡ Int ∷ rest → All (λ s. s ≢ Int) sorts → ⊥
 first_need sorts rest is none = (subst (λ ss. All (λ s. s ≢ Int) ss) is none) 0 Int (omega arith) refl
 
-pub ints_need : (op : IntsOp) (sorts : List Sort) (sort : Sort) → HasRank (Ints op) sorts sort → All (λ s. s ≢ Int) sorts → ⊥
-ints_need (Left Minus) sorts sort r none = elim r.0 [ inl e ↦ first_need sorts [] e none | inr several ↦ several_need sorts several none ]
+pub ints_need : (op : IntsOp) (sorts : List Sort) (sort : Sort) → HasRank (Ints op) sorts sort
+    → All (λ s. s ≢ Int) sorts → ⊥
+ints_need (Left Minus) sorts sort r none =
+    elim r.0 [ inl e ↦ first_need sorts [] e none | inr several ↦ several_need sorts several none ]
 ints_need (Left Plus) sorts sort r none = several_need sorts r.0 none
 ints_need (Left Times) sorts sort r none = several_need sorts r.0 none
 ints_need (Left Div) sorts sort r none = several_need sorts r.0 none
@@ -185,29 +220,36 @@ ints_need (Divisible n) sorts sort r none = first_need sorts [] r.0.1 none
 -- ---- bit vectors
 
 -- what is known of arguments that are one vector, or two of one width
-of_one : (op : BitsOp) (m : ℕ) (sorts : List Sort) (es : List Element) → sorts ≡ BitsSort m ∷ [] → AreOfSorts sorts es
-    → ((v : BitVector) → v.width ≡ m → IsSome (known_bits op (v ∷ []))) → IsSome (known_step (Bits op) (map Some es))
+of_one : (op : BitsOp) (m : ℕ) (sorts : List Sort) (es : List Element) → sorts ≡ BitsSort m ∷ []
+    → AreOfSorts sorts es
+    → ((v : BitVector) → v.width ≡ m → IsSome (known_bits op (v ∷ [])))
+    → IsSome (known_step (Bits op) (map Some es))
 of_one op m sorts es is h each =
     let all = subst (λ ss. AreOfSorts ss es) is h in
     let o = one m es all in
     rw (vectors (BitsSort m ∷ []) es (width_vectors (m ∷ [])) all, o.is) (each o.v o.width)
 
-of_two : (op : BitsOp) (m : ℕ) (sorts : List Sort) (es : List Element) → sorts ≡ BitsSort m ∷ BitsSort m ∷ [] → AreOfSorts sorts es
-    → ((v w : BitVector) → (v.width == w.width) ≡ true → IsSome (known_bits op (v ∷ w ∷ []))) → IsSome (known_step (Bits op) (map Some es))
+of_two : (op : BitsOp) (m : ℕ) (sorts : List Sort) (es : List Element) → sorts ≡ BitsSort m ∷ BitsSort m ∷ []
+    → AreOfSorts sorts es
+    → ((v w : BitVector) → (v.width == w.width) ≡ true → IsSome (known_bits op (v ∷ w ∷ [])))
+    → IsSome (known_step (Bits op) (map Some es))
 of_two op m sorts es is h each =
     let all = subst (λ ss. AreOfSorts ss es) is h in
     let o = two m es all in
-    rw (vectors (BitsSort m ∷ BitsSort m ∷ []) es (width_vectors (m ∷ m ∷ [])) all, o.is) (each o.v o.w (let a = o.width in let b = o.same in search rules))
+    rw (vectors (BitsSort m ∷ BitsSort m ∷ []) es (width_vectors (m ∷ m ∷ [])) all, o.is)
+    (each o.v o.w (let a = o.width in let b = o.same in search rules))
 
 -- of several that are combined from the left
-folded_steps : (op : BitsFolded) (m : ℕ) (es : List Element) (s : BitVector) → AreAll (BitsSort m) es → s.width ≡ m → IsSome (steps_from (known_folded op) s (map vector_of es))
+folded_steps : (op : BitsFolded) (m : ℕ) (es : List Element) (s : BitVector) → AreAll (BitsSort m) es
+    → s.width ≡ m → IsSome (steps_from (known_folded op) s (map vector_of es))
 folded_steps op m [] s h width = refl
 folded_steps op m (e ∷ es) s h width =
     let d = vector_is m e h.0 in
     let same : (s.width == (vector_of e).width) ≡ true = (let other = d.0 in search rules) in
     rw same (folded_steps op m es (folded_vector op s (vector_of e)) h.1 width)
 
-concat_steps : (widths : List ℕ) (es : List Element) (s : BitVector) → AreOfSorts (map BitsSort widths) es → s.width + sum widths ≤ 128
+concat_steps : (widths : List ℕ) (es : List Element) (s : BitVector) → AreOfSorts (map BitsSort widths) es
+    → s.width + sum widths ≤ 128
     → IsSome (steps_from concatenation s (map vector_of es))
 concat_steps [] [] s h within = refl
 concat_steps [] (e ∷ es) s h within = absurd h
@@ -220,7 +262,9 @@ concat_steps (m ∷ widths) (e ∷ es) s h within =
     let fits : nat_le (s.width + (vector_of e).width) 128 ≡ true = search rules in
     rw fits (concat_steps widths es (vector (s.width + (vector_of e).width) _) h.1 (omega arith))
 
-several_known : (op : BitsFolded) (m : ℕ) (sorts : List Sort) (es : List Element) → AreSeveral (BitsSort m) sorts → AreOfSorts sorts es → IsSome (known_step (Bits (Folded op)) (map Some es))
+several_known : (op : BitsFolded) (m : ℕ) (sorts : List Sort) (es : List Element)
+    → AreSeveral (BitsSort m) sorts → AreOfSorts sorts es
+    → IsSome (known_step (Bits (Folded op)) (map Some es))
 several_known op m [] es several h = absurd (none several.0)
   where
     none : 2 ≤ 0 → ⊥
@@ -229,26 +273,32 @@ several_known op m (s ∷ sorts) [] several h = absurd h
 several_known op m (s ∷ sorts) (e ∷ es) several h =
     let all = all_of (BitsSort m) (s ∷ sorts) (e ∷ es) several.1 h in
     let d = vector_is m e all.0 in
-    rw (vectors (s ∷ sorts) (e ∷ es) (several_vectors m (s ∷ sorts) several.1) h) (mapped Vector _ (folded_steps op m es (vector_of e) all.1 d.0))
+    rw (vectors (s ∷ sorts) (e ∷ es) (several_vectors m (s ∷ sorts) several.1) h)
+    (mapped Vector _ (folded_steps op m es (vector_of e) all.1 d.0))
 
-parts_known : (widths : List ℕ) (sorts : List Sort) (es : List Element) → sorts ≡ map BitsSort widths → 2 ≤ length widths → sum widths ≤ 128 → AreOfSorts sorts es
+parts_known : (widths : List ℕ) (sorts : List Sort) (es : List Element) → sorts ≡ map BitsSort widths
+    → 2 ≤ length widths → sum widths ≤ 128 → AreOfSorts sorts es
     → IsSome (known_step (Bits Concat) (map Some es))
 parts_known widths sorts es is some within h = by widths es some within (subst (λ ss. AreOfSorts ss es) is h)
   where
-    by : (widths : List ℕ) (es : List Element) → 2 ≤ length widths → sum widths ≤ 128 → AreOfSorts (map BitsSort widths) es → IsSome (known_step (Bits Concat) (map Some es))
+    by : (widths : List ℕ) (es : List Element) → 2 ≤ length widths → sum widths ≤ 128
+        → AreOfSorts (map BitsSort widths) es → IsSome (known_step (Bits Concat) (map Some es))
     by [] es some within h = absurd (omega arith)
     by (m ∷ widths) [] some within h = absurd h
     by (m ∷ widths) (e ∷ es) some within h =
         let d = vector_is m e h.0 in
         let width : (vector_of e).width ≡ m = d.0 in
         let whole = sum-cons m widths in
-        rw (vectors (map BitsSort (m ∷ widths)) (e ∷ es) (width_vectors (m ∷ widths)) h) (mapped Vector _ (concat_steps widths es (vector_of e) h.1 (omega arith)))
+        rw (vectors (map BitsSort (m ∷ widths)) (e ∷ es) (width_vectors (m ∷ widths)) h)
+        (mapped Vector _ (concat_steps widths es (vector_of e) h.1 (omega arith)))
 
-constant_known : (x n : ℕ) (es : List Element) → AreOfSorts [] es → IsSome (known_step (Bits (Constant x n)) (map Some es))
+constant_known : (x n : ℕ) (es : List Element) → AreOfSorts [] es
+    → IsSome (known_step (Bits (Constant x n)) (map Some es))
 constant_known x n [] h = refl
 constant_known x n (e ∷ es) h = absurd h
 
-pub bits_known : (op : BitsOp) (sorts : List Sort) (sort : Sort) (es : List Element) → HasRank (Bits op) sorts sort → AreOfSorts sorts es → IsSome (known_step (Bits op) (map Some es))
+pub bits_known : (op : BitsOp) (sorts : List Sort) (sort : Sort) (es : List Element)
+    → HasRank (Bits op) sorts sort → AreOfSorts sorts es → IsSome (known_step (Bits op) (map Some es))
 bits_known (Constant x n) sorts sort es r h = constant_known x n es (subst (λ ss. AreOfSorts ss es) r.3 h)
 bits_known Concat sorts sort es r h = parts_known r.0 sorts es r.1 r.2 r.3 h
 bits_known (Extract i j) sorts sort es r h =
@@ -260,7 +310,8 @@ bits_known (Extract i j) sorts sort es r h =
 bits_known (Unary op) sorts sort es r h = of_one (Unary op) r.0 sorts es r.1 h (λ v width. refl)
 bits_known (Folded op) sorts sort es r h = several_known op r.0 sorts es r.1 h
 bits_known (Binary op) sorts sort es r h = of_two (Binary op) r.0 sorts es r.1 h (λ v w same. rw same refl)
-bits_known (Comparison op) sorts sort es r h = of_two (Comparison op) r.0 sorts es r.1 h (λ v w same. rw same refl)
+bits_known (Comparison op) sorts sort es r h =
+    of_two (Comparison op) r.0 sorts es r.1 h (λ v w same. rw same refl)
 bits_known Comp sorts sort es r h = of_two Comp r.0 sorts es r.1 h (λ v w same. rw same refl)
 bits_known (Repeat i) sorts sort es r h =
     of_one (Repeat i) r.0 sorts es r.1 h (λ v width.
@@ -283,12 +334,14 @@ bits_known (RotateRight i) sorts sort es r h = of_one (RotateRight i) r.0 sorts 
 
 -- ---- all
 
-pub result_known : (op : Op) (sorts : List Sort) (sort : Sort) (es : List Element) → HasRank op sorts sort → AreOfSorts sorts es → sort ≢ Int → IsSome (known_step op (map Some es))
+pub result_known : (op : Op) (sorts : List Sort) (sort : Sort) (es : List Element) → HasRank op sorts sort
+    → AreOfSorts sorts es → sort ≢ Int → IsSome (known_step op (map Some es))
 result_known (Core op) sorts sort es r h other = core_known op sorts sort es r h
 result_known (Ints op) sorts sort es r h other = ints_known op sorts sort es r h other
 result_known (Bits op) sorts sort es r h other = bits_known op sorts sort es r h
 
-pub without_integers : (op : Op) (sorts : List Sort) (sort : Sort) (es : List Element) → HasRank op sorts sort → AreOfSorts sorts es → All (λ s. s ≢ Int) sorts
+pub without_integers : (op : Op) (sorts : List Sort) (sort : Sort) (es : List Element) → HasRank op sorts sort
+    → AreOfSorts sorts es → All (λ s. s ≢ Int) sorts
     → IsSome (known_step op (map Some es))
 without_integers (Core op) sorts sort es r h none = core_known op sorts sort es r h
 without_integers (Ints op) sorts sort es r h none = absurd (ints_need op sorts sort r none)

@@ -1,5 +1,6 @@
 -- What is known of bit vectors as arguments, by their number.
-use Rattle.std.proofs.Common.{◌≡◌, ◌≢◌, ◌≤◌, List, [], ◌∷◌, Option, Some, None, length, drop, get_or, refl, sym, ap, ◌∙◌, arith}
+use Rattle.std.proofs.Common.{◌≡◌, ◌≢◌, ◌≤◌, List, [], ◌∷◌, Option, Some, None, length, drop, get_or, refl}
+use Rattle.std.proofs.Common.{sym, ap, ◌∙◌, arith}
 use Rattle.std.specs.Prelude.{map, option_map, option_and_then}
 use Rattle.smt_bits.specs.BitVector.{BitVector}
 use Rattle.smt_values.specs.declared.value.Value.{Value}
@@ -7,9 +8,10 @@ use Rattle.smt_values.specs.Element.{known_element, known_elements}
 use Rattle.smt_values.specs.KnownBitOperations.{known_from_left, none_given, the_only, two_of_one_width}
 use Rattle.smt_values.specs.KnownOperations.{known_vector, known_vectors}
 use Rattle.smt_values.specs.Lists.{steps_from}
-use Rattle.smt_values.proofs.KnownLemmas.{then_more}
+use Rattle.smt_values.proofs.KnownLoopLemmas.{then_more}
 
-pub given_none : {A : Type 0} (f : Unit {0} → A) (vs : List BitVector) → length vs ≢ 0 → option_map f (none_given vs) ≡ None
+pub given_none : {A : Type 0} (f : Unit {0} → A) (vs : List BitVector) → length vs ≢ 0
+    → option_map f (none_given vs) ≡ None
 given_none f [] n = absurd (n refl)
 given_none f (v ∷ vs) n = refl
 
@@ -25,8 +27,12 @@ two_none (v ∷ w ∷ []) n = absurd (n refl)
 two_none (v ∷ w ∷ u ∷ vs) n = refl
 
 -- the first argument, and what is combined with it
-pub from_first : (combine : BitVector → BitVector → Option BitVector) (xs : List (Option Value)) (item : Option Value) (first : BitVector) → 1 ≤ length xs → item ≡ get_or xs 0 item → known_vector (known_element item) ≡ Some first
-    → option_and_then (steps_from combine first) (known_vectors (known_elements (drop 1 xs))) ≡ option_and_then (known_from_left combine) (known_vectors (known_elements xs))
+pub from_first : (combine : BitVector → BitVector → Option BitVector) (xs : List (Option Value))
+    (item : Option Value) (first : BitVector) → 1 ≤ length xs → item ≡ get_or xs 0 item
+    → known_vector (known_element item) ≡ Some first
+    → option_and_then (steps_from combine first) (known_vectors (known_elements (drop 1 xs)))
+    ≡ option_and_then (known_from_left combine) (known_vectors (known_elements xs))
 from_first combine [] item first some is e = absurd (omega arith)
 from_first combine (x ∷ xs) item first some is e =
-    sym (then_more (known_from_left combine) (known_vector (known_element x)) first (map known_vector (known_elements xs)) (ap (λ z. known_vector (known_element z)) (sym is) ∙ e))
+    sym (then_more (known_from_left combine) (known_vector (known_element x)) first
+    (map known_vector (known_elements xs)) (ap (λ z. known_vector (known_element z)) (sym is) ∙ e))

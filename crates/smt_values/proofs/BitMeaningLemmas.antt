@@ -1,11 +1,14 @@
 -- What is known of the results of operators on bit vectors is true.
-use Rattle.std.proofs.Common.{◌≡◌, Bool, true, false, cond, List, [], ◌∷◌, Option, Some, None, nat_le, nat_lt, refl, sym, subst}
+use Rattle.std.proofs.Common.{◌≡◌, Bool, true, false, cond, List, [], ◌∷◌, Option, Some, None, nat_le, nat_lt}
+use Rattle.std.proofs.Common.{refl, sym, subst}
 use Rattle.std.specs.Prelude.{fold, option_map, option_and_then, ◌==◌, ◌&&◌, ◌+◌, ◌*◌}
 use Rattle.smt_bits.specs.BitVector.{BitVector}
 use Rattle.smt_bits.specs.Parts.{concatenation}
 use Rattle.smt_theory.specs.declared.op.BitsFolded.{BitsFolded}
 use Rattle.smt_theory.specs.declared.op.BitsOp.{BitsOp}
-use Rattle.smt_theory.specs.declared.op.BitsOp.TheVariants.{Constant, Concat, Extract, Unary, Folded, Binary, Comparison, Comp, Repeat, ZeroExtend, SignExtend, RotateLeft, RotateRight}
+use Rattle.smt_theory.specs.declared.op.BitsOp.TheVariants.{Constant, Concat, Extract, Unary, Folded, Binary}
+use Rattle.smt_theory.specs.declared.op.BitsOp.TheVariants.{Comparison, Comp, Repeat, ZeroExtend, SignExtend}
+use Rattle.smt_theory.specs.declared.op.BitsOp.TheVariants.{RotateLeft, RotateRight}
 use Rattle.smt_values.specs.BitOperations.{concatenated, folded_vector, operate_bits}
 use Rattle.smt_values.specs.Element.{Element, Vector, Agrees}
 use Rattle.smt_values.specs.KnownBitOperations.{known_bits, known_folded}
@@ -21,15 +24,21 @@ is_given true x y h = cc
 is_given false x y h = cc
 
 -- what is combined from the left
-steps_true : (combine : BitVector → BitVector → Option BitVector) (f : BitVector → BitVector → BitVector) → ((a b c : BitVector) → combine a b ≡ Some c → f a b ≡ c)
-    → (a : BitVector) (vs : List BitVector) → Agrees (option_map Vector (steps_from combine a vs)) (Vector (fold f a vs))
+steps_true : (combine : BitVector → BitVector → Option BitVector) (f : BitVector → BitVector → BitVector)
+    → ((a b c : BitVector) → combine a b ≡ Some c → f a b ≡ c)
+    → (a : BitVector) (vs : List BitVector)
+    → Agrees (option_map Vector (steps_from combine a vs)) (Vector (fold f a vs))
 steps_true combine f same a [] = refl
 steps_true combine f same a (b ∷ vs) = by (combine a b) (same a b) (λ c. steps_true combine f same c vs)
   where
-    by : (o : Option BitVector) → ((c : BitVector) → o ≡ Some c → f a b ≡ c) → ((c : BitVector) → Agrees (option_map Vector (steps_from combine c vs)) (Vector (fold f c vs)))
-        → Agrees (option_map Vector (option_and_then (λ c. steps_from combine c vs) o)) (Vector (fold f (f a b) vs))
+    by : (o : Option BitVector) → ((c : BitVector) → o ≡ Some c → f a b ≡ c)
+        → ((c : BitVector) → Agrees (option_map Vector (steps_from combine c vs)) (Vector (fold f c vs)))
+        → Agrees (option_map Vector (option_and_then (λ c. steps_from combine c vs) o))
+        (Vector (fold f (f a b) vs))
     by None same rest = tt
-    by (Some c) same rest = subst (λ d. Agrees (option_map Vector (steps_from combine c vs)) (Vector (fold f d vs))) (sym (same c refl)) (rest c)
+    by (Some c) same rest = subst
+        (λ d. Agrees (option_map Vector (steps_from combine c vs)) (Vector (fold f d vs))) (sym (same c refl))
+        (rest c)
 
 concatenation_is : (a b c : BitVector) → concatenation a b ≡ Some c → concatenated a b ≡ c
 concatenation_is a b c h = is_given (nat_le (a.width + b.width) 128) (concatenated a b) c h

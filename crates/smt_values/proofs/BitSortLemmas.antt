@@ -1,19 +1,27 @@
 -- Results of operators on bit vectors are of the sorts that ranks give.
-use Rattle.std.proofs.Common.{◌≡◌, ℕ, ◌+◌, ◌-◌, ◌*◌, ◌%◌, ◌^◌, ◌<◌, ◌≤◌, List, [], ◌∷◌, length, refl, sym, ap, ◌∙◌, subst, arith}
+use Rattle.std.proofs.Common.{◌≡◌, ℕ, ◌+◌, ◌-◌, ◌*◌, ◌%◌, ◌^◌, ◌<◌, ◌≤◌, List, [], ◌∷◌, length, refl, sym, ap}
+use Rattle.std.proofs.Common.{◌∙◌, subst, arith}
 use Rattle.std.proofs.Math.Nat.{mod-lt, one-le-mul}
 use Rattle.std.proofs.Math.Pow.{pow_mono, pow_pos}
 use Rattle.std.proofs.lemmas.List.Sums.{sum_by-cons}
 use Rattle.std.specs.List.{sum}
 use Rattle.std.specs.Prelude.{fold, map}
 use Rattle.smt_bits.specs.BitVector.{BitVector, IsVector, vector}
-use Rattle.smt_bits.specs.Operators.{bvneg, bvadd, bvsub, bvmul, bvudiv, bvurem, bvnot, bvand, bvor, bvxor, bvnand, bvnor, bvxnor, bvsdiv, bvsrem, bvsmod, bvshl, bvlshr, bvashr, bvcomp, concat, extract, repeat, sign_extend, rotate_left, rotate_right}
+use Rattle.smt_bits.specs.Operators.{bvneg, bvadd, bvsub, bvmul, bvudiv, bvurem, bvnot, bvand, bvor, bvxor}
+use Rattle.smt_bits.specs.Operators.{bvnand, bvnor, bvxnor, bvsdiv, bvsrem, bvsmod, bvshl, bvlshr, bvashr}
+use Rattle.smt_bits.specs.Operators.{bvcomp, concat, extract, repeat, sign_extend, rotate_left, rotate_right}
 use Rattle.smt_theory.specs.Ranks.{HasBitsRank, AreSeveral}
 use Rattle.smt_theory.specs.declared.op.BitsBinary.{BitsBinary}
-use Rattle.smt_theory.specs.declared.op.BitsBinary.TheVariants.{Nand, Nor, Xnor, Subtract, DivideUnsigned, RemainderUnsigned, DivideSigned, RemainderSigned, ModuloSigned, ShiftLeft, ShiftRight, ShiftRightSigned}
+use Rattle.smt_theory.specs.declared.op.BitsBinary.TheVariants.{Nand, Nor, Xnor, Subtract, DivideUnsigned}
+use Rattle.smt_theory.specs.declared.op.BitsBinary.TheVariants.{RemainderUnsigned, DivideSigned}
+use Rattle.smt_theory.specs.declared.op.BitsBinary.TheVariants.{RemainderSigned, ModuloSigned, ShiftLeft}
+use Rattle.smt_theory.specs.declared.op.BitsBinary.TheVariants.{ShiftRight, ShiftRightSigned}
 use Rattle.smt_theory.specs.declared.op.BitsFolded.{BitsFolded}
 use Rattle.smt_theory.specs.declared.op.BitsFolded.TheVariants.{And, Or, Xor, Add, Multiply}
 use Rattle.smt_theory.specs.declared.op.BitsOp.{BitsOp}
-use Rattle.smt_theory.specs.declared.op.BitsOp.TheVariants.{Constant, Concat, Extract, Unary, Folded, Binary, Comparison, Comp, Repeat, ZeroExtend, SignExtend, RotateLeft, RotateRight}
+use Rattle.smt_theory.specs.declared.op.BitsOp.TheVariants.{Constant, Concat, Extract, Unary, Folded, Binary}
+use Rattle.smt_theory.specs.declared.op.BitsOp.TheVariants.{Comparison, Comp, Repeat, ZeroExtend, SignExtend}
+use Rattle.smt_theory.specs.declared.op.BitsOp.TheVariants.{RotateLeft, RotateRight}
 use Rattle.smt_theory.specs.declared.op.BitsUnary.{BitsUnary}
 use Rattle.smt_theory.specs.declared.op.BitsUnary.TheVariants.{Not, Negate}
 use Rattle.smt_theory.specs.declared.sort.Sort.{Sort}
@@ -36,7 +44,8 @@ pub record ResultsFit : Type 0 where
   pub comp_fits : (s t : ℕ) → bvcomp s t < 2
 
 -- by the operator
-pub unary_fits_by : ((m s : ℕ) → bvnot m s < 2 ^ m) → ((m s : ℕ) → bvneg m s < 2 ^ m) → (op : BitsUnary) (m s : ℕ) → unary op m s < 2 ^ m
+pub unary_fits_by : ((m s : ℕ) → bvnot m s < 2 ^ m) → ((m s : ℕ) → bvneg m s < 2 ^ m)
+    → (op : BitsUnary) (m s : ℕ) → unary op m s < 2 ^ m
 unary_fits_by not neg Not m s = not m s
 unary_fits_by not neg Negate m s = neg m s
 
@@ -48,7 +57,8 @@ AllFit f = (m s t : ℕ) → f m s t < 2 ^ m
 abbrev pub FitWith : (ℕ → ℕ → ℕ → ℕ) → Type 0
 FitWith f = (m s t : ℕ) → s < 2 ^ m → f m s t < 2 ^ m
 
-pub folded_fits_by : AllFit bvand → AllFit bvor → AllFit bvxor → AllFit bvadd → AllFit bvmul → (op : BitsFolded) (m s t : ℕ) → folded op m s t < 2 ^ m
+pub folded_fits_by : AllFit bvand → AllFit bvor → AllFit bvxor → AllFit bvadd → AllFit bvmul
+    → (op : BitsFolded) (m s t : ℕ) → folded op m s t < 2 ^ m
 folded_fits_by and or xor add mul And m s t = and m s t
 folded_fits_by and or xor add mul Or m s t = or m s t
 folded_fits_by and or xor add mul Xor m s t = xor m s t
@@ -86,7 +96,8 @@ binary_fits_by fit ShiftRightSigned m s t some below = fit.ashr m s t
 -- ---- arguments
 
 -- an element of a sort of bit vectors
-pub vector_is : (m : ℕ) (e : Element) → IsOfSort (BitsSort m) e → ((vector_of e).width ≡ m) × IsVector (vector_of e)
+pub vector_is : (m : ℕ) (e : Element) → IsOfSort (BitsSort m) e
+    → ((vector_of e).width ≡ m) × IsVector (vector_of e)
 vector_is m (Truth b) h = absurd h
 vector_is m (Integer z) h = absurd h
 vector_is m (Vector v) h = h
@@ -101,7 +112,8 @@ pub record One (m : ℕ) (es : List Element) : Type 0 where
 pub one : (m : ℕ) (es : List Element) → AreOfSorts (BitsSort m ∷ []) es → One m es
 one m [] h = absurd h
 one m (e ∷ f ∷ es) h = absurd h.1
-one m (e ∷ []) h = let d = vector_is m e h.0 in record { v = vector_of e; is = refl; width = d.0; some = d.1.0; below = d.1.1 }
+one m (e ∷ []) h = let d = vector_is m e h.0
+    in record { v = vector_of e; is = refl; width = d.0; some = d.1.0; below = d.1.1 }
 
 pub record Two (m : ℕ) (es : List Element) : Type 0 where
   pub v : BitVector
@@ -116,7 +128,16 @@ pub two : (m : ℕ) (es : List Element) → AreOfSorts (BitsSort m ∷ BitsSort 
 two m [] h = absurd h
 two m (e ∷ []) h = absurd h.1
 two m (e ∷ f ∷ g ∷ es) h = absurd h.1.1
-two m (e ∷ f ∷ []) h = let d = vector_is m e h.0 in record { v = vector_of e; w = vector_of f; is = refl; width = d.0; same = (vector_is m f h.1.0).0; some = d.1.0; below = d.1.1 }
+two m (e ∷ f ∷ []) h = let d = vector_is m e h.0
+    in record {
+      v = vector_of e;
+      w = vector_of f;
+      is = refl;
+      width = d.0;
+      same = (vector_is m f h.1.0).0;
+      some = d.1.0;
+      below = d.1.1;
+    }
 
 -- ---- results
 
@@ -127,11 +148,14 @@ pub sum-cons : (m : ℕ) (widths : List ℕ) → sum (m ∷ widths) ≡ m + sum 
 sum-cons m widths = sum_by-cons (λ n. n) m widths
 
 module _ (fits : ResultsFit) where
-  folded_of : (op : BitsFolded) (m : ℕ) (vs : List BitVector) (s : BitVector) → s.width ≡ m → 1 ≤ s.width → s.number < 2 ^ s.width → IsOfSort (BitsSort m) (Vector (fold (folded_vector op) s vs))
+  folded_of : (op : BitsFolded) (m : ℕ) (vs : List BitVector) (s : BitVector) → s.width ≡ m → 1 ≤ s.width
+      → s.number < 2 ^ s.width → IsOfSort (BitsSort m) (Vector (fold (folded_vector op) s vs))
   folded_of op m [] s e some below = (e, (some, below))
-  folded_of op m (t ∷ vs) s e some below = folded_of op m vs (folded_vector op s t) e some (fits.folded_fits op s.width s.number t.number)
+  folded_of op m (t ∷ vs) s e some below =
+      folded_of op m vs (folded_vector op s t) e some (fits.folded_fits op s.width s.number t.number)
 
-  concat_of : (widths : List ℕ) (es : List Element) (s : BitVector) → AreOfSorts (map BitsSort widths) es → 1 ≤ s.width → s.number < 2 ^ s.width
+  concat_of : (widths : List ℕ) (es : List Element) (s : BitVector) → AreOfSorts (map BitsSort widths) es
+      → 1 ≤ s.width → s.number < 2 ^ s.width
       → IsOfSort (BitsSort (s.width + sum widths)) (Vector (fold concatenated s (map vector_of es)))
   concat_of [] [] s h some below = (omega arith, (some, below))
   concat_of [] (e ∷ es) s h some below = absurd h
@@ -142,10 +166,14 @@ module _ (fits : ResultsFit) where
       let width : t.width ≡ m = d.0 in
       let whole = sum-cons m widths in
       let same : s.width + t.width + sum widths ≡ s.width + sum (m ∷ widths) = omega arith in
-      subst (λ n. IsOfSort (BitsSort n) (Vector (fold concatenated (concatenated s t) (map vector_of es)))) same
-      (concat_of widths es (concatenated s t) h.1 (let w = some in omega arith) (fits.concat_fits s.width t.width s.number t.number below d.1.1))
+      subst (λ n. IsOfSort (BitsSort n) (Vector (fold concatenated (concatenated s t) (map vector_of es))))
+      same
+      (concat_of widths es (concatenated s t) h.1 (let w = some in omega arith)
+      (fits.concat_fits s.width t.width s.number t.number below d.1.1))
 
-  several_of : (op : BitsFolded) (m : ℕ) (sorts : List Sort) (es : List Element) → AreSeveral (BitsSort m) sorts → AreOfSorts sorts es → IsOfSort (BitsSort m) (operate_bits (Folded op) (map vector_of es))
+  several_of : (op : BitsFolded) (m : ℕ) (sorts : List Sort) (es : List Element)
+      → AreSeveral (BitsSort m) sorts → AreOfSorts sorts es
+      → IsOfSort (BitsSort m) (operate_bits (Folded op) (map vector_of es))
   several_of op m [] es h all = absurd (none h.0)
     where
       none : 2 ≤ 0 → ⊥
@@ -156,62 +184,89 @@ module _ (fits : ResultsFit) where
       let d = vector_is m e (subst (λ s. IsOfSort s e) first all.0) in
       folded_of op m (map vector_of es) (vector_of e) d.0 d.1.0 d.1.1
 
-  several_parts : (widths : List ℕ) (es : List Element) → 2 ≤ length widths → AreOfSorts (map BitsSort widths) es → IsOfSort (BitsSort (sum widths)) (operate_bits Concat (map vector_of es))
+  several_parts : (widths : List ℕ) (es : List Element) → 2 ≤ length widths
+      → AreOfSorts (map BitsSort widths) es
+      → IsOfSort (BitsSort (sum widths)) (operate_bits Concat (map vector_of es))
   several_parts [] es h all = absurd (omega arith)
   several_parts (m ∷ widths) [] h all = absurd all
   several_parts (m ∷ widths) (e ∷ es) h all =
       let d = vector_is m e all.0 in
-      subst (λ n. IsOfSort (BitsSort n) (Vector (fold concatenated (vector_of e) (map vector_of es)))) (ap (λ n. n + sum widths) d.0 ∙ sym (sum-cons m widths))
+      subst (λ n. IsOfSort (BitsSort n) (Vector (fold concatenated (vector_of e) (map vector_of es))))
+      (ap (λ n. n + sum widths) d.0 ∙ sym (sum-cons m widths))
       (concat_of widths es (vector_of e) all.1 d.1.0 d.1.1)
 
   -- the result of an operator on one vector, and on two
-  of_one : (f : BitVector → BitVector) (op : BitsOp) (m n : ℕ) (es : List Element) → ((v : BitVector) → operate_bits op (v ∷ []) ≡ Vector (f v)) → ((v : BitVector) → v.width ≡ m → 1 ≤ v.width → v.number < 2 ^ v.width → IsOfSort (BitsSort n) (Vector (f v)))
+  of_one : (f : BitVector → BitVector) (op : BitsOp) (m n : ℕ) (es : List Element)
+      → ((v : BitVector) → operate_bits op (v ∷ []) ≡ Vector (f v))
+      → ((v : BitVector) → v.width ≡ m → 1 ≤ v.width → v.number < 2 ^ v.width
+      → IsOfSort (BitsSort n) (Vector (f v)))
       → AreOfSorts (BitsSort m ∷ []) es → IsOfSort (BitsSort n) (operate_bits op (map vector_of es))
   of_one f op m n es is fit all =
       let o = one m es all in
-      subst (IsOfSort (BitsSort n)) (sym (ap (operate_bits op) o.is ∙ is o.v)) (fit o.v o.width o.some o.below)
+      subst (IsOfSort (BitsSort n)) (sym (ap (operate_bits op) o.is ∙ is o.v))
+      (fit o.v o.width o.some o.below)
 
-  pub bits : (op : BitsOp) (sorts : List Sort) (sort : Sort) (es : List Element) → HasBitsRank op sorts sort → AreOfSorts sorts es → IsOfSort sort (operate_bits op (map vector_of es))
-  bits (Constant x n) sorts sort es r h = subst (λ s. IsOfSort s (Vector (vector n (x % 2 ^ n)))) (sym r.4) (refl, (r.0, mod-lt x (pow_pos n)))
-  bits Concat sorts sort es r h = subst (λ s. IsOfSort s (operate_bits Concat (map vector_of es))) (sym r.4) (several_parts r.0 es r.2 (subst (λ ss. AreOfSorts ss es) r.1 h))
+  pub bits : (op : BitsOp) (sorts : List Sort) (sort : Sort) (es : List Element) → HasBitsRank op sorts sort
+      → AreOfSorts sorts es → IsOfSort sort (operate_bits op (map vector_of es))
+  bits (Constant x n) sorts sort es r h =
+      subst (λ s. IsOfSort s (Vector (vector n (x % 2 ^ n)))) (sym r.4) (refl, (r.0, mod-lt x (pow_pos n)))
+  bits Concat sorts sort es r h = subst (λ s. IsOfSort s (operate_bits Concat (map vector_of es))) (sym r.4)
+      (several_parts r.0 es r.2 (subst (λ ss. AreOfSorts ss es) r.1 h))
   bits (Extract i j) sorts sort es r h =
       subst (λ s. IsOfSort s (operate_bits (Extract i j) (map vector_of es))) (sym r.4)
-      (of_one (λ v. vector (i - j + 1) (extract i j v.number)) (Extract i j) r.0 (i - j + 1) es (λ v. refl) (λ v w some below. (refl, (omega arith, fits.extract_fits i j v.number))) (subst (λ ss. AreOfSorts ss es) r.1 h))
+      (of_one (λ v. vector (i - j + 1) (extract i j v.number)) (Extract i j) r.0 (i - j + 1) es (λ v. refl)
+      (λ v w some below. (refl, (omega arith, fits.extract_fits i j v.number)))
+      (subst (λ ss. AreOfSorts ss es) r.1 h))
   bits (Unary op) sorts sort es r h =
       subst (λ s. IsOfSort s (operate_bits (Unary op) (map vector_of es))) (sym r.2)
-      (of_one (λ v. vector v.width (unary op v.width v.number)) (Unary op) r.0 r.0 es (λ v. refl) (λ v w some below. (w, (some, fits.unary_fits op v.width v.number))) (subst (λ ss. AreOfSorts ss es) r.1 h))
-  bits (Folded op) sorts sort es r h = subst (λ s. IsOfSort s (operate_bits (Folded op) (map vector_of es))) (sym r.2) (several_of op r.0 sorts es r.1 h)
+      (of_one (λ v. vector v.width (unary op v.width v.number)) (Unary op) r.0 r.0 es (λ v. refl)
+      (λ v w some below. (w, (some, fits.unary_fits op v.width v.number)))
+      (subst (λ ss. AreOfSorts ss es) r.1 h))
+  bits (Folded op) sorts sort es r h = subst (λ s. IsOfSort s (operate_bits (Folded op) (map vector_of es)))
+      (sym r.2) (several_of op r.0 sorts es r.1 h)
   bits (Binary op) sorts sort es r h =
       let o = two r.0 es (subst (λ ss. AreOfSorts ss es) r.1 h) in
       subst (λ s. IsOfSort s (operate_bits (Binary op) (map vector_of es))) (sym r.2)
-      (subst (λ vs. IsOfSort (BitsSort r.0) (operate_bits (Binary op) vs)) (sym o.is) (o.width, (o.some, fits.binary_fits op o.v.width o.v.number o.w.number o.some o.below)))
+      (subst (λ vs. IsOfSort (BitsSort r.0) (operate_bits (Binary op) vs)) (sym o.is)
+      (o.width, (o.some, fits.binary_fits op o.v.width o.v.number o.w.number o.some o.below)))
   bits (Comparison op) sorts sort es r h =
       let o = two r.0 es (subst (λ ss. AreOfSorts ss es) r.1 h) in
-      subst (λ s. IsOfSort s (operate_bits (Comparison op) (map vector_of es))) (sym r.2) (subst (λ vs. IsOfSort BoolSort (operate_bits (Comparison op) vs)) (sym o.is) tt)
+      subst (λ s. IsOfSort s (operate_bits (Comparison op) (map vector_of es))) (sym r.2)
+      (subst (λ vs. IsOfSort BoolSort (operate_bits (Comparison op) vs)) (sym o.is) tt)
   bits Comp sorts sort es r h =
       let o = two r.0 es (subst (λ ss. AreOfSorts ss es) r.1 h) in
       subst (λ s. IsOfSort s (operate_bits Comp (map vector_of es))) (sym r.2)
-      (subst (λ vs. IsOfSort (BitsSort 1) (operate_bits Comp vs)) (sym o.is) (refl, (omega arith, fits.comp_fits o.v.number o.w.number)))
+      (subst (λ vs. IsOfSort (BitsSort 1) (operate_bits Comp vs)) (sym o.is)
+      (refl, (omega arith, fits.comp_fits o.v.number o.w.number)))
   bits (Repeat i) sorts sort es r h =
       subst (λ s. IsOfSort s (operate_bits (Repeat i) (map vector_of es))) (sym r.4)
       (of_one (λ v. vector (i * v.width) (repeat i v.width v.number)) (Repeat i) r.0 (i * r.0) es (λ v. refl)
-      (λ v w some below. (ap (λ n. i * n) w, (positive i v.width r.2 some, fits.repeat_fits i v.width v.number below))) (subst (λ ss. AreOfSorts ss es) r.1 h))
+      (λ v w some below. (
+        ap (λ n. i * n) w,
+        (positive i v.width r.2 some, fits.repeat_fits i v.width v.number below),
+      ))
+      (subst (λ ss. AreOfSorts ss es) r.1 h))
     where
       positive : (i m : ℕ) → 1 ≤ i → 1 ≤ m → 1 ≤ i * m
       positive i m a b = one-le-mul a b
   bits (ZeroExtend i) sorts sort es r h =
       subst (λ s. IsOfSort s (operate_bits (ZeroExtend i) (map vector_of es))) (sym r.3)
       (of_one (λ v. vector (v.width + i) v.number) (ZeroExtend i) r.0 (r.0 + i) es (λ v. refl)
-      (λ v w some below. (ap (λ n. n + i) w, (omega arith, wider v.width i v.number below))) (subst (λ ss. AreOfSorts ss es) r.1 h))
+      (λ v w some below. (ap (λ n. n + i) w, (omega arith, wider v.width i v.number below)))
+      (subst (λ ss. AreOfSorts ss es) r.1 h))
   bits (SignExtend i) sorts sort es r h =
       subst (λ s. IsOfSort s (operate_bits (SignExtend i) (map vector_of es))) (sym r.3)
-      (of_one (λ v. vector (v.width + i) (sign_extend i v.width v.number)) (SignExtend i) r.0 (r.0 + i) es (λ v. refl)
-      (λ v w some below. (ap (λ n. n + i) w, (omega arith, fits.sign_extend_fits i v.width v.number))) (subst (λ ss. AreOfSorts ss es) r.1 h))
+      (of_one (λ v. vector (v.width + i) (sign_extend i v.width v.number)) (SignExtend i) r.0 (r.0 + i) es
+      (λ v. refl)
+      (λ v w some below. (ap (λ n. n + i) w, (omega arith, fits.sign_extend_fits i v.width v.number)))
+      (subst (λ ss. AreOfSorts ss es) r.1 h))
   bits (RotateLeft i) sorts sort es r h =
       subst (λ s. IsOfSort s (operate_bits (RotateLeft i) (map vector_of es))) (sym r.2)
       (of_one (λ v. vector v.width (rotate_left i v.width v.number)) (RotateLeft i) r.0 r.0 es (λ v. refl)
-      (λ v w some below. (w, (some, fits.rotate_left_fits i v.width v.number some below))) (subst (λ ss. AreOfSorts ss es) r.1 h))
+      (λ v w some below. (w, (some, fits.rotate_left_fits i v.width v.number some below)))
+      (subst (λ ss. AreOfSorts ss es) r.1 h))
   bits (RotateRight i) sorts sort es r h =
       subst (λ s. IsOfSort s (operate_bits (RotateRight i) (map vector_of es))) (sym r.2)
       (of_one (λ v. vector v.width (rotate_right i v.width v.number)) (RotateRight i) r.0 r.0 es (λ v. refl)
-      (λ v w some below. (w, (some, fits.rotate_right_fits i v.width v.number some below))) (subst (λ ss. AreOfSorts ss es) r.1 h))
+      (λ v w some below. (w, (some, fits.rotate_right_fits i v.width v.number some below)))
+      (subst (λ ss. AreOfSorts ss es) r.1 h))

@@ -1,5 +1,7 @@
 -- The quotient and the remainder are the only ones, and those by 0 are free.
-use Rattle.std.proofs.Common.{◌≡◌, ◌≢◌, ℕ, zero, suc, ◌+◌, ◌-◌, ◌*◌, ◌%◌, ◌<◌, ℤ, pos, negsuc, ◌+ℤ◌, ◌*ℤ◌, neg_ℤ, ◌≤ℤ◌, ◌<ℤ◌, Bool, true, false, cond, List, ◌∷◌, refl, sym, ap, ◌∙◌, arith}
+use Rattle.std.proofs.Common.{◌≡◌, ◌≢◌, ℕ, zero, suc, ◌+◌, ◌-◌, ◌*◌, ◌%◌, ◌<◌, ℤ, pos, negsuc, ◌+ℤ◌, ◌*ℤ◌}
+use Rattle.std.proofs.Common.{neg_ℤ, ◌≤ℤ◌, ◌<ℤ◌, Bool, true, false, cond, List, ◌∷◌, refl, sym, ap, ◌∙◌}
+use Rattle.std.proofs.Common.{arith}
 use Rattle.std.proofs.lemmas.Int.{ints}
 use Rattle.std.proofs.lemmas.Nat.{div-mul-add, mod-mul-add}
 use Rattle.std.proofs.lemmas.Bool.Decides.{Decides-int_eq}
@@ -9,44 +11,66 @@ use Rattle.std.specs.Prelude.{unsigned_abs}
 use Rattle.smt_values.specs.Operations.{DivisionByZero, at_zero, quotient, remainder}
 
 -- of a dividend from 0 on, and of one below it
-from_zero : (a d : ℤ) (b m k : ℕ) → k < suc m → unsigned_abs d ≡ suc m → a ≡ pos (b * suc m + k) → pos k ≡ int_rem_euclid a d
-from_zero a d b m k h u e = sym (ap (λ x. int_rem_euclid x d) e ∙ ap (λ w. pos ((b * suc m + k) % w)) u ∙ ap pos (mod-mul-add b (suc m) k h))
+from_zero : (a d : ℤ) (b m k : ℕ) → k < suc m → unsigned_abs d ≡ suc m → a ≡ pos (b * suc m + k)
+    → pos k ≡ int_rem_euclid a d
+from_zero a d b m k h u e = sym
+    (ap (λ x. int_rem_euclid x d) e ∙ ap (λ w. pos ((b * suc m + k) % w)) u ∙ ap pos
+    (mod-mul-add b (suc m) k h))
 
-below_zero : (a d : ℤ) (b m k : ℕ) → k < suc m → unsigned_abs d ≡ suc m → a ≡ negsuc (b * suc m + (m - k)) → pos k ≡ int_rem_euclid a d
+below_zero : (a d : ℤ) (b m k : ℕ) → k < suc m → unsigned_abs d ≡ suc m → a ≡ negsuc (b * suc m + (m - k))
+    → pos k ≡ int_rem_euclid a d
 below_zero a d b m k h u e =
     let less : m - k < suc m = omega arith in
     let left : suc m - 1 - (m - k) ≡ k = omega arith in
-    sym (ap (λ x. int_rem_euclid x d) e ∙ ap (λ w. pos (w - 1 - (b * suc m + (m - k)) % w)) u ∙ ap (λ r. pos (suc m - 1 - r)) (mod-mul-add b (suc m) (m - k) less) ∙ ap pos left)
+    sym (ap (λ x. int_rem_euclid x d) e ∙ ap (λ w. pos (w - 1 - (b * suc m + (m - k)) % w)) u ∙ ap
+    (λ r. pos (suc m - 1 - r)) (mod-mul-add b (suc m) (m - k) less) ∙ ap pos left)
 
 -- k is the remainder of a by n where q is the quotient
-pub euclid_one : (a n q : ℤ) (k : ℕ) → n ≢ pos 0 → a ≡ n *ℤ q +ℤ pos k → k < unsigned_abs n → (q ≡ int_div_euclid a n) × (pos k ≡ int_rem_euclid a n)
+pub euclid_one : (a n q : ℤ) (k : ℕ) → n ≢ pos 0 → a ≡ n *ℤ q +ℤ pos k → k < unsigned_abs n
+    → (q ≡ int_div_euclid a n) × (pos k ≡ int_rem_euclid a n)
 euclid_one a (pos zero) q k n e h = absurd (n refl)
 euclid_one a (pos (suc m)) (pos j) k n e h =
-    let is : a ≡ pos (j * suc m + k) = omega (arith, ints) in
-    (sym (ap (λ x. int_div_euclid x (pos (suc m))) is ∙ ap pos (div-mul-add j (suc m) k h)), from_zero a (pos (suc m)) j m k h refl is)
+    let is : a ≡ pos (j * suc m + k) = omega (arith, ints) in (
+      sym (ap (λ x. int_div_euclid x (pos (suc m))) is ∙ ap pos (div-mul-add j (suc m) k h)),
+      from_zero a
+          (pos (suc m)) j m k h refl is,
+    )
 euclid_one a (pos (suc m)) (negsuc j) k n e h =
     let is : a ≡ negsuc (j * suc m + (m - k)) = omega (arith, ints) in
-    let less : m - k < suc m = omega arith in
-    (sym (ap (λ x. int_div_euclid x (pos (suc m))) is ∙ ap negsuc (div-mul-add j (suc m) (m - k) less)), below_zero a (pos (suc m)) j m k h refl is)
+    let less : m - k < suc m = omega arith in (
+      sym (ap (λ x. int_div_euclid x (pos (suc m))) is ∙ ap negsuc (div-mul-add j (suc m) (m - k) less)),
+      below_zero a (pos (suc m)) j m k h refl is,
+    )
 euclid_one a (negsuc m) (pos zero) k n e h =
-    let is : a ≡ pos (0 * suc m + k) = omega (arith, ints) in
-    (sym (ap (λ x. int_div_euclid x (negsuc m)) is ∙ ap (λ x. neg_ℤ (pos x)) (div-mul-add 0 (suc m) k h)), from_zero a (negsuc m) 0 m k h refl is)
+    let is : a ≡ pos (0 * suc m + k) = omega (arith, ints) in (
+      sym (ap (λ x. int_div_euclid x (negsuc m)) is ∙ ap (λ x. neg_ℤ (pos x)) (div-mul-add 0 (suc m) k h)),
+      from_zero a (negsuc m) 0 m k h refl is,
+    )
 euclid_one a (negsuc m) (pos (suc j)) k n e h =
     let is : a ≡ negsuc (j * suc m + (m - k)) = omega (arith, ints) in
-    let less : m - k < suc m = omega arith in
-    (sym (ap (λ x. int_div_euclid x (negsuc m)) is ∙ ap (λ x. pos (suc x)) (div-mul-add j (suc m) (m - k) less)), below_zero a (negsuc m) j m k h refl is)
+    let less : m - k < suc m = omega arith in (
+      sym (ap (λ x. int_div_euclid x (negsuc m)) is ∙ ap (λ x. pos (suc x))
+          (div-mul-add j (suc m) (m - k) less)),
+      below_zero a (negsuc m) j m k h refl is,
+    )
 euclid_one a (negsuc m) (negsuc j) k n e h =
-    let is : a ≡ pos (suc j * suc m + k) = omega (arith, ints) in
-    (sym (ap (λ x. int_div_euclid x (negsuc m)) is ∙ ap (λ x. neg_ℤ (pos x)) (div-mul-add (suc j) (suc m) k h)), from_zero a (negsuc m) (suc j) m k h refl is)
+    let is : a ≡ pos (suc j * suc m + k) = omega (arith, ints) in (
+      sym (ap (λ x. int_div_euclid x (negsuc m)) is ∙ ap (λ x. neg_ℤ (pos x))
+          (div-mul-add (suc j) (suc m) k h)),
+      from_zero a (negsuc m) (suc j) m k h refl is,
+    )
 
--- the same of `div` and `mod`
-pub division_one : (z : DivisionByZero) (a n q r : ℤ) → n ≢ pos 0 → a ≡ n *ℤ q +ℤ r → pos 0 ≤ℤ r → r <ℤ pos (unsigned_abs n) → (q ≡ quotient z a n) × (r ≡ remainder z a n)
+-- `div` and `mod` are that quotient and that remainder
+pub division_one : (z : DivisionByZero) (a n q r : ℤ) → n ≢ pos 0 → a ≡ n *ℤ q +ℤ r → pos 0 ≤ℤ r
+    → r <ℤ pos (unsigned_abs n) → (q ≡ quotient z a n) × (r ≡ remainder z a n)
 division_one z a n q (negsuc k) h e low high = absurd (omega (arith, ints))
 division_one z a n q (pos k) h e low high =
-    let one = euclid_one a n q k h e (omega (arith, ints)) in by (int_eq n (pos 0)) (Decides-int_eq n (pos 0)).0 one
+    let one = euclid_one a n q k h e (omega (arith, ints))
+    in by (int_eq n (pos 0)) (Decides-int_eq n (pos 0)).0 one
   where
     by : (b : Bool) → (b ≡ true → n ≡ pos 0) → (q ≡ int_div_euclid a n) × (pos k ≡ int_rem_euclid a n)
-        → (q ≡ cond b (at_zero z.quotients a) (int_div_euclid a n)) × (pos k ≡ cond b (at_zero z.remainders a) (int_rem_euclid a n))
+        → (q ≡ cond b (at_zero z.quotients a) (int_div_euclid a n))
+        × (pos k ≡ cond b (at_zero z.remainders a) (int_rem_euclid a n))
     by true f one = absurd (h (f refl))
     by false f one = one
 

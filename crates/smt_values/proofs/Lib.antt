@@ -1,5 +1,5 @@
 pub mod DivisionLemmas
-pub mod KnownLemmas
+pub mod KnownLoopLemmas
 pub mod BitKnownLemmas
 pub mod BitSortLemmas
 pub mod AllKnownLemmas

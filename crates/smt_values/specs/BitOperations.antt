@@ -1,16 +1,27 @@
--- SMT-LIB 2.6, theory FixedSizeBitVectors and logic QF_BV: the meaning of the operators on bit vectors. There is no limit to widths
--- here. What an operator gives for arguments that it has no rank for is of no interest.
-use Rattle.std.specs.Prelude.{ℕ, ◌+◌, ◌-◌, ◌*◌, ◌%◌, ◌^◌, int_le, int_lt, nat_le, nat_lt, List, [], ◌∷◌, Bool, false, fold}
+-- SMT-LIB 2.6, theory FixedSizeBitVectors and logic QF_BV: the meaning of the operators on bit vectors. There
+-- is no limit to widths here. What an operator gives for arguments that it has no rank for is of no interest.
+use Rattle.std.specs.Prelude.{ℕ, ◌+◌, ◌-◌, ◌*◌, ◌%◌, ◌^◌, int_le, int_lt, nat_le, nat_lt, List, [], ◌∷◌, Bool}
+use Rattle.std.specs.Prelude.{false, fold}
 use Rattle.smt_bits.specs.BitVector.{BitVector, signed, vector}
-use Rattle.smt_bits.specs.Operators.{bvneg, bvadd, bvsub, bvmul, bvudiv, bvurem, bvnot, bvand, bvor, bvxor, bvnand, bvnor, bvxnor, bvsdiv, bvsrem, bvsmod, bvshl, bvlshr, bvashr, bvcomp, concat, extract, repeat, sign_extend, rotate_left, rotate_right}
+use Rattle.smt_bits.specs.Operators.{bvneg, bvadd, bvsub, bvmul, bvudiv, bvurem, bvnot, bvand, bvor, bvxor}
+use Rattle.smt_bits.specs.Operators.{bvnand, bvnor, bvxnor, bvsdiv, bvsrem, bvsmod, bvshl, bvlshr, bvashr}
+use Rattle.smt_bits.specs.Operators.{bvcomp, concat, extract, repeat, sign_extend, rotate_left, rotate_right}
 use Rattle.smt_theory.specs.declared.op.BitsBinary.{BitsBinary}
-use Rattle.smt_theory.specs.declared.op.BitsBinary.TheVariants.{Nand, Nor, Xnor, Subtract, DivideUnsigned, RemainderUnsigned, DivideSigned, RemainderSigned, ModuloSigned, ShiftLeft, ShiftRight, ShiftRightSigned}
+use Rattle.smt_theory.specs.declared.op.BitsBinary.TheVariants.{Nand, Nor, Xnor, Subtract, DivideUnsigned}
+use Rattle.smt_theory.specs.declared.op.BitsBinary.TheVariants.{RemainderUnsigned, DivideSigned}
+use Rattle.smt_theory.specs.declared.op.BitsBinary.TheVariants.{RemainderSigned, ModuloSigned, ShiftLeft}
+use Rattle.smt_theory.specs.declared.op.BitsBinary.TheVariants.{ShiftRight, ShiftRightSigned}
 use Rattle.smt_theory.specs.declared.op.BitsComparison.{BitsComparison}
-use Rattle.smt_theory.specs.declared.op.BitsComparison.TheVariants.{UnsignedLess, UnsignedAtMost, UnsignedGreater, UnsignedAtLeast, SignedLess, SignedAtMost, SignedGreater, SignedAtLeast}
+use Rattle.smt_theory.specs.declared.op.BitsComparison.TheVariants.{UnsignedLess, UnsignedAtMost}
+use Rattle.smt_theory.specs.declared.op.BitsComparison.TheVariants.{UnsignedGreater, UnsignedAtLeast}
+use Rattle.smt_theory.specs.declared.op.BitsComparison.TheVariants.{SignedLess, SignedAtMost, SignedGreater}
+use Rattle.smt_theory.specs.declared.op.BitsComparison.TheVariants.{SignedAtLeast}
 use Rattle.smt_theory.specs.declared.op.BitsFolded.{BitsFolded}
 use Rattle.smt_theory.specs.declared.op.BitsFolded.TheVariants.{And, Or, Xor, Add, Multiply}
 use Rattle.smt_theory.specs.declared.op.BitsOp.{BitsOp}
-use Rattle.smt_theory.specs.declared.op.BitsOp.TheVariants.{Constant, Concat, Extract, Unary, Folded, Binary, Comparison, Comp, Repeat, ZeroExtend, SignExtend, RotateLeft, RotateRight}
+use Rattle.smt_theory.specs.declared.op.BitsOp.TheVariants.{Constant, Concat, Extract, Unary, Folded, Binary}
+use Rattle.smt_theory.specs.declared.op.BitsOp.TheVariants.{Comparison, Comp, Repeat, ZeroExtend, SignExtend}
+use Rattle.smt_theory.specs.declared.op.BitsOp.TheVariants.{RotateLeft, RotateRight}
 use Rattle.smt_theory.specs.declared.op.BitsUnary.{BitsUnary}
 use Rattle.smt_theory.specs.declared.op.BitsUnary.TheVariants.{Not, Negate}
 use Rattle.smt_values.specs.Element.{Element, Truth, Vector}

@@ -1,10 +1,13 @@
--- SMT-LIB 2.6, theories Core, Ints and FixedSizeBitVectors: the elements of the sorts' domains, and what is known of them.
+-- SMT-LIB 2.6, theories Core, Ints and FixedSizeBitVectors: the elements of the sorts' domains, and what is
+-- known of them.
 use Rattle.std.specs.Prelude.{◌≡◌, ℤ, List, [], ◌∷◌, Bool, Option, Some, None, option_map, map}
 use Rattle.smt_bits.specs.BitVector.{BitVector, IsVector}
 use Rattle.smt_theory.specs.declared.sort.Sort.{Sort}
-use Rattle.smt_theory.specs.declared.sort.Sort.TheVariants.{Bool as BoolSort, Int as IntSort, Bits as BitsSort}
+use Rattle.smt_theory.specs.declared.sort.Sort.TheVariants.{Bool as BoolSort, Int as IntSort}
+use Rattle.smt_theory.specs.declared.sort.Sort.TheVariants.{Bits as BitsSort}
 use Rattle.smt_values.specs.declared.value.Value.{Value}
-use Rattle.smt_values.specs.declared.value.Value.TheVariants.{Bool as BoolValue, Int as IntValue, Bits as BitsValue}
+use Rattle.smt_values.specs.declared.value.Value.TheVariants.{Bool as BoolValue, Int as IntValue}
+use Rattle.smt_values.specs.declared.value.Value.TheVariants.{Bits as BitsValue}
 
 -- an element: a truth value, an integer of any size, or a bit vector of any width
 pub data Element : Type 0 where

@@ -1,13 +1,18 @@
--- What an operator on bit vectors is known to make of vectors that are all known: the standard's result, where the arguments are of
--- widths that the operator takes and the result's width is within this project's limit.
-use Rattle.std.specs.Prelude.{◌%◌, ◌^◌, ◌==◌, List, [], ◌∷◌, Option, Some, None, option_and_then, option_map, if◌then◌else◌}
+-- What an operator on bit vectors is known to make of vectors that are all known: the standard's result,
+-- where the arguments are of widths that the operator has a rank for and the result's width is within this
+-- project's limit.
+use Rattle.std.specs.Prelude.{◌%◌, ◌^◌, ◌==◌, List, [], ◌∷◌, Option, Some, None, option_and_then, option_map}
+use Rattle.std.specs.Prelude.{if◌then◌else◌}
 use Rattle.smt_bits.specs.BitVector.{BitVector, vector}
 use Rattle.smt_bits.specs.Operators.{bvcomp}
 use Rattle.smt_bits.specs.Parts.{concatenation, extraction, repetition, sign_extension, zero_extension}
 use Rattle.smt_theory.specs.declared.op.BitsFolded.{BitsFolded}
 use Rattle.smt_theory.specs.declared.op.BitsOp.{BitsOp}
-use Rattle.smt_theory.specs.declared.op.BitsOp.TheVariants.{Constant, Concat, Extract, Unary, Folded, Binary, Comparison, Comp, Repeat, ZeroExtend, SignExtend, RotateLeft, RotateRight}
-use Rattle.smt_values.specs.BitOperations.{are_compared, binary_vector, folded_vector, rotated_left, rotated_right, unary_vector}
+use Rattle.smt_theory.specs.declared.op.BitsOp.TheVariants.{Constant, Concat, Extract, Unary, Folded, Binary}
+use Rattle.smt_theory.specs.declared.op.BitsOp.TheVariants.{Comparison, Comp, Repeat, ZeroExtend, SignExtend}
+use Rattle.smt_theory.specs.declared.op.BitsOp.TheVariants.{RotateLeft, RotateRight}
+use Rattle.smt_values.specs.BitOperations.{are_compared, binary_vector, folded_vector, rotated_left}
+use Rattle.smt_values.specs.BitOperations.{rotated_right, unary_vector}
 use Rattle.smt_values.specs.Element.{Element, Truth, Vector}
 use Rattle.smt_values.specs.Lists.{steps_from}
 
@@ -44,7 +49,8 @@ known_bits (Unary op) args = option_map (λ s. Vector (unary_vector op s)) (the_
 known_bits (Folded op) args = option_map Vector (known_from_left (known_folded op) args)
 known_bits (Binary op) args = option_map (λ p. Vector (binary_vector op p.0 p.1)) (two_of_one_width args)
 known_bits (Comparison op) args = option_map (λ p. Truth (are_compared op p.0 p.1)) (two_of_one_width args)
-known_bits Comp args = option_map (λ p. Vector (vector 1 (bvcomp p.0.number p.1.number))) (two_of_one_width args)
+known_bits Comp args =
+    option_map (λ p. Vector (vector 1 (bvcomp p.0.number p.1.number))) (two_of_one_width args)
 known_bits (Repeat i) args = option_map Vector (option_and_then (repetition i) (the_only args))
 known_bits (ZeroExtend i) args = option_map Vector (option_and_then (zero_extension i) (the_only args))
 known_bits (SignExtend i) args = option_map Vector (option_and_then (sign_extension i) (the_only args))

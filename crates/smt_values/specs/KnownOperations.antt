@@ -1,6 +1,8 @@
--- What an operator is known to make of arguments of which some may be open. What is known, and what stays open, is this project's
--- own rule; where a result is known, it is the standard's.
-use Rattle.std.specs.Prelude.{ℕ, ◌^◌, ℤ, pos, negsuc, ◌+ℤ◌, ◌-ℤ◌, ◌*ℤ◌, neg_ℤ, unsigned_abs, List, [], ◌∷◌, Bool, true, false, not, Option, Some, None, option_map, option_and_then, map, fold, nat_lt, if◌then◌else◌}
+-- What an operator is known to make of arguments of which some may be open. What is known, and what stays
+-- open, is this project's own rule; where a result is known, it is the standard's.
+use Rattle.std.specs.Prelude.{ℕ, ◌^◌, ℤ, pos, negsuc, ◌+ℤ◌, ◌-ℤ◌, ◌*ℤ◌, neg_ℤ, unsigned_abs, List, [], ◌∷◌}
+use Rattle.std.specs.Prelude.{Bool, true, false, not, Option, Some, None, option_map, option_and_then, map}
+use Rattle.std.specs.Prelude.{fold, nat_lt, if◌then◌else◌}
 use Rattle.std.specs.Bool.{beq}
 use Rattle.std.specs.Int.{int_div_euclid, int_rem_euclid}
 use Rattle.std.specs.List.{list_all, list_any}
@@ -9,9 +11,11 @@ use Rattle.smt_bits.specs.BitVector.{BitVector}
 use Rattle.smt_theory.specs.declared.op.Arithmetic.{Arithmetic}
 use Rattle.smt_theory.specs.declared.op.Arithmetic.TheVariants.{Minus, Plus, Times, Div}
 use Rattle.smt_theory.specs.declared.op.CoreOp.{CoreOp}
-use Rattle.smt_theory.specs.declared.op.CoreOp.TheVariants.{True, False, Not, Implies, And, Or, Xor, Equal, Distinct, Ite}
+use Rattle.smt_theory.specs.declared.op.CoreOp.TheVariants.{True, False, Not, Implies, And, Or, Xor, Equal}
+use Rattle.smt_theory.specs.declared.op.CoreOp.TheVariants.{Distinct, Ite}
 use Rattle.smt_theory.specs.declared.op.IntsOp.{IntsOp}
-use Rattle.smt_theory.specs.declared.op.IntsOp.TheVariants.{Arithmetic as Left, Comparison as Chain, Mod, Abs, Divisible}
+use Rattle.smt_theory.specs.declared.op.IntsOp.TheVariants.{Arithmetic as Left, Comparison as Chain, Mod, Abs}
+use Rattle.smt_theory.specs.declared.op.IntsOp.TheVariants.{Divisible}
 use Rattle.smt_theory.specs.declared.op.Op.{Op}
 use Rattle.smt_theory.specs.declared.op.Op.TheVariants.{Core, Ints, Bits}
 use Rattle.smt_values.specs.Element.{Element, Truth, Integer, Vector}

@@ -1,6 +1,8 @@
--- SMT-LIB 2.6, theories Core, Ints and FixedSizeBitVectors: the meaning of the operators on elements. Integers and widths have no
--- bounds here. What an operator gives for arguments that it has no rank for is of no interest.
-use Rattle.std.specs.Prelude.{ℕ, ◌%◌, ℤ, pos, ◌+ℤ◌, ◌-ℤ◌, ◌*ℤ◌, neg_ℤ, unsigned_abs, int_le, int_lt, List, [], ◌∷◌, Bool, true, false, not, ◌&&◌, ◌||◌, ◌==◌, map, fold, if◌then◌else◌}
+-- SMT-LIB 2.6, theories Core, Ints and FixedSizeBitVectors: the meaning of the operators on elements.
+-- Integers and widths have no bounds here. What an operator gives for arguments that it has no rank for is of
+-- no interest.
+use Rattle.std.specs.Prelude.{ℕ, ◌%◌, ℤ, pos, ◌+ℤ◌, ◌-ℤ◌, ◌*ℤ◌, neg_ℤ, unsigned_abs, int_le, int_lt, List, []}
+use Rattle.std.specs.Prelude.{◌∷◌, Bool, true, false, not, ◌&&◌, ◌||◌, ◌==◌, map, fold, if◌then◌else◌}
 use Rattle.std.specs.Bool.{beq}
 use Rattle.std.specs.Int.{int_div_euclid, int_rem_euclid}
 use Rattle.std.specs.List.{list_all, list_any}
@@ -11,16 +13,19 @@ use Rattle.smt_theory.specs.declared.op.Arithmetic.TheVariants.{Minus, Plus, Tim
 use Rattle.smt_theory.specs.declared.op.Comparison.{Comparison}
 use Rattle.smt_theory.specs.declared.op.Comparison.TheVariants.{AtMost, Less, AtLeast, Greater}
 use Rattle.smt_theory.specs.declared.op.CoreOp.{CoreOp}
-use Rattle.smt_theory.specs.declared.op.CoreOp.TheVariants.{True, False, Not, Implies, And, Or, Xor, Equal, Distinct, Ite}
+use Rattle.smt_theory.specs.declared.op.CoreOp.TheVariants.{True, False, Not, Implies, And, Or, Xor, Equal}
+use Rattle.smt_theory.specs.declared.op.CoreOp.TheVariants.{Distinct, Ite}
 use Rattle.smt_theory.specs.declared.op.IntsOp.{IntsOp}
-use Rattle.smt_theory.specs.declared.op.IntsOp.TheVariants.{Arithmetic as Left, Comparison as Chain, Mod, Abs, Divisible}
+use Rattle.smt_theory.specs.declared.op.IntsOp.TheVariants.{Arithmetic as Left, Comparison as Chain, Mod, Abs}
+use Rattle.smt_theory.specs.declared.op.IntsOp.TheVariants.{Divisible}
 use Rattle.smt_theory.specs.declared.op.Op.{Op}
 use Rattle.smt_theory.specs.declared.op.Op.TheVariants.{Core, Ints, Bits}
 use Rattle.smt_values.specs.BitOperations.{operate_bits}
 use Rattle.smt_values.specs.Element.{Element, Truth, Integer, Vector}
 use Rattle.smt_values.specs.Lists.{are_chained, are_distinct}
 
--- the truth value, the integer or the bit vector that an element is; of another element this is of no interest
+-- the truth value, the integer or the bit vector that an element is; of another element this is of no
+-- interest
 abbrev pub truth_of : Element → Bool
 truth_of (Truth b) = b
 truth_of _ = false
@@ -73,7 +78,8 @@ operate_core Ite args = chosen args
 
 -- ---- theory Ints
 
--- What division by zero gives: the theory fixes no value. Finite tables, from a dividend to the result; outside of them it is 0.
+-- What division by zero gives: the theory fixes no value. Finite tables, from a dividend to the result;
+-- outside of them it is 0.
 pub record DivisionByZero : Type 0 where
   pub quotients : List (ℤ × ℤ)
   pub remainders : List (ℤ × ℤ)

@@ -1,14 +1,16 @@
-//! What holds of the definitions that the contracts name. Nothing here does anything: each contract is a law, and
-//! a body but calls the laws that it rests on.
+//! What holds of the definitions that the contracts name. Nothing here does anything: each contract is a law,
+//! and a body calls only the laws that it rests on.
 
-ghost use Rattle.std.specs.Prelude.{◌≡◌, ◌≢◌, not, ℕ, ◌≤ℤ◌, ◌<ℤ◌, ℤ, pos, ◌+ℤ◌, ◌*ℤ◌, unsigned_abs, All, IsSome, List, map, Option, Some};
+ghost use Rattle.std.specs.Prelude.{◌≡◌, ◌≢◌, not, ℕ, ◌≤ℤ◌, ◌<ℤ◌, ℤ, pos, ◌+ℤ◌, ◌*ℤ◌, unsigned_abs, All};
+ghost use Rattle.std.specs.Prelude.{IsSome, List, map, Option, Some};
 ghost use Rattle.smt_theory.specs.Ranks.{HasRank};
 ghost use Rattle.smt_theory.specs.declared.op.CoreOp.{CoreOp};
 ghost use Rattle.smt_theory.specs.declared.op.Op.{Op};
 ghost use Rattle.smt_theory.specs.declared.op.Op.TheVariants.{Core};
 ghost use Rattle.smt_theory.specs.declared.sort.Sort.{Sort};
 ghost use Rattle.smt_theory.specs.declared.sort.Sort.TheVariants.{Int};
-ghost use Rattle.smt_theory.specs.declared.op.BitsComparison.TheVariants.{SignedAtLeast, SignedLess, UnsignedAtLeast, UnsignedLess};
+ghost use Rattle.smt_theory.specs.declared.op.BitsComparison.TheVariants.{SignedAtLeast, SignedLess};
+ghost use Rattle.smt_theory.specs.declared.op.BitsComparison.TheVariants.{UnsignedAtLeast, UnsignedLess};
 ghost use Rattle.smt_values.specs.BitOperations.{compares_bits};
 ghost use Rattle.smt_values.specs.Element.{Agrees, AllAgree, AreOfSorts, Element, IsOfSort};
 ghost use Rattle.smt_values.specs.KnownOperations.{known_step};
@@ -16,15 +18,16 @@ ghost use Rattle.smt_values.specs.Operations.{DivisionByZero, operate, quotient,
 
 use smt_bits::laws::{arithmetic, bitwise, parts, signed};
 
-/// What is known of an operator's result is the standard's value, whatever the open arguments are and whatever division by zero
-/// gives (SMT-LIB 2.6, theories Core, Ints and FixedSizeBitVectors).
+/// What is known of an operator's result is the standard's value, whatever the open arguments are and
+/// whatever division by zero gives (SMT-LIB 2.6, theories Core, Ints and FixedSizeBitVectors).
 pub fn known_results_are_true()
     ensures { (z : DivisionByZero) (op : Op) (knowns : List (Option Element)) (args : List Element)
         → AllAgree knowns args → Agrees (known_step op knowns) (operate z op args) }
 {}
 
-/// Over arguments that are all known, of sorts that the operator has a rank for, only an integer may stay open, and only of operators
-/// of theory Ints: every result of another sort is known, every one of arguments without an integer, and every one of theory Core.
+/// Over arguments that are all known, of sorts that the operator has a rank for, only an integer may stay
+/// open, and only of operators of theory Ints: every result of another sort is known, every one of arguments
+/// without an integer, and every one of theory Core.
 pub fn known_arguments_give_known_results()
     ensures other_sorts { (op : Op) (sorts : List Sort) (sort : Sort) (args : List Element)
         → HasRank op sorts sort → AreOfSorts sorts args → sort ≢ Int
@@ -49,18 +52,19 @@ pub fn results_are_of_their_sorts()
     signed::signed_fits();
 }
 
-/// `div` and `mod` by a number that is not 0 are the one quotient and the one remainder with `a = n * q + r` and `0 <= r < |n|`
-/// (SMT-LIB 2.6, theory Ints).
+/// `div` and `mod` by a number that is not 0 are the one quotient and the one remainder with `a = n * q + r`
+/// and `0 <= r < |n|` (SMT-LIB 2.6, theory Ints).
 pub fn division_is_by_the_law()
     ensures exact { (z : DivisionByZero) (a n : ℤ) → n ≢ pos 0 → a ≡ n *ℤ quotient z a n +ℤ remainder z a n }
     ensures low { (z : DivisionByZero) (a n : ℤ) → n ≢ pos 0 → pos 0 ≤ℤ remainder z a n }
     ensures high { (z : DivisionByZero) (a n : ℤ) → n ≢ pos 0 → remainder z a n <ℤ pos (unsigned_abs n) }
-    ensures one { (z : DivisionByZero) (a n q r : ℤ) → n ≢ pos 0 → a ≡ n *ℤ q +ℤ r → pos 0 ≤ℤ r → r <ℤ pos (unsigned_abs n)
+    ensures one { (z : DivisionByZero) (a n q r : ℤ) → n ≢ pos 0 → a ≡ n *ℤ q +ℤ r → pos 0 ≤ℤ r
+        → r <ℤ pos (unsigned_abs n)
         → (q ≡ quotient z a n) × (r ≡ remainder z a n) }
 {}
 
-/// What `div` and `mod` give by 0 is free: for any one dividend it may be any integer, whatever it is for the others and for the other
-/// of the two (SMT-LIB 2.6, theory Ints).
+/// What `div` and `mod` give by 0 is free: for any one dividend it may be any integer, whatever it is for the
+/// others and for the other of the two (SMT-LIB 2.6, theory Ints).
 pub fn division_by_zero_is_free()
     ensures quotient { (z : DivisionByZero) (a r : ℤ) → (y : DivisionByZero) × (quotient y a (pos 0) ≡ r)
         × ((b n : ℤ) → b ≢ a → quotient y b n ≡ quotient z b n)
@@ -70,8 +74,10 @@ pub fn division_by_zero_is_free()
         × ((b n : ℤ) → quotient y b n ≡ quotient z b n) }
 {}
 
-/// Of two bit vectors of one width the first is less exactly where it is not at least the second, as numbers and read as signed.
+/// Of two bit vectors of one width the first is less exactly where it is not at least the second, as numbers
+/// and read as signed.
 pub fn comparisons_are_opposites()
-    ensures unsigned { (m s t : ℕ) → compares_bits UnsignedLess m s t ≡ not (compares_bits UnsignedAtLeast m s t) }
+    ensures unsigned { (m s t : ℕ)
+        → compares_bits UnsignedLess m s t ≡ not (compares_bits UnsignedAtLeast m s t) }
     ensures signed { (m s t : ℕ) → compares_bits SignedLess m s t ≡ not (compares_bits SignedAtLeast m s t) }
 {}

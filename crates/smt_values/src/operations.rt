@@ -1,4 +1,4 @@
-//! Operators on values of which some may be open.
+//! Operators on values of which some may be open. This file chooses by the theory, and computes nothing.
 
 mod bits;
 mod bools;
@@ -11,11 +11,12 @@ ghost use Rattle.smt_values.specs.KnownOperations.{known_step};
 use crate::value::Value;
 use smt_theory::Op;
 
-/// What is known of the operator's result for these arguments, where `None` stands for an open one; `None` where the result is open.
+/// What is known of the operator's result for these arguments, where `None` stands for an open one; `None`
+/// where the result is open.
 ///
-/// Open are an integer outside -2^127 to 2^127 - 1, as the result or as a partial result of an operator that is applied from the
-/// left; `div` and `mod` at divisor 0; and what has an open argument, but for `and`, `or`, `=>` and `ite` where the known arguments
-/// decide (this project's own rule).
+/// Open are an integer outside -2^127 to 2^127 - 1, as the result or as a partial result of an operator that
+/// is applied from the left; `div` and `mod` at divisor 0; and what has an open argument, but for `and`,
+/// `or`, `=>` and `ite` where the known arguments decide (this project's own rule).
 pub fn apply(op: Op, args: &[Option<Value>]) -> Option<Value>
     ensures { known_element result ≡ known_step op (known_elements args.now) }
 {

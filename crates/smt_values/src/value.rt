@@ -1,4 +1,4 @@
-//! Values.
+//! Values of the sorts. This file knows no operator, and no open element.
 
 use smt_bits::Bits;
 

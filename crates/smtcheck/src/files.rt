@@ -1,4 +1,4 @@
-//! The program's work on files.
+//! The program's work on files. This file knows no word of the command line, and judges nothing.
 
 use smt_dialogue::{Options, Report, validate};
 use smtcheck_command_line::Settings;
@@ -38,7 +38,7 @@ pub(crate) fn run<R: Files + AllocGlobal + Print>(
         return Err(RunFault::Answers);
     };
     let options = Options {
-        print_success: settings.start,
+        print_success: settings.print_success,
     };
     run_open(rt, &mut script, &mut answers, options)
 }

@@ -1,4 +1,5 @@
-//! The program: from the words of the command line to the exit status.
+//! The program: from the words of the command line to the exit status. This file opens no file, and knows no
+//! verdict.
 
 use crate::files::{RunFault, run};
 use smtcheck_command_line::{LineFault, settings};
@@ -12,9 +13,9 @@ const NO_REPORT: u8 = 4;
 /// The status of a command line that was refused, or asked for help.
 const REFUSED: u8 = 5;
 
-/// Runs the program, and answers its exit status: 0 to 3 by the verdict, 4 where there is no report, and 5 where the command line was
-/// refused or asked for help.
-pub(crate) fn start<R: Files + Env + AllocGlobal + Print + Eprint>(rt: &R) -> u8 {
+/// Runs the program, and answers its exit status: 0 to 3 by the verdict, 4 where there is no report, and 5
+/// where the command line was refused or asked for help.
+pub(crate) fn run_program<R: Files + Env + AllocGlobal + Print + Eprint>(rt: &R) -> u8 {
     let words = match words(rt) {
         Ok(words) => words,
         Err(error) if error.kind() == io::ErrorKind::InvalidData => {
@@ -29,7 +30,7 @@ pub(crate) fn start<R: Files + Env + AllocGlobal + Print + Eprint>(rt: &R) -> u8
     }
 }
 
-/// The same for these words, the program's name first.
+/// Runs the program on these words, the program's name first, and answers its exit status.
 pub(crate) fn run_words<R: Files + AllocGlobal + Print + Eprint>(rt: &R, words: &[&str]) -> u8 {
     match settings(rt.alloc(), words) {
         Ok(settings) => match run(rt, settings) {

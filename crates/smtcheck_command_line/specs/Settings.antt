@@ -1,20 +1,23 @@
 -- The command line of the program, in the words in which clap says what a parse gives.
-use Rattle.std.specs.Prelude.{◌≡◌, ◌==◌, ℕ, Bool, true, false, not, Some, ⊤, codes, is_some, List, [], ◌∷◌, MatchResult, Result, if◌then◌else◌}
+use Rattle.std.specs.Prelude.{◌≡◌, ◌==◌, ℕ, Bool, true, false, not, Some, ⊤, codes, is_some, List, [], ◌∷◌}
+use Rattle.std.specs.Prelude.{MatchResult, None, Option, Result, if◌then◌else◌}
 use Rattle.std.specs.Borrow.{Bor}
-use Rattle.clap.specs.Words.{App, IsAmong, IsParsedFrom, Rule, Text, fault_of, first_of, first_value, found_of, kind_of, matches_of, new_app, new_rule, with_rule}
+use Rattle.clap.specs.Words.{App, IsAmong, IsParsedFrom, Rule, Text, fault_of, first_of, first_value}
+use Rattle.clap.specs.Words.{found_of, kind_of, matches_of, new_app, new_rule, with_rule}
 use Rattle.clap.specs.declared.builder.value_parser.ValueParser.TheVariants as parser
 use Rattle.clap.specs.declared.builder.Command.{Command}
 use Rattle.clap.specs.declared.parser.ArgMatches.{ArgMatches}
 use Rattle.clap.specs.declared.builder.ArgAction.TheVariants.{Set}
-use Rattle.smtcheck_command_line.specs.declared.line.LineFault.{LineFault}
-use Rattle.smtcheck_command_line.specs.declared.line.LineFault.TheVariants as line
-use Rattle.smtcheck_command_line.specs.declared.line.Settings.{Settings}
+use Rattle.smtcheck_command_line.specs.declared.arguments.LineFault.{LineFault}
+use Rattle.smtcheck_command_line.specs.declared.arguments.LineFault.TheVariants as line
+use Rattle.smtcheck_command_line.specs.declared.arguments.Settings.{Settings}
 
 -- a file that has to be named, once: a positional argument
 abbrev pub file_rule : Text → Rule
 file_rule id = record (new_rule id) { action = Some Set; required = true }
 
--- where in memory the list of the option's words lies, and each of the two: clap's definition keeps the references, and reads the words
+-- where in memory the list of the option's words lies, and each of the two: clap's definition keeps the
+-- references, and reads the words
 pub record Places : Type 0 where
   pub list : ℕ × ℕ
   pub on : ℕ × ℕ
@@ -23,7 +26,8 @@ pub record Places : Type 0 where
 abbrev pub choices : Places → Bor (List (Bor Text))
 choices places = record {
   ref_ptr = places.list;
-  now = record { ref_ptr = places.on; now = codes "on" } ∷ record { ref_ptr = places.off; now = codes "off" } ∷ [];
+  now = record { ref_ptr = places.on; now = codes "on" } ∷ record { ref_ptr = places.off; now = codes "off" }
+      ∷ [];
 }
 
 -- the option with one of the two words, which is `on` where the option is not given
@@ -39,15 +43,16 @@ success_rule places = record (new_rule (codes "print-success")) {
 -- `smtcheck [--print-success on|off] SCRIPT ANSWERS`
 unfoldable pub smtcheck_app : Places → App
 smtcheck_app places =
-    with_rule (with_rule (with_rule (new_app (codes "smtcheck")) (file_rule (codes "SCRIPT"))) (file_rule (codes "ANSWERS"))) (success_rule places)
+    with_rule (with_rule (with_rule (new_app (codes "smtcheck")) (file_rule (codes "SCRIPT")))
+    (file_rule (codes "ANSWERS"))) (success_rule places)
 
 -- of the program's command, whose words lie at some places
 abbrev pub OfCommand : (App → Type 0) → Type 0
 OfCommand P = (places : Places) × P (smtcheck_app places)
 
--- the option's word for whether the solver prints `success` from the start
+-- the option's word for whether the solver prints `success` before the script sets `:print-success`
 abbrev pub success_word : Bool → Text
-success_word start = if start then codes "on" else codes "off"
+success_word prints = if prints then codes "on" else codes "off"
 
 -- the matches have a value for the argument
 abbrev pub HasValue : ArgMatches → Text → Type 0
@@ -55,17 +60,20 @@ HasValue m id = is_some (first_value (found_of m) id) ≡ true
 
 -- a parse of the command that succeeds has both files
 abbrev pub NeedsFiles : Command → Type 0
-NeedsFiles c = (m : ArgMatches) → IsParsedFrom c m → HasValue m (codes "SCRIPT") × HasValue m (codes "ANSWERS")
+NeedsFiles c =
+    (m : ArgMatches) → IsParsedFrom c m → HasValue m (codes "SCRIPT") × HasValue m (codes "ANSWERS")
 
 -- and has one of the two words for the option
 abbrev pub HasSuccessWord : Command → Type 0
-HasSuccessWord c = (m : ArgMatches) → IsParsedFrom c m → (start : Bool) × (first_value (found_of m) (codes "print-success") ≡ Some (success_word start))
+HasSuccessWord c = (m : ArgMatches) → IsParsedFrom c m
+    → (prints : Bool) × (first_value (found_of m) (codes "print-success") ≡ Some (success_word prints))
 
 -- the settings are the matches that the command has on these words
 pub record AreSettings (words : List Text) (s : Settings) (a : App) : Type 0 where
   pub script : first_of (codes "SCRIPT") (matches_of a words) ≡ Some s.script.now
   pub answers : first_of (codes "ANSWERS") (matches_of a words) ≡ Some s.answers.now
-  pub start : first_of (codes "print-success") (matches_of a words) ≡ Some (success_word s.start)
+  pub print_success : first_of (codes "print-success") (matches_of a words)
+      ≡ Some (success_word s.print_success)
 
 -- what is refused is refused with a kind that the command has on these words
 abbrev pub IsFaultOf : List Text → LineFault → App → Type 0
@@ -79,7 +87,9 @@ is_plain (x ∷ xs) = not (x == 45)
 
 -- the settings are these, or memory was refused
 abbrev pub Gives : Text → Text → Bool → Result Settings LineFault → Type 0
-Gives script answers start r = MatchResult r (λ s. (s.script.now ≡ script) × (s.answers.now ≡ answers) × (s.start ≡ start)) (λ f. f ≡ line.Memory)
+Gives script answers prints r = MatchResult r
+    (λ s. (s.script.now ≡ script) × (s.answers.now ≡ answers) × (s.print_success ≡ prints))
+    (λ f. f ≡ line.Memory)
 
 -- after the program's name, two plain words name the two files: only memory may be missing
 abbrev pub TakesTwo : List Text → Result Settings LineFault → Type 0
@@ -88,6 +98,11 @@ TakesTwo words r = (name script answers : Text) → words ≡ name ∷ script �
 
 -- and so they do behind the option with one of its words
 abbrev pub TakesOption : List Text → Result Settings LineFault → Type 0
-TakesOption words r = (name script answers : Text) (start : Bool)
-    → words ≡ name ∷ codes "--print-success" ∷ success_word start ∷ script ∷ answers ∷ []
-    → is_plain script ≡ true → is_plain answers ≡ true → Gives script answers start r
+TakesOption words r = (name script answers : Text) (prints : Bool)
+    → words ≡ name ∷ codes "--print-success" ∷ success_word prints ∷ script ∷ answers ∷ []
+    → is_plain script ≡ true → is_plain answers ≡ true → Gives script answers prints r
+
+-- what a fault says; of the text of its own errors clap promises nothing
+abbrev pub text_of_line_fault : LineFault → Option Text
+text_of_line_fault line.Memory = Some (codes "out of memory")
+text_of_line_fault (line.Refused e) = None

@@ -1,26 +1,30 @@
-//! What a command line may say, and what the program says of it.
+//! What a command line may say, what the program says of it, and how its words are read. This file opens no
+//! file, and prints nothing.
 
 ghost use Rattle.std.specs.Prelude.{◌≡◌, IfErr, IfOk, None, [], true, false};
 ghost use Rattle.clap.specs.Walk.{texts};
 ghost use Rattle.clap.specs.Words.{IsPlainArg, app_of, rule_of, takes};
-ghost use Rattle.smtcheck_command_line.specs.Settings.{AreSettings, HasSuccessWord, IsFaultOf, NeedsFiles, OfCommand, Places, TakesOption, TakesTwo, file_rule, success_rule};
+ghost use Rattle.smtcheck_command_line.specs.Settings.{AreSettings, HasSuccessWord, IsFaultOf, NeedsFiles};
+ghost use Rattle.smtcheck_command_line.specs.Settings.{OfCommand, Places, TakesOption, TakesTwo, file_rule};
+ghost use Rattle.smtcheck_command_line.specs.Settings.{success_rule};
 
-use crate::line::{LineFault, Settings};
+use crate::arguments::{LineFault, Settings};
 use clap::error::ErrorKind;
 use clap::{Arg, ArgAction, Command};
 use std::alloc::{AllocError, Global};
 
 const ABOUT: &str = "Checks the models that an SMT solver printed.
 
-SCRIPT is the SMT-LIB 2.6 script that the solver read, and ANSWERS the text that it printed for it. Each answer is paired with its \
-command, and every `sat` is checked by evaluating the printed model in each assertion that was in force.";
+SCRIPT is the SMT-LIB 2.6 script that the solver read, and ANSWERS the text that it printed for it. Each \
+answer is paired with its command, and every `sat` is checked by evaluating the printed model in each \
+assertion that was in force.";
 
 const PRINT_SUCCESS: &str =
     "Whether the solver prints `success`, from the start, for each command that has no answer of its own.
 
 off: for z3, cvc5 and cvc4, which print it only once the script says (set-option :print-success true)
-on:  for SMTInterpol and others that keep to the default of SMT-LIB, and for a run that was told to print it, such as \
-`z3 smtlib2_compliant=true` or `cvc5 --print-success`
+on:  for SMTInterpol and others that keep to the default of SMT-LIB, and for a run that was told to print \
+it, such as `z3 smtlib2_compliant=true` or `cvc5 --print-success`
 
 A script's own (set-option :print-success ..) is followed from there on.";
 
@@ -63,7 +67,7 @@ fn file<'a>(alloc: Global, id: &'a str, help: &'a str) -> Arg<'a>
         .help(help)
 }
 
-// The option that says whether the solver prints `success` from the start.
+// The option that says whether the solver prints `success` before the script sets `:print-success`.
 fn print_success<'a>(alloc: Global) -> Arg<'a>
     ensures rule { (places : Places) × (rule_of result ≡ success_rule places) }
     ensures plain { IsPlainArg result }
@@ -90,7 +94,8 @@ pub fn settings<'a>(alloc: Global, words: &'a [&'a str]) -> Result<Settings<'a>,
     ensures option { TakesOption (texts words.entry.now) result }
     ensures taken { IfOk result (λ _. OfCommand (λ a. takes a (texts words.entry.now) ≡ true)) }
     ensures refused { IfErr result (λ f. OfCommand (IsFaultOf (texts words.entry.now) f)) }
-    ensures memory { IfErr result (λ f. OfCommand (λ a. takes a (texts words.entry.now) ≡ true → f ≡ LineFault.Memory)) }
+    ensures memory { IfErr result
+        (λ f. OfCommand (λ a. takes a (texts words.entry.now) ≡ true → f ≡ LineFault.Memory)) }
 {
     let Ok(command) = smtcheck_command(alloc) else {
         return Err(LineFault::Memory);
@@ -103,6 +108,6 @@ pub fn settings<'a>(alloc: Global, words: &'a [&'a str]) -> Result<Settings<'a>,
     Ok(Settings {
         script: matches.get_str("SCRIPT").unwrap(),
         answers: matches.get_str("ANSWERS").unwrap(),
-        start: matches.get_str("print-success").unwrap() == "on",
+        print_success: matches.get_str("print-success").unwrap() == "on",
     })
 }

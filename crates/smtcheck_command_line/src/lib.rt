@@ -1,12 +1,16 @@
-//! The command line of the program: what it may say, and what it asks for. This crate knows no file and no dialogue.
+//! The command line of the program: what it may say, and what it asks for. This crate opens no file, and
+//! knows no dialogue.
 //!
-//! The program uses one contract: `settings` answers what the words of a command line ask for, or why they can't be taken. So the words
-//! `smtcheck`, `--print-success`, `off`, `script.smt2` and `answers.txt` are the settings with these two files and a start that is
-//! false; without the option the start is true; and `smtcheck` alone is refused, with the text that `clap` has for it.
+//! ```text
+//! let words = ["smtcheck", "--print-success", "off", "script.smt2", "answers.txt"];
+//! settings(alloc, &words)?                        // these two files, and `print_success: false`
+//! settings(alloc, &["smtcheck", "a", "b"])?       // the files `a` and `b`, and `print_success: true`
+//! settings(alloc, &["smtcheck"])                  // Err(LineFault::Refused(..)), with the text of `clap`
+//! ```
 #![tactic(auto)]
 
+mod arguments;
 mod command;
-mod line;
 
+pub use arguments::{LineFault, Settings};
 pub use command::settings;
-pub use line::{LineFault, Settings};

@@ -1,7 +1,9 @@
-//! The exit status of the program. It is a crate of its own, so that the program of rows can show it too: a program of this
-//! toolchain can't be called by another.
+//! The exit status of the program. This crate knows no line of a report, and stands apart so that the program
+//! of rows can show the status too: a program of this toolchain can't be called by another.
 //!
-//! `status_of(Verdict::Invalid)` is 1.
+//! ```text
+//! status_of(Verdict::Invalid)                     // 1
+//! ```
 #![tactic(auto)]
 
 ghost use Rattle.std.specs.Prelude.{◌≡◌};

@@ -1,4 +1,4 @@
-//! What is read of a text, written out.
+//! What is read of a text, written out. This file prints nothing, and looks into no tree.
 
 ghost use Rattle.std.specs.Prelude.{◌≡◌, ◌+◌, ◌<◌, ◌^◌, length};
 ghost use Rattle.smt_text.specs.Reader.{is_finished, bytes_fed};

@@ -1,4 +1,4 @@
-//! Trees and faults, written as the rows have them.
+//! Trees and faults, written as the rows have them. This file reads no text.
 
 ghost use Rattle.std.specs.Prelude.{◌<◌};
 

@@ -1,7 +1,8 @@
-//! Laws of the arithmetic modulo powers of two.
+//! Laws of the arithmetic modulo powers of two. Nothing here does anything.
 
 ghost use Rattle.std.specs.Prelude.{◌≡◌, ◌≢◌, ℕ, ◌+◌, ◌*◌, ◌^◌, ◌<◌};
-ghost use Rattle.smt_bits.specs.Operators.{bvadd, bvashr, bvlshr, bvmul, bvneg, bvnot, bvshl, bvsub, bvudiv, bvurem};
+ghost use Rattle.smt_bits.specs.Operators.{bvadd, bvashr, bvlshr, bvmul, bvneg, bvnot, bvshl, bvsub, bvudiv};
+ghost use Rattle.smt_bits.specs.Operators.{bvurem};
 
 /// The negative is the complement plus one.
 pub fn negation_is_the_complement_and_one()
@@ -13,7 +14,8 @@ pub fn subtraction_undoes_addition()
     ensures { (m s t : ℕ) → s < 2 ^ m → t < 2 ^ m → bvsub m (bvadd m s t) t ≡ s }
 {}
 
-/// Where the divisor is not 0, `bvudiv` and `bvurem` are the one quotient and the one remainder with `s = q * t + r` and `r < t`.
+/// Where the divisor is not 0, `bvudiv` and `bvurem` are the one quotient and the one remainder with `s = q *
+/// t + r` and `r < t`.
 pub fn unsigned_division_is_by_the_law()
     ensures exact { (m s t : ℕ) → t ≢ 0 → s ≡ bvudiv m s t * t + bvurem m s t }
     ensures high { (m s t : ℕ) → t ≢ 0 → bvurem m s t < t }

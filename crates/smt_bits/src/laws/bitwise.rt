@@ -1,4 +1,4 @@
-//! Laws of the operators that go bit by bit.
+//! Laws of the operators that go bit by bit. Nothing here does anything.
 
 ghost use Rattle.std.specs.Prelude.{◌≡◌, ℕ, ◌^◌, ◌<◌, ◌≤◌};
 ghost use Rattle.std.specs.Int.{bit_at};
@@ -7,7 +7,8 @@ ghost use Rattle.smt_bits.specs.Operators.{bvand, bvnand, bvnor, bvnot, bvor, bv
 
 /// The number that is made from bits has m bits, and they are those.
 pub fn bits_are_as_given()
-    ensures same { (bit : ℕ → ℕ) (m i : ℕ) → ((k : ℕ) → bit k ≤ 1) → i < m → bit_at (from_bits bit m) i ≡ bit i }
+    ensures same { (bit : ℕ → ℕ) (m i : ℕ) → ((k : ℕ) → bit k ≤ 1) → i < m
+        → bit_at (from_bits bit m) i ≡ bit i }
     ensures below { (bit : ℕ → ℕ) (m : ℕ) → ((k : ℕ) → bit k ≤ 1) → from_bits bit m < 2 ^ m }
 {}
 

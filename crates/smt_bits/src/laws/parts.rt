@@ -1,4 +1,4 @@
-//! Laws of the parts of bit vectors.
+//! Laws of the parts of bit vectors. Nothing here does anything.
 
 ghost use Rattle.std.specs.Prelude.{◌≡◌, ℕ, ◌+◌, ◌-◌, ◌*◌, ◌%◌, ◌^◌, ◌<◌, ◌≤◌, Some};
 ghost use Rattle.std.specs.Int.{bit_at};
@@ -14,8 +14,10 @@ pub fn a_vector_is_its_parts()
 
 /// To rotate by as much in the other direction brings a bit vector back.
 pub fn rotations_are_inverse()
-    ensures left { (i m s : ℕ) → 1 ≤ m → s < 2 ^ m → meaning.rotate_right i m (meaning.rotate_left i m s) ≡ s }
-    ensures right { (i m s : ℕ) → 1 ≤ m → s < 2 ^ m → meaning.rotate_left i m (meaning.rotate_right i m s) ≡ s }
+    ensures left { (i m s : ℕ) → 1 ≤ m → s < 2 ^ m
+        → meaning.rotate_right i m (meaning.rotate_left i m s) ≡ s }
+    ensures right { (i m s : ℕ) → 1 ≤ m → s < 2 ^ m
+        → meaning.rotate_left i m (meaning.rotate_right i m s) ≡ s }
 {}
 
 /// A bit vector that is extended by its sign stands for the same integer.
@@ -23,8 +25,9 @@ pub fn sign_extension_keeps_the_integer()
     ensures { (i m s : ℕ) → 1 ≤ m → s < 2 ^ m → signed (m + i) (meaning.sign_extend i m s) ≡ signed m s }
 {}
 
-/// The bits of what is cut out, put together or repeated are those of the vectors that it is made of, in their order, the bit of
-/// place 0 being the lowest (SMT-LIB 2.6, theory FixedSizeBitVectors and logic QF_BV).
+/// The bits of what is cut out, put together or repeated are those of the vectors that it is made of, in
+/// their order, the bit of place 0 being the lowest (SMT-LIB 2.6, theory FixedSizeBitVectors and logic
+/// QF_BV).
 pub fn parts_have_their_bits()
     ensures concat_low { (n s t k : ℕ) → k < n → bit_at (meaning.concat n s t) k ≡ bit_at t k }
     ensures concat_high { (n s t k : ℕ) → t < 2 ^ n → bit_at (meaning.concat n s t) (n + k) ≡ bit_at s k }
@@ -33,8 +36,8 @@ pub fn parts_have_their_bits()
         → bit_at (meaning.repeat i m s) k ≡ bit_at s (k % m) }
 {}
 
-/// A rotation to the left by i takes the bit of place k to place k + i, and one to the right that of place k + i to place k, around the
-/// width (SMT-LIB 2.6, logic QF_BV).
+/// A rotation to the left by i takes the bit of place k to place k + i, and one to the right that of place k
+/// + i to place k, around the width (SMT-LIB 2.6, logic QF_BV).
 pub fn rotations_move_bits_around()
     ensures left { (i m s k : ℕ) → s < 2 ^ m → k < m
         → bit_at (meaning.rotate_left i m s) ((k + i) % m) ≡ bit_at s k }
@@ -42,7 +45,8 @@ pub fn rotations_move_bits_around()
         → bit_at (meaning.rotate_right i m s) k ≡ bit_at s ((k + i) % m) }
 {}
 
-/// An extension keeps the bits, and past them it has zeros, or copies of the highest one (SMT-LIB 2.6, logic QF_BV).
+/// An extension keeps the bits, and past them it has zeros, or copies of the highest one (SMT-LIB 2.6, logic
+/// QF_BV).
 pub fn extensions_keep_bits()
     ensures zero_extend { (i k : ℕ) (v w : BitVector) → zero_extension i v ≡ Some w
         → bit_at w.number k ≡ bit_at v.number k }
@@ -54,7 +58,8 @@ pub fn extensions_keep_bits()
         → bit_at (meaning.sign_extend i m s) k ≡ bit_at s (m - 1) }
 {}
 
-/// Each result is a number of as many bits as its sort says (SMT-LIB 2.6, theory FixedSizeBitVectors and logic QF_BV).
+/// Each result is a number of as many bits as its sort says (SMT-LIB 2.6, theory FixedSizeBitVectors and
+/// logic QF_BV).
 pub fn parts_fit()
     ensures concat { (m n s t : ℕ) → s < 2 ^ m → t < 2 ^ n → meaning.concat n s t < 2 ^ (m + n) }
     ensures extract { (i j s : ℕ) → meaning.extract i j s < 2 ^ (i - j + 1) }

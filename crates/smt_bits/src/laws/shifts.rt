@@ -1,4 +1,4 @@
-//! Laws of the shifts.
+//! Laws of the shifts, bit by bit. Nothing here does anything.
 
 ghost use Rattle.std.specs.Prelude.{◌≡◌, ℕ, ◌+◌, ◌-◌, ◌^◌, ◌<◌, ◌≤◌};
 ghost use Rattle.std.specs.Int.{bit_at};
@@ -16,8 +16,8 @@ pub fn shifts_right_move_bits()
     ensures zeros { (m s t k : ℕ) → s < 2 ^ m → m ≤ t + k → bit_at (bvlshr m s t) k ≡ 0 }
 {}
 
-/// An arithmetic shift to the right by t takes the bit of place t + k to place k, and copies of the highest bit from past the width: all
-/// zeros or all ones where t is the width or more.
+/// An arithmetic shift to the right by t takes the bit of place t + k to place k, and copies of the highest
+/// bit from past the width: all zeros or all ones where t is the width or more.
 pub fn arithmetic_shifts_keep_the_sign()
     ensures moved { (m s t k : ℕ) → s < 2 ^ m → t + k < m → bit_at (bvashr m s t) k ≡ bit_at s (t + k) }
     ensures signs { (m s t k : ℕ) → s < 2 ^ m → k < m → m ≤ t + k

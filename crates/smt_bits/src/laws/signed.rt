@@ -1,22 +1,27 @@
-//! Laws of the signed reading.
+//! Laws of the signed reading. Nothing here does anything.
 
-ghost use Rattle.std.specs.Prelude.{◌≡◌, ◌≢◌, ℕ, zero, suc, ◌^◌, ◌<◌, ◌≤◌, ℤ, pos, neg_ℤ, ◌+ℤ◌, ◌*ℤ◌, ◌≤ℤ◌, ◌<ℤ◌, int_div, int_rem, unsigned_abs};
+ghost use Rattle.std.specs.Prelude.{◌≡◌, ◌≢◌, ℕ, zero, suc, ◌^◌, ◌<◌, ◌≤◌, ℤ, pos, neg_ℤ, ◌+ℤ◌, ◌*ℤ◌, ◌≤ℤ◌};
+ghost use Rattle.std.specs.Prelude.{◌<ℤ◌, int_div, int_rem, unsigned_abs};
 ghost use Rattle.smt_bits.specs.BitVector.{modulo, signed};
 ghost use Rattle.smt_bits.specs.Operators as meaning;
 
-/// Each number of m bits stands for one integer from -2^(m-1) on and below 2^(m-1), and each of these for one number of m bits.
+/// Each number of m bits stands for one integer from -2^(m-1) on and below 2^(m-1), and each of these for one
+/// number of m bits.
 pub fn the_signed_reading_is_one_to_one()
     ensures number { (m s : ℕ) → s < 2 ^ m → modulo m (signed m s) ≡ s }
-    ensures integer { (m : ℕ) (z : ℤ) → neg_ℤ (pos (2 ^ m)) ≤ℤ z → z <ℤ pos (2 ^ m) → signed (suc m) (modulo (suc m) z) ≡ z }
+    ensures integer { (m : ℕ) (z : ℤ) → neg_ℤ (pos (2 ^ m)) ≤ℤ z → z <ℤ pos (2 ^ m)
+        → signed (suc m) (modulo (suc m) z) ≡ z }
     ensures low { (m s : ℕ) → s < 2 ^ suc m → neg_ℤ (pos (2 ^ m)) ≤ℤ signed (suc m) s }
     ensures high { (m s : ℕ) → s < 2 ^ suc m → signed (suc m) s <ℤ pos (2 ^ m) }
 {}
 
-/// `bvsdiv` and `bvsrem` by a number that is not 0 are the quotient, modulo 2^m, and the remainder of the division that rounds towards 0.
+/// `bvsdiv` and `bvsrem` by a number that is not 0 are the quotient, modulo 2^m, and the remainder of the
+/// division that rounds towards 0.
 pub fn signed_division_is_by_the_law()
     ensures exact { (m s t : ℕ)
         → signed m s ≡ int_div (signed m s) (signed m t) *ℤ signed m t +ℤ int_rem (signed m s) (signed m t) }
-    ensures quotient { (m s t : ℕ) → t ≢ 0 → meaning.bvsdiv m s t ≡ modulo m (int_div (signed m s) (signed m t)) }
+    ensures quotient { (m s t : ℕ) → t ≢ 0
+        → meaning.bvsdiv m s t ≡ modulo m (int_div (signed m s) (signed m t)) }
     ensures remainder { (m s t : ℕ) → 1 ≤ m → s < 2 ^ m → t < 2 ^ m → t ≢ 0
         → signed m (meaning.bvsrem m s t) ≡ int_rem (signed m s) (signed m t) }
     ensures small { (m s t : ℕ) → t < 2 ^ m → t ≢ 0

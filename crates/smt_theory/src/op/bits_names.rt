@@ -1,18 +1,22 @@
-//! Operators on bit vectors by their names and indexes.
+//! Operators on bit vectors by their names and indexes. This file knows no other theory, and gives no
+//! operator a rank.
 
 ghost use Rattle.std.specs.Prelude.{map, ◌≡◌, ◌==◌, option_map, bytes_eq, codes};
 ghost use Rattle.std.specs.Option.{option_copied};
-ghost use Rattle.smt_theory.specs.BitsOperators.{bits_named, bitwise_plain, binary_plain, comparison_plain, named_among, constant_by, extract_by, repeat_by, indexed_bits};
+ghost use Rattle.smt_theory.specs.BitsOperators.{bits_named, bitwise_plain, binary_plain, comparison_plain};
+ghost use Rattle.smt_theory.specs.BitsOperators.{named_among, constant_by, extract_by, repeat_by};
+ghost use Rattle.smt_theory.specs.BitsOperators.{indexed_bits};
 ghost use Rattle.smt_theory.specs.BitsOperators as names;
 ghost use Rattle.smt_theory.specs.Index.{index_view};
 
 use crate::index::Index;
 use crate::numbers::{is_numeral, number};
-use crate::op::names::is_named;
 use crate::op::{BitsBinary, BitsComparison, BitsFolded, BitsOp, BitsUnary, OpFault};
+use crate::symbols::is_named;
 use crate::width::Width;
 
-/// The plain operator of this name. All but one begin with `bv`: so most symbols of a script are told by two bytes.
+/// The plain operator of this name. All but one begin with `bv`: so most symbols of a script are told by two
+/// bytes.
 pub(crate) fn bits_op(symbol: &[u8]) -> Option<BitsOp>
     ensures { result ≡ bits_named symbol.now }
 {

@@ -1,17 +1,20 @@
-//! Operators by their names and indexes.
+//! Operators by their names and indexes. This file knows no logic, and gives no operator a rank.
 
-ghost use Rattle.std.specs.Prelude.{map, ◌≡◌, Option, option_map, bytes_eq};
+ghost use Rattle.std.specs.Prelude.{map, ◌≡◌, Option, option_map};
 ghost use Rattle.smt_theory.specs.Index.{index_view};
-ghost use Rattle.smt_theory.specs.Operators.{core_named, ints_named, plain_op, indexed_op, divisible_by, op_by};
+ghost use Rattle.smt_theory.specs.Operators.{core_named, ints_named, plain_op, indexed_op, divisible_by};
+ghost use Rattle.smt_theory.specs.Operators.{op_by};
 
 use crate::index::Index;
 use crate::op::bits_names::{bits_op, indexed_bits_op};
 use crate::op::{Arithmetic, Comparison, CoreOp, IntsOp, Op, OpFault};
+use crate::symbols::is_named;
 use crate::theories::Theories;
 
 /// The operator that these theories have under this symbol (without bars) with these indexes.
 ///
-/// `Unknown` where they have none of that name in that form; `Index` where the indexes are wrong in number, kind or range.
+/// `Unknown` where they have none of that name in that form; `Index` where the indexes are wrong in number,
+/// kind or range.
 #[tactic(auto, using(crate::proofs::OperatorLemmas::op_by_indexed))]
 pub fn op_of(theories: Theories, symbol: &[u8], indexes: &[Index]) -> Result<Op, OpFault>
     ensures { result ≡ op_by theories symbol.now (map index_view indexes.now) }
@@ -119,11 +122,4 @@ fn ints_op(symbol: &[u8]) -> Option<IntsOp>
     } else {
         None
     }
-}
-
-/// Whether the symbol is this word.
-pub(crate) fn is_named(symbol: &[u8], word: &[u8]) -> bool
-    ensures { result ≡ bytes_eq symbol.now word.now }
-{
-    symbol == word
 }

@@ -1,4 +1,4 @@
-//! Ranks of the operators on bit vectors.
+//! Ranks of the operators on bit vectors. This file knows no operator's name, and no bits.
 
 ghost use Rattle.std.specs.Prelude.{◌≡◌, ◌≤◌, ◌+◌};
 ghost use Rattle.smt_theory.specs.Ranks.{bits_rank, within_limit};
@@ -72,7 +72,8 @@ fn concat_width(args: &[Sort]) -> Option<Width>
     }
 }
 
-// The width of these bit vectors behind so many bits. It stops at the limit, so no sum of many widths is too large.
+// The width of these bit vectors behind so many bits. It stops at the limit, so no sum of many widths is too
+// large.
 fn width_behind(before: Width, args: &[Sort]) -> Option<Width>
     ensures { result ≡ ranks.width_behind before args.now }
 {

@@ -4,7 +4,8 @@ use Rattle.std.proofs.Common.{arith}
 use Rattle.smt_trees.specs.Sexp.{weight, weight_all}
 use Rattle.smt_trees.specs.Tree.{sexp_of, sexps_of}
 use Rattle.smt_trees.specs.declared.tree.Tree.{Tree}
-use Rattle.smt_trees.specs.declared.tree.Tree.TheVariants.{Numeral, Decimal, Hex, Bin, Text, Symbol, Reserved, Keyword, List as Listed}
+use Rattle.smt_trees.specs.declared.tree.Tree.TheVariants.{Numeral, Decimal, Hex, Bin, Text, Symbol, Reserved}
+use Rattle.smt_trees.specs.declared.tree.Tree.TheVariants.{Keyword, List as Listed}
 use Rattle.smt_trees.specs.declared.tree.Trees.TheDeep.{deep-Tree}
 use denote.Param.Weighed.{most}
 

@@ -1,4 +1,5 @@
--- Whether two optional elements are the same. No part of any claim: it ties the code of `distinct` to its definition.
+-- Whether two optional elements are the same. No part of any claim: it ties the code of `distinct` to its
+-- definition.
 use Rattle.std.specs.Prelude.{Bool, true, false, Option, Some, None}
 use Rattle.smt_values.specs.Element.{Element}
 use Rattle.smt_values.specs.Operations.{is_same}

@@ -1,11 +1,13 @@
-//! The operators of the theory FixedSizeBitVectors, and those that the logic QF_BV adds.
+//! The operators of the theory FixedSizeBitVectors, and those that the logic QF_BV adds, on elements of which
+//! some may be open. This file computes no bits: `smt_bits` does.
 
 ghost use Rattle.std.specs.Prelude.{◌≡◌, ◌∷◌, ◌%◌, ◌^◌, [], option_and_then, option_map, MatchOption};
 ghost use Rattle.smt_bits.specs.BitVector.{vector};
 ghost use Rattle.smt_bits.specs.Parts.{concatenation};
 ghost use Rattle.smt_values.specs.BitOperations as meaning;
 ghost use Rattle.smt_values.specs.Element.{known_element, known_elements};
-ghost use Rattle.smt_values.specs.KnownBitOperations.{known_bits, known_folded, known_from_left, none_given, the_only, two_of_one_width};
+ghost use Rattle.smt_values.specs.KnownBitOperations.{known_bits, known_folded, known_from_left, none_given};
+ghost use Rattle.smt_values.specs.KnownBitOperations.{the_only, two_of_one_width};
 ghost use Rattle.smt_values.specs.KnownOperations.{known_vector, known_vectors};
 ghost use Rattle.smt_values.specs.Lists.{steps_from};
 
@@ -14,7 +16,8 @@ use smt_bits::{Bits, arithmetic, bitwise, parts, shifts, signed};
 use smt_theory::{BitsBinary, BitsComparison, BitsFolded, BitsOp, BitsUnary, Width};
 
 pub(crate) fn apply_bits(op: BitsOp, args: &[Option<Value>]) -> Option<Value>
-    ensures { known_element result ≡ option_and_then (known_bits op) (known_vectors (known_elements args.now)) }
+    ensures { known_element result
+        ≡ option_and_then (known_bits op) (known_vectors (known_elements args.now)) }
 {
     match op {
         BitsOp::Constant(number, width) => constant(number, width, args).map(Value::Bits),
@@ -43,7 +46,9 @@ pub(crate) fn apply_bits(op: BitsOp, args: &[Option<Value>]) -> Option<Value>
 }
 
 fn constant(number: u128, width: Width, args: &[Option<Value>]) -> Option<Bits>
-    ensures { result ≡ option_and_then (λ vs. option_map (λ _. vector width (number % 2 ^ width)) (none_given vs)) (known_vectors (known_elements args.now)) }
+    ensures { result ≡ option_and_then
+        (λ vs. option_map (λ _. vector width (number % 2 ^ width)) (none_given vs))
+        (known_vectors (known_elements args.now)) }
 {
     match args {
         [] => Some(Bits::new(width, number)),
@@ -53,7 +58,8 @@ fn constant(number: u128, width: Width, args: &[Option<Value>]) -> Option<Bits>
 
 // What the parts are together, the first the highest.
 fn concatenated(args: &[Option<Value>]) -> Option<Bits>
-    ensures { result ≡ option_and_then (known_from_left concatenation) (known_vectors (known_elements args.now)) }
+    ensures { result ≡ option_and_then (known_from_left concatenation)
+        (known_vectors (known_elements args.now)) }
 {
     match args {
         [first, rest @ ..] => joined(bits(first)?, rest),
@@ -62,7 +68,8 @@ fn concatenated(args: &[Option<Value>]) -> Option<Bits>
 }
 
 fn joined(first: Bits, rest: &[Option<Value>]) -> Option<Bits>
-    ensures { result ≡ option_and_then (steps_from concatenation first) (known_vectors (known_elements rest.now)) }
+    ensures { result ≡ option_and_then (steps_from concatenation first)
+        (known_vectors (known_elements rest.now)) }
 {
     let mut whole = first;
     for arg in rest {
@@ -74,7 +81,8 @@ fn joined(first: Bits, rest: &[Option<Value>]) -> Option<Bits>
 
 // What an operator gives that is applied from the left.
 fn folded(op: BitsFolded, args: &[Option<Value>]) -> Option<Bits>
-    ensures { result ≡ option_and_then (known_from_left (known_folded op)) (known_vectors (known_elements args.now)) }
+    ensures { result ≡ option_and_then (known_from_left (known_folded op))
+        (known_vectors (known_elements args.now)) }
 {
     match args {
         [first, rest @ ..] => steps(op, bits(first)?, rest),
@@ -83,7 +91,8 @@ fn folded(op: BitsFolded, args: &[Option<Value>]) -> Option<Bits>
 }
 
 fn steps(op: BitsFolded, first: Bits, rest: &[Option<Value>]) -> Option<Bits>
-    ensures { result ≡ option_and_then (steps_from (known_folded op) first) (known_vectors (known_elements rest.now)) }
+    ensures { result ≡ option_and_then (steps_from (known_folded op) first)
+        (known_vectors (known_elements rest.now)) }
 {
     let mut total = first;
     for arg in rest {

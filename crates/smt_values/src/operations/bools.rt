@@ -1,10 +1,12 @@
-//! The operators of the theory Core.
+//! The operators of the theory Core, on elements of which some may be open. This file computes with no
+//! integer and no bit vector: it only compares them.
 
 ghost use Rattle.std.specs.Prelude.{◌≡◌, ◌&&◌, ◌||◌, true, false, is_some};
 ghost use Rattle.std.specs.List.{list_all, list_any};
 ghost use Rattle.smt_values.specs.Element.{element_of, known_element, known_elements};
 ghost use Rattle.smt_values.specs.Internal.Same.{is_same_known};
-ghost use Rattle.smt_values.specs.KnownOperations.{as_disjunction, decided, is_known, known_choice, known_core, known_negation, known_truth};
+ghost use Rattle.smt_values.specs.KnownOperations.{as_disjunction, decided, is_known, known_choice};
+ghost use Rattle.smt_values.specs.KnownOperations.{known_core, known_negation, known_truth};
 ghost use Rattle.smt_values.specs.Lists.{are_chained, are_distinct};
 ghost use Rattle.smt_values.specs.Operations as meaning;
 ghost use Rattle.smt_values.specs.Operations.{exclusive_or};
@@ -49,7 +51,7 @@ fn choice(args: &[Option<Value>]) -> Option<Value>
 }
 
 // The conjunction of the arguments where `decisive` is false, and the disjunction where it is true.
-#[tactic(auto, using(crate::proofs::KnownLemmas::tests))]
+#[tactic(auto, using(crate::proofs::KnownLoopLemmas::tests))]
 fn junction(args: &[Option<Value>], decisive: bool) -> Option<Value>
     ensures { known_element result ≡ decided decisive (known_elements args.now) }
 {
@@ -79,14 +81,16 @@ fn implication(args: &[Option<Value>]) -> Option<Value>
 
 // Whether the implication is known to be true: a premise is false or the conclusion true.
 fn is_met(premises: &[Option<Value>], conclusion: &Option<Value>) -> bool
-    ensures { result ≡ (list_any (λ premise. is_known false (known_element premise)) premises.now || is_known true (known_element conclusion.now)) }
+    ensures { result ≡ (list_any (λ premise. is_known false (known_element premise)) premises.now
+        || is_known true (known_element conclusion.now)) }
 {
     some_are(premises, false) || is(conclusion, true)
 }
 
 // Whether the implication is known to be false: the premises are all true and the conclusion false.
 fn is_missed(premises: &[Option<Value>], conclusion: &Option<Value>) -> bool
-    ensures { result ≡ (list_all (λ premise. is_known true (known_element premise)) premises.now && is_known false (known_element conclusion.now)) }
+    ensures { result ≡ (list_all (λ premise. is_known true (known_element premise)) premises.now
+        && is_known false (known_element conclusion.now)) }
 {
     all_are(premises, true) && is(conclusion, false)
 }
@@ -113,7 +117,7 @@ fn equality(args: &[Option<Value>]) -> Option<Value>
 }
 
 // Whether each is the same as the one after it.
-#[tactic(auto, using(crate::proofs::KnownLemmas::tests))]
+#[tactic(auto, using(crate::proofs::KnownLoopLemmas::tests))]
 fn are_all_same(args: &[Option<Value>]) -> bool
     ensures { result ≡ are_chained is_same_known (known_elements args.now) }
 {
@@ -138,7 +142,7 @@ fn distinctness(args: &[Option<Value>]) -> Option<Value>
 }
 
 // Whether no two are the same.
-#[tactic(auto, using(crate::proofs::KnownLemmas::tests))]
+#[tactic(auto, using(crate::proofs::KnownLoopLemmas::tests))]
 fn are_all_distinct(args: &[Option<Value>]) -> bool
     ensures { result ≡ are_distinct is_same_known (known_elements args.now) }
 {
@@ -153,7 +157,8 @@ fn are_all_distinct(args: &[Option<Value>]) -> bool
 }
 
 fn is_among(value: &Option<Value>, others: &[Option<Value>]) -> bool
-    ensures { result ≡ list_any (λ other. is_same_known (known_element value.now) (known_element other)) others.now }
+    ensures { result ≡ list_any
+        (λ other. is_same_known (known_element value.now) (known_element other)) others.now }
 {
     others.iter().any(|other| are_both(value, other))
 }

@@ -1,8 +1,11 @@
-//! The operators of the theory Ints.
+//! The operators of the theory Ints, on elements of which some may be open. This file knows no bit vector,
+//! and gives no value by division by zero.
 
 ghost use Rattle.std.specs.Prelude.{◌≡◌, option_and_then, option_map};
 ghost use Rattle.smt_values.specs.Element.{known_element, known_elements};
-ghost use Rattle.smt_values.specs.KnownOperations.{known_abs, known_arithmetic, known_divisible, known_from_left, known_integer, known_integers, known_ints, known_mod, known_remainder};
+ghost use Rattle.smt_values.specs.KnownOperations.{known_abs, known_arithmetic, known_divisible};
+ghost use Rattle.smt_values.specs.KnownOperations.{known_from_left, known_integer, known_integers};
+ghost use Rattle.smt_values.specs.KnownOperations.{known_ints, known_mod, known_remainder};
 ghost use Rattle.smt_values.specs.Lists.{are_chained, steps_from};
 ghost use Rattle.smt_values.specs.Operations.{compares};
 
@@ -10,7 +13,8 @@ use crate::value::Value;
 use smt_theory::{Arithmetic, Comparison, IntsOp};
 
 pub(crate) fn apply_ints(op: IntsOp, args: &[Option<Value>]) -> Option<Value>
-    ensures { known_element result ≡ option_and_then (known_ints op) (known_integers (known_elements args.now)) }
+    ensures { known_element result
+        ≡ option_and_then (known_ints op) (known_integers (known_elements args.now)) }
 {
     match op {
         IntsOp::Arithmetic(op) => from_left(op, args).map(Value::Int),
@@ -36,7 +40,8 @@ fn from_left(op: Arithmetic, args: &[Option<Value>]) -> Option<i128>
 }
 
 fn steps(op: Arithmetic, first: i128, rest: &[Option<Value>]) -> Option<i128>
-    ensures { result ≡ option_and_then (steps_from (known_arithmetic op) first) (known_integers (known_elements rest.now)) }
+    ensures { result ≡ option_and_then (steps_from (known_arithmetic op) first)
+        (known_integers (known_elements rest.now)) }
 {
     let mut total = first;
     for arg in rest {

@@ -7,10 +7,12 @@ use Rattle.rows.proofs.trees.declare.Goals as goal
 
 -- whether or not a name was declared, the library stands for a signature
 stands : {A F : Type 0} (result : Result A F) (before after : Contents) (Is : Signature → Entry → Type 0)
-    → OnOk result ((s : Signature) → Holds before s → (e : Entry) × Is s e × Holds after (with_entry s e)) → OnErr result ((s : Signature) → Holds before s → Holds after s)
+    → OnOk result ((s : Signature) → Holds before s → (e : Entry) × Is s e × Holds after (with_entry s e))
+    → OnErr result ((s : Signature) → Holds before s → Holds after s)
     → (s : Signature) → Holds before s → (x : Signature) × Holds after x
 stands (Ok a) before after Is declared unchanged s h = let d = declared s h in (with_entry s d.0, d.2)
 stands (Err f) before after Is declared unchanged s h = (s, unchanged s h)
 
 pub returns : goal.returns
-returns g c = stands c.declare-answer.result _ _ _ c.declare-answer.ensures.declared c.declare-answer.ensures.unchanged
+returns g c =
+    stands c.declare-answer.result _ _ _ c.declare-answer.ensures.declared c.declare-answer.ensures.unchanged

@@ -5,5 +5,6 @@ use Rattle.smt_bits.proofs.bitwise.bvxnor.Goals as goal
 pub returns : goal.returns
 returns c =
     let within : c.width.result ≤ 128 = search rules in
-    let number = xnor_is c.width.result c.number.result c.number-2.result within c.number.type_inv c.number-2.type_inv in
+    let number = xnor_is c.width.result c.number.result c.number-2.result within c.number.type_inv
+    c.number-2.type_inv in
     cc

@@ -4,9 +4,13 @@ use Rattle.smt_bits.proofs.LiteralLemmas.{of_width, too_wide}
 use Rattle.smt_bits.proofs.literals.constant.Goals as goal
 
 pub returns-then-digits-gt128 : goal.returns-then-digits-gt128
-returns-then-digits-gt128 c = sym (too_wide c.args.bits (length c.args.digits.now) c.args.digits.now c.args.base c.requires.some c.if-digits-gt128.true refl)
+returns-then-digits-gt128 c = sym
+    (too_wide c.args.bits (length c.args.digits.now) c.args.digits.now c.args.base c.requires.some
+    c.if-digits-gt128.true refl)
 
 pub returns : goal.returns
 returns c =
-    let found = sym (ap (λ n. width_of (n * length c.args.digits.now)) c.from.ensures) ∙ sym c.new.ensures ∙ c.in_ok-width.was in
-    ap Some c.new-2.ensures ∙ of_width c.args.bits c.args.digits.now c.args.base c.in_ok-width.width c.value.result found c.value.ensures
+    let found = sym (ap (λ n. width_of (n * length c.args.digits.now)) c.from.ensures) ∙ sym c.new.ensures ∙
+    c.in_ok-width.was in
+    ap Some c.new-2.ensures ∙ of_width c.args.bits c.args.digits.now c.args.base c.in_ok-width.width
+    c.value.result found c.value.ensures

@@ -4,6 +4,7 @@ use Rattle.smt_bits.proofs.literals.value.Given as goal
 
 abbrev pub invariant-loop-byte : goal.invariant-loop-byte
 invariant-loop-byte l = record {
-  read : digits_value l.base l.digits % 2 ^ 128 ≡ digits_value_after l.base l.value (drop l.byte-index l.digits) % 2 ^ 128;
+  read : digits_value l.base l.digits % 2 ^ 128
+      ≡ digits_value_after l.base l.value (drop l.byte-index l.digits) % 2 ^ 128;
   fits : l.value < 2 ^ 128;
 }

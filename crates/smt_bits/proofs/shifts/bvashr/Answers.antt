@@ -13,11 +13,13 @@ returns c =
     let k = c.min.result in
     let fits : FitsSigned w128 z = search rules in
     let amount : k ≡ min t 127 = cc in
-    let moved : cast_signed w128 (cast_unsigned w128 (int_shr (cast_signed w128 (cast_unsigned w128 z)) k)) ≡ int_div_euclid z (pos (2 ^ t)) =
+    let moved : cast_signed w128 (cast_unsigned w128 (int_shr (cast_signed w128 (cast_unsigned w128 z)) k))
+    ≡ int_div_euclid z (pos (2 ^ t)) =
     ap (λ x. cast_signed w128 (cast_unsigned w128 (int_shr x k))) (to_z-of_z w128 z fits)
     ∙ to_z-of_z w128 (int_shr z k) (fits_shr w128 z k fits)
     ∙ ap (int_shr z) amount
     ∙ ashr_capped z t fits
     in
     c.from_signed.ensures
-    ∙ ap₂ (λ w x. vector w (modulo w x)) c.width.ensures (moved ∙ ap (λ x. int_div_euclid x (pos (2 ^ t))) c.signed.ensures)
+    ∙ ap₂ (λ w x. vector w (modulo w x)) c.width.ensures
+    (moved ∙ ap (λ x. int_div_euclid x (pos (2 ^ t))) c.signed.ensures)

@@ -1,4 +1,4 @@
-use Rattle.smt_theory.proofs.TableLemmas.{one_rank, rank_of-row}
+use Rattle.smt_theory.proofs.RankTableLemmas.{one_rank, rank_of-row}
 use Rattle.smt_theory.proofs.laws.ranks_are_the_table.Goals as goal
 
 pub returns-clause-computed : goal.returns-clause-computed

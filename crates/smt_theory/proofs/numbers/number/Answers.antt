@@ -6,8 +6,14 @@ use Rattle.smt_theory.proofs.numbers.number.Goals as goal
 
 pub returns-in_err-value : goal.returns-in_err-value
 returns-in_err-value c =
-    let read = c.loop-byte.value * c.args.base + digit_value (get_or c.args.digits.now c.loop-byte.byte-index 0) in
-    let whole = c.loop-byte.invariant.read ∙ digits_at c.args.base c.loop-byte.value c.args.digits.now c.loop-byte.byte-index c.loop-byte-test.true in
+    let read = c.loop-byte.value * c.args.base
+    + digit_value (get_or c.args.digits.now c.loop-byte.byte-index 0) in
+    let whole = c.loop-byte.invariant.read ∙ digits_at c.args.base c.loop-byte.value c.args.digits.now
+    c.loop-byte.byte-index c.loop-byte-test.true in
     let below : read ≤ digits_value c.args.base c.args.digits.now =
-    subst (λ n. read ≤ n) (sym whole) (digits_value_after-ge c.args.base read (drop (c.loop-byte.byte-index + 1) c.args.digits.now) c.requires) in
-    c.from_residual.ensures ∙ sym (too_large read (digits_value c.args.base c.args.digits.now) (sym c.with_digit.ensures ∙ c.in_err-value.was) below)
+    subst (λ n. read ≤ n) (sym whole)
+    (digits_value_after-ge c.args.base read
+    (drop (c.loop-byte.byte-index + 1) c.args.digits.now) c.requires) in
+    c.from_residual.ensures ∙ sym
+    (too_large read (digits_value c.args.base c.args.digits.now)
+    (sym c.with_digit.ensures ∙ c.in_err-value.was) below)

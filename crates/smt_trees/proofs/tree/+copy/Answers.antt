@@ -9,9 +9,11 @@ pub Trees::copy-loop-tree-preserved : goal.Trees::copy-loop-tree-preserved
 Trees::copy-loop-tree-preserved t c =
     rw c.in_ok-push.ensures.items (elim c.match-short_symbol.branch [
       | Trees::copy-in-Some w ↦
-          sexps_of-take_more _ _ _ _ _ c.loop-tree.invariant c.loop-tree-test.true c.tree-item.is (ap sexp_of w.copy-is ∙ w.in-Some.ensures)
+          sexps_of-take_more _ _ _ _ _ c.loop-tree.invariant c.loop-tree-test.true c.tree-item.is
+          (ap sexp_of w.copy-is ∙ w.in-Some.ensures)
       | Trees::copy-in-None+in_ok-copy-in-None w ↦
-          sexps_of-take_more _ _ _ _ _ c.loop-tree.invariant c.loop-tree-test.true c.tree-item.is (ap sexp_of w.copy-is ∙ w.in_ok-copy-in-None.ensures)
+          sexps_of-take_more _ _ _ _ _ c.loop-tree.invariant c.loop-tree-test.true c.tree-item.is
+          (ap sexp_of w.copy-is ∙ w.in_ok-copy-in-None.ensures)
     ])
 
 pub Trees::copy-returns : goal.Trees::copy-returns

@@ -1,17 +1,20 @@
-use Rattle.std.proofs.Common.{◌≡◌, ◌∙◌, ap, subst, sym, Bool, codes, false, true, inl, inr, refl, map, option_map, List, [], Option, None, Some}
+use Rattle.std.proofs.Common.{◌≡◌, ◌∙◌, ap, subst, sym, Bool, codes, false, true, inl, inr, refl, map}
+use Rattle.std.proofs.Common.{option_map, List, [], Option, None, Some}
 use Rattle.std.specs.Prelude.{unwrap_or}
 use Rattle.std.specs.Borrow.{Bor}
 use Rattle.std.specs.Str.{bytes_eq}
-use Rattle.clap.specs.Words.{App, HasMatchesOf, IsAmong, Text, takes, kind_of, fault_of, first_of, first_value, found_of, is_simple, is_simple_and_free, matches_of}
+use Rattle.clap.specs.Words.{App, HasMatchesOf, IsAmong, Text, takes, kind_of, fault_of, first_of}
+use Rattle.clap.specs.Words.{first_value, found_of, is_simple, is_simple_and_free, matches_of}
 use Rattle.clap.specs.declared.parser.ArgMatches.{ArgMatches}
 use Rattle.clap.specs.declared.error.kind.ErrorKind.TheVariants.{OutOfMemory}
 use Rattle.clap.proofs.OnLiterals.{clap_on_literals}
 use Rattle.clap.proofs.WalkLemmas.{first_value-rows}
 use Rattle.clap.specs.Walk.{texts}
-use Rattle.smtcheck_command_line.proofs.SettingsLemmas.{line-answers, line-script, line-success, line-taken, line_of}
+use Rattle.smtcheck_command_line.proofs.SettingsLemmas.{line-answers, line-script, line-success, line-taken}
+use Rattle.smtcheck_command_line.proofs.SettingsLemmas.{line_of}
 use Rattle.smtcheck_command_line.proofs.ClapLemmas.{takes-without_fault}
 use Rattle.smtcheck_command_line.specs.Settings.{AreSettings, Places, is_plain, smtcheck_app, success_word}
-use Rattle.smtcheck_command_line.specs.declared.line.Settings.{Settings}
+use Rattle.smtcheck_command_line.specs.declared.arguments.Settings.{Settings}
 use Rattle.smtcheck_command_line.proofs.command.settings.Goals as goal
 
 simple : (places : Places) → is_simple (smtcheck_app places) ≡ true
@@ -23,52 +26,63 @@ unfolding clap_on_literals smtcheck_app
 free places = refl
 
 -- what a getter answers is what the command makes of the words
-read : (places : Places) (a : App) (words : List Text) (m : ArgMatches) (id : Text) (o : Option (Bor Text)) (s : Bor Text)
-    → a ≡ smtcheck_app places → HasMatchesOf a words m → option_map (λ t. t.now) o ≡ first_value (found_of m) id → o ≡ Some s
+read : (places : Places) (a : App) (words : List Text) (m : ArgMatches) (id : Text) (o : Option (Bor Text))
+    (s : Bor Text)
+    → a ≡ smtcheck_app places → HasMatchesOf a words m
+    → option_map (λ t. t.now) o ≡ first_value (found_of m) id → o ≡ Some s
     → first_of id (matches_of (smtcheck_app places) words) ≡ Some s.now
 read places a words m id o s is matches got some =
     let rows = (matches (ap is_simple is ∙ simple places)).0 in
-    let first = sym (ap (first_of id) (rows ∙ ap (λ x. matches_of x words) is)) ∙ sym (first_value-rows (found_of m) id) in
+    let first = sym (ap (first_of id) (rows ∙ ap (λ x. matches_of x words) is)) ∙ sym
+    (first_value-rows (found_of m) id) in
     first ∙ sym got ∙ ap (option_map (λ t. t.now)) some
 
 -- the option's word is `on` exactly where the settings say so
-said : (t : Text) (start same : Bool) → t ≡ success_word start → same ≡ bytes_eq t (codes "on") → t ≡ success_word same
+said : (t : Text) (prints same : Bool) → t ≡ success_word prints → same ≡ bytes_eq t (codes "on")
+    → t ≡ success_word same
 said t true same e b = e ∙ ap success_word (sym (b ∙ ap (λ u. bytes_eq u (codes "on")) e))
 said t false same e b = e ∙ ap success_word (sym (b ∙ ap (λ u. bytes_eq u (codes "on")) e))
 
 -- a command without a fault takes the words
-taken : (places : Places) (a : App) (words : List Text) → a ≡ smtcheck_app places → (is_simple_and_free a ≡ true → fault_of a words ≡ []) → takes (smtcheck_app places) words ≡ true
+taken : (places : Places) (a : App) (words : List Text) → a ≡ smtcheck_app places
+    → (is_simple_and_free a ≡ true → fault_of a words ≡ []) → takes (smtcheck_app places) words ≡ true
 unfolding clap_on_literals smtcheck_app
 taken places a words is faultless =
-    let none : fault_of (smtcheck_app places) words ≡ [] = sym (ap (λ x. fault_of x words) is) ∙ faultless (ap is_simple_and_free is ∙ free places) in
+    let none : fault_of (smtcheck_app places) words ≡ [] = sym (ap (λ x. fault_of x words) is) ∙ faultless
+    (ap is_simple_and_free is ∙ free places) in
     takes-without_fault (smtcheck_app places) words (simple places) refl refl refl none
 
-same_value : (places : Places) (words others : List Text) (id t u : Text) → first_of id (matches_of (smtcheck_app places) words) ≡ Some t → words ≡ others
+same_value : (places : Places) (words others : List Text) (id t u : Text)
+    → first_of id (matches_of (smtcheck_app places) words) ≡ Some t → words ≡ others
     → first_of id (matches_of (smtcheck_app places) others) ≡ Some u → t ≡ u
 same_value places words others id t u is same other =
-    ap (λ o. unwrap_or o t) (sym is ∙ ap (λ ws. first_of id (matches_of (smtcheck_app places) ws)) same ∙ other)
+    ap (λ o. unwrap_or o t) (sym is ∙ ap
+    (λ ws. first_of id (matches_of (smtcheck_app places) ws)) same ∙ other)
 
-same_start : (x y : Bool) → success_word x ≡ success_word y → x ≡ y
-same_start true true e = refl
-same_start true false e = cc
-same_start false true e = cc
-same_start false false e = refl
+same_word : (x y : Bool) → success_word x ≡ success_word y → x ≡ y
+same_word true true e = refl
+same_word true false e = cc
+same_word false true e = cc
+same_word false false e = refl
 
 -- the settings of a line in the two forms that `two_words` and `option` speak of
-of_line : (places : Places) (words : List Text) (s : Settings) (name : Text) (option : Option Bool) (script answers : Text) → AreSettings words s (smtcheck_app places)
+of_line : (places : Places) (words : List Text) (s : Settings) (name : Text) (option : Option Bool)
+    (script answers : Text) → AreSettings words s (smtcheck_app places)
     → words ≡ line_of name option script answers → is_plain script ≡ true → is_plain answers ≡ true
-    → (s.script.now ≡ script) × (s.answers.now ≡ answers) × (s.start ≡ unwrap_or option true)
+    → (s.script.now ≡ script) × (s.answers.now ≡ answers) × (s.print_success ≡ unwrap_or option true)
 of_line places words s name option script answers are is p q = (
   same_value places _ _ _ _ _ are.script is (line-script places name option script answers p q),
   same_value places _ _ _ _ _ are.answers is (line-answers places name option script answers p q),
-  same_start _ _ (same_value places _ _ _ _ _ are.start is (line-success places name option script answers p q)),
+  same_word _ _ (same_value places _ _ _ _ _ are.print_success is
+      (line-success places name option script answers p q)),
 )
 
 pub returns-clause-ok : goal.returns-clause-ok
 returns-clause-ok c =
     let app = c.in-Ok.ensures.app in
     let matches = c.in-Ok-try_get_matches_from.ensures.matches in
-    let success = c.in-Ok.ensures.success c.in-Ok-try_get_matches_from.matches c.in-Ok-try_get_matches_from.ensures.parsed in
+    let success = c.in-Ok.ensures.success c.in-Ok-try_get_matches_from.matches
+    c.in-Ok-try_get_matches_from.ensures.parsed in
     let given = ap (option_map (λ t. t.now)) c.unwrap-3.ensures in
     let word : c.unwrap-3.result.now ≡ success_word success.0 =
     ap (λ o. unwrap_or o c.unwrap-3.result.now) (sym given ∙ c.get_str-3.ensures ∙ success.1) in (
@@ -76,7 +90,8 @@ returns-clause-ok c =
       record {
         script = read app.0 _ _ _ _ _ _ app.1 matches c.get_str.ensures c.unwrap.ensures;
         answers = read app.0 _ _ _ _ _ _ app.1 matches c.get_str-2.ensures c.unwrap-2.ensures;
-        start = read app.0 _ _ _ _ _ _ app.1 matches c.get_str-3.ensures c.unwrap-3.ensures ∙ ap Some (said _ success.0 _ word c.eq-2.ensures);
+        print_success = read app.0 _ _ _ _ _ _ app.1 matches c.get_str-3.ensures c.unwrap-3.ensures ∙ ap Some
+            (said _ success.0 _ word c.eq-2.ensures);
       },
     )
 
@@ -86,9 +101,9 @@ returns-clause-two_words c = λ name script answers words p q.
     of_line ok.0 _ _ name None script answers ok.1 words p q
 
 pub returns-clause-option : goal.returns-clause-option
-returns-clause-option c = λ name script answers start words p q.
+returns-clause-option c = λ name script answers prints words p q.
     let ok = returns-clause-ok c in
-    of_line ok.0 _ _ name (Some start) script answers ok.1 words p q
+    of_line ok.0 _ _ name (Some prints) script answers ok.1 words p q
 
 pub returns-clause-taken : goal.returns-clause-taken
 returns-clause-taken c =
@@ -103,7 +118,8 @@ returns-in-Err-2-clause-memory c =
     let app = c.in-Ok.ensures.app in (
       app.0,
       λ passed.
-          let same : c.kind.result ≡ OutOfMemory = c.kind.ensures ∙ c.in-Err.ensures.passes (ap (λ a. takes a (texts c.args.words.now)) app.1 ∙ passed) in
+          let same : c.kind.result ≡ OutOfMemory = c.kind.ensures ∙ c.in-Err.ensures.passes
+          (ap (λ a. takes a (texts c.args.words.now)) app.1 ∙ passed) in
           let hit : c.eq.result ≡ true = rw same at c.eq.ensures in
           let bad : false ≡ true = rw c.if-eq.false at hit in
           cc,
@@ -115,9 +131,10 @@ returns-in-Err-2-clause-two_words c = λ name script answers words p q.
     memory.1 (ap (takes (smtcheck_app memory.0)) words ∙ line-taken memory.0 name None script answers p q)
 
 pub returns-in-Err-2-clause-option : goal.returns-in-Err-2-clause-option
-returns-in-Err-2-clause-option c = λ name script answers start words p q.
+returns-in-Err-2-clause-option c = λ name script answers prints words p q.
     let memory = returns-in-Err-2-clause-memory c in
-    memory.1 (ap (takes (smtcheck_app memory.0)) words ∙ line-taken memory.0 name (Some start) script answers p q)
+    memory.1 (ap (takes (smtcheck_app memory.0)) words ∙ line-taken memory.0 name
+    (Some prints) script answers p q)
 
 pub returns-in-Err-2-clause-refused : goal.returns-in-Err-2-clause-refused
 returns-in-Err-2-clause-refused c =
@@ -130,6 +147,7 @@ returns-in-Err-2-clause-refused c =
             let hit : c.eq.result ≡ true = rw same at c.eq.ensures in
             let bad : false ≡ true = rw c.if-eq.false at hit in
             cc
-        | inr among ↦ subst (λ a. IsAmong (kind_of c.in-Err.error) (fault_of a (map (λ w. w.now) c.args.words.now))) app.1 among
+        | inr among ↦ subst (λ a. IsAmong (kind_of c.in-Err.error)
+            (fault_of a (map (λ w. w.now) c.args.words.now))) app.1 among
       ],
     )

@@ -1,4 +1,5 @@
-use Rattle.smt_bits.proofs.BitwiseLemmas.{and_below, nand_below, nor_below, not_below, or_below, xnor_below, xor_below}
+use Rattle.smt_bits.proofs.BitwiseLemmas.{and_below, nand_below, nor_below, not_below, or_below, xnor_below}
+use Rattle.smt_bits.proofs.BitwiseLemmas.{xor_below}
 use Rattle.smt_bits.proofs.laws.bitwise.bitwise_fits.Goals as goal
 
 pub returns-clause-not : goal.returns-clause-not

@@ -8,4 +8,5 @@ pub returns-clause-hexadecimal : goal.returns-clause-hexadecimal
 returns-clause-hexadecimal c = spelled 4
 
 pub returns-clause-binary : goal.returns-clause-binary
-returns-clause-binary c = λ digits all. let same : 1 * length digits ≡ length digits = omega arith in spelled 1 digits all ∙ ap (λ m. vector m (digits_value 2 digits)) same
+returns-clause-binary c = λ digits all. let same : 1 * length digits ≡ length digits = omega arith
+    in spelled 1 digits all ∙ ap (λ m. vector m (digits_value 2 digits)) same

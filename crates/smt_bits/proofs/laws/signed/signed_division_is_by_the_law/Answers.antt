@@ -1,5 +1,6 @@
 use Rattle.smt_bits.proofs.SignedDivisionLemmas.{bvsdiv_by}
-use Rattle.smt_bits.proofs.SignedLawLemmas.{bvsrem_at_least, bvsrem_at_most, bvsrem_signed, division_exact, rem_small}
+use Rattle.smt_bits.proofs.SignedLawLemmas.{bvsrem_at_least, bvsrem_at_most, bvsrem_signed, division_exact}
+use Rattle.smt_bits.proofs.SignedLawLemmas.{rem_small}
 use Rattle.smt_bits.proofs.laws.signed.signed_division_is_by_the_law.Goals as goal
 
 pub returns-clause-exact : goal.returns-clause-exact

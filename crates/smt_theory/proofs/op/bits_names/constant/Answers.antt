@@ -7,6 +7,8 @@ use Rattle.smt_theory.proofs.op.bits_names.constant.Goals as goal
 
 pub returns-in_err-value : goal.returns-in_err-value
 returns-in_err-value c =
-    let indexed = sym (ap (option_and_then width_of) (sym c.in_ok-only_number.was ∙ c.only_number.ensures)) ∙ sym c.new.ensures ∙ c.in_ok-width.was in
+    let indexed = sym (ap (option_and_then width_of) (sym c.in_ok-only_number.was ∙ c.only_number.ensures)) ∙
+    sym c.new.ensures ∙ c.in_ok-width.was in
     c.from_residual-in_err-value.ensures
-    ∙ sym (constant_by-large c.args.digits.now (map index_view c.args.indexes.now) c.in_ok-width.width indexed (sym c.number.ensures ∙ c.in_err-value.was))
+    ∙ sym (constant_by-large c.args.digits.now (map index_view c.args.indexes.now) c.in_ok-width.width indexed
+    (sym c.number.ensures ∙ c.in_err-value.was))

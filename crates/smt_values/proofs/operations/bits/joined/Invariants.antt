@@ -8,4 +8,6 @@ use Rattle.smt_values.proofs.operations.bits.joined.Given as goal
 
 abbrev pub invariant-loop-arg : goal.invariant-loop-arg
 invariant-loop-arg l =
-    option_and_then (steps_from concatenation l.fn.first) (known_vectors (known_elements l.fn.rest)) ≡ option_and_then (steps_from concatenation l.whole) (known_vectors (known_elements (drop l.arg-index l.rest)))
+    option_and_then (steps_from concatenation l.fn.first) (known_vectors (known_elements l.fn.rest))
+    ≡ option_and_then (steps_from concatenation l.whole)
+    (known_vectors (known_elements (drop l.arg-index l.rest)))

@@ -10,4 +10,5 @@ use Rattle.smt_values.proofs.operations.bools.parity.Given as goal
 abbrev pub invariant-loop-arg : goal.invariant-loop-arg
 invariant-loop-arg l =
     known_core Xor (known_elements l.args)
-    ≡ option_map (λ bs. Truth (fold exclusive_or l.odd bs)) (all_known (map known_truth (known_elements (drop l.arg-index l.args))))
+    ≡ option_map (λ bs. Truth (fold exclusive_or l.odd bs))
+    (all_known (map known_truth (known_elements (drop l.arg-index l.args))))

@@ -9,4 +9,5 @@ use Rattle.smt_values.proofs.operations.ints.chain.Given as goal
 abbrev pub invariant-loop-arg : goal.invariant-loop-arg
 invariant-loop-arg l =
     option_map (are_chained (compares l.op)) (known_integers (known_elements l.fn.args))
-    ≡ option_map (λ zs. l.holds && are_chained (compares l.op) (l.last ∷ zs)) (known_integers (known_elements (drop l.arg-index l.rest)))
+    ≡ option_map (λ zs. l.holds && are_chained (compares l.op) (l.last ∷ zs))
+    (known_integers (known_elements (drop l.arg-index l.rest)))

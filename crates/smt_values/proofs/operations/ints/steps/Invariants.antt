@@ -7,5 +7,7 @@ use Rattle.smt_values.proofs.operations.ints.steps.Given as goal
 
 abbrev pub invariant-loop-arg : goal.invariant-loop-arg
 invariant-loop-arg l =
-    option_and_then (steps_from (known_arithmetic l.op) l.fn.first) (known_integers (known_elements l.fn.rest))
-    ≡ option_and_then (steps_from (known_arithmetic l.op) l.total) (known_integers (known_elements (drop l.arg-index l.rest)))
+    option_and_then (steps_from (known_arithmetic l.op) l.fn.first)
+    (known_integers (known_elements l.fn.rest))
+    ≡ option_and_then (steps_from (known_arithmetic l.op) l.total)
+    (known_integers (known_elements (drop l.arg-index l.rest)))

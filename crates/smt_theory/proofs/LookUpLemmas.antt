@@ -1,5 +1,6 @@
 -- What a look-up that answers with something has found.
-use Rattle.std.proofs.Common.{◌≡◌, ◌⊎◌, inl, inr, ℕ, Bool, true, false, cond, List, [], ◌∷◌, Option, Some, None, Ok, refl, ap, ◌∙◌, subst}
+use Rattle.std.proofs.Common.{◌≡◌, ◌⊎◌, inl, inr, ℕ, Bool, true, false, cond, List, [], ◌∷◌, Option, Some}
+use Rattle.std.proofs.Common.{None, Ok, refl, ap, ◌∙◌, subst}
 use Rattle.std.specs.Prelude.{IsTrue, bytes_eq, find, option_map, ok_or}
 use Rattle.std.specs.Option.{option_or}
 use Rattle.std.proofs.lemmas.Slice.Eq.{bytes_eq-Decides}
@@ -13,22 +14,27 @@ Each P (x ∷ xs) = P x × Each P xs
 pub find_named : {O : Type 0} (name : O → List ℕ) (P : O → Type 0) (symbol : List ℕ) (ops : List O) (op : O)
     → Each P ops → find (λ o. bytes_eq symbol (name o)) ops ≡ Some op → (symbol ≡ name op) × P op
 find_named name P symbol [] op each h = cc
-find_named {O} name P symbol (o ∷ ops) op each h = by (bytes_eq symbol (name o)) (bytes_eq-Decides symbol (name o)).0 (find_named name P symbol ops op each.1) h
+find_named {O} name P symbol (o ∷ ops) op each h = by (bytes_eq symbol (name o))
+    (bytes_eq-Decides symbol (name o)).0 (find_named name P symbol ops op each.1) h
   where
-    by : (b : Bool) → (b ≡ true → symbol ≡ name o) → (find (λ o. bytes_eq symbol (name o)) ops ≡ Some op → (symbol ≡ name op) × P op)
+    by : (b : Bool) → (b ≡ true → symbol ≡ name o)
+        → (find (λ o. bytes_eq symbol (name o)) ops ≡ Some op → (symbol ≡ name op) × P op)
         → cond b (Some o) (find (λ o. bytes_eq symbol (name o)) ops) ≡ Some op → (symbol ≡ name op) × P op
     by true is rest h = let e : o ≡ op = cc in (is refl ∙ ap name e, subst P e each.0)
     by false is rest h = rest h
 
-pub map-some : {A B : Type 0} (f : A → B) (o : Option A) (y : B) → option_map f o ≡ Some y → (x : A) × (o ≡ Some x) × (f x ≡ y)
+pub map-some : {A B : Type 0} (f : A → B) (o : Option A) (y : B) → option_map f o ≡ Some y
+    → (x : A) × (o ≡ Some x) × (f x ≡ y)
 map-some f None y h = cc
 map-some f (Some x) y h = (x, refl, cc)
 
-pub option_or-some : {A : Type 0} (a b : Option A) (x : A) → option_or a b ≡ Some x → (a ≡ Some x) ⊎ (b ≡ Some x)
+pub option_or-some : {A : Type 0} (a b : Option A) (x : A) → option_or a b ≡ Some x
+    → (a ≡ Some x) ⊎ (b ≡ Some x)
 option_or-some None b x h = inr h
 option_or-some (Some y) b x h = inl h
 
-pub when-some : {A : Type 0} (b : Bool) (o : Option A) (x : A) → cond b o None ≡ Some x → IsTrue b × (o ≡ Some x)
+pub when-some : {A : Type 0} (b : Bool) (o : Option A) (x : A) → cond b o None ≡ Some x
+    → IsTrue b × (o ≡ Some x)
 when-some true o x h = (refl, h)
 when-some false o x h = cc
 

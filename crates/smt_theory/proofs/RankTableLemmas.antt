@@ -7,7 +7,8 @@ use Rattle.smt_theory.specs.declared.op.Op.{Op}
 use Rattle.smt_theory.specs.declared.op.Op.TheVariants.{Core, Ints, Bits}
 use Rattle.smt_theory.specs.declared.sort.Sort.{Sort}
 
-pub rank_of-row : (op : Op) (args : List Sort) (sort : Sort) → (rank_of op args ≡ Some sort) ↔ HasRank op args sort
+pub rank_of-row : (op : Op) (args : List Sort) (sort : Sort) → (rank_of op args ≡ Some sort)
+    ↔ HasRank op args sort
 rank_of-row (Core op) args sort = core-row op args sort
 rank_of-row (Ints op) args sort = ints-row op args sort
 rank_of-row (Bits op) args sort = bits-row op args sort

@@ -1,5 +1,5 @@
 use Rattle.std.proofs.Common.{rules}
-use Rattle.smt_values.proofs.literals.numeral.Goals as goal
+use Rattle.smt_values.proofs.literal_values.numeral.Goals as goal
 
 pub overflow_cast-result : goal.overflow_cast-result
 overflow_cast-result c = search rules
