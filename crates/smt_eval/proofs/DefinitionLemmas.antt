@@ -1,5 +1,6 @@
 -- The declarations of a library, one at a time.
-use Rattle.std.proofs.Common.{◌≡◌, ◌≤◌, ℕ, zero, suc, ◌+◌, Bool, true, false, cond, List, [], ◌∷◌, ◌++◌, length, slice_get, Option, Some, None, is_some, refl, ap, sym, ◌∙◌, arith}
+use Rattle.std.proofs.Common.{◌≡◌, ◌≤◌, ℕ, zero, suc, ◌+◌, Bool, true, false, cond, List, [], ◌∷◌, ◌++◌}
+use Rattle.std.proofs.Common.{length, slice_get, Option, Some, None, is_some, refl, ap, sym, ◌∙◌, arith}
 use Rattle.std.specs.Option.{option_or}
 use Rattle.smt_trees.specs.Sexp.{Sexp}
 use Rattle.smt_terms.specs.Contents.{Declaration}
@@ -28,7 +29,8 @@ pub record IsNext (rest es : List Entry) (v : Declaration) (vs : List Declaratio
   pub later : List Entry
   pub stand : StandFrom place later es
   pub others : vs ≡ declarations_from place later
-  pub lacking : (items : List Entry) → first_lacking rest items ≡ option_or (lacking_at items entry) (first_lacking later items)
+  pub lacking : (items : List Entry)
+      → first_lacking rest items ≡ option_or (lacking_at items entry) (first_lacking later items)
 
 head_of : {A : Type 0} {x y : A} {xs ys : List A} → x ∷ xs ≡ y ∷ ys → x ≡ y
 head_of h = cc
@@ -36,23 +38,31 @@ head_of h = cc
 tail_of : {A : Type 0} {x y : A} {xs ys : List A} → x ∷ xs ≡ y ∷ ys → xs ≡ ys
 tail_of h = cc
 
-stand_later : (k : ℕ) (e : Entry) (rest es : List Entry) → StandFrom k (e ∷ rest) es → StandFrom (k + 1) rest es
+stand_later : (k : ℕ) (e : Entry) (rest es : List Entry) → StandFrom k (e ∷ rest) es
+    → StandFrom (k + 1) rest es
 stand_later k e rest es stand j x at = ap (λ (n : ℕ). slice_get es n) (omega arith) ∙ stand (suc j) x at
 
-not_declared : (items : List Entry) (e : Entry) (ps : List (List ℕ)) (t : Sexp) → e.origin ≡ Defined ps t → lacking_at items e ≡ None
-not_declared items e ps t is = ap (λ (o : Origin). cond (is_some (entry_named items e.name)) None (command_of_origin o)) is ∙ by (is_some (entry_named items e.name))
+not_declared : (items : List Entry) (e : Entry) (ps : List (List ℕ)) (t : Sexp) → e.origin ≡ Defined ps t
+    → lacking_at items e ≡ None
+not_declared items e ps t is = ap
+    (λ (o : Origin). cond (is_some (entry_named items e.name)) None (command_of_origin o)) is ∙ by
+    (is_some (entry_named items e.name))
   where
     by : (b : Bool) → cond b None (command_of_origin (Defined ps t)) ≡ None
     by true = refl
     by false = refl
 
-pub next_declared : (k : ℕ) (rest es : List Entry) (v : Declaration) (vs : List Declaration) → StandFrom k rest es → declarations_from k rest ≡ v ∷ vs → IsNext rest es v vs
+pub next_declared : (k : ℕ) (rest es : List Entry) (v : Declaration) (vs : List Declaration)
+    → StandFrom k rest es → declarations_from k rest ≡ v ∷ vs → IsNext rest es v vs
 next_declared k [] es v vs stand h = cc
-next_declared k (e ∷ rest) es v vs stand h = by e.origin refl h (λ g. next_declared (k + 1) rest es v vs (stand_later k e rest es stand) g)
+next_declared k (e ∷ rest) es v vs stand h =
+    by e.origin refl h (λ g. next_declared (k + 1) rest es v vs (stand_later k e rest es stand) g)
   where
-    by : (o : Origin) → e.origin ≡ o → declaration_at k e o ++ declarations_from (k + 1) rest ≡ v ∷ vs → (declarations_from (k + 1) rest ≡ v ∷ vs → IsNext rest es v vs) → IsNext (e ∷ rest) es v vs
+    by : (o : Origin) → e.origin ≡ o → declaration_at k e o ++ declarations_from (k + 1) rest ≡ v ∷ vs
+        → (declarations_from (k + 1) rest ≡ v ∷ vs → IsNext rest es v vs) → IsNext (e ∷ rest) es v vs
     by (Declared command) is h next =
-        let same : record { name = k; parameters = e.parameters; sort = e.sort; command = command } ≡ v = head_of h in
+        let same : record { name = k; parameters = e.parameters; sort = e.sort; command = command } ≡ v =
+        head_of h in
         let name : k + 0 ≡ v.name = omega (arith, ap (λ (d : Declaration). d.name) same) in
         record {
           entry = e;
@@ -74,21 +84,30 @@ next_declared k (e ∷ rest) es v vs stand h = by e.origin refl h (λ g. next_de
           later = g.later;
           stand = g.stand;
           others = g.others;
-          lacking = λ items. ap (λ (o : Option ℕ). option_or o (first_lacking rest items)) (not_declared items e ps t is) ∙ g.lacking items;
+          lacking = λ items. ap (λ (o : Option ℕ). option_or o (first_lacking rest items))
+              (not_declared items e ps t is) ∙ g.lacking items;
         }
 
 -- where no declaration is left, nothing is lacking
-pub none_declared_left : (k : ℕ) (rest items : List Entry) → declarations_from k rest ≡ [] → first_lacking rest items ≡ None
+pub none_declared_left : (k : ℕ) (rest items : List Entry) → declarations_from k rest ≡ []
+    → first_lacking rest items ≡ None
 none_declared_left k [] items h = refl
 none_declared_left k (e ∷ rest) items h = by e.origin refl h (λ g. none_declared_left (k + 1) rest items g)
   where
-    by : (o : Origin) → e.origin ≡ o → declaration_at k e o ++ declarations_from (k + 1) rest ≡ [] → (declarations_from (k + 1) rest ≡ [] → first_lacking rest items ≡ None) → first_lacking (e ∷ rest) items ≡ None
+    by : (o : Origin) → e.origin ≡ o → declaration_at k e o ++ declarations_from (k + 1) rest ≡ []
+        → (declarations_from (k + 1) rest ≡ [] → first_lacking rest items ≡ None)
+        → first_lacking (e ∷ rest) items ≡ None
     by (Declared command) is h next = cc
-    by (Defined ps t) is h next = ap (λ (o : Option ℕ). option_or o (first_lacking rest items)) (not_declared items e ps t is) ∙ next h
+    by (Defined ps t) is h next =
+        ap (λ (o : Option ℕ). option_or o (first_lacking rest items)) (not_declared items e ps t is) ∙ next h
 
 -- a declared name that is defined, or is not
-pub found_is_not_lacking : (items : List Entry) (e : Entry) (f : Entry) → entry_named items e.name ≡ Some f → lacking_at items e ≡ None
-found_is_not_lacking items e f h = ap (λ (o : Option Entry). cond (is_some o) None (command_of_origin e.origin)) h
+pub found_is_not_lacking : (items : List Entry) (e : Entry) (f : Entry) → entry_named items e.name ≡ Some f
+    → lacking_at items e ≡ None
+found_is_not_lacking items e f h =
+    ap (λ (o : Option Entry). cond (is_some o) None (command_of_origin e.origin)) h
 
-pub absent_is_lacking : (items : List Entry) (e : Entry) (command : ℕ) → entry_named items e.name ≡ None → e.origin ≡ Declared command → lacking_at items e ≡ Some command
-absent_is_lacking items e command h is = ap (λ (o : Option Entry). cond (is_some o) None (command_of_origin e.origin)) h ∙ ap command_of_origin is
+pub absent_is_lacking : (items : List Entry) (e : Entry) (command : ℕ) → entry_named items e.name ≡ None
+    → e.origin ≡ Declared command → lacking_at items e ≡ Some command
+absent_is_lacking items e command h is =
+    ap (λ (o : Option Entry). cond (is_some o) None (command_of_origin e.origin)) h ∙ ap command_of_origin is

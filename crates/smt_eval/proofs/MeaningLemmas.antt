@@ -1,9 +1,11 @@
 -- What is known of a term is true of its value.
-use Rattle.std.proofs.Common.{◌≡◌, ℕ, Bool, true, false, cond, List, [], ◌∷◌, ◌++◌, Option, Some, None, Result, Ok, Err, refl, sym, subst}
+use Rattle.std.proofs.Common.{◌≡◌, ℕ, Bool, true, false, cond, List, [], ◌∷◌, ◌++◌, Option, Some, None}
+use Rattle.std.proofs.Common.{Result, Ok, Err, refl, sym, subst}
 use Rattle.std.specs.List.{zip}
 use Rattle.std.specs.Prelude.{unwrap_or, bytes_eq, is_some, length, option_map, pos, nat_lt, ◌*◌, ◌^◌}
 use Rattle.std.specs.Str.Parse.{digits_value}
-use Rattle.smt_trees.specs.Sexp.{Sexp, Sexps, Atom, Reserved, Items, Nil, Cons, Symbol, Numeral, Decimal, Hexadecimal, Binary, Text, Keyword}
+use Rattle.smt_trees.specs.Sexp.{Sexp, Sexps, Atom, Reserved, Items, Nil, Cons, Symbol, Numeral, Decimal}
+use Rattle.smt_trees.specs.Sexp.{Hexadecimal, Binary, Text, Keyword}
 use Rattle.smt_trees.specs.declared.reserved.Word.TheVariants.{Bang, Let, Underscore}
 use Rattle.smt_bits.specs.Literals.{constant, known_constant}
 use Rattle.smt_theory.specs.Width.{width_of}
@@ -20,24 +22,30 @@ use Rattle.smt_forms.specs.Identifier.{Identifier, Plain, Indexed, applied, inde
 use Rattle.smt_terms.specs.Signature.{Entry, Origin, Declared, Defined, Signature}
 use Rattle.smt_faults.specs.declared.term_fault.TermFault.{TermFault}
 use Rattle.smt_eval.specs.Agreement.{AgreeBoth, AgreesWith}
-use Rattle.smt_eval.specs.Known.{KnownMeaning, known_by, known_of, knowns_bound, knowns_of, known_of_op, known_operators, known_defined, with_known, known_after, known_in}
-use Rattle.smt_eval.specs.Meaning.{Meaning, element_by, value_of, values_bound, values_of, meaning_of_op, operators, defined_value, with_definition, meaning_after, meaning_in}
+use Rattle.smt_eval.specs.Known.{KnownMeaning, known_by, known_of, knowns_bound, knowns_of, known_of_op}
+use Rattle.smt_eval.specs.Known.{known_operators, known_defined, with_known, known_after, known_in}
+use Rattle.smt_eval.specs.Meaning.{Meaning, element_by, value_of, values_bound, values_of, meaning_of_op}
+use Rattle.smt_eval.specs.Meaning.{operators, defined_value, with_definition, meaning_after, meaning_in}
 
 -- a variable in front agrees
-by_name : (b : Bool) (k : Option Element) (e : Element) (o : Option (Option Element)) (p : Option Element) → Agrees k e → AgreeBoth o p → AgreeBoth (cond b (Some k) o) (cond b (Some e) p)
+by_name : (b : Bool) (k : Option Element) (e : Element) (o : Option (Option Element)) (p : Option Element)
+    → Agrees k e → AgreeBoth o p → AgreeBoth (cond b (Some k) o) (cond b (Some e) p)
 by_name true k e o p here rest = here
 by_name false k e o p here rest = rest
 
 -- what identifiers are known to mean is true of what they mean
 abbrev pub Means : KnownMeaning → Meaning → Type 0
-Means k m = (f : Identifier) (ks : List (Option Element)) (es : List Element) → AllAgree ks es → Agrees (k f ks) (m f es)
+Means k m = (f : Identifier) (ks : List (Option Element)) (es : List Element) → AllAgree ks es
+    → Agrees (k f ks) (m f es)
 
 -- the law of the operators
 abbrev pub StepsAreTrue : Type 0
-StepsAreTrue = (z : DivisionByZero) (op : Op) (ks : List (Option Element)) (es : List Element) → AllAgree ks es → Agrees (known_step op ks) (operate z op es)
+StepsAreTrue = (z : DivisionByZero) (op : Op) (ks : List (Option Element)) (es : List Element)
+    → AllAgree ks es → Agrees (known_step op ks) (operate z op es)
 
 -- what operators are known to mean is true
-Means-operators : StepsAreTrue → (z : DivisionByZero) (theories : Theories) → Means (known_operators theories) (operators z theories)
+Means-operators : StepsAreTrue → (z : DivisionByZero) (theories : Theories)
+    → Means (known_operators theories) (operators z theories)
 Means-operators law z theories f ks es h = by (operator_of theories f)
   where
     by : (o : Result Op OpFault) → Agrees (known_of_op o ks) (meaning_of_op z o es)
@@ -51,14 +59,16 @@ is_plain_list (Reserved Bang) (Cons term attributes) = false
 is_plain_list _ _ = true
 
 -- such a list with another head than `_`
-pub known-other : (k : KnownMeaning) (r : List (List ℕ × Option Element)) (head : Sexp) (args : Sexps) → is_plain_list head args ≡ true → is_underscore_tree head ≡ false
+pub known-other : (k : KnownMeaning) (r : List (List ℕ × Option Element)) (head : Sexp) (args : Sexps)
+    → is_plain_list head args ≡ true → is_underscore_tree head ≡ false
     → known_of k r (Items (Cons head args)) ≡ known_by (applied head args) (λ f. k f (knowns_of k r args))
 known-other k r (Reserved Underscore) args p h = cc
 known-other k r (Reserved Let) (Cons (Items bindings) (Cons body Nil)) p h = cc
 known-other k r (Reserved Bang) (Cons term attributes) p h = cc
 known-other k r _ _ p h = refl
 
-pub value-other : (m : Meaning) (r : List (List ℕ × Element)) (head : Sexp) (args : Sexps) → is_plain_list head args ≡ true → is_underscore_tree head ≡ false
+pub value-other : (m : Meaning) (r : List (List ℕ × Element)) (head : Sexp) (args : Sexps)
+    → is_plain_list head args ≡ true → is_underscore_tree head ≡ false
     → value_of m r (Items (Cons head args)) ≡ element_by (applied head args) (λ f. m f (values_of m r args))
 value-other m r (Reserved Underscore) args p h = cc
 value-other m r (Reserved Let) (Cons (Items bindings) (Cons body Nil)) p h = cc
@@ -66,14 +76,16 @@ value-other m r (Reserved Bang) (Cons term attributes) p h = cc
 value-other m r _ _ p h = refl
 
 -- a variable, or else a name
-unwrap_or_true : (a : Option (Option Element)) (b : Option Element) (k : Option Element) (e : Element) → AgreeBoth a b → Agrees k e → Agrees (unwrap_or a k) (unwrap_or b e)
+unwrap_or_true : (a : Option (Option Element)) (b : Option Element) (k : Option Element) (e : Element)
+    → AgreeBoth a b → Agrees k e → Agrees (unwrap_or a k) (unwrap_or b e)
 unwrap_or_true None None k e h i = i
 unwrap_or_true None (Some f) k e h i = absurd h
 unwrap_or_true (Some l) None k e h i = absurd h
 unwrap_or_true (Some l) (Some f) k e h i = h
 
 -- what an identifier gives, if the tree is one
-by_true : (o : Result Identifier TermFault) (k : Identifier → Option Element) (m : Identifier → Element) → ((f : Identifier) → Agrees (k f) (m f)) → Agrees (known_by o k) (element_by o m)
+by_true : (o : Result Identifier TermFault) (k : Identifier → Option Element) (m : Identifier → Element)
+    → ((f : Identifier) → Agrees (k f) (m f)) → Agrees (known_by o k) (element_by o m)
 by_true (Ok f) k m h = h f
 by_true (Err fault) k m h = tt
 
@@ -81,32 +93,43 @@ by_true (Err fault) k m h = tt
 numeral_true : (digits : List ℕ) → Agrees (numeral_element digits) (Integer (pos (digits_value 10 digits)))
 numeral_true digits = by (nat_lt (digits_value 10 digits) (2 ^ 127)) refl
   where
-    by : (b : Bool) → nat_lt (digits_value 10 digits) (2 ^ 127) ≡ b → Agrees (numeral_element digits) (Integer (pos (digits_value 10 digits)))
+    by : (b : Bool) → nat_lt (digits_value 10 digits) (2 ^ 127) ≡ b
+        → Agrees (numeral_element digits) (Integer (pos (digits_value 10 digits)))
     by true h = rw h refl
     by false h = rw h tt
 
 -- so is a bit vector
-constant_true : (base bits : ℕ) (digits : List ℕ) → Agrees (option_map Vector (known_constant base bits digits)) (Vector (constant base bits digits))
+constant_true : (base bits : ℕ) (digits : List ℕ)
+    → Agrees (option_map Vector (known_constant base bits digits)) (Vector (constant base bits digits))
 constant_true base bits digits = by (is_some (width_of (bits * length digits)))
   where
-    by : (b : Bool) → Agrees (option_map Vector (cond b (Some (constant base bits digits)) None)) (Vector (constant base bits digits))
+    by : (b : Bool) → Agrees (option_map Vector (cond b (Some (constant base bits digits)) None))
+        (Vector (constant base bits digits))
     by true = refl
     by false = tt
 
 -- what is known of a term is true of its value
 module _ (k : KnownMeaning) (m : Meaning) (means : Means k m) where
-  list_true : (known : List (List ℕ × Option Element)) (r : List (List ℕ × Element)) (head : Sexp) (args : Sexps) → AllAgree (knowns_of k known args) (values_of m r args)
-      → is_plain_list head args ≡ true → (b : Bool) → is_underscore_tree head ≡ b → Agrees (known_of k known (Items (Cons head args))) (value_of m r (Items (Cons head args)))
+  list_true : (known : List (List ℕ × Option Element)) (r : List (List ℕ × Element)) (head : Sexp)
+      (args : Sexps) → AllAgree (knowns_of k known args) (values_of m r args)
+      → is_plain_list head args ≡ true → (b : Bool) → is_underscore_tree head ≡ b
+      → Agrees (known_of k known (Items (Cons head args))) (value_of m r (Items (Cons head args)))
   list_true known r head args all plain false other =
-      subst (λ o. Agrees o (value_of m r (Items (Cons head args)))) (sym (known-other k known head args plain other))
-      (subst (λ e. Agrees (known_by (applied head args) (λ f. k f (knowns_of k known args))) e) (sym (value-other m r head args plain other))
-      (by_true (applied head args) (λ f. k f (knowns_of k known args)) (λ f. m f (values_of m r args)) (λ f. means f (knowns_of k known args) (values_of m r args) all)))
-  list_true known r (Reserved Underscore) args all plain true is = by_true (indexed args) (λ f. k f []) (λ f. m f []) (λ f. means f [] [] tt)
+      subst (λ o. Agrees o (value_of m r (Items (Cons head args))))
+      (sym (known-other k known head args plain other))
+      (subst (λ e. Agrees (known_by (applied head args) (λ f. k f (knowns_of k known args))) e)
+      (sym (value-other m r head args plain other))
+      (by_true (applied head args) (λ f. k f (knowns_of k known args)) (λ f. m f (values_of m r args))
+      (λ f. means f (knowns_of k known args) (values_of m r args) all)))
+  list_true known r (Reserved Underscore) args all plain true is =
+      by_true (indexed args) (λ f. k f []) (λ f. m f []) (λ f. means f [] [] tt)
   list_true known r _ args all plain true is = cc
 
   mutual
-    pub term_true : (known : List (List ℕ × Option Element)) (r : List (List ℕ × Element)) → AgreesWith known r → (t : Sexp) → Agrees (known_of k known t) (value_of m r t)
-    term_true known r agrees (Atom Symbol x) = unwrap_or_true (look_up known x) (look_up r x) (k (Plain x) []) (m (Plain x) []) (agrees x) (means (Plain x) [] [] tt)
+    pub term_true : (known : List (List ℕ × Option Element)) (r : List (List ℕ × Element))
+        → AgreesWith known r → (t : Sexp) → Agrees (known_of k known t) (value_of m r t)
+    term_true known r agrees (Atom Symbol x) = unwrap_or_true (look_up known x) (look_up r x) (k (Plain x) [])
+        (m (Plain x) []) (agrees x) (means (Plain x) [] [] tt)
     term_true known r agrees (Atom Numeral x) = numeral_true x
     term_true known r agrees (Atom Decimal x) = tt
     term_true known r agrees (Atom Hexadecimal x) = constant_true 16 4 x
@@ -116,45 +139,63 @@ module _ (k : KnownMeaning) (m : Meaning) (means : Means k m) where
     term_true known r agrees (Reserved word) = tt
     term_true known r agrees (Items Nil) = tt
     term_true known r agrees (Items (Cons (Reserved Let) (Cons (Items bindings) (Cons body Nil)))) =
-        term_true (knowns_bound k known bindings ++ known) (values_bound m r bindings ++ r) (bound_true known r agrees bindings) body
-    term_true known r agrees (Items (Cons (Reserved Bang) (Cons term attributes))) = term_true known r agrees term
-    term_true known r agrees (Items (Cons head args)) = list_true known r head args (terms_true known r agrees args) refl (is_underscore_tree head) refl
+        term_true (knowns_bound k known bindings ++ known) (values_bound m r bindings ++ r)
+        (bound_true known r agrees bindings) body
+    term_true known r agrees (Items (Cons (Reserved Bang) (Cons term attributes))) =
+        term_true known r agrees term
+    term_true known r agrees (Items (Cons head args)) =
+        list_true known r head args (terms_true known r agrees args) refl (is_underscore_tree head) refl
 
-    pub terms_true : (known : List (List ℕ × Option Element)) (r : List (List ℕ × Element)) → AgreesWith known r → (ts : Sexps) → AllAgree (knowns_of k known ts) (values_of m r ts)
+    pub terms_true : (known : List (List ℕ × Option Element)) (r : List (List ℕ × Element))
+        → AgreesWith known r → (ts : Sexps) → AllAgree (knowns_of k known ts) (values_of m r ts)
     terms_true known r agrees Nil = tt
     terms_true known r agrees (Cons t ts) = (term_true known r agrees t, terms_true known r agrees ts)
 
-    bound_true : (known : List (List ℕ × Option Element)) (r : List (List ℕ × Element)) → AgreesWith known r → (ts : Sexps) → AgreesWith (knowns_bound k known ts ++ known) (values_bound m r ts ++ r)
+    bound_true : (known : List (List ℕ × Option Element)) (r : List (List ℕ × Element)) → AgreesWith known r
+        → (ts : Sexps) → AgreesWith (knowns_bound k known ts ++ known) (values_bound m r ts ++ r)
     bound_true known r agrees (Cons (Items (Cons (Atom Symbol y) (Cons t Nil))) rest) x =
-        by_name (bytes_eq x y) (known_of k known t) (value_of m r t) (look_up (knowns_bound k known rest ++ known) x) (look_up (values_bound m r rest ++ r) x) (term_true known r agrees t) (bound_true known r agrees rest x)
+        by_name (bytes_eq x y) (known_of k known t) (value_of m r t)
+        (look_up (knowns_bound k known rest ++ known) x) (look_up (values_bound m r rest ++ r) x)
+        (term_true known r agrees t) (bound_true known r agrees rest x)
     bound_true known r agrees _ x = agrees x
 
 -- arguments that agree make parameters that agree
-AgreesWith-zip : (ps : List (List ℕ)) (ks : List (Option Element)) (es : List Element) → AllAgree ks es → AgreesWith (zip ps ks) (zip ps es)
+AgreesWith-zip : (ps : List (List ℕ)) (ks : List (Option Element)) (es : List Element) → AllAgree ks es
+    → AgreesWith (zip ps ks) (zip ps es)
 AgreesWith-zip [] ks es h x = tt
 AgreesWith-zip (p ∷ ps) [] [] h x = tt
 AgreesWith-zip (p ∷ ps) [] (e ∷ es) h x = absurd h
 AgreesWith-zip (p ∷ ps) (k ∷ ks) [] h x = absurd h
-AgreesWith-zip (p ∷ ps) (k ∷ ks) (e ∷ es) h x = by_name (bytes_eq x p) k e (look_up (zip ps ks) x) (look_up (zip ps es) x) h.0 (AgreesWith-zip ps ks es h.1 x)
+AgreesWith-zip (p ∷ ps) (k ∷ ks) (e ∷ es) h x = by_name (bytes_eq x p) k e (look_up (zip ps ks) x)
+    (look_up (zip ps es) x) h.0 (AgreesWith-zip ps ks es h.1 x)
 
 -- one more definition keeps that
-Means-with : (k : KnownMeaning) (m : Meaning) (e : Entry) → Means k m → Means (with_known k e) (with_definition m e)
+Means-with : (k : KnownMeaning) (m : Meaning) (e : Entry) → Means k m
+    → Means (with_known k e) (with_definition m e)
 Means-with k m e means (Indexed f indexes) ks es h = means (Indexed f indexes) ks es h
 Means-with k m e means (Plain f) ks es h = by (bytes_eq f e.name) e.origin
   where
-    by : (b : Bool) (s : Origin) → Agrees (cond b (known_defined k s ks) (k (Plain f) ks)) (cond b (defined_value m s es) (m (Plain f) es))
+    by : (b : Bool) (s : Origin)
+        → Agrees (cond b (known_defined k s ks) (k (Plain f) ks))
+        (cond b (defined_value m s es) (m (Plain f) es))
     by true (Declared command) = tt
     by true (Defined ps body) = term_true k m means (zip ps ks) (zip ps es) (AgreesWith-zip ps ks es h) body
     by false s = means (Plain f) ks es h
 
 -- and so do any
-Means-after : (k : KnownMeaning) (m : Meaning) (ds : List Entry) → Means k m → Means (known_after k ds) (meaning_after m ds)
+Means-after : (k : KnownMeaning) (m : Meaning) (ds : List Entry) → Means k m
+    → Means (known_after k ds) (meaning_after m ds)
 Means-after k m [] means = means
-Means-after k m (d ∷ ds) means = Means-after (with_known k d) (with_definition m d) ds (Means-with k m d means)
+Means-after k m (d ∷ ds) means =
+    Means-after (with_known k d) (with_definition m d) ds (Means-with k m d means)
 
 -- what is known is the value
-pub known_is_true : StepsAreTrue → (z : DivisionByZero) (definitions : Signature) (known : List (List ℕ × Option Element)) (r : List (List ℕ × Element)) (term : Sexp)
-    → AgreesWith known r → Agrees (known_of (known_in definitions) known term) (value_of (meaning_in z definitions) r term)
+pub known_is_true : StepsAreTrue
+    → (z : DivisionByZero) (definitions : Signature) (known : List (List ℕ × Option Element))
+    (r : List (List ℕ × Element)) (term : Sexp)
+    → AgreesWith known r → Agrees (known_of (known_in definitions) known term)
+    (value_of (meaning_in z definitions) r term)
 known_is_true law z definitions known r term agrees =
     term_true (known_in definitions) (meaning_in z definitions)
-    (Means-after (known_operators definitions.theories) (operators z definitions.theories) definitions.entries (Means-operators law z definitions.theories)) known r agrees term
+    (Means-after (known_operators definitions.theories) (operators z definitions.theories) definitions.entries
+    (Means-operators law z definitions.theories)) known r agrees term

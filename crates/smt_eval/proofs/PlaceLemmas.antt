@@ -1,10 +1,14 @@
 -- Where the definitions of a structure stand, and in which library.
-use Rattle.std.proofs.Common.{◌≡◌, ◌≤◌, ℕ, zero, suc, ◌+◌, true, false, cond, not, Bool, List, [], ◌∷◌, ◌++◌, length, take, slice_get, Some, None, refl, ap, sym, ◌∙◌, subst, arith, length-append}
+use Rattle.std.proofs.Common.{◌≡◌, ◌≤◌, ℕ, zero, suc, ◌+◌, true, false, cond, not, Bool, List, [], ◌∷◌, ◌++◌}
+use Rattle.std.proofs.Common.{length, take, slice_get, Some, None, refl, ap, sym, ◌∙◌, subst, arith}
+use Rattle.std.proofs.Common.{length-append}
 use Rattle.std.proofs.lemmas.List.{length-map}
 use Rattle.std.specs.Prelude.{bytes_eq}
 use Rattle.smt_terms.specs.Contents.{Contents, contents_of}
-use Rattle.smt_terms.specs.Library.{AreDefinitions, IsDefinitionOf, StandsFor, declared_among, defined_among, definitions_of, is_declared, term_at}
-use Rattle.smt_terms.specs.Signature.{AreDistinct, Entry, Origin, Declared, Defined, IsDeclared, Signature, entry_named}
+use Rattle.smt_terms.specs.Library.{AreDefinitions, IsDefinitionOf, StandsFor, declared_among, defined_among}
+use Rattle.smt_terms.specs.Library.{definitions_of, is_declared, term_at}
+use Rattle.smt_terms.specs.Signature.{AreDistinct, Entry, Origin, Declared, Defined, IsDeclared, Signature}
+use Rattle.smt_terms.specs.Signature.{entry_named}
 use Rattle.smt_terms.specs.declared.library.Definition.{Definition}
 use Rattle.smt_terms.specs.declared.library.Library.{Library}
 use Rattle.smt_eval.proofs.EntryLemmas.{entry_named-skip, none_before}
@@ -20,7 +24,8 @@ pub all_defined : (es : List Entry) → AllDefined es → defined_among es ≡ e
 all_defined [] k = refl
 all_defined (e ∷ es) k = by e.origin k.0 (all_defined es k.1)
   where
-    by : (o : Origin) → IsDefined o → defined_among es ≡ es → cond (not (is_declared o)) (e ∷ defined_among es) (defined_among es) ≡ e ∷ es
+    by : (o : Origin) → IsDefined o → defined_among es ≡ es
+        → cond (not (is_declared o)) (e ∷ defined_among es) (defined_among es) ≡ e ∷ es
     by (Declared command) c h = absurd c
     by (Defined ps body) c h = ap (λ (xs : List Entry). e ∷ xs) h
 
@@ -29,84 +34,110 @@ pub name_of_found : (es : List Entry) (x : List ℕ) (e : Entry) → entry_named
 name_of_found [] x e h = cc
 name_of_found (d ∷ es) x e h = by (bytes_eq x d.name) refl h (name_of_found es x e)
   where
-    by : (b : Bool) → bytes_eq x d.name ≡ b → cond b (Some d) (entry_named es x) ≡ Some e → (entry_named es x ≡ Some e → e.name ≡ x) → e.name ≡ x
-    by true same h next = let here : d ≡ e = cc in sym (same_name x d.name same ∙ ap (λ (f : Entry). f.name) here)
+    by : (b : Bool) → bytes_eq x d.name ≡ b → cond b (Some d) (entry_named es x) ≡ Some e
+        → (entry_named es x ≡ Some e → e.name ≡ x) → e.name ≡ x
+    by true same h next =
+        let here : d ≡ e = cc in sym (same_name x d.name same ∙ ap (λ (f : Entry). f.name) here)
     by false same h next = next h
 
 -- a name does not stand before its place
-pub not_before : (es : List Entry) (p n : ℕ) (e : Entry) (x : List ℕ) → AreDistinct es → slice_get es p ≡ Some e → e.name ≡ x → n ≤ p → entry_named (take n es) x ≡ None
+pub not_before : (es : List Entry) (p n : ℕ) (e : Entry) (x : List ℕ) → AreDistinct es
+    → slice_get es p ≡ Some e → e.name ≡ x → n ≤ p → entry_named (take n es) x ≡ None
 not_before es p n e x d at is h = ap (λ y. entry_named (take n es) y) (sym is) ∙ none_before es p e n d at h
 
 -- a name without an entry is not defined
-pub none_among : (es : List Entry) (x : List ℕ) → entry_named es x ≡ None → entry_named (defined_among es) x ≡ None
+pub none_among : (es : List Entry) (x : List ℕ) → entry_named es x ≡ None
+    → entry_named (defined_among es) x ≡ None
 none_among [] x h = refl
-none_among (d ∷ es) x h = let p = none_step (bytes_eq x d.name) d (entry_named es x) h in by (not (is_declared d.origin)) p.0 (none_among es x p.1)
+none_among (d ∷ es) x h = let p = none_step (bytes_eq x d.name) d (entry_named es x) h
+    in by (not (is_declared d.origin)) p.0 (none_among es x p.1)
   where
-    by : (b : Bool) → bytes_eq x d.name ≡ false → entry_named (defined_among es) x ≡ None → entry_named (cond b (d ∷ defined_among es) (defined_among es)) x ≡ None
+    by : (b : Bool) → bytes_eq x d.name ≡ false → entry_named (defined_among es) x ≡ None
+        → entry_named (cond b (d ∷ defined_among es) (defined_among es)) x ≡ None
     by true other rest = entry_named-skip d (defined_among es) x other ∙ rest
     by false other rest = rest
 
 -- nor is one that is declared
-pub declared_alone : (es : List Entry) (x : List ℕ) (e : Entry) → AreDistinct es → entry_named es x ≡ Some e → IsDeclared e.origin → entry_named (defined_among es) x ≡ None
+pub declared_alone : (es : List Entry) (x : List ℕ) (e : Entry) → AreDistinct es → entry_named es x ≡ Some e
+    → IsDeclared e.origin → entry_named (defined_among es) x ≡ None
 declared_alone [] x e distinct at is = refl
-declared_alone (d ∷ es) x e distinct at is = by (bytes_eq x d.name) refl d.origin refl at (λ h. declared_alone es x e distinct.1 h is)
+declared_alone (d ∷ es) x e distinct at is =
+    by (bytes_eq x d.name) refl d.origin refl at (λ h. declared_alone es x e distinct.1 h is)
   where
-    by : (b : Bool) → bytes_eq x d.name ≡ b → (o : Origin) → d.origin ≡ o → cond b (Some d) (entry_named es x) ≡ Some e → (entry_named es x ≡ Some e → entry_named (defined_among es) x ≡ None)
+    by : (b : Bool) → bytes_eq x d.name ≡ b → (o : Origin) → d.origin ≡ o
+        → cond b (Some d) (entry_named es x) ≡ Some e
+        → (entry_named es x ≡ Some e → entry_named (defined_among es) x ≡ None)
         → entry_named (cond (not (is_declared o)) (d ∷ defined_among es) (defined_among es)) x ≡ None
-    by true same (Declared command) from h next = none_among es x (ap (λ n. entry_named es n) (same_name x d.name same) ∙ distinct.0)
-    by true same (Defined ps body) from h next = let here : e ≡ d = cc in absurd (subst IsDeclared (ap (λ (f : Entry). f.origin) here ∙ from) is)
+    by true same (Declared command) from h next =
+        none_among es x (ap (λ n. entry_named es n) (same_name x d.name same) ∙ distinct.0)
+    by true same (Defined ps body) from h next =
+        let here : e ≡ d = cc in absurd (subst IsDeclared (ap (λ (f : Entry). f.origin) here ∙ from) is)
     by false same (Declared command) from h next = next h
     by false same (Defined ps body) from h next = entry_named-skip d (defined_among es) x same ∙ next h
 
 -- what stands among the declared is declared
-pub declared_is : (es : List Entry) (n : ℕ) (e : Entry) → slice_get (declared_among es) n ≡ Some e → IsDeclared e.origin
+pub declared_is : (es : List Entry) (n : ℕ) (e : Entry) → slice_get (declared_among es) n ≡ Some e
+    → IsDeclared e.origin
 declared_is [] n e at = cc
 declared_is (d ∷ es) n e at = by d.origin refl n at (λ k h. declared_is es k e h)
   where
-    by : (o : Origin) → d.origin ≡ o → (n : ℕ) → slice_get (cond (is_declared o) (d ∷ declared_among es) (declared_among es)) n ≡ Some e
+    by : (o : Origin) → d.origin ≡ o → (n : ℕ)
+        → slice_get (cond (is_declared o) (d ∷ declared_among es) (declared_among es)) n ≡ Some e
         → ((k : ℕ) → slice_get (declared_among es) k ≡ Some e → IsDeclared e.origin) → IsDeclared e.origin
-    by (Declared command) from zero at next = let here : d ≡ e = cc in subst IsDeclared (sym from ∙ ap (λ (f : Entry). f.origin) here) tt
+    by (Declared command) from zero at next =
+        let here : d ≡ e = cc in subst IsDeclared (sym from ∙ ap (λ (f : Entry). f.origin) here) tt
     by (Declared command) from (suc k) at next = next k at
     by (Defined ps body) from n at next = next n at
 
 -- ---- two lists
 
-pub at_left : {A : Type 0} (xs ys : List A) (p : ℕ) (x : A) → slice_get xs p ≡ Some x → slice_get (xs ++ ys) p ≡ Some x
+pub at_left : {A : Type 0} (xs ys : List A) (p : ℕ) (x : A) → slice_get xs p ≡ Some x
+    → slice_get (xs ++ ys) p ≡ Some x
 at_left [] ys p x h = cc
 at_left (y ∷ xs) ys zero x h = h
 at_left (y ∷ xs) ys (suc p) x h = at_left xs ys p x h
 
-at_right_of : {A : Type 0} (xs ys : List A) (p q : ℕ) → p ≡ length xs + q → slice_get (xs ++ ys) p ≡ slice_get ys q
+at_right_of : {A : Type 0} (xs ys : List A) (p q : ℕ) → p ≡ length xs + q
+    → slice_get (xs ++ ys) p ≡ slice_get ys q
 at_right_of [] ys p q h = let is : p ≡ q = omega (arith, h) in ap (slice_get ys) is
 at_right_of (x ∷ xs) ys zero q h = absurd (omega (arith, h))
 at_right_of (x ∷ xs) ys (suc p) q h = at_right_of xs ys p q (omega (arith, h))
 
-pub at_right : {A : Type 0} (xs ys : List A) (p q : ℕ) (x : A) → p ≡ length xs + q → slice_get ys q ≡ Some x → slice_get (xs ++ ys) p ≡ Some x
+pub at_right : {A : Type 0} (xs ys : List A) (p q : ℕ) (x : A) → p ≡ length xs + q → slice_get ys q ≡ Some x
+    → slice_get (xs ++ ys) p ≡ Some x
 at_right xs ys p q x is h = at_right_of xs ys p q is ∙ h
 
 -- a name that is in neither
-pub none_in_both : (es fs : List Entry) (x : List ℕ) → entry_named es x ≡ None → entry_named fs x ≡ None → entry_named (es ++ fs) x ≡ None
+pub none_in_both : (es fs : List Entry) (x : List ℕ) → entry_named es x ≡ None → entry_named fs x ≡ None
+    → entry_named (es ++ fs) x ≡ None
 none_in_both [] fs x h i = i
-none_in_both (e ∷ es) fs x h i = let p = none_step (bytes_eq x e.name) e (entry_named es x) h in entry_named-skip e (es ++ fs) x p.0 ∙ none_in_both es fs x p.1 i
+none_in_both (e ∷ es) fs x h i = let p = none_step (bytes_eq x e.name) e (entry_named es x) h
+    in entry_named-skip e (es ++ fs) x p.0 ∙ none_in_both es fs x p.1 i
 
 -- ---- the definitions of a library
 
 -- the definition at a place is that of the entry there
-pub definition_of_place : (l : Contents) (ds : List Definition) (es : List Entry) (n : ℕ) (x : Definition) → AreDefinitions l ds es → slice_get ds n ≡ Some x → (e : Entry) × (slice_get es n ≡ Some e) × IsDefinitionOf l x e
+pub definition_of_place : (l : Contents) (ds : List Definition) (es : List Entry) (n : ℕ) (x : Definition)
+    → AreDefinitions l ds es → slice_get ds n ≡ Some x
+    → (e : Entry) × (slice_get es n ≡ Some e) × IsDefinitionOf l x e
 definition_of_place l [] es n x a h = cc
 definition_of_place l (d ∷ ds) [] n x a h = absurd a
-definition_of_place l (d ∷ ds) (e ∷ es) zero x a h = let is : d ≡ x = cc in (e, refl, subst (λ (y : Definition). IsDefinitionOf l y e) is a.0)
+definition_of_place l (d ∷ ds) (e ∷ es) zero x a h =
+    let is : d ≡ x = cc in (e, refl, subst (λ (y : Definition). IsDefinitionOf l y e) is a.0)
 definition_of_place l (d ∷ ds) (e ∷ es) (suc n) x a h = definition_of_place l ds es n x a.1 h
 
-counted : (l : Contents) (ds : List Definition) (es : List Entry) → AreDefinitions l ds es → length ds ≡ length es
+counted : (l : Contents) (ds : List Definition) (es : List Entry) → AreDefinitions l ds es
+    → length ds ≡ length es
 counted l [] [] a = refl
 counted l [] (e ∷ es) a = absurd a
 counted l (d ∷ ds) [] a = absurd a
 counted l (d ∷ ds) (e ∷ es) a = ap suc (counted l ds es a.1)
 
 -- there are as many as the signature defines
-pub definitions_counted : (l : Library) (s : Signature) → StandsFor l s → length (definitions_of l) ≡ length (defined_among s.entries)
-definitions_counted l s stands = counted (contents_of l) (definitions_of l) (defined_among s.entries) stands.definitions
+pub definitions_counted : (l : Library) (s : Signature) → StandsFor l s
+    → length (definitions_of l) ≡ length (defined_among s.entries)
+definitions_counted l s stands =
+    counted (contents_of l) (definitions_of l) (defined_among s.entries) stands.definitions
 
 pub bodies_counted : (l : Library) → length (bodies_in l) ≡ length (definitions_of l)
 bodies_counted l = length-map (definitions_of l) (λ d. term_at l d.body)
@@ -129,25 +160,35 @@ module _ (over : Definitions) (d : Signature) (e : Evaluates over d) where
 
   -- those of the model come first
   pub models_counted : length (definitions_of over.model.now) ≡ length e.definitions.entries
-  models_counted = definitions_counted over.model.now e.definitions e.structure.stands ∙ ap (λ (es : List Entry). length es) models_are
+  models_counted = definitions_counted over.model.now e.definitions e.structure.stands ∙ ap
+      (λ (es : List Entry). length es) models_are
 
   pub all_counted : length (bodies_of over) ≡ length d.entries
   all_counted =
       length-append (bodies_in over.model.now) (bodies_in over.script.now)
-      ∙ ap (λ (n : ℕ). n + length (bodies_in over.script.now)) (bodies_counted over.model.now ∙ models_counted)
-      ∙ ap (λ (n : ℕ). length e.definitions.entries + n) (bodies_counted over.script.now ∙ definitions_counted over.script.now e.script e.structure.names)
-      ∙ sym (length-append e.definitions.entries (defined_among e.script.entries)) ∙ ap (λ (es : List Entry). length es) (sym entries_are)
+      ∙ ap (λ (n : ℕ). n + length (bodies_in over.script.now))
+      (bodies_counted over.model.now ∙ models_counted)
+      ∙ ap (λ (n : ℕ). length e.definitions.entries + n)
+      (bodies_counted over.script.now ∙ definitions_counted over.script.now e.script e.structure.names)
+      ∙ sym (length-append e.definitions.entries (defined_among e.script.entries)) ∙ ap
+      (λ (es : List Entry). length es) (sym entries_are)
 
   -- an entry of the model's definitions, and one of the script's
-  pub of_model : (p : ℕ) (f : Entry) → slice_get (defined_among e.definitions.entries) p ≡ Some f → slice_get d.entries p ≡ Some f
-  of_model p f at = ap (λ (es : List Entry). slice_get es p) entries_are ∙ at_left e.definitions.entries (defined_among e.script.entries) p f (ap (λ (es : List Entry). slice_get es p) (sym models_are) ∙ at)
+  pub of_model : (p : ℕ) (f : Entry) → slice_get (defined_among e.definitions.entries) p ≡ Some f
+      → slice_get d.entries p ≡ Some f
+  of_model p f at = ap (λ (es : List Entry). slice_get es p) entries_are ∙ at_left e.definitions.entries
+      (defined_among e.script.entries) p f (ap (λ (es : List Entry). slice_get es p) (sym models_are) ∙ at)
 
-  pub of_script : (p q : ℕ) (f : Entry) → p ≡ length (definitions_of over.model.now) + q → slice_get (defined_among e.script.entries) q ≡ Some f → slice_get d.entries p ≡ Some f
+  pub of_script : (p q : ℕ) (f : Entry) → p ≡ length (definitions_of over.model.now) + q
+      → slice_get (defined_among e.script.entries) q ≡ Some f → slice_get d.entries p ≡ Some f
   of_script p q f is at =
-      ap (λ (es : List Entry). slice_get es p) entries_are ∙ at_right e.definitions.entries (defined_among e.script.entries) p q f (is ∙ ap (λ (n : ℕ). n + q) models_counted) at
+      ap (λ (es : List Entry). slice_get es p) entries_are ∙ at_right e.definitions.entries
+      (defined_among e.script.entries) p q f (is ∙ ap (λ (n : ℕ). n + q) models_counted) at
 
   -- a name that neither defines
-  pub of_neither : (x : List ℕ) → entry_named (defined_among e.definitions.entries) x ≡ None → entry_named (defined_among e.script.entries) x ≡ None → entry_named d.entries x ≡ None
+  pub of_neither : (x : List ℕ) → entry_named (defined_among e.definitions.entries) x ≡ None
+      → entry_named (defined_among e.script.entries) x ≡ None → entry_named d.entries x ≡ None
   of_neither x h i =
       ap (λ (es : List Entry). entry_named es x) entries_are
-      ∙ none_in_both e.definitions.entries (defined_among e.script.entries) x (ap (λ (es : List Entry). entry_named es x) (sym models_are) ∙ h) i
+      ∙ none_in_both e.definitions.entries (defined_among e.script.entries) x
+      (ap (λ (es : List Entry). entry_named es x) (sym models_are) ∙ h) i

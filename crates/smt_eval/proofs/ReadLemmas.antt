@@ -1,5 +1,7 @@
 -- Models, one item at a time, and as a whole.
-use Rattle.std.proofs.Common.{◌≡◌, ◌⊎◌, inl, inr, ◌<◌, ◌≤◌, ℕ, zero, suc, ◌+◌, List, [], ◌∷◌, ◌++◌, drop, length, slice_index_or, Option, Result, Ok, Err, refl, ap, sym, ◌∙◌, arith, add-one}
+use Rattle.std.proofs.Common.{◌≡◌, ◌⊎◌, inl, inr, ◌<◌, ◌≤◌, ℕ, zero, suc, ◌+◌, List, [], ◌∷◌, ◌++◌, drop}
+use Rattle.std.proofs.Common.{length, slice_index_or, Option, Result, Ok, Err, refl, ap, sym, ◌∙◌, arith}
+use Rattle.std.proofs.Common.{add-one}
 use Rattle.std.proofs.Math.Seq.{drop-cons}
 use Rattle.smt_trees.specs.Sexp.{Sexp, Sexps, Nil, Cons}
 use Rattle.smt_trees.specs.Tree.{sexp_of, sexps_of}
@@ -19,23 +21,33 @@ use Rattle.smt_eval.specs.declared.interpretation.ModelFault.{ModelFault}
 use Rattle.smt_eval.specs.declared.interpretation.ModelFault.TheVariants.{Item, Memory as OutOfMemory}
 
 -- the item at a place comes first of those from there on
-pub items_at : (items : List Tree) (i : ℕ) (x : Tree) → i < length items → x ≡ slice_index_or items i x → sexps_of (drop i items) ≡ Cons (sexp_of x) (sexps_of (drop (i + 1) items))
-items_at items i x h is = rw add-one (ap sexps_of (drop-cons items i x h) ∙ ap (λ (y : Tree). Cons (sexp_of y) (sexps_of (drop (suc i) items))) (sym is))
+pub items_at : (items : List Tree) (i : ℕ) (x : Tree) → i < length items → x ≡ slice_index_or items i x
+    → sexps_of (drop i items) ≡ Cons (sexp_of x) (sexps_of (drop (i + 1) items))
+items_at items i x h is = rw add-one
+    (ap sexps_of (drop-cons items i x h) ∙ ap (λ (y : Tree). Cons (sexp_of y) (sexps_of (drop (suc i) items)))
+    (sym is))
 
 -- an item that is taken
-pub item_taken : (s : Signature) (es : List Entry) (n : ℕ) (t : Sexp) (rest all : Sexps) (e : Entry) → all ≡ Cons t rest → item_in s es t ≡ Ok e → items_from s es n all ≡ items_from s (es ++ e ∷ []) (n + 1) rest
-item_taken s es n t rest all e split is = ap (items_from s es n) split ∙ ap (λ (r : Result Entry TermFault). or_item n r (λ x. items_from s (es ++ x ∷ []) (n + 1) rest)) is
+pub item_taken : (s : Signature) (es : List Entry) (n : ℕ) (t : Sexp) (rest all : Sexps) (e : Entry)
+    → all ≡ Cons t rest → item_in s es t ≡ Ok e
+    → items_from s es n all ≡ items_from s (es ++ e ∷ []) (n + 1) rest
+item_taken s es n t rest all e split is = ap (items_from s es n) split ∙ ap
+    (λ (r : Result Entry TermFault). or_item n r (λ x. items_from s (es ++ x ∷ []) (n + 1) rest)) is
 
 -- and one that is refused
 other_fault : (n : ℕ) (f : TermFault) → (f ≡ Memory → ⊥) → fault_of_item n f ≡ Item n f
 other_fault n Memory h = absurd (h refl)
 other_fault n _ h = refl
 
-pub item_refused : (s : Signature) (es : List Entry) (n : ℕ) (t : Sexp) (rest all : Sexps) (f : TermFault) → all ≡ Cons t rest → (item_in s es t ≡ Err Memory → ⊥) → (f ≡ Memory) ⊎ (item_in s es t ≡ Err f)
+pub item_refused : (s : Signature) (es : List Entry) (n : ℕ) (t : Sexp) (rest all : Sexps) (f : TermFault)
+    → all ≡ Cons t rest → (item_in s es t ≡ Err Memory → ⊥) → (f ≡ Memory) ⊎ (item_in s es t ≡ Err f)
     → (fault_of_item n f ≡ OutOfMemory) ⊎ (items_from s es n all ≡ Err (fault_of_item n f))
 item_refused s es n t rest all f split other (inl m) = inl (ap (fault_of_item n) m)
 item_refused s es n t rest all f split other (inr is) =
-    inr (ap (items_from s es n) split ∙ ap (λ (r : Result Entry TermFault). or_item n r (λ x. items_from s (es ++ x ∷ []) (n + 1) rest)) is ∙ ap (λ (g : ModelFault). Err g) (sym (other_fault n f (λ m. other (is ∙ ap (λ (g : TermFault). Err g) m)))))
+    inr (ap (items_from s es n) split ∙ ap
+    (λ (r : Result Entry TermFault). or_item n r (λ x. items_from s (es ++ x ∷ []) (n + 1) rest)) is ∙ ap
+    (λ (g : ModelFault). Err g)
+    (sym (other_fault n f (λ m. other (is ∙ ap (λ (g : TermFault). Err g) m)))))
 
 pub all_dropped : (items : List Tree) (i : ℕ) → length items ≤ i → sexps_of (drop i items) ≡ Nil
 all_dropped [] zero h = refl
@@ -45,14 +57,21 @@ all_dropped (x ∷ items) (suc i) h = all_dropped items i (omega (arith, h))
 
 -- ---- the whole
 
-pub model_whole : (s : Signature) (parts items : Sexps) (es : List Entry) → items ≡ items_of parts → items_from s [] 1 items ≡ Ok es → model_in s parts ≡ complete_or (first_lacking s.entries es) (items_before s es)
+pub model_whole : (s : Signature) (parts items : Sexps) (es : List Entry) → items ≡ items_of parts
+    → items_from s [] 1 items ≡ Ok es
+    → model_in s parts ≡ complete_or (first_lacking s.entries es) (items_before s es)
 model_whole s parts items es same is =
-    ap (λ (r : Result (List Entry) ModelFault). result_and_then r (λ found. complete_or (first_lacking s.entries found) (items_before s found))) (ap (items_from s [] 1) (sym same) ∙ is)
+    ap (λ (r : Result (List Entry) ModelFault). result_and_then r
+    (λ found. complete_or (first_lacking s.entries found) (items_before s found)))
+    (ap (items_from s [] 1) (sym same) ∙ is)
 
-pub model_faulty : (s : Signature) (parts items : Sexps) (f : ModelFault) → items ≡ items_of parts → (f ≡ OutOfMemory) ⊎ (items_from s [] 1 items ≡ Err f) → (f ≡ OutOfMemory) ⊎ (model_in s parts ≡ Err f)
+pub model_faulty : (s : Signature) (parts items : Sexps) (f : ModelFault) → items ≡ items_of parts
+    → (f ≡ OutOfMemory) ⊎ (items_from s [] 1 items ≡ Err f) → (f ≡ OutOfMemory) ⊎ (model_in s parts ≡ Err f)
 model_faulty s parts items f same (inl m) = inl m
 model_faulty s parts items f same (inr is) =
-    inr (ap (λ (r : Result (List Entry) ModelFault). result_and_then r (λ found. complete_or (first_lacking s.entries found) (items_before s found))) (ap (items_from s [] 1) (sym same) ∙ is))
+    inr (ap (λ (r : Result (List Entry) ModelFault). result_and_then r
+    (λ found. complete_or (first_lacking s.entries found) (items_before s found)))
+    (ap (items_from s [] 1) (sym same) ∙ is))
 
 -- there are as many known values as definitions
 values-length : (m : KnownMeaning) (es : List Entry) → length (values_after m es) ≡ length es
@@ -63,5 +82,7 @@ elements-length : (vs : List (Option Value)) → length (known_elements vs) ≡ 
 elements-length [] = refl
 elements-length (v ∷ vs) = ap suc (elements-length vs)
 
-pub all_valued : (d : Signature) (vs : List (Option Value)) → known_elements vs ≡ definition_values d → length vs ≡ length d.entries
-all_valued d vs h = sym (elements-length vs) ∙ ap (λ (xs : List (Option Element)). length xs) h ∙ values-length _ d.entries
+pub all_valued : (d : Signature) (vs : List (Option Value)) → known_elements vs ≡ definition_values d
+    → length vs ≡ length d.entries
+all_valued d vs h =
+    sym (elements-length vs) ∙ ap (λ (xs : List (Option Element)). length xs) h ∙ values-length _ d.entries

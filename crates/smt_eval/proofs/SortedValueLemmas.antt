@@ -1,5 +1,7 @@
 -- The value of a well-sorted term is of the term's sort.
-use Rattle.std.proofs.Common.{◌≡◌, ℕ, Bool, true, false, cond, List, [], ◌∷◌, ◌++◌, Option, Some, None, Result, Ok, Err, ◌&&◌, ◌*◌, ◌≤◌, length, nat_le, refl, ap, sym, ◌∙◌, subst, append_assoc, append-nil, arith, rules}
+use Rattle.std.proofs.Common.{◌≡◌, ℕ, Bool, true, false, cond, List, [], ◌∷◌, ◌++◌, Option, Some, None}
+use Rattle.std.proofs.Common.{Result, Ok, Err, ◌&&◌, ◌*◌, ◌≤◌, length, nat_le, refl, ap, sym, ◌∙◌, subst}
+use Rattle.std.proofs.Common.{append_assoc, append-nil, arith, rules}
 use Rattle.std.proofs.Math.Nat.{mod-lt}
 use Rattle.std.proofs.Math.Pow.{pow_pos}
 use Rattle.std.specs.List.{zip}
@@ -7,7 +9,8 @@ use Rattle.std.specs.Option.{option_or}
 use Rattle.std.specs.Prelude.{unwrap_or, bytes_eq, is_some, ok_or, option_map}
 use Rattle.std.specs.Str.Parse.{digits_value}
 use Rattle.smt_bits.specs.Literals.{constant}
-use Rattle.smt_trees.specs.Sexp.{Sexp, Sexps, Atom, Reserved, Items, Nil, Cons, Symbol, Numeral, Decimal, Hexadecimal, Binary, Text, Keyword}
+use Rattle.smt_trees.specs.Sexp.{Sexp, Sexps, Atom, Reserved, Items, Nil, Cons, Symbol, Numeral, Decimal}
+use Rattle.smt_trees.specs.Sexp.{Hexadecimal, Binary, Text, Keyword}
 use Rattle.smt_trees.specs.declared.reserved.Word.TheVariants.{Bang, Let, Underscore}
 use Rattle.smt_theory.specs.Ranks.{are_exactly, rank_of}
 use Rattle.smt_theory.specs.Sort.{is_same_sort}
@@ -23,28 +26,38 @@ use Rattle.smt_values.specs.Element.{Element, Vector, IsOfSort, AreOfSorts}
 use Rattle.smt_values.specs.Operations.{DivisionByZero, operate}
 use Rattle.smt_forms.specs.Bindings.{are_attributes, are_bindings}
 use Rattle.smt_forms.specs.Labels.{labels_among}
-use Rattle.smt_terms.specs.Checking.{bound_in, fault_of_labels, sort_applied, sort_in, sorts_in, sort_of_call, sort_of_name, sort_of_operator, sort_of_plain, sort_of_rank, sort_of_symbol, sort_unless_variable, unless}
+use Rattle.smt_terms.specs.Checking.{bound_in, fault_of_labels, sort_applied, sort_in, sorts_in, sort_of_call}
+use Rattle.smt_terms.specs.Checking.{sort_of_name, sort_of_operator, sort_of_plain, sort_of_rank}
+use Rattle.smt_terms.specs.Checking.{sort_of_symbol, sort_unless_variable, unless}
 use Rattle.smt_forms.specs.Heads.{is_underscore_tree}
 use Rattle.smt_forms.specs.Identifier.{Identifier, Plain, Indexed, applied, indexed, operator_of}
-use Rattle.smt_terms.specs.Signature.{AreDistinct, Entry, Origin, Declared, Defined, Names, Rank, Signature, entry_named, names_of, rank_of_entry, ranks_of, unlabelled, unlabelled_over}
+use Rattle.smt_terms.specs.Signature.{AreDistinct, Entry, Origin, Declared, Defined, Names, Rank, Signature}
+use Rattle.smt_terms.specs.Signature.{entry_named, names_of, rank_of_entry, ranks_of, unlabelled}
+use Rattle.smt_terms.specs.Signature.{unlabelled_over}
 use Rattle.smt_terms.specs.WellSorted.{AreWellSorted, IsWellSorted, IsWellSortedFrom}
 use Rattle.smt_faults.specs.declared.term_fault.TermFault.{TermFault}
-use Rattle.smt_faults.specs.declared.term_fault.TermFault.TheVariants.{BoundTwice, Form, IllSorted, Unknown, Index}
+use Rattle.smt_faults.specs.declared.term_fault.TermFault.TheVariants.{BoundTwice, Form, IllSorted, Unknown}
+use Rattle.smt_faults.specs.declared.term_fault.TermFault.TheVariants.{Index}
 use Rattle.smt_eval.proofs.NameLemmas.{same_name, same_self, none_step}
 use Rattle.smt_eval.specs.Agreement.{FitsScope, IsOfSorts}
-use Rattle.smt_eval.specs.Meaning.{Meaning, element_by, value_of, values_bound, values_of, meaning_of_op, operators, defined_value, with_definition, meaning_after, meaning_in}
+use Rattle.smt_eval.specs.Meaning.{Meaning, element_by, value_of, values_bound, values_of, meaning_of_op}
+use Rattle.smt_eval.specs.Meaning.{operators, defined_value, with_definition, meaning_after, meaning_in}
 use Rattle.smt_eval.proofs.MeaningLemmas.{is_plain_list, value-other}
 
--- where an identifier has a sort for arguments of some sorts, it gives an element of that sort for elements of those
+-- where an identifier has a sort for arguments of some sorts, it gives an element of that sort for elements
+-- of those
 abbrev pub Fits : Names → Meaning → Type 0
-Fits names m = (f : Identifier) (sorts : List Sort) (sort : Sort) (es : List Element) → sort_applied names f sorts ≡ Ok sort → AreOfSorts sorts es → IsOfSort sort (m f es)
+Fits names m = (f : Identifier) (sorts : List Sort) (sort : Sort) (es : List Element)
+    → sort_applied names f sorts ≡ Ok sort → AreOfSorts sorts es → IsOfSort sort (m f es)
 
 -- the law of the operators
 abbrev pub ResultsAreOfTheirSorts : Type 0
-ResultsAreOfTheirSorts = (z : DivisionByZero) (op : Op) (sorts : List Sort) (sort : Sort) (es : List Element) → rank_of op sorts ≡ Some sort → AreOfSorts sorts es → IsOfSort sort (operate z op es)
+ResultsAreOfTheirSorts = (z : DivisionByZero) (op : Op) (sorts : List Sort) (sort : Sort) (es : List Element)
+    → rank_of op sorts ≡ Some sort → AreOfSorts sorts es → IsOfSort sort (operate z op es)
 
 -- operators give what their ranks say
-operator-fits : ResultsAreOfTheirSorts → (z : DivisionByZero) (o : Result Op OpFault) (sorts : List Sort) (sort : Sort) (es : List Element)
+operator-fits : ResultsAreOfTheirSorts
+    → (z : DivisionByZero) (o : Result Op OpFault) (sorts : List Sort) (sort : Sort) (es : List Element)
     → sort_of_operator o sorts ≡ Ok sort → AreOfSorts sorts es → IsOfSort sort (meaning_of_op z o es)
 operator-fits law z (Err ops.Unknown) sorts sort es is h = cc
 operator-fits law z (Err ops.Index) sorts sort es is h = cc
@@ -52,31 +65,40 @@ operator-fits law z (Ok op) sorts sort es is h = by (rank_of op sorts) refl is
   where
     by : (o : Option Sort) → rank_of op sorts ≡ o → sort_of_rank o ≡ Ok sort → IsOfSort sort (operate z op es)
     by None ranked is = cc
-    by (Some found) ranked is = let same : found ≡ sort = cc in law z op sorts sort es (ranked ∙ ap (λ (s : Sort). Some s) same) h
+    by (Some found) ranked is =
+        let same : found ≡ sort = cc in law z op sorts sort es (ranked ∙ ap (λ (s : Sort). Some s) same) h
 
-Fits-operators : ResultsAreOfTheirSorts → (z : DivisionByZero) (theories : Theories) → Fits (unlabelled_over theories []) (operators z theories)
-Fits-operators law z theories (Plain f) sorts sort es is h = operator-fits law z (operator_of theories (Plain f)) sorts sort es is h
-Fits-operators law z theories (Indexed f indexes) sorts sort es is h = operator-fits law z (operator_of theories (Indexed f indexes)) sorts sort es is h
+Fits-operators : ResultsAreOfTheirSorts → (z : DivisionByZero) (theories : Theories)
+    → Fits (unlabelled_over theories []) (operators z theories)
+Fits-operators law z theories (Plain f) sorts sort es is h =
+    operator-fits law z (operator_of theories (Plain f)) sorts sort es is h
+Fits-operators law z theories (Indexed f indexes) sorts sort es is h =
+    operator-fits law z (operator_of theories (Indexed f indexes)) sorts sort es is h
 
 -- a first answer, where the whole is one
-first_ok : {A B : Type 0} (r : Result A TermFault) (next : A → Result B TermFault) (b : B) → result_and_then r next ≡ Ok b → (a : A) × (r ≡ Ok a) × (next a ≡ Ok b)
+first_ok : {A B : Type 0} (r : Result A TermFault) (next : A → Result B TermFault) (b : B)
+    → result_and_then r next ≡ Ok b → (a : A) × (r ≡ Ok a) × (next a ≡ Ok b)
 first_ok (Ok a) next b h = (a, refl, h)
 first_ok (Err f) next b h = cc
 
 -- a variable, or else a name
-variable-fits : (names : Names) (m : Meaning) (x : List ℕ) (s : Option Sort) (e : Option Element) (sort : Sort) → Fits names m → IsOfSorts s e → sort_of_symbol names x s ≡ Ok sort
+variable-fits : (names : Names) (m : Meaning) (x : List ℕ) (s : Option Sort) (e : Option Element)
+    (sort : Sort) → Fits names m → IsOfSorts s e → sort_of_symbol names x s ≡ Ok sort
     → IsOfSort sort (unwrap_or e (m (Plain x) []))
 variable-fits names m x None None sort fits h is = fits (Plain x) [] sort [] is tt
 variable-fits names m x None (Some e) sort fits h is = absurd h
 variable-fits names m x (Some s) None sort fits h is = absurd h
-variable-fits names m x (Some s) (Some e) sort fits h is = let same : s ≡ sort = cc in subst (λ t. IsOfSort t e) same h
+variable-fits names m x (Some s) (Some e) sort fits h is =
+    let same : s ≡ sort = cc in subst (λ t. IsOfSort t e) same h
 
 -- a call of what is no variable
-call_applied : (names : Names) (scope : List (List ℕ × Sort)) (f : Identifier) (sorts : List Sort) (sort : Sort) → sort_of_call names scope f sorts ≡ Ok sort → sort_applied names f sorts ≡ Ok sort
+call_applied : (names : Names) (scope : List (List ℕ × Sort)) (f : Identifier) (sorts : List Sort)
+    (sort : Sort) → sort_of_call names scope f sorts ≡ Ok sort → sort_applied names f sorts ≡ Ok sort
 call_applied names scope (Indexed f indexes) sorts sort is = is
 call_applied names scope (Plain f) sorts sort is = by (look_up scope f) is
   where
-    by : (o : Option Sort) → sort_unless_variable o (sort_applied names (Plain f) sorts) ≡ Ok sort → sort_applied names (Plain f) sorts ≡ Ok sort
+    by : (o : Option Sort) → sort_unless_variable o (sort_applied names (Plain f) sorts) ≡ Ok sort
+        → sort_applied names (Plain f) sorts ≡ Ok sort
     by None is = is
     by (Some s) is = cc
 
@@ -86,29 +108,42 @@ numeral-sort true sort is = cc
 numeral-sort false sort is = cc
 
 -- a constant is a bit vector of as many bits as its digits have
-constant-fits : (b : Bool) (base bits n : ℕ) (digits : List ℕ) (sort : Sort) → n ≡ bits * length digits → cond b (ok_or (option_map Bits (width_of n)) Index) (Err Unknown) ≡ Ok sort
+constant-fits : (b : Bool) (base bits n : ℕ) (digits : List ℕ) (sort : Sort) → n ≡ bits * length digits
+    → cond b (ok_or (option_map Bits (width_of n)) Index) (Err Unknown) ≡ Ok sort
     → IsOfSort sort (Vector (constant base bits digits))
 constant-fits false base bits n digits sort e h = cc
 constant-fits true base bits n digits sort e h = by (nat_le 1 n) (nat_le n 128) (λ t. search rules) h
   where
-    by : (p q : Bool) → (p ≡ true → 1 ≤ n) → ok_or (option_map Bits (cond (p && q) (Some n) None)) Index ≡ Ok sort → IsOfSort sort (Vector (constant base bits digits))
+    by : (p q : Bool) → (p ≡ true → 1 ≤ n)
+        → ok_or (option_map Bits (cond (p && q) (Some n) None)) Index ≡ Ok sort
+        → IsOfSort sort (Vector (constant base bits digits))
     by true true some h =
         let is : Bits n ≡ sort = cc in
-        subst (λ s. IsOfSort s (Vector (constant base bits digits))) is
-        (sym e, (subst (λ k. 1 ≤ k) e (some refl), mod-lt (digits_value base digits) (pow_pos (bits * length digits))))
+        subst (λ s. IsOfSort s (Vector (constant base bits digits))) is (
+          sym e,
+          (
+            subst (λ k. 1 ≤ k) e (some refl),
+            mod-lt (digits_value base digits)
+                (pow_pos (bits * length digits)),
+          ),
+        )
     by true false some h = cc
     by false q some h = cc
 
 -- a list that is no `let` and no annotated term, with another head than `_`
-sort-other : (names : Names) (scope : List (List ℕ × Sort)) (head : Sexp) (args : Sexps) → is_plain_list head args ≡ true → is_underscore_tree head ≡ false
-    → sort_in names scope (Items (Cons head args)) ≡ result_and_then (applied head args) (λ f. result_and_then (sorts_in names scope args) (λ ss. sort_of_call names scope f ss))
+sort-other : (names : Names) (scope : List (List ℕ × Sort)) (head : Sexp) (args : Sexps)
+    → is_plain_list head args ≡ true → is_underscore_tree head ≡ false
+    → sort_in names scope (Items (Cons head args))
+    ≡ result_and_then (applied head args)
+    (λ f. result_and_then (sorts_in names scope args) (λ ss. sort_of_call names scope f ss))
 sort-other names scope (Reserved Underscore) args p h = cc
 sort-other names scope (Reserved Let) (Cons (Items bindings) (Cons body Nil)) p h = cc
 sort-other names scope (Reserved Bang) (Cons term attributes) p h = cc
 sort-other names scope _ _ p h = refl
 
 -- a variable in front fits
-by_name : (b : Bool) (s : Sort) (e : Element) (o : Option Sort) (p : Option Element) → IsOfSort s e → IsOfSorts o p → IsOfSorts (cond b (Some s) o) (cond b (Some e) p)
+by_name : (b : Bool) (s : Sort) (e : Element) (o : Option Sort) (p : Option Element) → IsOfSort s e
+    → IsOfSorts o p → IsOfSorts (cond b (Some s) o) (cond b (Some e) p)
 by_name true s e o p here rest = here
 by_name false s e o p here rest = rest
 
@@ -118,7 +153,8 @@ passed true r sort is = is
 passed false r sort is = cc
 
 -- and no name was bound before
-new_name : {A : Type 0} (b : Bool) (r : Result A TermFault) (a : A) → cond b (Err BoundTwice) r ≡ Ok a → r ≡ Ok a
+new_name : {A : Type 0} (b : Bool) (r : Result A TermFault) (a : A) → cond b (Err BoundTwice) r ≡ Ok a
+    → r ≡ Ok a
 new_name true r a is = cc
 new_name false r a is = is
 
@@ -128,76 +164,127 @@ annotated (Some fault) s sort is = cc
 annotated None s sort is = cc
 
 -- what bindings bring behind variables
-abbrev BoundFit : Meaning → List (List ℕ × Sort) → List (List ℕ × Element) → List (List ℕ × Sort) → List (List ℕ × Sort) → Sexps → Type 0
-BoundFit m scope r before bound ts = (new : List (List ℕ × Sort)) × (bound ≡ before ++ new) × FitsScope (new ++ scope) (values_bound m r ts ++ r)
+abbrev BoundFit : Meaning → List (List ℕ × Sort) → List (List ℕ × Element) → List (List ℕ × Sort)
+    → List (List ℕ × Sort) → Sexps → Type 0
+BoundFit m scope r before bound ts = (new : List (List ℕ × Sort)) × (bound ≡ before ++ new)
+    × FitsScope (new ++ scope) (values_bound m r ts ++ r)
 
 -- over names whose meaning fits
 module _ (N : Names) (m : Meaning) (fits : Fits (unlabelled N) m) where
-  call-fits : (scope : List (List ℕ × Sort)) (r : List (List ℕ × Element)) (head : Sexp) (args : Sexps) (sort : Sort) → ((ss : List Sort) → sorts_in (unlabelled N) scope args ≡ Ok ss → AreOfSorts ss (values_of m r args))
-      → result_and_then (applied head args) (λ f. result_and_then (sorts_in (unlabelled N) scope args) (λ ss. sort_of_call (unlabelled N) scope f ss)) ≡ Ok sort
+  call-fits : (scope : List (List ℕ × Sort)) (r : List (List ℕ × Element)) (head : Sexp) (args : Sexps)
+      (sort : Sort) → ((ss : List Sort) → sorts_in (unlabelled N) scope args ≡ Ok ss
+      → AreOfSorts ss (values_of m r args))
+      → result_and_then (applied head args)
+      (λ f. result_and_then (sorts_in (unlabelled N) scope args)
+      (λ ss. sort_of_call (unlabelled N) scope f ss)) ≡ Ok sort
       → IsOfSort sort (element_by (applied head args) (λ f. m f (values_of m r args)))
   call-fits scope r head args sort all is =
-      let p = first_ok (applied head args) (λ f. result_and_then (sorts_in (unlabelled N) scope args) (λ ss. sort_of_call (unlabelled N) scope f ss)) sort is in
-      let q = first_ok (sorts_in (unlabelled N) scope args) (λ ss. sort_of_call (unlabelled N) scope p.0 ss) sort p.2 in
+      let p =
+      first_ok (applied head args)
+      (λ f. result_and_then (sorts_in (unlabelled N) scope args)
+      (λ ss. sort_of_call (unlabelled N) scope f ss)) sort is in
+      let q =
+      first_ok (sorts_in (unlabelled N) scope args)
+      (λ ss. sort_of_call (unlabelled N) scope p.0 ss) sort p.2 in
       subst (λ o. IsOfSort sort (element_by o (λ f. m f (values_of m r args)))) (sym p.1)
-      (fits p.0 q.0 sort (values_of m r args) (call_applied (unlabelled N) scope p.0 q.0 sort q.2) (all q.0 q.1))
+      (fits p.0 q.0 sort (values_of m r args) (call_applied (unlabelled N) scope p.0 q.0 sort q.2)
+      (all q.0 q.1))
 
-  list-fits : (scope : List (List ℕ × Sort)) (r : List (List ℕ × Element)) (head : Sexp) (args : Sexps) (sort : Sort) → ((ss : List Sort) → sorts_in (unlabelled N) scope args ≡ Ok ss → AreOfSorts ss (values_of m r args))
-      → is_plain_list head args ≡ true → (b : Bool) → is_underscore_tree head ≡ b → sort_in (unlabelled N) scope (Items (Cons head args)) ≡ Ok sort → IsOfSort sort (value_of m r (Items (Cons head args)))
+  list-fits : (scope : List (List ℕ × Sort)) (r : List (List ℕ × Element)) (head : Sexp) (args : Sexps)
+      (sort : Sort) → ((ss : List Sort) → sorts_in (unlabelled N) scope args ≡ Ok ss
+      → AreOfSorts ss (values_of m r args))
+      → is_plain_list head args ≡ true → (b : Bool) → is_underscore_tree head ≡ b
+      → sort_in (unlabelled N) scope (Items (Cons head args)) ≡ Ok sort
+      → IsOfSort sort (value_of m r (Items (Cons head args)))
   list-fits scope r head args sort all plain false other is =
-      subst (λ e. IsOfSort sort e) (sym (value-other m r head args plain other)) (call-fits scope r head args sort all (sym (sort-other (unlabelled N) scope head args plain other) ∙ is))
+      subst (λ e. IsOfSort sort e) (sym (value-other m r head args plain other))
+      (call-fits scope r head args sort all
+      (sym (sort-other (unlabelled N) scope head args plain other) ∙ is))
   list-fits scope r (Reserved Underscore) args sort all plain true other is =
       let p = first_ok (indexed args) (λ f. sort_applied (unlabelled N) f []) sort is in
       subst (λ o. IsOfSort sort (element_by o (λ f. m f []))) (sym p.1) (fits p.0 [] sort [] p.2 tt)
   list-fits scope r _ args sort all plain true other is = cc
 
   mutual
-    pub term-fits : (scope : List (List ℕ × Sort)) (r : List (List ℕ × Element)) → FitsScope scope r → (t : Sexp) (sort : Sort) → sort_in (unlabelled N) scope t ≡ Ok sort → IsOfSort sort (value_of m r t)
-    term-fits scope r fit (Atom Symbol x) sort is = variable-fits (unlabelled N) m x (look_up scope x) (look_up r x) sort fits (fit x) is
-    term-fits scope r fit (Atom Numeral x) sort is = subst (λ s. IsOfSort s (value_of m r (Atom Numeral x))) (sym (numeral-sort N.theories.ints sort is)) tt
+    pub term-fits : (scope : List (List ℕ × Sort)) (r : List (List ℕ × Element)) → FitsScope scope r
+        → (t : Sexp) (sort : Sort) → sort_in (unlabelled N) scope t ≡ Ok sort → IsOfSort sort (value_of m r t)
+    term-fits scope r fit (Atom Symbol x) sort is =
+        variable-fits (unlabelled N) m x (look_up scope x) (look_up r x) sort fits (fit x) is
+    term-fits scope r fit (Atom Numeral x) sort is = subst (λ s. IsOfSort s (value_of m r (Atom Numeral x)))
+        (sym (numeral-sort N.theories.ints sort is)) tt
     term-fits scope r fit (Atom Decimal x) sort is = cc
-    term-fits scope r fit (Atom Hexadecimal x) sort is = constant-fits N.theories.bits 16 4 (4 * length x) x sort refl is
-    term-fits scope r fit (Atom Binary x) sort is = constant-fits N.theories.bits 2 1 (length x) x sort (omega arith) is
+    term-fits scope r fit (Atom Hexadecimal x) sort is =
+        constant-fits N.theories.bits 16 4 (4 * length x) x sort refl is
+    term-fits scope r fit (Atom Binary x) sort is =
+        constant-fits N.theories.bits 2 1 (length x) x sort (omega arith) is
     term-fits scope r fit (Atom Text x) sort is = cc
     term-fits scope r fit (Atom Keyword x) sort is = cc
     term-fits scope r fit (Reserved word) sort is = cc
     term-fits scope r fit (Items Nil) sort is = cc
     term-fits scope r fit (Items (Cons (Reserved Let) (Cons (Items bindings) (Cons body Nil)))) sort is =
-        let p = first_ok (bound_in (unlabelled N) scope [] bindings) (λ bound. sort_in (unlabelled N) (bound ++ scope) body) sort (passed (are_bindings bindings) (result_and_then (bound_in (unlabelled N) scope [] bindings) (λ bound. sort_in (unlabelled N) (bound ++ scope) body)) sort is) in
+        let p = first_ok (bound_in (unlabelled N) scope [] bindings)
+        (λ bound. sort_in (unlabelled N) (bound ++ scope) body) sort
+        (passed (are_bindings bindings)
+        (result_and_then (bound_in (unlabelled N) scope [] bindings)
+        (λ bound. sort_in (unlabelled N) (bound ++ scope) body)) sort is) in
         let q = bound-fits scope r fit [] bindings p.0 p.1 in
-        term-fits (q.0 ++ scope) (values_bound m r bindings ++ r) q.2 body sort (ap (λ (b : List (List ℕ × Sort)). sort_in (unlabelled N) (b ++ scope) body) (sym q.1) ∙ p.2)
+        term-fits (q.0 ++ scope) (values_bound m r bindings ++ r) q.2 body sort
+        (ap (λ (b : List (List ℕ × Sort)). sort_in (unlabelled N) (b ++ scope) body) (sym q.1) ∙ p.2)
     term-fits scope r fit (Items (Cons (Reserved Bang) (Cons term attributes))) sort is =
-        let p = first_ok (sort_in (unlabelled N) scope term) (λ s. unless (fault_of_labels (unlabelled N) scope term (labels_among attributes)) (Ok s)) sort (passed (are_attributes attributes) (result_and_then (sort_in (unlabelled N) scope term) (λ s. unless (fault_of_labels (unlabelled N) scope term (labels_among attributes)) (Ok s))) sort is) in
-        subst (λ s. IsOfSort s (value_of m r term)) (annotated (fault_of_labels (unlabelled N) scope term (labels_among attributes)) p.0 sort p.2) (term-fits scope r fit term p.0 p.1)
-    term-fits scope r fit (Items (Cons head args)) sort is = list-fits scope r head args sort (λ ss h. terms-fit scope r fit args ss h) refl (is_underscore_tree head) refl is
+        let p = first_ok (sort_in (unlabelled N) scope term)
+        (λ s. unless (fault_of_labels (unlabelled N) scope term (labels_among attributes)) (Ok s)) sort
+        (passed (are_attributes attributes)
+        (result_and_then (sort_in (unlabelled N) scope term)
+        (λ s. unless (fault_of_labels (unlabelled N) scope term (labels_among attributes)) (Ok s))) sort
+        is) in
+        subst (λ s. IsOfSort s (value_of m r term))
+        (annotated (fault_of_labels (unlabelled N) scope term (labels_among attributes)) p.0 sort p.2)
+        (term-fits scope r fit term p.0 p.1)
+    term-fits scope r fit (Items (Cons head args)) sort is = list-fits scope r head args sort
+        (λ ss h. terms-fit scope r fit args ss h) refl (is_underscore_tree head) refl is
 
-    terms-fit : (scope : List (List ℕ × Sort)) (r : List (List ℕ × Element)) → FitsScope scope r → (ts : Sexps) (sorts : List Sort) → sorts_in (unlabelled N) scope ts ≡ Ok sorts → AreOfSorts sorts (values_of m r ts)
+    terms-fit : (scope : List (List ℕ × Sort)) (r : List (List ℕ × Element)) → FitsScope scope r
+        → (ts : Sexps) (sorts : List Sort) → sorts_in (unlabelled N) scope ts ≡ Ok sorts
+        → AreOfSorts sorts (values_of m r ts)
     terms-fit scope r fit Nil sorts is = let none : [] ≡ sorts = cc in subst (λ ss. AreOfSorts ss []) none tt
     terms-fit scope r fit (Cons t ts) sorts is =
-        let p = first_ok (sort_in (unlabelled N) scope t) (λ s. result_and_then (sorts_in (unlabelled N) scope ts) (λ ss. Ok (s ∷ ss))) sorts is in
+        let p =
+        first_ok (sort_in (unlabelled N) scope t)
+        (λ s. result_and_then (sorts_in (unlabelled N) scope ts) (λ ss. Ok (s ∷ ss))) sorts is in
         let q = first_ok (sorts_in (unlabelled N) scope ts) (λ ss. Ok (p.0 ∷ ss)) sorts p.2 in
         let whole : p.0 ∷ q.0 ≡ sorts = cc in
-        subst (λ ss. AreOfSorts ss (values_of m r (Cons t ts))) whole (term-fits scope r fit t p.0 p.1, terms-fit scope r fit ts q.0 q.1)
+        subst (λ ss. AreOfSorts ss (values_of m r (Cons t ts))) whole
+        (term-fits scope r fit t p.0 p.1, terms-fit scope r fit ts q.0 q.1)
 
-    bound-fits : (scope : List (List ℕ × Sort)) (r : List (List ℕ × Element)) → FitsScope scope r → (before : List (List ℕ × Sort)) (ts : Sexps) (bound : List (List ℕ × Sort)) → bound_in (unlabelled N) scope before ts ≡ Ok bound → BoundFit m scope r before bound ts
-    bound-fits scope r fit before Nil bound is = let same : before ≡ bound = cc in ([], sym same ∙ sym (append-nil before), fit)
+    bound-fits : (scope : List (List ℕ × Sort)) (r : List (List ℕ × Element)) → FitsScope scope r
+        → (before : List (List ℕ × Sort)) (ts : Sexps) (bound : List (List ℕ × Sort))
+        → bound_in (unlabelled N) scope before ts ≡ Ok bound → BoundFit m scope r before bound ts
+    bound-fits scope r fit before Nil bound is =
+        let same : before ≡ bound = cc in ([], sym same ∙ sym (append-nil before), fit)
     bound-fits scope r fit before (Cons (Items (Cons (Atom Symbol x) (Cons t Nil))) rest) bound is =
-        let go : Sort → Result (List (List ℕ × Sort)) TermFault = λ s. bound_in (unlabelled N) scope (before ++ (x, s) ∷ []) rest in
-        let p = first_ok (sort_in (unlabelled N) scope t) go bound (new_name (is_some (look_up before x)) (result_and_then (sort_in (unlabelled N) scope t) go) bound is) in
+        let go : Sort → Result (List (List ℕ × Sort)) TermFault =
+        λ s. bound_in (unlabelled N) scope (before ++ (x, s) ∷ []) rest in
+        let p =
+        first_ok (sort_in (unlabelled N) scope t) go bound
+        (new_name (is_some (look_up before x))
+        (result_and_then (sort_in (unlabelled N) scope t) go) bound is) in
         let q = bound-fits scope r fit (before ++ (x, p.0) ∷ []) rest bound p.2 in (
           (x, p.0) ∷ q.0,
           q.1 ∙ append_assoc before ((x, p.0) ∷ []) q.0,
-          λ y. by_name (bytes_eq y x) p.0 (value_of m r t) (look_up (q.0 ++ scope) y) (look_up (values_bound m r rest ++ r) y) (term-fits scope r fit t p.0 p.1) (q.2 y),
+          λ y. by_name (bytes_eq y x) p.0 (value_of m r t) (look_up (q.0 ++ scope) y)
+              (look_up (values_bound m r rest ++ r) y) (term-fits scope r fit t p.0 p.1) (q.2 y),
         )
     bound-fits scope r fit before _ bound is = cc
 
 -- values of the parameters' sorts make a scope
-FitsScope-zip : (ps : List (List ℕ)) (sorts : List Sort) (es : List Element) → AreOfSorts sorts es → FitsScope (zip ps sorts) (zip ps es)
+FitsScope-zip : (ps : List (List ℕ)) (sorts : List Sort) (es : List Element) → AreOfSorts sorts es
+    → FitsScope (zip ps sorts) (zip ps es)
 FitsScope-zip [] sorts es h x = tt
 FitsScope-zip (p ∷ ps) [] [] h x = tt
 FitsScope-zip (p ∷ ps) [] (e ∷ es) h x = absurd h
 FitsScope-zip (p ∷ ps) (s ∷ sorts) [] h x = absurd h
-FitsScope-zip (p ∷ ps) (s ∷ sorts) (e ∷ es) h x = by_name (bytes_eq x p) s e (look_up (zip ps sorts) x) (look_up (zip ps es) x) h.0 (FitsScope-zip ps sorts es h.1 x)
+FitsScope-zip (p ∷ ps) (s ∷ sorts) (e ∷ es) h x = by_name (bytes_eq x p) s e (look_up (zip ps sorts) x)
+    (look_up (zip ps es) x) h.0 (FitsScope-zip ps sorts es h.1 x)
 
 -- ---- definitions
 
@@ -210,12 +297,17 @@ option_or_none None = refl
 option_or_none (Some a) = refl
 
 -- the rank of a name, with one more entry at the end
-look_up-more : (es : List Entry) (e : Entry) (x : List ℕ) → look_up (ranks_of (es ++ e ∷ [])) x ≡ option_or (look_up (ranks_of es) x) (cond (bytes_eq x e.name) (Some (rank_of_entry e)) None)
+look_up-more : (es : List Entry) (e : Entry) (x : List ℕ)
+    → look_up (ranks_of (es ++ e ∷ [])) x
+    ≡ option_or (look_up (ranks_of es) x) (cond (bytes_eq x e.name) (Some (rank_of_entry e)) None)
 look_up-more [] e x = refl
 look_up-more (d ∷ es) e x = by (bytes_eq x d.name) (look_up-more es e x)
   where
-    by : (b : Bool) → look_up (ranks_of (es ++ e ∷ [])) x ≡ option_or (look_up (ranks_of es) x) (cond (bytes_eq x e.name) (Some (rank_of_entry e)) None)
-        → cond b (Some (rank_of_entry d)) (look_up (ranks_of (es ++ e ∷ [])) x) ≡ option_or (cond b (Some (rank_of_entry d)) (look_up (ranks_of es) x)) (cond (bytes_eq x e.name) (Some (rank_of_entry e)) None)
+    by : (b : Bool) → look_up (ranks_of (es ++ e ∷ [])) x
+        ≡ option_or (look_up (ranks_of es) x) (cond (bytes_eq x e.name) (Some (rank_of_entry e)) None)
+        → cond b (Some (rank_of_entry d)) (look_up (ranks_of (es ++ e ∷ [])) x)
+        ≡ option_or (cond b (Some (rank_of_entry d)) (look_up (ranks_of es) x))
+        (cond (bytes_eq x e.name) (Some (rank_of_entry e)) None)
     by true rest = refl
     by false rest = rest
 
@@ -224,20 +316,28 @@ no_rank : (es : List Entry) (x : List ℕ) → entry_named es x ≡ None → loo
 no_rank [] x h = refl
 no_rank (d ∷ es) x h = by (bytes_eq x d.name) h (λ g. no_rank es x g)
   where
-    by : (b : Bool) → cond b (Some d) (entry_named es x) ≡ None → (entry_named es x ≡ None → look_up (ranks_of es) x ≡ None) → cond b (Some (rank_of_entry d)) (look_up (ranks_of es) x) ≡ None
+    by : (b : Bool) → cond b (Some d) (entry_named es x) ≡ None
+        → (entry_named es x ≡ None → look_up (ranks_of es) x ≡ None)
+        → cond b (Some (rank_of_entry d)) (look_up (ranks_of es) x) ≡ None
     by true h next = cc
     by false h next = next h
 
 -- an entry after others has another name than those
-found_behind : (ds : List Entry) (e : Entry) (es : List Entry) (x : List ℕ) → e.name ≡ x → entry_named (ds ++ e ∷ es) x ≡ None → ⊥
-found_behind [] e es x is none = let p = none_step (bytes_eq x e.name) e (entry_named es x) none in let self : bytes_eq x e.name ≡ true = ap (λ n. bytes_eq x n) is ∙ same_self x in cc
-found_behind (d ∷ ds) e es x is none = found_behind ds e es x is (none_step (bytes_eq x d.name) d (entry_named (ds ++ e ∷ es) x) none).1
+found_behind : (ds : List Entry) (e : Entry) (es : List Entry) (x : List ℕ) → e.name ≡ x
+    → entry_named (ds ++ e ∷ es) x ≡ None → ⊥
+found_behind [] e es x is none = let p = none_step (bytes_eq x e.name) e (entry_named es x) none
+    in let self : bytes_eq x e.name ≡ true = ap (λ n. bytes_eq x n) is ∙ same_self x in cc
+found_behind (d ∷ ds) e es x is none =
+    found_behind ds e es x is (none_step (bytes_eq x d.name) d (entry_named (ds ++ e ∷ es) x) none).1
 
-none_before : (earlier : List Entry) (e : Entry) (es : List Entry) → AreDistinct (earlier ++ e ∷ es) → entry_named earlier e.name ≡ None
+none_before : (earlier : List Entry) (e : Entry) (es : List Entry) → AreDistinct (earlier ++ e ∷ es)
+    → entry_named earlier e.name ≡ None
 none_before [] e es distinct = refl
-none_before (d ∷ earlier) e es distinct = by (bytes_eq e.name d.name) refl (none_before earlier e es distinct.1)
+none_before (d ∷ earlier) e es distinct =
+    by (bytes_eq e.name d.name) refl (none_before earlier e es distinct.1)
   where
-    by : (b : Bool) → bytes_eq e.name d.name ≡ b → entry_named earlier e.name ≡ None → cond b (Some d) (entry_named earlier e.name) ≡ None
+    by : (b : Bool) → bytes_eq e.name d.name ≡ b → entry_named earlier e.name ≡ None
+        → cond b (Some d) (entry_named earlier e.name) ≡ None
     by false other rest = rest
     by true is rest = absurd (found_behind earlier e es d.name (same_name e.name d.name is) distinct.0)
 
@@ -249,59 +349,86 @@ exactly-same : SameSorts → (sorts args : List Sort) → are_exactly sorts args
 exactly-same same [] [] h = refl
 exactly-same same [] (a ∷ args) h = cc
 exactly-same same (s ∷ sorts) [] h = cc
-exactly-same same (s ∷ sorts) (a ∷ args) h = by (is_same_sort a s) refl h (λ g. exactly-same same sorts args g)
+exactly-same same (s ∷ sorts) (a ∷ args) h =
+    by (is_same_sort a s) refl h (λ g. exactly-same same sorts args g)
   where
-    by : (b : Bool) → is_same_sort a s ≡ b → (b && are_exactly sorts args) ≡ true → (are_exactly sorts args ≡ true → args ≡ sorts) → a ∷ args ≡ s ∷ sorts
+    by : (b : Bool) → is_same_sort a s ≡ b → (b && are_exactly sorts args) ≡ true
+        → (are_exactly sorts args ≡ true → args ≡ sorts) → a ∷ args ≡ s ∷ sorts
     by false is h rest = cc
     by true is h rest = let head = same a s is in let tail = rest h in cc
 
 -- a name in force for arguments
-name-fits : SameSorts → (rank : Rank) (sorts : List Sort) (sort : Sort) → sort_of_name rank sorts ≡ Ok sort → (sorts ≡ rank.parameters) × (rank.sort ≡ sort)
+name-fits : SameSorts → (rank : Rank) (sorts : List Sort) (sort : Sort) → sort_of_name rank sorts ≡ Ok sort
+    → (sorts ≡ rank.parameters) × (rank.sort ≡ sort)
 name-fits same rank sorts sort is = by (are_exactly rank.parameters sorts) refl is
   where
-    by : (b : Bool) → are_exactly rank.parameters sorts ≡ b → cond b (Ok rank.sort) (Err IllSorted) ≡ Ok sort → (sorts ≡ rank.parameters) × (rank.sort ≡ sort)
+    by : (b : Bool) → are_exactly rank.parameters sorts ≡ b → cond b (Ok rank.sort) (Err IllSorted) ≡ Ok sort
+        → (sorts ≡ rank.parameters) × (rank.sort ≡ sort)
     by true all is = (exactly-same same rank.parameters sorts all, cc)
     by false all is = cc
 
 -- what a definition gives
-definition-fits : (theories : Theories) (earlier : List Entry) (m : Meaning) (sorts : List Sort) (sort : Sort) (origin : Origin) (es : List Element) → Fits (names_over theories earlier) m
-    → IsWellSortedFrom (names_over theories earlier) sorts sort origin → AreOfSorts sorts es → IsOfSort sort (defined_value m origin es)
+definition-fits : (theories : Theories) (earlier : List Entry) (m : Meaning) (sorts : List Sort) (sort : Sort)
+    (origin : Origin) (es : List Element) → Fits (names_over theories earlier) m
+    → IsWellSortedFrom (names_over theories earlier) sorts sort origin → AreOfSorts sorts es
+    → IsOfSort sort (defined_value m origin es)
 definition-fits theories earlier m sorts sort (Declared command) es fits sorted h = absurd sorted
 definition-fits theories earlier m sorts sort (Defined ps body) es fits sorted h =
-    term-fits (names_over theories earlier) m fits (zip ps sorts) (zip ps es) (FitsScope-zip ps sorts es h) body sort sorted.sorted
+    term-fits (names_over theories earlier) m fits (zip ps sorts) (zip ps es)
+    (FitsScope-zip ps sorts es h) body sort sorted.sorted
 
 -- one more definition
-Fits-with : SameSorts → (theories : Theories) (earlier : List Entry) (m : Meaning) (e : Entry) → Fits (names_over theories earlier) m → IsWellSorted theories earlier e → entry_named earlier e.name ≡ None
+Fits-with : SameSorts → (theories : Theories) (earlier : List Entry) (m : Meaning) (e : Entry)
+    → Fits (names_over theories earlier) m → IsWellSorted theories earlier e
+    → entry_named earlier e.name ≡ None
     → Fits (names_over theories (earlier ++ e ∷ [])) (with_definition m e)
-Fits-with same theories earlier m e fits sorted fresh (Indexed f indexes) sorts sort es is h = fits (Indexed f indexes) sorts sort es is h
-Fits-with same theories earlier m e fits sorted fresh (Plain f) sorts sort es is h = by (bytes_eq f e.name) refl
+Fits-with same theories earlier m e fits sorted fresh (Indexed f indexes) sorts sort es is h =
+    fits (Indexed f indexes) sorts sort es is h
+Fits-with same theories earlier m e fits sorted fresh (Plain f) sorts sort es is h =
+    by (bytes_eq f e.name) refl
   where
     sort_by : Option Rank → Result Sort TermFault
     sort_by o = sort_of_plain (names_over theories (earlier ++ e ∷ [])) f o sorts
 
-    by : (b : Bool) → bytes_eq f e.name ≡ b → IsOfSort sort (cond b (defined_value m e.origin es) (m (Plain f) es))
+    by : (b : Bool) → bytes_eq f e.name ≡ b
+        → IsOfSort sort (cond b (defined_value m e.origin es) (m (Plain f) es))
     by true is_name =
         let none = no_rank earlier f (ap (λ n. entry_named earlier n) (same_name f e.name is_name) ∙ fresh) in
-        let ranked : look_up (ranks_of (earlier ++ e ∷ [])) f ≡ Some (rank_of_entry e) = look_up-more earlier e f ∙ ap (λ o. option_or o (cond (bytes_eq f e.name) (Some (rank_of_entry e)) None)) none ∙ ap (λ b. cond b (Some (rank_of_entry e)) None) is_name in
+        let ranked : look_up (ranks_of (earlier ++ e ∷ [])) f ≡ Some (rank_of_entry e) =
+        look_up-more earlier e f ∙ ap
+        (λ o. option_or o (cond (bytes_eq f e.name) (Some (rank_of_entry e)) None)) none ∙ ap
+        (λ b. cond b (Some (rank_of_entry e)) None) is_name in
         let p = name-fits same (rank_of_entry e) sorts sort (sym (ap sort_by ranked) ∙ is) in
-        subst (λ s. IsOfSort s (defined_value m e.origin es)) p.1 (definition-fits theories earlier m e.parameters e.sort e.origin es fits sorted (subst (λ ss. AreOfSorts ss es) p.0 h))
+        subst (λ s. IsOfSort s (defined_value m e.origin es)) p.1
+        (definition-fits theories earlier m e.parameters e.sort e.origin es fits sorted
+        (subst (λ ss. AreOfSorts ss es) p.0 h))
     by false other =
         fits (Plain f) sorts sort es
-        (sym (ap sort_by (look_up-more earlier e f ∙ ap (λ b. option_or (look_up (ranks_of earlier) f) (cond b (Some (rank_of_entry e)) None)) other ∙ option_or_none (look_up (ranks_of earlier) f))) ∙ is) h
+        (sym (ap sort_by (look_up-more earlier e f ∙ ap
+        (λ b. option_or (look_up (ranks_of earlier) f) (cond b (Some (rank_of_entry e)) None)) other ∙
+        option_or_none (look_up (ranks_of earlier) f))) ∙ is) h
 
 -- and any
-Fits-after : SameSorts → (theories : Theories) (earlier es : List Entry) (m : Meaning) → Fits (names_over theories earlier) m → AreWellSorted theories earlier es → AreDistinct (earlier ++ es)
+Fits-after : SameSorts → (theories : Theories) (earlier es : List Entry) (m : Meaning)
+    → Fits (names_over theories earlier) m → AreWellSorted theories earlier es → AreDistinct (earlier ++ es)
     → Fits (names_over theories (earlier ++ es)) (meaning_after m es)
-Fits-after same theories earlier [] m fits sorted distinct = subst (λ ds. Fits (names_over theories ds) m) (sym (append-nil earlier)) fits
+Fits-after same theories earlier [] m fits sorted distinct =
+    subst (λ ds. Fits (names_over theories ds) m) (sym (append-nil earlier)) fits
 Fits-after same theories earlier (e ∷ es) m fits sorted distinct =
     let together = append_assoc earlier (e ∷ []) es in
     subst (λ ds. Fits (names_over theories ds) (meaning_after (with_definition m e) es)) together
-    (Fits-after same theories (earlier ++ e ∷ []) es (with_definition m e) (Fits-with same theories earlier m e fits sorted.0 (none_before earlier e es distinct)) sorted.1 (subst AreDistinct (sym together) distinct))
+    (Fits-after same theories (earlier ++ e ∷ []) es (with_definition m e)
+    (Fits-with same theories earlier m e fits sorted.0 (none_before earlier e es distinct)) sorted.1
+    (subst AreDistinct (sym together) distinct))
 
 -- the value of a well-sorted term is of its sort
-pub sorted-value : ResultsAreOfTheirSorts → SameSorts → (z : DivisionByZero) (definitions : Signature) (scope : List (List ℕ × Sort)) (r : List (List ℕ × Element)) (term : Sexp) (sort : Sort)
-    → AreWellSorted definitions.theories [] definitions.entries → AreDistinct definitions.entries → FitsScope scope r → sort_in (unlabelled (names_of definitions)) scope term ≡ Ok sort
+pub sorted-value : ResultsAreOfTheirSorts → SameSorts
+    → (z : DivisionByZero) (definitions : Signature) (scope : List (List ℕ × Sort))
+    (r : List (List ℕ × Element)) (term : Sexp) (sort : Sort)
+    → AreWellSorted definitions.theories [] definitions.entries → AreDistinct definitions.entries
+    → FitsScope scope r → sort_in (unlabelled (names_of definitions)) scope term ≡ Ok sort
     → IsOfSort sort (value_of (meaning_in z definitions) r term)
 sorted-value law same z definitions scope r term sort sorted distinct fit is =
     term-fits (names_of definitions) (meaning_in z definitions)
-    (Fits-after same definitions.theories [] definitions.entries (operators z definitions.theories) (Fits-operators law z definitions.theories) sorted distinct) scope r fit term sort is
+    (Fits-after same definitions.theories [] definitions.entries (operators z definitions.theories)
+    (Fits-operators law z definitions.theories) sorted distinct) scope r fit term sort is

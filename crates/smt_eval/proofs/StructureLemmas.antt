@@ -1,12 +1,15 @@
 -- No name stands twice in the structure that a model gives to a script.
-use Rattle.std.proofs.Common.{◌≡◌, ℕ, Bool, true, false, cond, not, ◌||◌, List, [], ◌∷◌, ◌++◌, Option, Some, None, is_some, refl, ap, sym, ◌∙◌, subst}
+use Rattle.std.proofs.Common.{◌≡◌, ℕ, Bool, true, false, cond, not, ◌||◌, List, [], ◌∷◌, ◌++◌, Option, Some}
+use Rattle.std.proofs.Common.{None, is_some, refl, ap, sym, ◌∙◌, subst}
 use Rattle.std.specs.Prelude.{bytes_eq, option_and_then, option_map}
 use Rattle.smt_theory.specs.Operators.{is_plain_operator}
 use Rattle.smt_theory.specs.Words.{look_up}
 use Rattle.smt_theory.specs.declared.theories.Theories.{Theories}
 use Rattle.smt_terms.specs.Items.{declared_named, if_declared}
 use Rattle.smt_terms.specs.Library.{defined_among, is_declared}
-use Rattle.smt_terms.specs.Signature.{AreDistinct, Entry, Origin, Declared, Defined, IsDeclared, Signature, entry_named, is_taken, names_of, rank_of_entry, unlabelled_over, ranks_of}
+use Rattle.smt_terms.specs.Signature.{AreDistinct, Entry, Origin, Declared, Defined, IsDeclared, Signature}
+use Rattle.smt_terms.specs.Signature.{entry_named, is_taken, names_of, rank_of_entry, unlabelled_over}
+use Rattle.smt_terms.specs.Signature.{ranks_of}
 use Rattle.smt_terms.specs.WellSorted.{AreWellSorted, IsWellSortedFrom}
 use Rattle.smt_eval.specs.Internal.DefinitionValues.{AllDefined, IsDefined}
 use Rattle.smt_eval.specs.Structure.{structure_of}
@@ -14,20 +17,25 @@ use Rattle.smt_eval.proofs.CompleteModelLemmas.{AreFree, AreSound, IsFree}
 use Rattle.smt_eval.proofs.PlaceLemmas.{declared_alone, none_among, none_in_both}
 
 -- definitions that are well sorted are definitions
-pub sorted_defined : (theories : Theories) (before es : List Entry) → AreWellSorted theories before es → AllDefined es
+pub sorted_defined : (theories : Theories) (before es : List Entry) → AreWellSorted theories before es
+    → AllDefined es
 sorted_defined theories before [] h = tt
-sorted_defined theories before (e ∷ es) h = (by e.origin refl, sorted_defined theories (before ++ e ∷ []) es h.1)
+sorted_defined theories before (e ∷ es) h =
+    (by e.origin refl, sorted_defined theories (before ++ e ∷ []) es h.1)
   where
     by : (o : Origin) → e.origin ≡ o → IsDefined e.origin
     by (Defined ps body) is = subst IsDefined (sym is) tt
-    by (Declared command) is = absurd (subst (λ (o : Origin). IsWellSortedFrom (unlabelled_over theories before) e.parameters e.sort o) is h.0)
+    by (Declared command) is = absurd
+        (subst (λ (o : Origin). IsWellSortedFrom (unlabelled_over theories before) e.parameters e.sort o) is
+        h.0)
 
 -- the definitions among distinct names
 distinct_among : (es : List Entry) → AreDistinct es → AreDistinct (defined_among es)
 distinct_among [] d = tt
 distinct_among (e ∷ es) d = by (not (is_declared e.origin)) (distinct_among es d.1)
   where
-    by : (b : Bool) → AreDistinct (defined_among es) → AreDistinct (cond b (e ∷ defined_among es) (defined_among es))
+    by : (b : Bool) → AreDistinct (defined_among es)
+        → AreDistinct (cond b (e ∷ defined_among es) (defined_among es))
     by true rest = (none_among es e.name d.0, rest)
     by false rest = rest
 
@@ -36,41 +44,57 @@ abbrev AreApart : List Entry → List Entry → Type 0
 AreApart fs [] = Unit {0}
 AreApart fs (e ∷ es) = (entry_named fs e.name ≡ None) × AreApart fs es
 
-distinct_both : (es fs : List Entry) → AreDistinct es → AreDistinct fs → AreApart fs es → AreDistinct (es ++ fs)
+distinct_both : (es fs : List Entry) → AreDistinct es → AreDistinct fs → AreApart fs es
+    → AreDistinct (es ++ fs)
 distinct_both [] fs d f apart = f
-distinct_both (e ∷ es) fs d f apart = (none_in_both es fs e.name d.0 apart.0, distinct_both es fs d.1 f apart.1)
+distinct_both (e ∷ es) fs d f apart =
+    (none_in_both es fs e.name d.0 apart.0, distinct_both es fs d.1 f apart.1)
 
 -- the rank of a name is that of its entry
-pub rank_named : (es : List Entry) (x : List ℕ) → look_up (ranks_of es) x ≡ option_map rank_of_entry (entry_named es x)
+pub rank_named : (es : List Entry) (x : List ℕ)
+    → look_up (ranks_of es) x ≡ option_map rank_of_entry (entry_named es x)
 rank_named [] x = refl
 rank_named (e ∷ es) x = by (bytes_eq x e.name) (rank_named es x)
   where
-    by : (b : Bool) → look_up (ranks_of es) x ≡ option_map rank_of_entry (entry_named es x) → cond b (Some (rank_of_entry e)) (look_up (ranks_of es) x) ≡ option_map rank_of_entry (cond b (Some e) (entry_named es x))
+    by : (b : Bool) → look_up (ranks_of es) x ≡ option_map rank_of_entry (entry_named es x)
+        → cond b (Some (rank_of_entry e)) (look_up (ranks_of es) x)
+        ≡ option_map rank_of_entry (cond b (Some e) (entry_named es x))
     by true rest = refl
     by false rest = rest
 
 -- a name that is free, unless it was declared, is no definition's
-apart_of_free : (script : Signature) (e : Entry) → AreDistinct script.entries → IsFree script e → entry_named (defined_among script.entries) e.name ≡ None
+apart_of_free : (script : Signature) (e : Entry) → AreDistinct script.entries → IsFree script e
+    → entry_named (defined_among script.entries) e.name ≡ None
 apart_of_free script e distinct free = by (entry_named script.entries e.name) refl
   where
-    taken : (c : Entry) → entry_named script.entries e.name ≡ Some c → is_taken (names_of script) e.name ≡ true
-    taken c at = ap (λ o. is_some o || is_plain_operator script.theories e.name) (rank_named script.entries e.name ∙ ap (option_map rank_of_entry) at)
+    taken : (c : Entry) → entry_named script.entries e.name ≡ Some c
+        → is_taken (names_of script) e.name ≡ true
+    taken c at = ap (λ o. is_some o || is_plain_operator script.theories e.name)
+        (rank_named script.entries e.name ∙ ap (option_map rank_of_entry) at)
 
-    found : (c : Entry) → entry_named script.entries e.name ≡ Some c → (o : Origin) → c.origin ≡ o → entry_named (defined_among script.entries) e.name ≡ None
-    found c at (Declared command) from = declared_alone script.entries e.name c distinct at (subst IsDeclared (sym from) tt)
+    found : (c : Entry) → entry_named script.entries e.name ≡ Some c → (o : Origin) → c.origin ≡ o
+        → entry_named (defined_among script.entries) e.name ≡ None
+    found c at (Declared command) from =
+        declared_alone script.entries e.name c distinct at (subst IsDeclared (sym from) tt)
     found c at (Defined ps body) from =
-        let none : declared_named script.entries e.name ≡ None = ap (option_and_then (λ d. if_declared d d.origin)) at ∙ ap (λ o. if_declared c o) from in
+        let none : declared_named script.entries e.name ≡ None =
+        ap (option_and_then (λ d. if_declared d d.origin)) at ∙ ap (λ o. if_declared c o) from in
         let both : true ≡ false = sym (taken c at) ∙ free none in
         cc
 
-    by : (o : Option Entry) → entry_named script.entries e.name ≡ o → entry_named (defined_among script.entries) e.name ≡ None
+    by : (o : Option Entry) → entry_named script.entries e.name ≡ o
+        → entry_named (defined_among script.entries) e.name ≡ None
     by None at = none_among script.entries e.name at
     by (Some c) at = found c at c.origin refl
 
-apart_all : (script : Signature) (es : List Entry) → AreDistinct script.entries → AreFree script es → AreApart (defined_among script.entries) es
+apart_all : (script : Signature) (es : List Entry) → AreDistinct script.entries → AreFree script es
+    → AreApart (defined_among script.entries) es
 apart_all script [] distinct free = tt
-apart_all script (e ∷ es) distinct free = (apart_of_free script e distinct free.0, apart_all script es distinct free.1)
+apart_all script (e ∷ es) distinct free =
+    (apart_of_free script e distinct free.0, apart_all script es distinct free.1)
 
-pub structure_distinct : (script definitions : Signature) → AreDistinct script.entries → AreSound script definitions.entries → AreDistinct (structure_of script definitions).entries
+pub structure_distinct : (script definitions : Signature) → AreDistinct script.entries
+    → AreSound script definitions.entries → AreDistinct (structure_of script definitions).entries
 structure_distinct script definitions distinct sound =
-    distinct_both definitions.entries (defined_among script.entries) sound.distinct (distinct_among script.entries distinct) (apart_all script definitions.entries distinct sound.free)
+    distinct_both definitions.entries (defined_among script.entries) sound.distinct
+    (distinct_among script.entries distinct) (apart_all script definitions.entries distinct sound.free)

@@ -1,4 +1,5 @@
--- When what is known of variables and their values agree, and when values fit a scope: the premises of the laws.
+-- When what is known of variables and their values agree, and when values fit a scope: the premises of the
+-- laws.
 use Rattle.std.specs.Prelude.{ℕ, List, Option, Some, None}
 use Rattle.smt_theory.specs.Words.{look_up}
 use Rattle.smt_theory.specs.declared.sort.Sort.{Sort}

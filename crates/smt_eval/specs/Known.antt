@@ -1,8 +1,10 @@
--- What is known of the value of a term: which element it is, or nothing; then the term is open. Which terms are open is this
--- project's rule; where the value is known, it is the standard's.
-use Rattle.std.specs.Prelude.{ℕ, List, [], ◌∷◌, ◌++◌, Option, None, Result, Ok, Err, if◌then◌else◌, unwrap_or, bytes_eq}
+-- What is known of the value of a term: which element it is, or nothing; then the term is open. Which terms
+-- are open is this project's rule; where the value is known, it is the standard's.
+use Rattle.std.specs.Prelude.{ℕ, List, [], ◌∷◌, ◌++◌, Option, None, Result, Ok, Err, if◌then◌else◌, unwrap_or}
+use Rattle.std.specs.Prelude.{bytes_eq}
 use Rattle.std.specs.List.{zip}
-use Rattle.smt_trees.specs.Sexp.{Sexp, Sexps, Atom, Reserved, Items, Nil, Cons, Symbol, Numeral, Hexadecimal, Binary}
+use Rattle.smt_trees.specs.Sexp.{Sexp, Sexps, Atom, Reserved, Items, Nil, Cons, Symbol, Numeral, Hexadecimal}
+use Rattle.smt_trees.specs.Sexp.{Binary}
 use Rattle.smt_trees.specs.declared.reserved.Word.TheVariants.{Bang, Let, Underscore}
 use Rattle.smt_theory.specs.Words.{look_up}
 use Rattle.smt_theory.specs.declared.op.Op.{Op}
@@ -23,7 +25,8 @@ abbrev pub known_by : Result Identifier TermFault → (Identifier → Option Ele
 known_by (Ok f) give = give f
 known_by (Err fault) give = None
 
--- what is known of a term where identifiers mean m and this is known of the variables, of which some may be open
+-- what is known of a term where identifiers mean m and this is known of the variables, of which some may be
+-- open
 abbrev mutual
   pub known_of : KnownMeaning → List (List ℕ × Option Element) → Sexp → Option Element
   known_of m r (Atom Symbol x) = unwrap_or (look_up r x) (m (Plain x) [])
@@ -31,7 +34,8 @@ abbrev mutual
   known_of m r (Atom Hexadecimal digits) = hex_element digits
   known_of m r (Atom Binary digits) = bin_element digits
   known_of m r (Items (Cons (Reserved Underscore) parts)) = known_by (indexed parts) (λ f. m f [])
-  known_of m r (Items (Cons (Reserved Let) (Cons (Items bindings) (Cons body Nil)))) = known_of m (knowns_bound m r bindings ++ r) body
+  known_of m r (Items (Cons (Reserved Let) (Cons (Items bindings) (Cons body Nil)))) =
+      known_of m (knowns_bound m r bindings ++ r) body
   known_of m r (Items (Cons (Reserved Bang) (Cons term attributes))) = known_of m r term
   known_of m r (Items (Cons head args)) = known_by (applied head args) (λ f. m f (knowns_of m r args))
   known_of m r _ = None
@@ -42,7 +46,8 @@ abbrev mutual
 
   -- the variables that bindings bring, with what is known of each: each term is seen without them
   pub knowns_bound : KnownMeaning → List (List ℕ × Option Element) → Sexps → List (List ℕ × Option Element)
-  knowns_bound m r (Cons (Items (Cons (Atom Symbol x) (Cons term Nil))) rest) = (x, known_of m r term) ∷ knowns_bound m r rest
+  knowns_bound m r (Cons (Items (Cons (Atom Symbol x) (Cons term Nil))) rest) =
+      (x, known_of m r term) ∷ knowns_bound m r rest
   knowns_bound m r _ = []
 
 abbrev pub known_of_op : Result Op OpFault → List (Option Element) → Option Element

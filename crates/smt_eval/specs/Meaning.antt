@@ -1,9 +1,12 @@
--- SMT-LIB 2.6, section 5.3: the value of a well-sorted term in a structure, which is given by theories and definitions.
-use Rattle.std.specs.Prelude.{ℕ, pos, List, [], ◌∷◌, ◌++◌, false, Result, Ok, Err, if◌then◌else◌, bytes_eq, unwrap_or}
+-- SMT-LIB 2.6, section 5.3: the value of a well-sorted term in a structure, which is given by theories and
+-- definitions.
+use Rattle.std.specs.Prelude.{ℕ, pos, List, [], ◌∷◌, ◌++◌, false, Result, Ok, Err, if◌then◌else◌, bytes_eq}
+use Rattle.std.specs.Prelude.{unwrap_or}
 use Rattle.std.specs.List.{zip}
 use Rattle.std.specs.Str.Parse.{digits_value}
 use Rattle.smt_bits.specs.Literals.{bin_vector, hex_vector}
-use Rattle.smt_trees.specs.Sexp.{Sexp, Sexps, Atom, Reserved, Items, Nil, Cons, Symbol, Numeral, Hexadecimal, Binary}
+use Rattle.smt_trees.specs.Sexp.{Sexp, Sexps, Atom, Reserved, Items, Nil, Cons, Symbol, Numeral, Hexadecimal}
+use Rattle.smt_trees.specs.Sexp.{Binary}
 use Rattle.smt_trees.specs.declared.reserved.Word.TheVariants.{Bang, Let, Underscore}
 use Rattle.smt_theory.specs.Words.{look_up}
 use Rattle.smt_theory.specs.declared.op.Op.{Op}
@@ -32,7 +35,8 @@ abbrev mutual
   value_of m r (Atom Hexadecimal digits) = Vector (hex_vector digits)
   value_of m r (Atom Binary digits) = Vector (bin_vector digits)
   value_of m r (Items (Cons (Reserved Underscore) parts)) = element_by (indexed parts) (λ f. m f [])
-  value_of m r (Items (Cons (Reserved Let) (Cons (Items bindings) (Cons body Nil)))) = value_of m (values_bound m r bindings ++ r) body
+  value_of m r (Items (Cons (Reserved Let) (Cons (Items bindings) (Cons body Nil)))) =
+      value_of m (values_bound m r bindings ++ r) body
   value_of m r (Items (Cons (Reserved Bang) (Cons term attributes))) = value_of m r term
   value_of m r (Items (Cons head args)) = element_by (applied head args) (λ f. m f (values_of m r args))
   value_of m r _ = Truth false
@@ -43,7 +47,8 @@ abbrev mutual
 
   -- the variables that bindings bring, with their values: each term is seen without them
   pub values_bound : Meaning → List (List ℕ × Element) → Sexps → List (List ℕ × Element)
-  values_bound m r (Cons (Items (Cons (Atom Symbol x) (Cons term Nil))) rest) = (x, value_of m r term) ∷ values_bound m r rest
+  values_bound m r (Cons (Items (Cons (Atom Symbol x) (Cons term Nil))) rest) =
+      (x, value_of m r term) ∷ values_bound m r rest
   values_bound m r _ = []
 
 -- where no name is defined, identifiers mean the operators of the theories
@@ -61,14 +66,16 @@ defined_value m (Declared command) args = Truth false
 
 -- what identifiers mean with one more definition, whose body sees the earlier ones alone
 abbrev pub with_definition : Meaning → Entry → Meaning
-with_definition m e (Plain f) args = if bytes_eq f e.name then defined_value m e.origin args else m (Plain f) args
+with_definition m e (Plain f) args =
+    if bytes_eq f e.name then defined_value m e.origin args else m (Plain f) args
 with_definition m e (Indexed f indexes) args = m (Indexed f indexes) args
 
 abbrev pub meaning_after : Meaning → List Entry → Meaning
 meaning_after m [] = m
 meaning_after m (e ∷ es) = meaning_after (with_definition m e) es
 
--- what identifiers mean in the structure of these theories and definitions, where division by zero gives what z has
+-- what identifiers mean in the structure of these theories and definitions, where division by zero gives what
+-- z has
 abbrev pub meaning_in : DivisionByZero → Signature → Meaning
 meaning_in z definitions = meaning_after (operators z definitions.theories) definitions.entries
 

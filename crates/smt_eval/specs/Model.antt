@@ -1,6 +1,7 @@
--- SMT-LIB 2.6, section 4.2.6: the model that an answer to `get-model` prints. The order of the faults, and that a model may begin
--- with the symbol `model`, are this project's rules.
-use Rattle.std.specs.Prelude.{◌≡◌, ℕ, zero, suc, ◌+◌, List, [], ◌∷◌, ◌++◌, true, slice_get, take, Option, Some, None, is_some, Result, Ok, Err, codes, if◌then◌else◌}
+-- SMT-LIB 2.6, section 4.2.6: the model that an answer to `get-model` prints. The order of the faults, and
+-- that a model may begin with the symbol `model`, are this project's rules.
+use Rattle.std.specs.Prelude.{◌≡◌, ℕ, zero, suc, ◌+◌, List, [], ◌∷◌, ◌++◌, true, slice_get, take, Option}
+use Rattle.std.specs.Prelude.{Some, None, is_some, Result, Ok, Err, codes, if◌then◌else◌}
 use Rattle.std.specs.Option.{option_or}
 use Rattle.smt_trees.specs.Sexp.{Sexps, Nil, Cons, is_symbol}
 use Rattle.smt_theory.specs.Words.{result_and_then}
@@ -11,11 +12,13 @@ use Rattle.smt_eval.specs.declared.interpretation.ModelFault.{ModelFault}
 use Rattle.smt_eval.specs.declared.interpretation.ModelFault.TheVariants.{Item, Lacks}
 
 -- what comes of an item, or its fault with its number
-abbrev pub or_item : {A : Type 0} → ℕ → Result Entry TermFault → (Entry → Result A ModelFault) → Result A ModelFault
+abbrev pub or_item : {A : Type 0} → ℕ → Result Entry TermFault → (Entry → Result A ModelFault)
+    → Result A ModelFault
 or_item number (Ok e) next = next e
 or_item number (Err fault) next = Err (Item number fault)
 
--- what the items define, behind what came before; or the first item with a fault, the first of them having this number
+-- what the items define, behind what came before; or the first item with a fault, the first of them having
+-- this number
 abbrev pub items_from : Signature → List Entry → ℕ → Sexps → Result (List Entry) ModelFault
 items_from script earlier number Nil = Ok earlier
 items_from script earlier number (Cons x xs) =
@@ -45,29 +48,34 @@ abbrev pub complete_or : Option ℕ → Signature → Result Signature ModelFaul
 complete_or None definitions = Ok definitions
 complete_or (Some command) definitions = Err (Lacks command)
 
--- the definitions of a model of the script's declared names, over the script's theories; or the model's first fault: that of an
--- item, or else a name that is lacking
+-- the definitions of a model of the script's declared names, over the script's theories; or the model's first
+-- fault: that of an item, or else a name that is lacking
 abbrev pub model_in : Signature → Sexps → Result Signature ModelFault
 model_in script parts =
-    result_and_then (items_from script [] 1 (items_of parts)) (λ items. complete_or (first_lacking script.entries items) (items_before script items))
+    result_and_then (items_from script [] 1 (items_of parts))
+    (λ items. complete_or (first_lacking script.entries items) (items_before script items))
 
 -- ---- what a model is, item by item
 
--- the trees are items of a model of the script's names behind earlier ones, and these are the definitions that they are, in order
+-- the trees are items of a model of the script's names behind earlier ones, and these are the definitions
+-- that they are, in order
 abbrev pub AreItems : Signature → List Entry → Sexps → List Entry → Type 0
 AreItems script earlier Nil [] = Unit {0}
-AreItems script earlier (Cons x xs) (e ∷ es) = (item_in script earlier x ≡ Ok e) × AreItems script (earlier ++ e ∷ []) xs es
+AreItems script earlier (Cons x xs) (e ∷ es) =
+    (item_in script earlier x ≡ Ok e) × AreItems script (earlier ++ e ∷ []) xs es
 AreItems script earlier _ _ = ⊥
 
 -- each entry that a command declared is defined by an item
 abbrev pub AreDefined : List Entry → List Entry → Type 0
-AreDefined entries items = (place : ℕ) (e : Entry) → slice_get entries place ≡ Some e → IsDeclared e.origin → is_some (entry_named items e.name) ≡ true
+AreDefined entries items = (place : ℕ) (e : Entry) → slice_get entries place ≡ Some e → IsDeclared e.origin
+    → is_some (entry_named items e.name) ≡ true
 
 -- the tree behind so many others that are items has this fault, and is the first that has one
 abbrev pub HasFirstFault : Signature → List Entry → Sexps → ℕ → TermFault → Type 0
 HasFirstFault script earlier Nil n fault = ⊥
 HasFirstFault script earlier (Cons x xs) zero fault = item_in script earlier x ≡ Err fault
-HasFirstFault script earlier (Cons x xs) (suc n) fault = (e : Entry) × (item_in script earlier x ≡ Ok e) × HasFirstFault script (earlier ++ e ∷ []) xs n fault
+HasFirstFault script earlier (Cons x xs) (suc n) fault =
+    (e : Entry) × (item_in script earlier x ≡ Ok e) × HasFirstFault script (earlier ++ e ∷ []) xs n fault
 
 -- the first entry that a command declared and no item defines is of this command
 pub record IsFirstLacking (entries items : List Entry) (command : ℕ) : Type 0 where

@@ -1,4 +1,5 @@
-//! What names mean: operators, and definitions, whose bodies see their parameters and the definitions before them.
+//! What names mean: operators, and definitions, whose bodies see their parameters and the definitions before
+//! them.
 
 ghost use Rattle.std.specs.Prelude.{◌≡◌, ◌<◌, Some, length, map, slice_get, IfOk};
 ghost use Rattle.std.specs.List.{zip};
@@ -29,7 +30,9 @@ pub(crate) fn known_applied(
     args: &[Option<Value>],
 ) -> Result<Option<Value>, Memory>
     requires { (d : Signature) × Evaluates over d }
-    ensures { (d : Signature) → Evaluates over.entry d → IfOk result (λ v. known_element v ≡ meaning_over over.entry d (identifier_view identifier.now) (known_elements args.now)) }
+    ensures { (d : Signature) → Evaluates over.entry d
+        → IfOk result (λ v. known_element v
+        ≡ meaning_over over.entry d (identifier_view identifier.now) (known_elements args.now)) }
 {
     match identifier {
         Identifier::Plain(name) => known_plain(over, *name, args),
@@ -40,7 +43,8 @@ pub(crate) fn known_applied(
     }
 }
 
-/// What is known of a symbol that is no variable, applied to arguments: what its definition gives, or what the operator does.
+/// What is known of a symbol that is no variable, applied to arguments: what its definition gives, or what
+/// the operator does.
 #[cycle(known)]
 #[inline(always)]
 pub(crate) fn known_plain(
@@ -49,7 +53,9 @@ pub(crate) fn known_plain(
     args: &[Option<Value>],
 ) -> Result<Option<Value>, Memory>
     requires { (d : Signature) × Evaluates over d }
-    ensures { (d : Signature) → Evaluates over.entry d → IfOk result (λ v. known_element v ≡ meaning_over over.entry d (Plain name.now) (known_elements args.now)) }
+    ensures { (d : Signature) → Evaluates over.entry d
+        → IfOk result (λ v. known_element v
+        ≡ meaning_over over.entry d (Plain name.now) (known_elements args.now)) }
 {
     match place_of(over, name) {
         Some(place) => known_at(over, place, args),
@@ -68,7 +74,8 @@ pub(crate) fn known_at(
     requires over { (d : Signature) × Evaluates over d }
     requires seen { place < over.count }
     ensures { (d : Signature) (e : Entry) → Evaluates over.entry d → slice_get d.entries place ≡ Some e
-        → IfOk result (λ v. known_element v ≡ known_defined (known_in (first place d)) e.origin (known_elements args.now)) }
+        → IfOk result (λ v. known_element v
+        ≡ known_defined (known_in (first place d)) e.origin (known_elements args.now)) }
 {
     let (params, body) = definition_at(over, place);
     if params.is_empty() {
@@ -92,7 +99,9 @@ fn known_body(
     requires seen { place < over.count }
     requires body { slice_get (bodies_of over) place ≡ Some (Some (sexp_of body.now)) }
     ensures { (d : Signature) → Evaluates over.entry d
-        → IfOk result (λ v. known_element v ≡ known_of (known_in (first place d)) (zip (map (λ p. p.0.items) params.now) (known_elements args.now)) (sexp_of body.now)) }
+        → IfOk result (λ v. known_element v
+        ≡ known_of (known_in (first place d))
+        (zip (map (λ p. p.0.items) params.now) (known_elements args.now)) (sexp_of body.now)) }
 {
     let variables = bind(over.model.alloc(), params, args)?;
     let earlier = Definitions {
@@ -108,7 +117,8 @@ fn known_body(
 pub(crate) fn kept_value(over: Definitions<'_>) -> Result<Option<Value>, Memory>
     requires over { (d : Signature) × Evaluates over d }
     requires place { over.count < length (bodies_of over) }
-    ensures { (d : Signature) (e : Entry) → Evaluates over.entry d → slice_get d.entries over.entry.count ≡ Some e
+    ensures { (d : Signature) (e : Entry) → Evaluates over.entry d
+        → slice_get d.entries over.entry.count ≡ Some e
         → IfOk result (λ v. known_element v ≡ values.kept_value (meaning_over over.entry d) e.origin) }
 {
     let (params, body) = definition_at(over, over.count);

@@ -13,8 +13,10 @@ pub trait Checked {
 
     ghost IsTerm: { Self → Signature → Sexp → Type 0 };
 
-    /// What is known of the term's value, over its structure; `None` says that it is open. The value stands for some term.
+    /// What is known of the term's value, over its structure; `None` says that it is open. The value stands
+    /// for some term.
     fn known(&self) -> Result<Option<Value>, Memory>
         requires { (structure : Signature) × (term : Sexp) × IsTerm self.now structure term }
-        ensures { IfOk result (λ v. (structure : Signature) (term : Sexp) → IsTerm self.now structure term → known_element v ≡ known_over structure term) };
+        ensures { IfOk result (λ v. (structure : Signature) (term : Sexp) → IsTerm self.now structure term
+            → known_element v ≡ known_over structure term) };
 }

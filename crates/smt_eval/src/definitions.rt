@@ -11,8 +11,8 @@ use smt_theory::Sort;
 use smt_trees::Tree;
 use smt_values::Value;
 
-/// The definitions of a structure: a model's, and behind them the script's own. Of them the first `count` are seen. `values` has what is
-/// known of each constant among the first, and of each function `None`.
+/// The definitions of a structure: a model's, and behind them the script's own. Of them the first `count` are
+/// seen. `values` has what is known of each constant among the first, and of each function `None`.
 #[derive(Clone, Copy)]
 pub(crate) struct Definitions<'a> {
     pub(crate) script: &'a Library,
@@ -26,7 +26,8 @@ pub(crate) fn place_of(over: Definitions<'_>, name: &[u8]) -> Option<usize>
     requires { (d : Signature) × Evaluates over d }
     ensures within { MatchOption result (Unit {0}) (λ place. place < over.entry.count) }
     ensures found { (d : Signature) → Evaluates over.entry d
-        → MatchOption result (entry_named (take over.entry.count d.entries) name.now ≡ None) (λ place. (e : Entry) × (slice_get d.entries place ≡ Some e) × (e.name ≡ name.now)) }
+        → MatchOption result (entry_named (take over.entry.count d.entries) name.now ≡ None)
+        (λ place. (e : Entry) × (slice_get d.entries place ≡ Some e) × (e.name ≡ name.now)) }
 {
     match place_in_structure(over, name) {
         Some(place) if place < over.count => Some(place),
@@ -39,7 +40,8 @@ pub(crate) fn place_of(over: Definitions<'_>, name: &[u8]) -> Option<usize>
 fn place_in_structure(over: Definitions<'_>, name: &[u8]) -> Option<usize>
     requires { (d : Signature) × Evaluates over d }
     ensures { (d : Signature) → Evaluates over.entry d
-        → MatchOption result (entry_named d.entries name.now ≡ None) (λ place. (e : Entry) × (slice_get d.entries place ≡ Some e) × (e.name ≡ name.now)) }
+        → MatchOption result (entry_named d.entries name.now ≡ None)
+        (λ place. (e : Entry) × (slice_get d.entries place ≡ Some e) × (e.name ≡ name.now)) }
 {
     match place_among(over.model, name) {
         Some(place) => Some(place),
@@ -51,7 +53,8 @@ fn place_in_structure(over: Definitions<'_>, name: &[u8]) -> Option<usize>
 fn place_in_script(over: Definitions<'_>, name: &[u8]) -> Option<usize>
     requires { (d : Signature) × Evaluates over d }
     ensures { (d : Signature) (k : Evaluates over.entry d)
-        → MatchOption result (entry_named (defined_among k.script.entries) name.now ≡ None) (λ place. (e : Entry) × (slice_get d.entries place ≡ Some e) × (e.name ≡ name.now)) }
+        → MatchOption result (entry_named (defined_among k.script.entries) name.now ≡ None)
+        (λ place. (e : Entry) × (slice_get d.entries place ≡ Some e) × (e.name ≡ name.now)) }
 {
     let scripts = over.script.definitions();
     if scripts.is_empty() {
@@ -69,7 +72,9 @@ fn place_in_script(over: Definitions<'_>, name: &[u8]) -> Option<usize>
 // The place of the definition of a name among those of a library.
 fn place_among(library: &Library, name: &[u8]) -> Option<usize>
     ensures { (s : Signature) → StandsFor library.now s
-        → MatchOption result (entry_named (defined_among s.entries) name.now ≡ None) (λ place. (e : Entry) × (slice_get (defined_among s.entries) place ≡ Some e) × (e.name ≡ name.now)) }
+        → MatchOption result (entry_named (defined_among s.entries) name.now ≡ None)
+        (λ place. (e : Entry) × (slice_get (defined_among s.entries) place ≡ Some e)
+        × (e.name ≡ name.now)) }
 {
     match library.find(name) {
         Some(Found::Defined(place)) => Some(place),
@@ -87,7 +92,8 @@ pub(crate) fn definition_at<'a>(
     requires place { place < length (bodies_of over) }
     ensures body { slice_get (bodies_of over.entry) place ≡ Some (Some (sexp_of result.1.now)) }
     ensures defined { (d : Signature) → Evaluates over.entry d
-        → (e : Entry) × (slice_get d.entries place ≡ Some e) × (e.origin ≡ Defined (map (λ p. p.0.items) result.0.now) (sexp_of result.1.now)) }
+        → (e : Entry) × (slice_get d.entries place ≡ Some e)
+        × (e.origin ≡ Defined (map (λ p. p.0.items) result.0.now) (sexp_of result.1.now)) }
 {
     let models = over.model.definitions().len();
     if place < models {
@@ -103,7 +109,8 @@ fn definition_in(library: &Library, place: usize) -> (&[(Vec<u8>, Sort)], &Tree)
     requires place { place < length (definitions_of library.now) }
     ensures body { slice_get (bodies_in library.now) place ≡ Some (Some (sexp_of result.1.now)) }
     ensures defined { (s : Signature) → StandsFor library.now s
-        → (e : Entry) × (slice_get (defined_among s.entries) place ≡ Some e) × (e.origin ≡ Defined (map (λ p. p.0.items) result.0.now) (sexp_of result.1.now)) }
+        → (e : Entry) × (slice_get (defined_among s.entries) place ≡ Some e)
+        × (e.origin ≡ Defined (map (λ p. p.0.items) result.0.now) (sexp_of result.1.now)) }
 {
     let definition = &library.definitions()[place];
     (definition.params.as_slice(), library.tree(definition.body))

@@ -26,7 +26,8 @@ use smt_theory::{CoreOp, Op, op_of};
 use smt_trees::{Tree, Trees, Word, split_first};
 use smt_values::{Value, apply, bin, hex, numeral};
 
-/// What is known of a term over the definitions that are seen, where the variables have these values, the innermost first.
+/// What is known of a term over the definitions that are seen, where the variables have these values, the
+/// innermost first.
 #[cycle(known)]
 #[inline(always)]
 pub(crate) fn known_value<'a>(
@@ -35,7 +36,9 @@ pub(crate) fn known_value<'a>(
     term: &'a Tree,
 ) -> Result<Option<Value>, Memory>
     requires { (d : Signature) × Evaluates over d }
-    ensures { (d : Signature) → Evaluates over.entry d → IfOk result (λ v. known_element v ≡ known_of (meaning_over over.entry d) (known_scope scope.now) (sexp_of term.now)) }
+    ensures { (d : Signature) → Evaluates over.entry d
+        → IfOk result (λ v. known_element v
+        ≡ known_of (meaning_over over.entry d) (known_scope scope.now) (sexp_of term.now)) }
 {
     match term {
         Tree::Symbol(name) => known_symbol(over, scope, name.as_slice()),
@@ -51,7 +54,9 @@ fn known_other<'a>(
     term: &'a Tree,
 ) -> Result<Option<Value>, Memory>
     requires { (d : Signature) × Evaluates over d }
-    ensures { (d : Signature) → Evaluates over.entry d → IfOk result (λ v. known_element v ≡ known_of (meaning_over over.entry d) (known_scope scope.now) (sexp_of term.now)) }
+    ensures { (d : Signature) → Evaluates over.entry d
+        → IfOk result (λ v. known_element v
+        ≡ known_of (meaning_over over.entry d) (known_scope scope.now) (sexp_of term.now)) }
 {
     match term {
         Tree::Symbol(name) => known_symbol(over, scope, name.as_slice()),
@@ -73,7 +78,9 @@ fn known_symbol(
     name: &[u8],
 ) -> Result<Option<Value>, Memory>
     requires { (d : Signature) × Evaluates over d }
-    ensures { (d : Signature) → Evaluates over.entry d → IfOk result (λ v. known_element v ≡ known_of (meaning_over over.entry d) (known_scope scope.now) (Atom Symbol name.now)) }
+    ensures { (d : Signature) → Evaluates over.entry d
+        → IfOk result (λ v. known_element v
+        ≡ known_of (meaning_over over.entry d) (known_scope scope.now) (Atom Symbol name.now)) }
 {
     match find_variable(scope, name) {
         Some(value) => Ok(value),
@@ -89,7 +96,9 @@ fn known_list<'a>(
     parts: &'a Trees,
 ) -> Result<Option<Value>, Memory>
     requires { (d : Signature) × Evaluates over d }
-    ensures { (d : Signature) → Evaluates over.entry d → IfOk result (λ v. known_element v ≡ known_of (meaning_over over.entry d) (known_scope scope.now) (Items parts.now)) }
+    ensures { (d : Signature) → Evaluates over.entry d
+        → IfOk result (λ v. known_element v
+        ≡ known_of (meaning_over over.entry d) (known_scope scope.now) (Items parts.now)) }
 {
     let Some((head, args)) = split_first(parts.as_slice()) else {
         return Ok(None);
@@ -112,7 +121,9 @@ fn known_reserved<'a>(
 ) -> Result<Option<Value>, Memory>
     requires { (d : Signature) × Evaluates over d }
     ensures { (d : Signature) → Evaluates over.entry d
-        → IfOk result (λ v. known_element v ≡ known_of (meaning_over over.entry d) (known_scope scope.now) (Items (Cons (Reserved word) (sexps_of args.now)))) }
+        → IfOk result (λ v. known_element v
+        ≡ known_of (meaning_over over.entry d) (known_scope scope.now)
+        (Items (Cons (Reserved word) (sexps_of args.now)))) }
 {
     match word {
         Word::Underscore => known_indexed(over, args),
@@ -127,7 +138,9 @@ fn known_reserved<'a>(
 
 // What is known of the identifier `(_ symbol index ..)`, by what stands behind the `_`.
 fn known_indexed(over: Definitions<'_>, parts: &[Tree]) -> Result<Option<Value>, Memory>
-    ensures { (d : Signature) → Evaluates over.entry d → IfOk result (λ v. known_element v ≡ known_by (indexed (sexps_of parts.now)) (λ f. meaning_over over.entry d f [])) }
+    ensures { (d : Signature) → Evaluates over.entry d
+        → IfOk result (λ v. known_element v
+        ≡ known_by (indexed (sexps_of parts.now)) (λ f. meaning_over over.entry d f [])) }
 {
     match indexed_identifier(over.model.alloc(), parts) {
         Ok(identifier) => Ok(known_of_operator(identifier.operator(over.model.theories()), &[])),
@@ -145,7 +158,9 @@ fn known_let<'a>(
 ) -> Result<Option<Value>, Memory>
     requires { (d : Signature) × Evaluates over d }
     ensures { (d : Signature) → Evaluates over.entry d
-        → IfOk result (λ v. known_element v ≡ known_of (meaning_over over.entry d) (known_scope scope.now) (Items (Cons (Reserved Let) (sexps_of args.now)))) }
+        → IfOk result (λ v. known_element v
+        ≡ known_of (meaning_over over.entry d) (known_scope scope.now)
+        (Items (Cons (Reserved Let) (sexps_of args.now)))) }
 {
     let Some((bindings, body)) = split_let(args) else {
         return Ok(None);
@@ -164,7 +179,8 @@ fn knowns_bound_by<'a>(
 ) -> Result<Vec<Variable<'a, Option<Value>>>, Memory>
     requires { (d : Signature) × Evaluates over d }
     ensures { (d : Signature) → Evaluates over.entry d
-        → IfOk result (λ variables. known_scope variables.items ≡ knowns_bound (meaning_over over.entry d) (known_scope scope.now) (sexps_of bindings.now)) }
+        → IfOk result (λ variables. known_scope variables.items
+        ≡ knowns_bound (meaning_over over.entry d) (known_scope scope.now) (sexps_of bindings.now)) }
 {
     let mut variables = Vec::new(over.model.alloc());
     let mut left = bindings;
@@ -185,8 +201,10 @@ fn known_named<'a>(
     args: &'a [Tree],
 ) -> Result<Option<Value>, Memory>
     requires { (d : Signature) × Evaluates over d }
-    ensures { (d : Signature) → Evaluates over.entry d → IfOk result (λ v. known_element v ≡ known_by (applied (Atom Symbol name.now) (sexps_of args.now))
-        (λ f. meaning_over over.entry d f (knowns_of (meaning_over over.entry d) (known_scope scope.now) (sexps_of args.now)))) }
+    ensures { (d : Signature) → Evaluates over.entry d
+        → IfOk result (λ v. known_element v ≡ known_by (applied (Atom Symbol name.now) (sexps_of args.now))
+        (λ f. meaning_over over.entry d f
+        (knowns_of (meaning_over over.entry d) (known_scope scope.now) (sexps_of args.now)))) }
 {
     let Some(_) = split_first(args) else {
         return Ok(None);
@@ -213,7 +231,9 @@ fn known_operation<'a>(
 ) -> Result<Option<Value>, Memory>
     requires { (d : Signature) × Evaluates over d }
     ensures { (d : Signature) → Evaluates over.entry d
-        → IfOk result (λ v. known_element v ≡ known_step op (knowns_of (meaning_over over.entry d) (known_scope scope.now) (sexps_of args.now))) }
+        → IfOk result (λ v. known_element v
+        ≡ known_step op (knowns_of (meaning_over over.entry d) (known_scope scope.now)
+        (sexps_of args.now))) }
 {
     if is_choice(&op) {
         return known_choice(over, scope, args);
@@ -236,7 +256,8 @@ fn is_choice(op: &Op) -> bool
     matches!(op, Op::Core(CoreOp::Ite))
 }
 
-// The same of one argument, of two and of three: each out of line, since the room for all would be cleared at each call.
+// The same of one argument, of two and of three: each out of line, since the room for all would be cleared at
+// each call.
 #[cycle(known)]
 #[inline(never)]
 fn known_of_one<'a>(
@@ -247,7 +268,9 @@ fn known_of_one<'a>(
 ) -> Result<Option<Value>, Memory>
     requires { (d : Signature) × Evaluates over d }
     ensures { (d : Signature) → Evaluates over.entry d
-        → IfOk result (λ v. known_element v ≡ known_step op (knowns_of (meaning_over over.entry d) (known_scope scope.now) (Cons (sexp_of only.now) Nil))) }
+        → IfOk result (λ v. known_element v
+        ≡ known_step op (knowns_of (meaning_over over.entry d) (known_scope scope.now)
+        (Cons (sexp_of only.now) Nil))) }
 {
     Ok(apply(op, &[known_value(over, scope, only)?]))
 }
@@ -263,7 +286,9 @@ fn known_of_two<'a>(
 ) -> Result<Option<Value>, Memory>
     requires { (d : Signature) × Evaluates over d }
     ensures { (d : Signature) → Evaluates over.entry d
-        → IfOk result (λ v. known_element v ≡ known_step op (knowns_of (meaning_over over.entry d) (known_scope scope.now) (Cons (sexp_of first.now) (Cons (sexp_of second.now) Nil)))) }
+        → IfOk result (λ v. known_element v
+        ≡ known_step op (knowns_of (meaning_over over.entry d) (known_scope scope.now)
+        (Cons (sexp_of first.now) (Cons (sexp_of second.now) Nil)))) }
 {
     Ok(apply(
         op,
@@ -287,7 +312,8 @@ fn known_of_three<'a>(
     requires { (d : Signature) × Evaluates over d }
     ensures { (d : Signature) → Evaluates over.entry d
         → IfOk result (λ v. known_element v
-        ≡ known_step op (knowns_of (meaning_over over.entry d) (known_scope scope.now) (Cons (sexp_of first.now) (Cons (sexp_of second.now) (Cons (sexp_of third.now) Nil))))) }
+        ≡ known_step op (knowns_of (meaning_over over.entry d) (known_scope scope.now)
+        (Cons (sexp_of first.now) (Cons (sexp_of second.now) (Cons (sexp_of third.now) Nil))))) }
 {
     Ok(apply(
         op,
@@ -309,8 +335,10 @@ fn known_call<'a>(
     args: &'a [Tree],
 ) -> Result<Option<Value>, Memory>
     requires { (d : Signature) × Evaluates over d }
-    ensures { (d : Signature) → Evaluates over.entry d → IfOk result (λ v. known_element v ≡ known_by (applied (sexp_of head.now) (sexps_of args.now))
-        (λ f. meaning_over over.entry d f (knowns_of (meaning_over over.entry d) (known_scope scope.now) (sexps_of args.now)))) }
+    ensures { (d : Signature) → Evaluates over.entry d
+        → IfOk result (λ v. known_element v ≡ known_by (applied (sexp_of head.now) (sexps_of args.now))
+        (λ f. meaning_over over.entry d f
+        (knowns_of (meaning_over over.entry d) (known_scope scope.now) (sexps_of args.now)))) }
 {
     match applied_identifier(over.model.alloc(), head, args) {
         Ok(identifier) => {
@@ -332,7 +360,9 @@ fn known_choice<'a>(
 ) -> Result<Option<Value>, Memory>
     requires { (d : Signature) × Evaluates over d }
     ensures { (d : Signature) → Evaluates over.entry d
-        → IfOk result (λ v. known_element v ≡ operations.known_choice (knowns_of (meaning_over over.entry d) (known_scope scope.now) (sexps_of args.now))) }
+        → IfOk result (λ v. known_element v
+        ≡ operations.known_choice
+        (knowns_of (meaning_over over.entry d) (known_scope scope.now) (sexps_of args.now))) }
 {
     let Some((condition, branches)) = split_first(args) else {
         return Ok(None);
@@ -363,7 +393,8 @@ fn known_all<'a>(
 ) -> Result<Vec<Option<Value>>, Memory>
     requires { (d : Signature) × Evaluates over d }
     ensures { (d : Signature) → Evaluates over.entry d
-        → IfOk result (λ known. known_elements known.items ≡ knowns_of (meaning_over over.entry d) (known_scope scope.now) (sexps_of terms.now)) }
+        → IfOk result (λ known. known_elements known.items
+        ≡ knowns_of (meaning_over over.entry d) (known_scope scope.now) (sexps_of terms.now)) }
 {
     let mut known = Vec::with_capacity(over.model.alloc(), terms.len())?;
     let mut left = terms;

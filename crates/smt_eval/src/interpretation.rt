@@ -46,7 +46,8 @@ impl From<Memory> for ModelFault {
     }
 }
 
-/// The definitions of a model, and what is known of the value of each constant among them and the script's own definitions behind them.
+/// The definitions of a model, and what is known of the value of each constant among them and the script's
+/// own definitions behind them.
 #[derive(Drop)]
 pub struct Interpretation {
     pub(crate) definitions: Library,
@@ -54,13 +55,15 @@ pub struct Interpretation {
 }
 
 impl Interpretation {
-    /// Reads a model of the names of a library (SMT-LIB 2.6, section 4.2.6), and evaluates each constant of its definitions and of the
-    /// library's own over the definitions before it.
-    /// Refused are the first item with a fault, before the first declared name that is lacking, and want of memory. The library
-    /// stands for a signature, as every one does that `Library::new` and the calls after it made.
+    /// Reads a model of the names of a library (SMT-LIB 2.6, section 4.2.6), and evaluates each constant of
+    /// its definitions and of the library's own over the definitions before it. Refused are the first item
+    /// with a fault, before the first declared name that is lacking, and want of memory. The library stands
+    /// for a signature, as every one does that `Library::new` and the calls after it made.
     pub fn read(declared: &Library, model: &Trees) -> Result<Interpretation, ModelFault>
         requires { (s : Signature) × StandsFor declared.now s }
-        ensures { (s : Signature) → StandsFor declared.now s → MatchResult result (λ i. (d : Signature) × (model_in s model.now ≡ Ok d) × IsInterpretation i s d)
+        ensures { (s : Signature) → StandsFor declared.now s
+            → MatchResult result (λ i. (d : Signature) × (model_in s model.now ≡ Ok d)
+            × IsInterpretation i s d)
             (λ fault. (fault ≡ OutOfMemory) ⊎ (model_in s model.now ≡ Err fault)) }
     {
         let definitions = read_items(declared, items(model.as_slice()))?;
@@ -88,7 +91,8 @@ impl Interpretation {
 // The library of what the items define, in order, or the first fault.
 fn read_items(declared: &Library, items: &[Tree]) -> Result<Library, ModelFault>
     ensures { (s : Signature) → StandsFor declared.now s
-        → MatchResult result (λ library. (es : List Entry) × (items_from s [] 1 (sexps_of items.now) ≡ Ok es) × StandsFor library (items_before s es))
+        → MatchResult result (λ library. (es : List Entry) × (items_from s [] 1 (sexps_of items.now) ≡ Ok es)
+        × StandsFor library (items_before s es))
         (λ fault. (fault ≡ OutOfMemory) ⊎ (items_from s [] 1 (sexps_of items.now) ≡ Err fault)) }
 {
     // A law: a fault of an item is not want of memory.
@@ -128,7 +132,8 @@ fn items(trees: &[Tree]) -> &[Tree]
 // The command of the first declared name that isn't defined.
 fn first_lacking(declared: &Library, definitions: &Library) -> Option<u64>
     requires { (s : Signature) × StandsFor declared.now s }
-    ensures { (s d : Signature) → StandsFor declared.now s → StandsFor definitions.now d → result ≡ model.first_lacking s.entries d.entries }
+    ensures { (s d : Signature) → StandsFor declared.now s → StandsFor definitions.now d
+        → result ≡ model.first_lacking s.entries d.entries }
 {
     let mut left = declared.declared();
     while let Some((declaration, rest)) = left.split_first() {
@@ -143,7 +148,8 @@ fn first_lacking(declared: &Library, definitions: &Library) -> Option<u64>
 // What is known of the value of each constant of the structure, in order.
 fn values_of(declared: &Library, definitions: &Library) -> Result<Vec<Option<Value>>, Memory>
     requires { (s d : Signature) × HaveStructure declared.now definitions.now s d }
-    ensures { (s d : Signature) → HaveStructure declared.now definitions.now s d → IfOk result (λ values. known_elements values.items ≡ definition_values (structure_of s d)) }
+    ensures { (s d : Signature) → HaveStructure declared.now definitions.now s d
+        → IfOk result (λ values. known_elements values.items ≡ definition_values (structure_of s d)) }
 {
     let mut values = Vec::new(definitions.alloc());
     for place in 0..definitions.definitions().len() + declared.definitions().len() {

@@ -18,10 +18,12 @@ ghost use Rattle.smt_eval.specs.CompleteModel.{IsModelOf};
 ghost use Rattle.smt_eval.specs.Interpretation.{IsInterpretation};
 ghost use Rattle.smt_eval.specs.Known.{known_in, known_of};
 ghost use Rattle.smt_eval.specs.Meaning.{value_over};
-ghost use Rattle.smt_eval.specs.Model.{AreDefined, AreItems, HasFirstFault, IsFirstLacking, items_of, model_in};
+ghost use Rattle.smt_eval.specs.Model.{AreDefined, AreItems, HasFirstFault, IsFirstLacking, items_of};
+ghost use Rattle.smt_eval.specs.Model.{model_in};
 ghost use Rattle.smt_eval.specs.Structure.{IsStructure, structure_of};
 ghost use Rattle.smt_eval.specs.declared.plain.Closed.{Closed};
-ghost use Rattle.smt_eval.specs.declared.interpretation.ModelFault.TheVariants.{Item, Lacks, Memory as OutOfMemory};
+ghost use Rattle.smt_eval.specs.declared.interpretation.ModelFault.TheVariants.{Item, Lacks};
+ghost use Rattle.smt_eval.specs.declared.interpretation.ModelFault.TheVariants.{Memory as OutOfMemory};
 
 use crate::checked::Checked;
 use crate::plain::Closed;
@@ -30,48 +32,58 @@ use smt_terms::laws::{items_are_well_sorted, sorts_are_kept};
 use smt_theory::laws::{ranks_are_the_table, sorts_are_compared};
 use smt_values::laws::{known_results_are_true, results_are_of_their_sorts};
 
-/// What is known of a term is its value in the structure that the definitions give, whatever division by zero gives, and whatever
-/// values the variables have that agree with what is known of them (SMT-LIB 2.6, section 5.3).
+/// What is known of a term is its value in the structure that the definitions give, whatever division by zero
+/// gives, and whatever values the variables have that agree with what is known of them (SMT-LIB 2.6, section
+/// 5.3).
 pub fn known_values_are_true()
-    ensures { (z : DivisionByZero) (definitions : Signature) (known : List (List ℕ × Option Element)) (r : List (List ℕ × Element)) (term : Sexp)
-        → AgreesWith known r → Agrees (known_of (known_in definitions) known term) (value_over z definitions r term) }
+    ensures { (z : DivisionByZero) (definitions : Signature) (known : List (List ℕ × Option Element))
+        (r : List (List ℕ × Element)) (term : Sexp)
+        → AgreesWith known r → Agrees (known_of (known_in definitions) known term)
+        (value_over z definitions r term) }
 {
     known_results_are_true();
 }
 
-/// The value of a well-sorted term is of the term's sort, over definitions that are well sorted and of which no two have one name,
-/// and variables whose values are of their sorts.
+/// The value of a well-sorted term is of the term's sort, over definitions that are well sorted and of which
+/// no two have one name, and variables whose values are of their sorts.
 pub fn well_sorted_terms_have_values()
-    ensures { (z : DivisionByZero) (definitions : Signature) (scope : List (List ℕ × Sort)) (r : List (List ℕ × Element)) (term : Sexp) (sort : Sort)
-        → AreWellSorted definitions.theories [] definitions.entries → AreDistinct definitions.entries → FitsScope scope r
-        → sort_in (unlabelled (names_of definitions)) scope term ≡ Ok sort → IsOfSort sort (value_over z definitions r term) }
+    ensures { (z : DivisionByZero) (definitions : Signature) (scope : List (List ℕ × Sort))
+        (r : List (List ℕ × Element)) (term : Sexp) (sort : Sort)
+        → AreWellSorted definitions.theories [] definitions.entries → AreDistinct definitions.entries
+        → FitsScope scope r
+        → sort_in (unlabelled (names_of definitions)) scope term ≡ Ok sort
+        → IsOfSort sort (value_over z definitions r term) }
 {
     ranks_are_the_table();
     results_are_of_their_sorts();
     sorts_are_compared();
 }
 
-/// The definitions of a model are over the script's theories and well sorted, none stands twice, and there is one of each declared name,
-/// with the rank that it was declared with (SMT-LIB 2.6, section 4.2.6).
+/// The definitions of a model are over the script's theories and well sorted, none stands twice, and there is
+/// one of each declared name, with the rank that it was declared with (SMT-LIB 2.6, section 4.2.6).
 pub fn models_are_complete()
-    ensures { (script : Signature) (parts : Sexps) (definitions : Signature) → model_in script parts ≡ Ok definitions → IsModelOf script parts definitions }
+    ensures { (script : Signature) (parts : Sexps) (definitions : Signature)
+        → model_in script parts ≡ Ok definitions → IsModelOf script parts definitions }
 {
     items_are_well_sorted();
 }
 
-/// Where a model is read, no name stands twice in the structure that it gives to the script: no two definitions of the model have one
-/// name, nor one of them that of a definition of the script.
+/// Where a model is read, no name stands twice in the structure that it gives to the script: no two
+/// definitions of the model have one name, nor one of them that of a definition of the script.
 pub fn structures_are_distinct()
-    ensures { (script : Signature) (parts : Sexps) (definitions : Signature) → model_in script parts ≡ Ok definitions → AreDistinct script.entries
+    ensures { (script : Signature) (parts : Sexps) (definitions : Signature)
+        → model_in script parts ≡ Ok definitions → AreDistinct script.entries
         → AreDistinct (structure_of script definitions).entries }
 {
     items_are_well_sorted();
 }
 
-/// A model of names that were introduced one behind another gives a structure to the script (SMT-LIB 2.6, section 5.3): its
-/// definitions, and behind them the script's own, are each well sorted over those before it, and no two have one name.
+/// A model of names that were introduced one behind another gives a structure to the script (SMT-LIB 2.6,
+/// section 5.3): its definitions, and behind them the script's own, are each well sorted over those before
+/// it, and no two have one name.
 pub fn models_give_structures()
-    ensures { (script : Signature) (parts : Sexps) (definitions : Signature) → model_in script parts ≡ Ok definitions → AreIntroduced script.theories [] script.entries
+    ensures { (script : Signature) (parts : Sexps) (definitions : Signature)
+        → model_in script parts ≡ Ok definitions → AreIntroduced script.theories [] script.entries
         → IsStructure (structure_of script definitions) }
 {
     sorts_are_kept();
@@ -79,8 +91,8 @@ pub fn models_give_structures()
     items_are_well_sorted();
 }
 
-/// A tree is a checked term wherever its interpretation is one of a model of its library's names, and nowhere else: it stands for
-/// itself, over the structure that they give.
+/// A tree is a checked term wherever its interpretation is one of a model of its library's names, and nowhere
+/// else: it stands for itself, over the structure that they give.
 pub fn closed_trees_stand_for_themselves()
     ensures { (closed : Closed) (structure : Signature) (term : Sexp)
         → ⟦<Closed<'static> as Checked>⟧.IsTerm closed structure term ↔ ((script definitions : Signature)
@@ -91,23 +103,29 @@ pub fn closed_trees_stand_for_themselves()
 /// No definition answers that memory was refused.
 pub fn faults_are_no_memory()
     ensures models { (script : Signature) (parts : Sexps) → model_in script parts ≡ Err OutOfMemory → ⊥ }
-    ensures items { (script : Signature) (parts : Sexps) (number : ℕ) → model_in script parts ≡ Err (Item number Memory) → ⊥ }
+    ensures items { (script : Signature) (parts : Sexps) (number : ℕ)
+        → model_in script parts ≡ Err (Item number Memory) → ⊥ }
 {
     terms::faults_are_no_memory();
 }
 
-/// A model of the script's names is its items: they are definitions in order, each over the earlier ones, and every declared name is
-/// among them (SMT-LIB 2.6, section 4.2.6).
+/// A model of the script's names is its items: they are definitions in order, each over the earlier ones, and
+/// every declared name is among them (SMT-LIB 2.6, section 4.2.6).
 pub fn models_are_their_items()
     ensures { (script : Signature) (parts : Sexps) (items : List Entry)
-        → (model_in script parts ≡ Ok (items_before script items)) ↔ (AreItems script [] (items_of parts) items × AreDefined script.entries items) }
+        → (model_in script parts ≡ Ok (items_before script items))
+        ↔ (AreItems script [] (items_of parts) items × AreDefined script.entries items) }
 {}
 
-/// The fault of a model is its first: the items before the one that is told are definitions, and that one has the fault; a lacking name
-/// is told where all items are definitions, and is the first declared name that none of them defines.
+/// The fault of a model is its first: the items before the one that is told are definitions, and that one has
+/// the fault; a lacking name is told where all items are definitions, and is the first declared name that
+/// none of them defines.
 pub fn the_first_fault_of_a_model_is_told()
     ensures item { (script : Signature) (parts : Sexps) (n : ℕ) (fault : TermFault)
-        → (model_in script parts ≡ Err (Item (n + 1) fault)) ↔ HasFirstFault script [] (items_of parts) n fault }
-    ensures lacking { (script : Signature) (parts : Sexps) (command : ℕ) → (model_in script parts ≡ Err (Lacks command))
-        ↔ ((items : List Entry) × AreItems script [] (items_of parts) items × IsFirstLacking script.entries items command) }
+        → (model_in script parts ≡ Err (Item (n + 1) fault))
+        ↔ HasFirstFault script [] (items_of parts) n fault }
+    ensures lacking { (script : Signature) (parts : Sexps) (command : ℕ)
+        → (model_in script parts ≡ Err (Lacks command))
+        ↔ ((items : List Entry) × AreItems script [] (items_of parts) items
+        × IsFirstLacking script.entries items command) }
 {}

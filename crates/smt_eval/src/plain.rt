@@ -43,8 +43,9 @@ impl Checked for Closed<'_> {
     }
 }
 
-/// What is known of a term of the library over the structure that an interpretation gives to its names; `None` says that it is open. The
-/// term is closed, and a term of this library; the interpretation is one of a model of the names that the library has now.
+/// What is known of a term of the library over the structure that an interpretation gives to its names;
+/// `None` says that it is open. The term is closed, and a term of this library; the interpretation is one of
+/// a model of the names that the library has now.
 pub fn eval(
     library: &Library,
     interpretation: &Interpretation,
@@ -52,7 +53,8 @@ pub fn eval(
 ) -> Result<Option<Value>, Memory>
     requires term { (t : Sexp) × IsTerm library.now term t }
     requires fits { Fits interpretation.now library.now }
-    ensures { (script definitions : Signature) (t : Sexp) → StandsFor library.now script → IsInterpretation interpretation.now script definitions → IsTerm library.now term t
+    ensures { (script definitions : Signature) (t : Sexp) → StandsFor library.now script
+        → IsInterpretation interpretation.now script definitions → IsTerm library.now term t
         → IfOk result (λ v. known_element v ≡ known_over (structure_of script definitions) t) }
 {
     let tree = library.tree(term);

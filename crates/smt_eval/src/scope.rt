@@ -17,7 +17,8 @@ pub(crate) fn push_variable<'a>(
     name: &'a [u8],
     value: Option<Value>,
 ) -> Result<(), Memory>
-    ensures { OnOk result (known_scope variables.new.items ≡ known_scope variables.old.items ++ (name.now, known_element value) ∷ []) }
+    ensures { OnOk result (known_scope variables.new.items
+        ≡ known_scope variables.old.items ++ (name.now, known_element value) ∷ []) }
 {
     match variables.push(Variable { name, value }) {
         Ok(()) => Ok(()),
@@ -31,7 +32,8 @@ pub(crate) fn bind<'a>(
     params: &'a [(Vec<u8>, Sort)],
     args: &[Option<Value>],
 ) -> Result<Vec<Variable<'a, Option<Value>>>, Memory>
-    ensures { IfOk result (λ variables. known_scope variables.items ≡ zip (map (λ p. p.0.items) params.now) (known_elements args.now)) }
+    ensures { IfOk result (λ variables. known_scope variables.items
+        ≡ zip (map (λ p. p.0.items) params.now) (known_elements args.now)) }
 {
     let mut variables = Vec::new(alloc);
     for place in 0..params.len().min(args.len()) {

@@ -1,7 +1,8 @@
 -- Attributes: what the test takes, and what the relation says.
 use Rattle.std.proofs.Common.{◌≡◌, ℕ, Bool, true, false, not, ◌&&◌, ◌||◌, List, refl, ap, ◌∙◌}
 use Rattle.smt_trees.specs.Sexp.{Sexp, Sexps, Atom, Nil, Cons, Keyword}
-use Rattle.smt_forms.specs.Bindings.{AreAttributes, NoMore, Bare, Valued, are_attributes, go_on, go_on_behind, is_label, is_symbol_tree, is_value}
+use Rattle.smt_forms.specs.Bindings.{AreAttributes, NoMore, Bare, Valued, are_attributes, go_on, go_on_behind}
+use Rattle.smt_forms.specs.Bindings.{is_label, is_symbol_tree, is_value}
 
 both : (a b : Bool) → a && b ≡ true → (a ≡ true) × (b ≡ true)
 both true b h = (refl, h)
@@ -18,7 +19,8 @@ bare k (Cons (Atom Keyword l) rest) plain h = ap (λ b. not b && go_on_behind l 
 bare k (Cons other rest) plain h = cc
 
 -- so does one with its value
-valued : (k : List ℕ) (value : Sexp) (rest : Sexps) → is_value k value ≡ true → go_on rest ≡ true → go_on_behind k (Cons value rest) ≡ true
+valued : (k : List ℕ) (value : Sexp) (rest : Sexps) → is_value k value ≡ true → go_on rest ≡ true
+    → go_on_behind k (Cons value rest) ≡ true
 valued k (Atom Keyword l) rest is h = cc
 valued k value rest is h = ap (λ b. b && go_on rest) is ∙ h
 
@@ -35,7 +37,8 @@ mutual
   read (Cons (Atom Keyword k) rest) h = read_behind k rest h
   read (Cons other rest) h = cc
 
-  read_behind : (k : List ℕ) (rest : Sexps) → go_on_behind k rest ≡ true → AreAttributes (Cons (Atom Keyword k) rest)
+  read_behind : (k : List ℕ) (rest : Sexps) → go_on_behind k rest ≡ true
+      → AreAttributes (Cons (Atom Keyword k) rest)
   read_behind k Nil h = Bare k Nil (not_true (is_label k) h) NoMore
   read_behind k (Cons (Atom Keyword l) rest) h =
       let p = both (not (is_label k)) (go_on_behind l rest) h in

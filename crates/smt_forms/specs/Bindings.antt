@@ -1,6 +1,8 @@
--- SMT-LIB 2.6, section 3.6: trees with a name each, as the bindings of a `let` and the parameters of a definition are, and the
--- attributes of an annotated term. That the value of an attribute may be any tree but a keyword is this project's choice.
-use Rattle.std.specs.Prelude.{◌≡◌, ℕ, List, [], ◌∷◌, Bool, true, false, not, ◌&&◌, ◌||◌, Option, Some, None, bytes_eq, codes}
+-- SMT-LIB 2.6, section 3.6: trees with a name each, as the bindings of a `let` and the parameters of a
+-- definition are, and the attributes of an annotated term. That the value of an attribute may be any tree but
+-- a keyword is this project's choice.
+use Rattle.std.specs.Prelude.{◌≡◌, ℕ, List, [], ◌∷◌, Bool, true, false, not, ◌&&◌, ◌||◌, Option, Some, None}
+use Rattle.std.specs.Prelude.{bytes_eq, codes}
 use Rattle.smt_trees.specs.Sexp.{Sexp, Sexps, Atom, Items, Nil, Cons, Keyword, Symbol}
 
 -- whether each is a list of a symbol and one more tree
@@ -51,8 +53,8 @@ pub data AreAttributes : Sexps → Type 0 where
   Valued : (k : List ℕ) (value : Sexp) (rest : Sexps) → is_value k value ≡ true → AreAttributes rest
       → AreAttributes (Cons (Atom Keyword k) (Cons value rest))
 
--- whether trees go on as attributes, which are keywords, each with a value or without one; and whether they go on so behind a
--- keyword, whose value comes first if it has one. The value of a label is a symbol
+-- whether trees go on as attributes, which are keywords, each with a value or without one; and whether they
+-- go on so behind a keyword, whose value comes first if it has one. The value of a label is a symbol
 abbrev mutual
   pub go_on : Sexps → Bool
   go_on Nil = true

@@ -1,6 +1,8 @@
--- SMT-LIB 2.6, sections 3.3 and 3.6: identifiers, and what a list applies to its arguments. That quantifiers, `match` and `as` are not
--- supported is this project's choice, as are the limit of an index, 2^64 - 1, and which fault is told.
-use Rattle.std.specs.Prelude.{ℕ, ◌^◌, List, [], ◌∷◌, Option, Some, None, option_map, option_and_then, Result, Ok, Err, ok_or, nat_lt, if◌then◌else◌}
+-- SMT-LIB 2.6, sections 3.3 and 3.6: identifiers, and what a list applies to its arguments. That quantifiers,
+-- `match` and `as` are not supported is this project's choice, as are the limit of an index, 2^64 - 1, and
+-- which fault is told.
+use Rattle.std.specs.Prelude.{ℕ, ◌^◌, List, [], ◌∷◌, Option, Some, None, option_map, option_and_then, Result}
+use Rattle.std.specs.Prelude.{Ok, Err, ok_or, nat_lt, if◌then◌else◌}
 use Rattle.std.specs.Str.Parse.{digits_value}
 use Rattle.smt_trees.specs.Sexp.{Sexp, Sexps, Atom, Reserved, Items, Nil, Cons, Numeral, Symbol}
 use Rattle.smt_trees.specs.declared.reserved.Word.{Word}
@@ -37,7 +39,8 @@ all_indexes (Cons x xs) = option_and_then (λ i. option_map (λ is. i ∷ is) (a
 
 -- the identifier `(_ symbol index ..)`, by what stands behind the `_`
 abbrev pub indexed : Sexps → Result Identifier TermFault
-indexed (Cons (Atom Symbol name) (Cons x xs)) = ok_or (option_map (λ is. Indexed name is) (all_indexes (Cons x xs))) Form
+indexed (Cons (Atom Symbol name) (Cons x xs)) =
+    ok_or (option_map (λ is. Indexed name is) (all_indexes (Cons x xs))) Form
 indexed _ = Err Form
 
 -- what is wrong with a list that begins with this word

@@ -17,6 +17,9 @@ pub record ItemForm : Type 0 where
 abbrev pub item_form : Sexp → Result ItemForm TermFault
 item_form (Items (Cons (Reserved DefineFunRec) rest)) = Err Unsupported
 item_form (Items (Cons (Reserved DefineFunsRec) rest)) = Err Unsupported
-item_form (Items (Cons (Reserved DefineFun) (Cons (Atom Symbol x) (Cons (Items parameters) (Cons sort (Cons body Nil)))))) =
-    if are_named_trees parameters then Ok (record { name = x; parameters = named_trees parameters; sort = sort; body = body }) else Err Form
+item_form (Items (Cons (Reserved DefineFun)
+    (Cons (Atom Symbol x) (Cons (Items parameters) (Cons sort (Cons body Nil)))))) =
+    if are_named_trees parameters
+    then Ok (record { name = x; parameters = named_trees parameters; sort = sort; body = body })
+    else Err Form
 item_form _ = Err Form

@@ -5,4 +5,9 @@ use Rattle.smt_forms.specs.ItemForm as items
 use Rattle.smt_forms.specs.declared.items.ItemForm.{ItemForm}
 
 abbrev pub form_of : ItemForm → items.ItemForm
-form_of form = record { name = form.name.now; parameters = named_trees (sexps_of form.parameters.now); sort = sexp_of form.sort.now; body = sexp_of form.body.now }
+form_of form = record {
+  name = form.name.now;
+  parameters = named_trees (sexps_of form.parameters.now);
+  sort = sexp_of form.sort.now;
+  body = sexp_of form.body.now;
+}

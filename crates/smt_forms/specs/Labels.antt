@@ -22,8 +22,10 @@ abbrev mutual
   labels_in (Reserved word) = []
   labels_in (Items Nil) = []
   labels_in (Items (Cons (Reserved Underscore) parts)) = []
-  labels_in (Items (Cons (Reserved Let) (Cons (Items bindings) (Cons body Nil)))) = labels_in_bindings bindings ++ labels_in body
-  labels_in (Items (Cons (Reserved Bang) (Cons term attributes))) = labels_in term ++ map (λ x. (x, term)) (labels_among attributes)
+  labels_in (Items (Cons (Reserved Let) (Cons (Items bindings) (Cons body Nil)))) =
+      labels_in_bindings bindings ++ labels_in body
+  labels_in (Items (Cons (Reserved Bang) (Cons term attributes))) =
+      labels_in term ++ map (λ x. (x, term)) (labels_among attributes)
   labels_in (Items (Cons head args)) = labels_in_all args
 
   pub labels_in_all : Sexps → List (List ℕ × Sexp)
@@ -31,7 +33,8 @@ abbrev mutual
   labels_in_all (Cons x xs) = labels_in x ++ labels_in_all xs
 
   pub labels_in_bindings : Sexps → List (List ℕ × Sexp)
-  labels_in_bindings (Cons (Items (Cons (Atom Symbol x) (Cons term Nil))) rest) = labels_in term ++ labels_in_bindings rest
+  labels_in_bindings (Cons (Items (Cons (Atom Symbol x) (Cons term Nil))) rest) =
+      labels_in term ++ labels_in_bindings rest
   labels_in_bindings _ = []
 
 -- the label that a tree with what stands behind it is, if it is one

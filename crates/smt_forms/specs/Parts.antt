@@ -1,5 +1,5 @@
--- SMT-LIB 2.6, sections 3.6.1 and 3.6.5: the terms of which a term is made, and what stands in it. The laws on labels and on
--- variables are said in these words, which no other definition uses.
+-- SMT-LIB 2.6, sections 3.6.1 and 3.6.5: the terms of which a term is made, and what stands in it. The laws
+-- on labels and on variables are said in these words, which no other definition uses.
 use Rattle.std.specs.Prelude.{◌≡◌, ℕ, List, [], ◌∷◌, ◌++◌, map, codes}
 use Rattle.std.specs.List.{Contains}
 use Rattle.smt_trees.specs.Sexp.{Sexp, Sexps, Atom, Reserved, Items, Nil, Cons, Keyword, Symbol, append}
@@ -23,7 +23,8 @@ parts_of _ = []
 -- a term stands in another: it is that, or stands in a part of it
 pub data StandsIn (t : Sexp) : Sexp → Type 0 where
   Itself : StandsIn t t
-  InPart : (bound : List (List ℕ)) (part term : Sexp) → Contains (parts_of term) (bound, part) → StandsIn t part
+  InPart : (bound : List (List ℕ)) (part term : Sexp) → Contains (parts_of term) (bound, part)
+      → StandsIn t part
       → StandsIn t term
 
 -- a symbol occurs free in a term: it is the term, or occurs free in a part of it for which it isn't bound

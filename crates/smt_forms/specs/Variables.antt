@@ -20,7 +20,8 @@ abbrev mutual
   uses_outer inner outer (Items Nil) = false
   uses_outer inner outer (Items (Cons (Reserved Underscore) parts)) = false
   uses_outer inner outer (Items (Cons (Reserved Let) (Cons (Items bindings) (Cons body Nil)))) =
-      bindings_use_outer inner outer bindings || uses_outer (map (λ b. b.0) (named_trees bindings) ++ inner) outer body
+      bindings_use_outer inner outer bindings
+      || uses_outer (map (λ b. b.0) (named_trees bindings) ++ inner) outer body
   uses_outer inner outer (Items (Cons (Reserved Bang) (Cons term attributes))) = uses_outer inner outer term
   uses_outer inner outer (Items (Cons head args)) = any_uses_outer inner outer args
 

@@ -1,11 +1,13 @@
-//! The attributes of annotated terms, labels among them. This file knows no names: whether a label may be given is said elsewhere.
+//! The attributes of annotated terms, labels among them. This file knows no names: whether a label may be
+//! given is said elsewhere.
 
 ghost use Rattle.std.specs.Prelude.{◌≡◌, ◌≤◌, ◌∷◌, [], false, None, MatchOption};
 ghost use Rattle.smt_trees.specs.Sexp.{Atom, Cons, Keyword, weight_all};
 ghost use Rattle.smt_trees.specs.Tree.{sexp_of, sexps_of};
 ghost use Rattle.smt_forms.specs.Bindings as bindings;
 ghost use Rattle.smt_forms.specs.Bindings.{is_symbol_tree, go_on_behind};
-ghost use Rattle.smt_forms.specs.Internal.Attributes.{first_keyword, has_value, is_keyword_tree, is_label_tree};
+ghost use Rattle.smt_forms.specs.Internal.Attributes.{first_keyword, has_value, is_keyword_tree};
+ghost use Rattle.smt_forms.specs.Internal.Attributes.{is_label_tree};
 ghost use Rattle.smt_forms.specs.Labels.{label_of_tree};
 
 use smt_trees::{Tree, split_first};
@@ -31,10 +33,13 @@ fn go_on(trees: &[Tree]) -> bool
     split_first(left).is_none()
 }
 
-// What stands behind an attribute of this keyword, by what stands behind the keyword; `None` where a label has no symbol.
+// What stands behind an attribute of this keyword, by what stands behind the keyword; `None` where a label
+// has no symbol.
 fn behind_attribute<'a>(keyword: &[u8], trees: &'a [Tree]) -> Option<&'a [Tree]>
-    ensures answer { MatchOption result (go_on_behind keyword.now (sexps_of trees.now) ≡ false) (λ left. go_on_behind keyword.now (sexps_of trees.now) ≡ bindings.go_on (sexps_of left.now)) }
-    ensures lighter { MatchOption result (Unit {0}) (λ left. weight_all (sexps_of left.now) ≤ weight_all (sexps_of trees.now)) }
+    ensures answer { MatchOption result (go_on_behind keyword.now (sexps_of trees.now) ≡ false)
+        (λ left. go_on_behind keyword.now (sexps_of trees.now) ≡ bindings.go_on (sexps_of left.now)) }
+    ensures lighter { MatchOption result (Unit {0})
+        (λ left. weight_all (sexps_of left.now) ≤ weight_all (sexps_of trees.now)) }
 {
     match split_value(trees) {
         Some((value, rest)) => {
@@ -54,7 +59,8 @@ fn behind_attribute<'a>(keyword: &[u8], trees: &'a [Tree]) -> Option<&'a [Tree]>
 
 // The first of these trees if it is a keyword, and the trees behind it.
 fn split_keyword(trees: &[Tree]) -> Option<(&[u8], &[Tree])>
-    ensures { MatchOption result (first_keyword (sexps_of trees.now) ≡ None) (λ p. sexps_of trees.now ≡ Cons (Atom Keyword p.0.now) (sexps_of p.1.now)) }
+    ensures { MatchOption result (first_keyword (sexps_of trees.now) ≡ None)
+        (λ p. sexps_of trees.now ≡ Cons (Atom Keyword p.0.now) (sexps_of p.1.now)) }
 {
     let Some((Tree::Keyword(keyword), rest)) = split_first(trees) else {
         return None;
@@ -65,7 +71,8 @@ fn split_keyword(trees: &[Tree]) -> Option<(&[u8], &[Tree])>
 // The first of these trees if it is no keyword, and the trees behind it.
 fn split_value(trees: &[Tree]) -> Option<(&Tree, &[Tree])>
     ensures { MatchOption result (has_value (sexps_of trees.now) ≡ false)
-        (λ p. (is_keyword_tree (sexp_of p.0.now) ≡ false) × (sexps_of trees.now ≡ Cons (sexp_of p.0.now) (sexps_of p.1.now))) }
+        (λ p. (is_keyword_tree (sexp_of p.0.now) ≡ false)
+        × (sexps_of trees.now ≡ Cons (sexp_of p.0.now) (sexps_of p.1.now))) }
 {
     let Some((value, rest)) = split_first(trees) else {
         return None;
@@ -76,9 +83,11 @@ fn split_value(trees: &[Tree]) -> Option<(&Tree, &[Tree])>
     Some((value, rest))
 }
 
-/// The label that an attribute is, if it is one: by its first tree and what stands behind it (SMT-LIB 2.6, section 3.6.5).
+/// The label that an attribute is, if it is one: by its first tree and what stands behind it (SMT-LIB 2.6,
+/// section 3.6.5).
 pub fn label_at<'a>(tree: &Tree, rest: &'a [Tree]) -> Option<&'a [u8]>
-    ensures { MatchOption result (label_of_tree (sexp_of tree.now) (sexps_of rest.now) ≡ []) (λ name. label_of_tree (sexp_of tree.now) (sexps_of rest.now) ≡ name.now ∷ []) }
+    ensures { MatchOption result (label_of_tree (sexp_of tree.now) (sexps_of rest.now) ≡ [])
+        (λ name. label_of_tree (sexp_of tree.now) (sexps_of rest.now) ≡ name.now ∷ []) }
 {
     if !is_label_word(tree) {
         return None;

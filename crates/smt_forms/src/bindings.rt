@@ -8,11 +8,13 @@ ghost use Rattle.smt_forms.specs.Bindings.{first_named, let_form};
 
 use smt_trees::{Tree, split_first};
 
-/// The first of these trees as a symbol, which is without bars, with a tree: a binding with its term, or a parameter with the tree of
-/// its sort; and the trees behind it. `None` where the first is no list of those two, or there is none.
+/// The first of these trees as a symbol, which is without bars, with a tree: a binding with its term, or a
+/// parameter with the tree of its sort; and the trees behind it. `None` where the first is no list of those
+/// two, or there is none.
 pub fn split_named(trees: &[Tree]) -> Option<(&[u8], &Tree, &[Tree])>
     ensures { MatchOption result (first_named (sexps_of trees.now) ≡ None)
-        (λ p. sexps_of trees.now ≡ Cons (Items (Cons (Atom Symbol p.0.now) (Cons (sexp_of p.1.now) Nil))) (sexps_of p.2.now)) }
+        (λ p. sexps_of trees.now
+        ≡ Cons (Items (Cons (Atom Symbol p.0.now) (Cons (sexp_of p.1.now) Nil))) (sexps_of p.2.now)) }
 {
     let Some((Tree::List(parts), rest)) = split_first(trees) else {
         return None;
@@ -40,10 +42,11 @@ pub fn are_named(trees: &[Tree]) -> bool
     split_first(left).is_none()
 }
 
-/// The bindings and the body of a `let` (SMT-LIB 2.6, section 3.6.1), by what stands behind its word; `None` where these are no list
-/// and one more tree.
+/// The bindings and the body of a `let` (SMT-LIB 2.6, section 3.6.1), by what stands behind its word; `None`
+/// where these are no list and one more tree.
 pub fn split_let(args: &[Tree]) -> Option<(&[Tree], &Tree)>
-    ensures { MatchOption result (let_form (sexps_of args.now) ≡ None) (λ p. sexps_of args.now ≡ Cons (Items (sexps_of p.0.now)) (Cons (sexp_of p.1.now) Nil)) }
+    ensures { MatchOption result (let_form (sexps_of args.now) ≡ None)
+        (λ p. sexps_of args.now ≡ Cons (Items (sexps_of p.0.now)) (Cons (sexp_of p.1.now) Nil)) }
 {
     let Some((Tree::List(parts), rest)) = split_first(args) else {
         return None;

@@ -5,7 +5,8 @@ ghost use Rattle.smt_trees.specs.Sexp.{Items};
 ghost use Rattle.smt_trees.specs.Tree.{sexp_of, sexps_of};
 ghost use Rattle.smt_theory.specs.Index.{index_view};
 ghost use Rattle.smt_forms.specs.Identifier as identifiers;
-ghost use Rattle.smt_forms.specs.Identifier.{all_indexes, applied, index_of_numeral, index_of_tree, indexed, operator_of};
+ghost use Rattle.smt_forms.specs.Identifier.{all_indexes, applied, index_of_numeral, index_of_tree, indexed};
+ghost use Rattle.smt_forms.specs.Identifier.{operator_of};
 ghost use Rattle.smt_forms.specs.IdentifierView.{identifier_view};
 ghost use Rattle.smt_faults.specs.declared.term_fault.TermFault.TheVariants.{Form, Memory};
 
@@ -27,7 +28,8 @@ pub enum Identifier<'a> {
 }
 
 impl Identifier<'_> {
-    /// The operator that it names among those of the theories, or why it names none. Names in force are looked up before this.
+    /// The operator that it names among those of the theories, or why it names none. Names in force are
+    /// looked up before this.
     pub fn operator(&self, theories: Theories) -> Result<Op, OpFault>
         ensures { result ≡ operator_of theories (identifier_view self.now) }
     {
@@ -38,13 +40,15 @@ impl Identifier<'_> {
     }
 }
 
-/// The identifier that is applied to arguments, or what is wrong with the form of a list of this head and these arguments.
+/// The identifier that is applied to arguments, or what is wrong with the form of a list of this head and
+/// these arguments.
 pub fn applied_identifier<'a>(
     alloc: Global,
     head: &'a Tree,
     args: &[Tree],
 ) -> Result<Identifier<'a>, TermFault>
-    ensures { MatchResult result (λ f. applied (sexp_of head.now) (sexps_of args.now) ≡ Ok (identifier_view f))
+    ensures { MatchResult result
+        (λ f. applied (sexp_of head.now) (sexps_of args.now) ≡ Ok (identifier_view f))
         (λ fault. (fault ≡ Memory) ⊎ (applied (sexp_of head.now) (sexps_of args.now) ≡ Err fault)) }
 {
     match head {
@@ -93,7 +97,8 @@ pub fn indexed_identifier<'a>(alloc: Global, parts: &'a [Tree]) -> Result<Identi
 
 // The indexes that trees are, in order.
 fn indexes_of<'a>(alloc: Global, trees: &'a [Tree]) -> Result<Vec<Index<'a>>, TermFault>
-    ensures { MatchResult result (λ indexes. all_indexes (sexps_of trees.now) ≡ Some (map index_view indexes.items))
+    ensures { MatchResult result
+        (λ indexes. all_indexes (sexps_of trees.now) ≡ Some (map index_view indexes.items))
         (λ fault. (fault ≡ Memory) ⊎ ((fault ≡ Form) × (all_indexes (sexps_of trees.now) ≡ None))) }
 {
     let mut indexes = Vec::new(alloc);
@@ -124,7 +129,8 @@ pub fn are_indexes(trees: &[Tree]) -> bool
 
 // The index that a tree is: a numeral or a symbol.
 fn index_of(tree: &Tree) -> Option<Index<'_>>
-    ensures { MatchOption result (index_of_tree (sexp_of tree.now) ≡ None) (λ index. index_of_tree (sexp_of tree.now) ≡ Some (index_view index)) }
+    ensures { MatchOption result (index_of_tree (sexp_of tree.now) ≡ None)
+        (λ index. index_of_tree (sexp_of tree.now) ≡ Some (index_view index)) }
 {
     match tree {
         Tree::Numeral(digits) => Some(numeral_index(digits.as_slice())),

@@ -12,8 +12,8 @@ use crate::bindings::are_named;
 use smt_faults::TermFault;
 use smt_trees::{Tree, Word, split_first};
 
-/// The parts of an item (SMT-LIB 2.6, section 4.2.6): its name without bars, its parameters, each a list of a symbol and the tree of a
-/// sort, the tree of its sort, and its body.
+/// The parts of an item (SMT-LIB 2.6, section 4.2.6): its name without bars, its parameters, each a list of a
+/// symbol and the tree of a sort, the tree of its sort, and its body.
 #[derive(Clone, Copy)]
 pub struct ItemForm<'a> {
     pub name: &'a [u8],
@@ -22,9 +22,11 @@ pub struct ItemForm<'a> {
     pub body: &'a Tree,
 }
 
-/// The parts of an item, or what is wrong with its form: `Unsupported` for a recursive definition, else `Form`.
+/// The parts of an item, or what is wrong with its form: `Unsupported` for a recursive definition, else
+/// `Form`.
 pub fn item_form(item: &Tree) -> Result<ItemForm<'_>, TermFault>
-    ensures { MatchResult result (λ form. items.item_form (sexp_of item.now) ≡ Ok (form_of form)) (λ fault. items.item_form (sexp_of item.now) ≡ Err fault) }
+    ensures { MatchResult result (λ form. items.item_form (sexp_of item.now) ≡ Ok (form_of form))
+        (λ fault. items.item_form (sexp_of item.now) ≡ Err fault) }
 {
     let Tree::List(parts) = item else {
         return Err(TermFault::Form);
@@ -44,8 +46,10 @@ pub fn item_form(item: &Tree) -> Result<ItemForm<'_>, TermFault>
 
 // The parts of a definition, behind its first word.
 fn definition_form(parts: &[Tree]) -> Option<ItemForm<'_>>
-    ensures { MatchOption result (items.item_form (Items (Cons (Reserved DefineFun) (sexps_of parts.now))) ≡ Err Form)
-        (λ form. items.item_form (Items (Cons (Reserved DefineFun) (sexps_of parts.now))) ≡ Ok (form_of form)) }
+    ensures { MatchOption result
+        (items.item_form (Items (Cons (Reserved DefineFun) (sexps_of parts.now))) ≡ Err Form)
+        (λ form. items.item_form (Items (Cons (Reserved DefineFun) (sexps_of parts.now)))
+        ≡ Ok (form_of form)) }
 {
     let Some((Tree::Symbol(name), rest)) = split_first(parts) else {
         return None;

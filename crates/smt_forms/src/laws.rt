@@ -9,14 +9,15 @@ ghost use Rattle.smt_forms.specs.Parts.{IsLabelled, OccursFree, own_labels, part
 ghost use Rattle.smt_forms.specs.Variables.{uses_variable};
 ghost use Rattle.smt_forms.specs.Bindings.{AreAttributes, are_attributes};
 
-/// Trees are the attributes of a term exactly where they are attributes, one or more (SMT-LIB 2.6, sections 3.4 and 3.6.5): keywords,
-/// each with a value or without one.
+/// Trees are the attributes of a term exactly where they are attributes, one or more (SMT-LIB 2.6, sections
+/// 3.4 and 3.6.5): keywords, each with a value or without one.
 pub fn attributes_are_keywords_with_values()
     ensures { (trees : Sexps) → (are_attributes trees ≡ true) ↔ ((trees ≡ Nil → ⊥) × AreAttributes trees) }
 {}
 
-/// The labels of a term are those that its annotations give (SMT-LIB 2.6, section 3.6.5): where `(! t .. :named x ..)` stands in it,
-/// `x` labels `t`, and each label stands so. Those of the term's parts come first, one part behind another, and then its own.
+/// The labels of a term are those that its annotations give (SMT-LIB 2.6, section 3.6.5): where `(! t ..
+/// :named x ..)` stands in it, `x` labels `t`, and each label stands so. Those of the term's parts come
+/// first, one part behind another, and then its own.
 pub fn labels_are_annotations()
     ensures standing { (term : Sexp) (label : List ℕ × Sexp)
         → Contains (labels_in term) label ↔ IsLabelled term label }
@@ -24,7 +25,8 @@ pub fn labels_are_annotations()
         → labels_in term ≡ flat_map (λ p. labels_in p.1) (parts_of term) ++ own_labels term }
 {}
 
-/// A term uses variables that are bound outside it exactly where the name of one occurs free in it (SMT-LIB 2.6, section 3.6.1).
+/// A term uses variables that are bound outside it exactly where the name of one occurs free in it (SMT-LIB
+/// 2.6, section 3.6.1).
 pub fn used_variables_occur_free()
     ensures { (scope : List (List ℕ × Sort)) (term : Sexp) → (uses_variable scope term ≡ true)
         ↔ ((x : List ℕ) × Contains (map (λ v. v.0) scope) x × OccursFree x term) }

@@ -1,10 +1,12 @@
-//! The forms that terms, definitions and commands share (SMT-LIB 2.6, sections 3.3, 3.6 and 4.2.3): identifiers, bindings, parameters,
-//! and the variables that a term sees. This crate looks up no name but those of operators and variables.
+//! The forms that terms, definitions and commands share (SMT-LIB 2.6, sections 3.3, 3.6 and 4.2.3):
+//! identifiers, bindings, parameters, and the variables that a term sees. This crate looks up no name but
+//! those of operators and variables.
 //!
-//! `applied_identifier` answers what a list applies to its arguments, or what is wrong with its form. So for `((_ extract 3 0) x)`, by
-//! its head and what stands behind it, it answers the identifier `extract` with two indexes, whose operator `Identifier::operator`
-//! finds; and for `(let)` that it is out of form. `split_let` and `split_named` take the parts of a `let` and of its bindings, and
-//! `find_variable` the innermost variable of a name.
+//! `applied_identifier` answers what a list applies to its arguments, or what is wrong with its form. So for
+//! `((_ extract 3 0) x)`, by its head and what stands behind it, it answers the identifier `extract` with two
+//! indexes, whose operator `Identifier::operator` finds; and for `(let)` that it is out of form. `split_let`
+//! and `split_named` take the parts of a `let` and of its bindings, and `find_variable` the innermost
+//! variable of a name.
 #![tactic(auto)]
 
 mod attributes;
@@ -19,8 +21,8 @@ mod variables;
 
 pub use attributes::{are_attributes, label_at};
 pub use bindings::{are_named, split_let, split_named};
-pub use identifier::{Identifier, applied_identifier, are_indexes, indexed_identifier};
 pub use heads::{is_bang, is_let, is_underscore};
+pub use identifier::{Identifier, applied_identifier, are_indexes, indexed_identifier};
 pub use items::{ItemForm, item_form};
 pub use params::{Param, params_of};
 pub use scope::{Variable, find_variable};

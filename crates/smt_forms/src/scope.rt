@@ -11,7 +11,8 @@ pub struct Variable<'a, V> {
     pub value: V,
 }
 
-/// What stands for the innermost variable of this name among those that a term sees, the innermost first (SMT-LIB 2.6, section 3.6.1).
+/// What stands for the innermost variable of this name among those that a term sees, the innermost first
+/// (SMT-LIB 2.6, section 3.6.1).
 #[inline(always)]
 pub fn find_variable<V: Copy>(scope: &[Variable<'_, V>], name: &[u8]) -> Option<V>
     ensures { result ≡ look_up (scope_view scope.now) name.now }

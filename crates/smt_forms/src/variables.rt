@@ -1,4 +1,5 @@
-//! The variables that a term uses, those bound inside it apart. This file knows no name but those of variables, and no sort of a term.
+//! The variables that a term uses, those bound inside it apart. This file knows no name but those of
+//! variables, and no sort of a term.
 
 ghost use Rattle.std.specs.Prelude.{◌≡◌, ◌∷◌, ◌++◌, ◌&&◌, [], not, map, is_some, bytes_eq, IfOk, OnOk};
 ghost use Rattle.smt_trees.specs.Sexp.{Cons, Items, Reserved};
@@ -39,7 +40,8 @@ fn uses_outer<'a>(
     scope: &[Variable<'_, Sort>],
     term: &'a Tree,
 ) -> Result<bool, Memory>
-    ensures { IfOk result (λ used. used ≡ variables.uses_outer (map (λ n. n.now) inner.now) (scope_view scope.now) (sexp_of term.now)) }
+    ensures { IfOk result (λ used. used
+        ≡ variables.uses_outer (map (λ n. n.now) inner.now) (scope_view scope.now) (sexp_of term.now)) }
 {
     match term {
         Tree::Symbol(name) => Ok(is_outer(inner, scope, name.as_slice())),
@@ -57,7 +59,8 @@ fn list_uses_outer<'a>(
     scope: &[Variable<'_, Sort>],
     parts: &'a Trees,
 ) -> Result<bool, Memory>
-    ensures { IfOk result (λ used. used ≡ variables.uses_outer (map (λ n. n.now) inner.now) (scope_view scope.now) (Items parts.now)) }
+    ensures { IfOk result (λ used. used
+        ≡ variables.uses_outer (map (λ n. n.now) inner.now) (scope_view scope.now) (Items parts.now)) }
 {
     let Some((head, args)) = split_first(parts.as_slice()) else {
         return Ok(false);
@@ -82,7 +85,9 @@ fn let_uses_outer<'a>(
     scope: &[Variable<'_, Sort>],
     args: &'a [Tree],
 ) -> Result<bool, Memory>
-    ensures { IfOk result (λ used. used ≡ variables.uses_outer (map (λ n. n.now) inner.now) (scope_view scope.now) (Items (Cons (Reserved Let) (sexps_of args.now)))) }
+    ensures { IfOk result (λ used. used
+        ≡ variables.uses_outer (map (λ n. n.now) inner.now) (scope_view scope.now)
+        (Items (Cons (Reserved Let) (sexps_of args.now)))) }
 {
     let Some((bindings, body)) = split_let(args) else {
         return any_uses_outer(alloc, inner, scope, args);
@@ -102,7 +107,9 @@ fn annotated_uses_outer<'a>(
     scope: &[Variable<'_, Sort>],
     args: &'a [Tree],
 ) -> Result<bool, Memory>
-    ensures { IfOk result (λ used. used ≡ variables.uses_outer (map (λ n. n.now) inner.now) (scope_view scope.now) (Items (Cons (Reserved Bang) (sexps_of args.now)))) }
+    ensures { IfOk result (λ used. used
+        ≡ variables.uses_outer (map (λ n. n.now) inner.now) (scope_view scope.now)
+        (Items (Cons (Reserved Bang) (sexps_of args.now)))) }
 {
     let Some((term, _)) = split_first(args) else {
         return Ok(false);
@@ -118,7 +125,8 @@ fn any_uses_outer<'a>(
     scope: &[Variable<'_, Sort>],
     terms: &'a [Tree],
 ) -> Result<bool, Memory>
-    ensures { IfOk result (λ used. used ≡ variables.any_uses_outer (map (λ n. n.now) inner.now) (scope_view scope.now) (sexps_of terms.now)) }
+    ensures { IfOk result (λ used. used
+        ≡ variables.any_uses_outer (map (λ n. n.now) inner.now) (scope_view scope.now) (sexps_of terms.now)) }
 {
     let mut left = terms;
     while let Some((term, rest)) = split_first(left) {
@@ -138,7 +146,9 @@ fn bindings_use_outer<'a>(
     scope: &[Variable<'_, Sort>],
     bindings: &'a [Tree],
 ) -> Result<bool, Memory>
-    ensures { IfOk result (λ used. used ≡ variables.bindings_use_outer (map (λ n. n.now) inner.now) (scope_view scope.now) (sexps_of bindings.now)) }
+    ensures { IfOk result (λ used. used
+        ≡ variables.bindings_use_outer (map (λ n. n.now) inner.now) (scope_view scope.now)
+        (sexps_of bindings.now)) }
 {
     let mut left = bindings;
     while let Some((_, term, rest)) = split_named(left) {
@@ -156,7 +166,8 @@ fn inner_names<'a>(
     inner: &[&'a [u8]],
     bindings: &'a [Tree],
 ) -> Result<Vec<&'a [u8]>, Memory>
-    ensures { IfOk result (λ names. map (λ n. n.now) names.items ≡ map (λ b. b.0) (named_trees (sexps_of bindings.now)) ++ map (λ n. n.now) inner.now) }
+    ensures { IfOk result (λ names. map (λ n. n.now) names.items
+        ≡ map (λ b. b.0) (named_trees (sexps_of bindings.now)) ++ map (λ n. n.now) inner.now) }
 {
     let mut names = Vec::new(alloc);
     let mut left = bindings;
@@ -169,7 +180,8 @@ fn inner_names<'a>(
 }
 
 fn push_name<'a>(names: &mut Vec<&'a [u8]>, name: &'a [u8]) -> Result<(), Memory>
-    ensures { OnOk result (map (λ n. n.now) names.new.items ≡ map (λ n. n.now) names.old.items ++ name.now ∷ []) }
+    ensures { OnOk result (map (λ n. n.now) names.new.items
+        ≡ map (λ n. n.now) names.old.items ++ name.now ∷ []) }
 {
     names.push(name)?;
     Ok(())
@@ -177,7 +189,8 @@ fn push_name<'a>(names: &mut Vec<&'a [u8]>, name: &'a [u8]) -> Result<(), Memory
 
 // Whether a name is that of an outer variable, which no inner one hides.
 fn is_outer(inner: &[&[u8]], scope: &[Variable<'_, Sort>], name: &[u8]) -> bool
-    ensures { result ≡ not (variables.is_among (map (λ n. n.now) inner.now) name.now) && is_some (look_up (scope_view scope.now) name.now) }
+    ensures { result ≡ not (variables.is_among (map (λ n. n.now) inner.now) name.now)
+        && is_some (look_up (scope_view scope.now) name.now) }
 {
     !is_among(inner, name) && find_variable(scope, name).is_some()
 }

@@ -1,5 +1,7 @@
 -- Sorts of lists, one step at a time.
-use Rattle.std.proofs.Common.{◌≡◌, ◌⊎◌, ℕ, true, false, List, [], ◌∷◌, ◌++◌, Option, Some, None, is_some, Result, Ok, Err, refl, sym, ap, ◌∙◌, append_assoc, inl, inr, length, arith, MatchResult}
+use Rattle.std.proofs.Common.{◌≡◌, ◌⊎◌, ℕ, true, false, List, [], ◌∷◌, ◌++◌, Option, Some, None, is_some}
+use Rattle.std.proofs.Common.{Result, Ok, Err, refl, sym, ap, ◌∙◌, append_assoc, inl, inr, length, arith}
+use Rattle.std.proofs.Common.{MatchResult}
 use Rattle.smt_trees.specs.Sexp.{Sexp, Sexps, Reserved, Items, Cons, count}
 use Rattle.smt_trees.specs.Tree.{sexps_of}
 use Rattle.smt_trees.specs.declared.tree.Tree.{Tree}
@@ -25,7 +27,8 @@ abbrev pub sorts_behind : Names → Scope → List Sort → Sexps → Result (Li
 sorts_behind names scope before left = result_and_then (sorts_in names scope left) (λ ss. Ok (before ++ ss))
 
 -- at first no sort is done
-pub sorts_behind-start : (names : Names) (scope : Scope) (before : List Sort) (left : Sexps) → before ≡ [] → sorts_in names scope left ≡ sorts_behind names scope before left
+pub sorts_behind-start : (names : Names) (scope : Scope) (before : List Sort) (left : Sexps) → before ≡ []
+    → sorts_in names scope left ≡ sorts_behind names scope before left
 sorts_behind-start names scope before left none = rw none (by (sorts_in names scope left))
   where
     by : (r : Result (List Sort) TermFault) → r ≡ result_and_then r (λ ss. Ok ([] ++ ss))
@@ -33,16 +36,22 @@ sorts_behind-start names scope before left none = rw none (by (sorts_in names sc
     by (Err f) = refl
 
 -- one sort more
-pub sorts_behind-next : (names later : Names) (scope : Scope) (before after : List Sort) (x : Sexp) (xs left : Sexps) (sort : Sort) → later ≡ behind (labels_in x) names → left ≡ Cons x xs → sort_in names scope x ≡ Ok sort
+pub sorts_behind-next : (names later : Names) (scope : Scope) (before after : List Sort) (x : Sexp)
+    (xs left : Sexps) (sort : Sort) → later ≡ behind (labels_in x) names → left ≡ Cons x xs
+    → sort_in names scope x ≡ Ok sort
     → after ≡ before ++ sort ∷ [] → sorts_behind names scope before left ≡ sorts_behind later scope after xs
-sorts_behind-next names later scope before after x xs left sort next split is more = rw (split, is, more, next) (by (sorts_in (behind (labels_in x) names) scope xs))
+sorts_behind-next names later scope before after x xs left sort next split is more =
+    rw (split, is, more, next) (by (sorts_in (behind (labels_in x) names) scope xs))
   where
-    by : (r : Result (List Sort) TermFault) → result_and_then (result_and_then r (λ ss. Ok (sort ∷ ss))) (λ ss. Ok (before ++ ss)) ≡ result_and_then r (λ ss. Ok ((before ++ sort ∷ []) ++ ss))
+    by : (r : Result (List Sort) TermFault)
+        → result_and_then (result_and_then r (λ ss. Ok (sort ∷ ss))) (λ ss. Ok (before ++ ss))
+        ≡ result_and_then r (λ ss. Ok ((before ++ sort ∷ []) ++ ss))
     by (Ok ss) = ap Ok (sym (append_assoc before (sort ∷ []) ss))
     by (Err f) = refl
 
 -- a fault of one sort is that of all
-pub sorts_behind-fault : (names : Names) (scope : Scope) (before : List Sort) (x : Sexp) (xs left : Sexps) (e : TermFault) → left ≡ Cons x xs → (e ≡ Memory) ⊎ (sort_in names scope x ≡ Err e)
+pub sorts_behind-fault : (names : Names) (scope : Scope) (before : List Sort) (x : Sexp) (xs left : Sexps)
+    (e : TermFault) → left ≡ Cons x xs → (e ≡ Memory) ⊎ (sort_in names scope x ≡ Err e)
     → (e ≡ Memory) ⊎ (sorts_behind names scope before left ≡ Err e)
 sorts_behind-fault names scope before x xs left e split (inl m) = inl m
 sorts_behind-fault names scope before x xs left e split (inr is) = inr (rw (split, is) refl)
@@ -68,72 +77,101 @@ pub record IsPlainHead (head : Sexp) : Type 0 where
   pub no_bang : is_bang_tree head ≡ false
 
 -- a list with another head applies an identifier, or is out of form
-pub other_head : (names : Names) (scope : Scope) (head : Sexp) (args : Sexps) → is_underscore_tree head ≡ false → is_let_tree head ≡ false → is_bang_tree head ≡ false
-    → sort_in names scope (Items (Cons head args)) ≡ result_and_then (applied head args) (λ f. result_and_then (sorts_in names scope args) (λ ss. sort_of_call names scope f ss))
+pub other_head : (names : Names) (scope : Scope) (head : Sexp) (args : Sexps)
+    → is_underscore_tree head ≡ false → is_let_tree head ≡ false → is_bang_tree head ≡ false
+    → sort_in names scope (Items (Cons head args))
+    ≡ result_and_then (applied head args)
+    (λ f. result_and_then (sorts_in names scope args) (λ ss. sort_of_call names scope f ss))
 other_head names scope (Reserved Underscore) args h i j = cc
 other_head names scope (Reserved Let) args h i j = cc
 other_head names scope (Reserved Bang) args h i j = cc
 other_head names scope _ args h i j = refl
 
 -- a call of a variable is ill sorted
-pub call_of_variable : (names : Names) (scope : Scope) (f : Identifier) (ss : List Sort) → names_variable scope f ≡ true → sort_of_call names scope f ss ≡ Err IllSorted
+pub call_of_variable : (names : Names) (scope : Scope) (f : Identifier) (ss : List Sort)
+    → names_variable scope f ≡ true → sort_of_call names scope f ss ≡ Err IllSorted
 call_of_variable names scope (Plain f) ss h = by (look_up scope f) h
   where
-    by : (o : Option Sort) → is_some o ≡ true → sort_unless_variable o (sort_applied names (Plain f) ss) ≡ Err IllSorted
+    by : (o : Option Sort) → is_some o ≡ true
+        → sort_unless_variable o (sort_applied names (Plain f) ss) ≡ Err IllSorted
     by None g = cc
     by (Some sort) g = refl
 call_of_variable names scope (Indexed f is) ss h = cc
 
 -- and one of another identifier is an application
-pub call_of_name : (names : Names) (scope : Scope) (f : Identifier) (ss : List Sort) → names_variable scope f ≡ false → sort_of_call names scope f ss ≡ sort_applied names f ss
+pub call_of_name : (names : Names) (scope : Scope) (f : Identifier) (ss : List Sort)
+    → names_variable scope f ≡ false → sort_of_call names scope f ss ≡ sort_applied names f ss
 call_of_name names scope (Plain f) ss h = by (look_up scope f) h
   where
-    by : (o : Option Sort) → is_some o ≡ false → sort_unless_variable o (sort_applied names (Plain f) ss) ≡ sort_applied names (Plain f) ss
+    by : (o : Option Sort) → is_some o ≡ false
+        → sort_unless_variable o (sort_applied names (Plain f) ss) ≡ sort_applied names (Plain f) ss
     by None g = refl
     by (Some sort) g = cc
 call_of_name names scope (Indexed f is) ss h = refl
 
 -- the sort of a list of parts, where its identifier and the sorts of its arguments are known
-pub applied_ok : (names : Names) (scope : Scope) (head : Sexp) (args parts : Sexps) (f : Identifier) (ss : List Sort) → parts ≡ Cons head args → IsPlainHead head → applied head args ≡ Ok f → sorts_in names scope args ≡ Ok ss
+pub applied_ok : (names : Names) (scope : Scope) (head : Sexp) (args parts : Sexps) (f : Identifier)
+    (ss : List Sort) → parts ≡ Cons head args → IsPlainHead head → applied head args ≡ Ok f
+    → sorts_in names scope args ≡ Ok ss
     → sort_in names scope (Items parts) ≡ sort_of_call names scope f ss
 applied_ok names scope head args parts f ss split other is done =
-    ap (λ ps. sort_in names scope (Items ps)) split ∙ other_head names scope head args other.no_index other.no_let other.no_bang
-    ∙ ap (λ r. result_and_then r (λ g. result_and_then (sorts_in names scope args) (λ ts. sort_of_call names scope g ts))) is
+    ap (λ ps. sort_in names scope (Items ps)) split ∙ other_head names scope head args other.no_index
+    other.no_let other.no_bang
+    ∙ ap (λ r. result_and_then r
+    (λ g. result_and_then (sorts_in names scope args) (λ ts. sort_of_call names scope g ts))) is
     ∙ ap (λ r. result_and_then r (λ ts. sort_of_call names scope f ts)) done
 
 -- a fault of the form is the list's
-pub fault_of_form : (names : Names) (scope : Scope) (head : Sexp) (args parts : Sexps) (e : TermFault) → parts ≡ Cons head args → IsPlainHead head → (e ≡ Memory) ⊎ (applied head args ≡ Err e)
+pub fault_of_form : (names : Names) (scope : Scope) (head : Sexp) (args parts : Sexps) (e : TermFault)
+    → parts ≡ Cons head args → IsPlainHead head → (e ≡ Memory) ⊎ (applied head args ≡ Err e)
     → (e ≡ Memory) ⊎ (sort_in names scope (Items parts) ≡ Err e)
 fault_of_form names scope head args parts e split other (inl m) = inl m
 fault_of_form names scope head args parts e split other (inr is) =
-    inr (ap (λ ps. sort_in names scope (Items ps)) split ∙ other_head names scope head args other.no_index other.no_let other.no_bang ∙ ap (λ r. result_and_then r (λ g. result_and_then (sorts_in names scope args) (λ ts. sort_of_call names scope g ts))) is)
+    inr (ap (λ ps. sort_in names scope (Items ps)) split ∙ other_head names scope head args other.no_index
+    other.no_let other.no_bang ∙ ap
+    (λ r. result_and_then r (λ g. result_and_then (sorts_in names scope args)
+    (λ ts. sort_of_call names scope g ts))) is)
 
 -- and one of the arguments
-pub fault_of_args : (names : Names) (scope : Scope) (head : Sexp) (args parts : Sexps) (f : Identifier) (e : TermFault) → parts ≡ Cons head args → IsPlainHead head → applied head args ≡ Ok f
-    → (e ≡ Memory) ⊎ (sorts_in names scope args ≡ Err e) → (e ≡ Memory) ⊎ (sort_in names scope (Items parts) ≡ Err e)
+pub fault_of_args : (names : Names) (scope : Scope) (head : Sexp) (args parts : Sexps) (f : Identifier)
+    (e : TermFault) → parts ≡ Cons head args → IsPlainHead head → applied head args ≡ Ok f
+    → (e ≡ Memory) ⊎ (sorts_in names scope args ≡ Err e)
+    → (e ≡ Memory) ⊎ (sort_in names scope (Items parts) ≡ Err e)
 fault_of_args names scope head args parts f e split other is (inl m) = inl m
 fault_of_args names scope head args parts f e split other is (inr done) =
-    inr (ap (λ ps. sort_in names scope (Items ps)) split ∙ other_head names scope head args other.no_index other.no_let other.no_bang
-    ∙ ap (λ r. result_and_then r (λ g. result_and_then (sorts_in names scope args) (λ ts. sort_of_call names scope g ts))) is
+    inr (ap (λ ps. sort_in names scope (Items ps)) split ∙ other_head names scope head args other.no_index
+    other.no_let other.no_bang
+    ∙ ap (λ r. result_and_then r
+    (λ g. result_and_then (sorts_in names scope args) (λ ts. sort_of_call names scope g ts))) is
     ∙ ap (λ r. result_and_then r (λ ts. sort_of_call names scope f ts)) done)
 
 -- the sort of an identifier with indexes alone
-pub indexed_ok : (names : Names) (scope : Scope) (head : Sexp) (args parts : Sexps) (f : Identifier) → parts ≡ Cons head args → is_underscore_tree head ≡ true → indexed args ≡ Ok f → sort_in names scope (Items parts) ≡ sort_applied names f []
+pub indexed_ok : (names : Names) (scope : Scope) (head : Sexp) (args parts : Sexps) (f : Identifier)
+    → parts ≡ Cons head args → is_underscore_tree head ≡ true → indexed args ≡ Ok f
+    → sort_in names scope (Items parts) ≡ sort_applied names f []
 indexed_ok names scope head args parts f split is_head is =
-    ap (λ ps. sort_in names scope (Items ps)) (split ∙ ap (λ h. Cons h args) (underscore_head head is_head)) ∙ ap (λ r. result_and_then r (λ g. sort_applied names g [])) is
+    ap (λ ps. sort_in names scope (Items ps)) (split ∙ ap (λ h. Cons h args) (underscore_head head is_head)) ∙
+    ap (λ r. result_and_then r (λ g. sort_applied names g [])) is
 
-pub fault_of_indexed : (names : Names) (scope : Scope) (head : Sexp) (args parts : Sexps) (e : TermFault) → parts ≡ Cons head args → is_underscore_tree head ≡ true → (e ≡ Memory) ⊎ (indexed args ≡ Err e) → (e ≡ Memory) ⊎ (sort_in names scope (Items parts) ≡ Err e)
+pub fault_of_indexed : (names : Names) (scope : Scope) (head : Sexp) (args parts : Sexps) (e : TermFault)
+    → parts ≡ Cons head args → is_underscore_tree head ≡ true → (e ≡ Memory) ⊎ (indexed args ≡ Err e)
+    → (e ≡ Memory) ⊎ (sort_in names scope (Items parts) ≡ Err e)
 fault_of_indexed names scope head args parts e split is_head (inl m) = inl m
 fault_of_indexed names scope head args parts e split is_head (inr is) =
-    inr (ap (λ ps. sort_in names scope (Items ps)) (split ∙ ap (λ h. Cons h args) (underscore_head head is_head)) ∙ ap (λ r. result_and_then r (λ g. sort_applied names g [])) is)
+    inr (ap (λ ps. sort_in names scope (Items ps))
+    (split ∙ ap (λ h. Cons h args) (underscore_head head is_head)) ∙ ap
+    (λ r. result_and_then r (λ g. sort_applied names g [])) is)
 
 -- what a result says of an answer that it is
-pub told : {A : Type 0} (r s : Result A TermFault) → s ≡ r → MatchResult r (λ v. s ≡ Ok v) (λ f. (f ≡ Memory) ⊎ (s ≡ Err f))
+pub told : {A : Type 0} (r s : Result A TermFault) → s ≡ r
+    → MatchResult r (λ v. s ≡ Ok v) (λ f. (f ≡ Memory) ⊎ (s ≡ Err f))
 told (Ok v) s e = e
 told (Err f) s e = inr e
 
 -- and of one that is the same
-pub carried : {A : Type 0} (r s t : Result A TermFault) → t ≡ s → MatchResult r (λ v. s ≡ Ok v) (λ f. (f ≡ Memory) ⊎ (s ≡ Err f)) → MatchResult r (λ v. t ≡ Ok v) (λ f. (f ≡ Memory) ⊎ (t ≡ Err f))
+pub carried : {A : Type 0} (r s t : Result A TermFault) → t ≡ s
+    → MatchResult r (λ v. s ≡ Ok v) (λ f. (f ≡ Memory) ⊎ (s ≡ Err f))
+    → MatchResult r (λ v. t ≡ Ok v) (λ f. (f ≡ Memory) ⊎ (t ≡ Err f))
 carried (Ok v) s t e h = e ∙ h
 carried (Err f) s t e (inl m) = inl m
 carried (Err f) s t e (inr h) = inr (e ∙ h)

@@ -1,5 +1,6 @@
 -- The contents of libraries, cut and grown.
-use Rattle.std.proofs.Common.{◌≡◌, ◌≤◌, ℕ, zero, suc, ◌+◌, List, [], ◌∷◌, ◌++◌, length, map, take, slice_get, Some, refl, ap, sym, ◌∙◌, arith, append_assoc, Result, Ok, Err, OnOk, OnErr}
+use Rattle.std.proofs.Common.{◌≡◌, ◌≤◌, ℕ, zero, suc, ◌+◌, List, [], ◌∷◌, ◌++◌, length, map, take, slice_get}
+use Rattle.std.proofs.Common.{Some, refl, ap, sym, ◌∙◌, arith, append_assoc, Result, Ok, Err, OnOk, OnErr}
 use Rattle.std.proofs.lemmas.List.{append-nil, length-append, length-take-le, take-append-le, take-map}
 use Rattle.smt_trees.specs.Sexp.{Sexp}
 use Rattle.smt_theory.specs.declared.sort.Sort.{Sort}
@@ -10,7 +11,9 @@ use Rattle.smt_terms.specs.declared.library.marks.Mark.{Mark}
 use Rattle.smt_terms.proofs.TermLemmas.{stays}
 
 -- contents whose parts are the same
-pub same_contents : (c d : Contents) → c.theories ≡ d.theories → c.abbreviations ≡ d.abbreviations → c.ranks ≡ d.ranks → c.places ≡ d.places → c.declared ≡ d.declared → c.definitions ≡ d.definitions → c.terms ≡ d.terms → c ≡ d
+pub same_contents : (c d : Contents) → c.theories ≡ d.theories → c.abbreviations ≡ d.abbreviations
+    → c.ranks ≡ d.ranks → c.places ≡ d.places → c.declared ≡ d.declared → c.definitions ≡ d.definitions
+    → c.terms ≡ d.terms → c ≡ d
 same_contents c d theories abbreviations ranks places declared definitions terms = λ i. record {
   theories = theories i;
   abbreviations = abbreviations i;
@@ -24,13 +27,16 @@ same_contents c d theories abbreviations ranks places declared definitions terms
 -- ---- lists
 
 -- the first so many stay as more come behind
-take_kept : {A : Type 0} (n : ℕ) (xs ys : List A) → n ≤ length xs → (more : List A) × (ys ≡ xs ++ more) → take n ys ≡ take n xs
+take_kept : {A : Type 0} (n : ℕ) (xs ys : List A) → n ≤ length xs → (more : List A) × (ys ≡ xs ++ more)
+    → take n ys ≡ take n xs
 take_kept n xs ys within (more, is) = ap (take n) is ∙ take-append-le n xs more within
 
 -- and there are so many still
-within_kept : {A : Type 0} (n : ℕ) (xs ys : List A) → n ≤ length xs → (more : List A) × (ys ≡ xs ++ more) → n ≤ length ys
+within_kept : {A : Type 0} (n : ℕ) (xs ys : List A) → n ≤ length xs → (more : List A) × (ys ≡ xs ++ more)
+    → n ≤ length ys
 within_kept {A = A} n xs ys within (more, is) =
-    let len : length ys ≡ length xs + length more = ap (λ (zs : List A). length zs) is ∙ length-append xs more in
+    let len : length ys ≡ length xs + length more =
+    ap (λ (zs : List A). length zs) is ∙ length-append xs more in
     omega (arith, within, len)
 
 -- the first so many of the first more
@@ -38,27 +44,36 @@ take_earlier : {A : Type 0} (m n : ℕ) (xs : List A) → m ≤ n → take m (ta
 take_earlier zero n xs h = refl
 take_earlier (suc m) zero xs h = absurd (omega arith)
 take_earlier (suc m) (suc n) [] h = refl
-take_earlier {A = A} (suc m) (suc n) (x ∷ xs) h = ap (λ (ys : List A). x ∷ ys) (take_earlier m n xs (omega arith))
+take_earlier {A = A} (suc m) (suc n) (x ∷ xs) h =
+    ap (λ (ys : List A). x ∷ ys) (take_earlier m n xs (omega arith))
 
 -- what is seen of the first so many
-pub mapped : {A B : Type 0} (f : A → B) (n : ℕ) (xs new : List A) → new ≡ take n xs → map f new ≡ take n (map f xs)
+pub mapped : {A B : Type 0} (f : A → B) (n : ℕ) (xs new : List A) → new ≡ take n xs
+    → map f new ≡ take n (map f xs)
 mapped f n xs new is = ap (map f) is ∙ sym (take-map f n xs)
 
 -- there are so many among the first more
 within_earlier : {A : Type 0} (m n : ℕ) (xs : List A) → m ≤ n → n ≤ length xs → m ≤ length (take n xs)
-within_earlier m n xs below within = let len : length (take n xs) ≡ n = length-take-le n xs within in omega (arith, below, len)
+within_earlier m n xs below within =
+    let len : length (take n xs) ≡ n = length-take-le n xs within in omega (arith, below, len)
 
 -- ---- marks
 
-pub mark_kept : (mark : Mark) (c d : Contents) → IsWithin mark c → Extends c d → first_of mark d ≡ first_of mark c
+pub mark_kept : (mark : Mark) (c d : Contents) → IsWithin mark c → Extends c d
+    → first_of mark d ≡ first_of mark c
 mark_kept mark c d within more =
-    same_contents (first_of mark d) (first_of mark c) more.theories (take_kept mark.abbreviations c.abbreviations d.abbreviations within.abbreviations more.abbreviations) (take_kept mark.names c.ranks d.ranks within.ranks more.ranks)
-    (take_kept mark.names c.places d.places within.places more.places) (take_kept mark.declared c.declared d.declared within.declared more.declared)
-    (take_kept mark.definitions c.definitions d.definitions within.definitions more.definitions) (take_kept mark.terms c.terms d.terms within.terms more.terms)
+    same_contents (first_of mark d) (first_of mark c) more.theories
+    (take_kept mark.abbreviations c.abbreviations d.abbreviations within.abbreviations more.abbreviations)
+    (take_kept mark.names c.ranks d.ranks within.ranks more.ranks)
+    (take_kept mark.names c.places d.places within.places more.places)
+    (take_kept mark.declared c.declared d.declared within.declared more.declared)
+    (take_kept mark.definitions c.definitions d.definitions within.definitions more.definitions)
+    (take_kept mark.terms c.terms d.terms within.terms more.terms)
 
 pub mark_within : (mark : Mark) (c d : Contents) → IsWithin mark c → Extends c d → IsWithin mark d
 mark_within mark c d within more = record {
-  abbreviations = within_kept mark.abbreviations c.abbreviations d.abbreviations within.abbreviations more.abbreviations;
+  abbreviations =
+      within_kept mark.abbreviations c.abbreviations d.abbreviations within.abbreviations more.abbreviations;
   ranks = within_kept mark.names c.ranks d.ranks within.ranks more.ranks;
   places = within_kept mark.names c.places d.places within.places more.places;
   declared = within_kept mark.declared c.declared d.declared within.declared more.declared;
@@ -66,19 +81,27 @@ mark_within mark c d within more = record {
   terms = within_kept mark.terms c.terms d.terms within.terms more.terms;
 }
 
-pub earlier_kept : (mark later : Mark) (c : Contents) → IsBelow mark later → first_of mark (first_of later c) ≡ first_of mark c
+pub earlier_kept : (mark later : Mark) (c : Contents) → IsBelow mark later
+    → first_of mark (first_of later c) ≡ first_of mark c
 earlier_kept mark later c below =
-    same_contents (first_of mark (first_of later c)) (first_of mark c) refl (take_earlier mark.abbreviations later.abbreviations c.abbreviations below.abbreviations) (take_earlier mark.names later.names c.ranks below.names)
-    (take_earlier mark.names later.names c.places below.names) (take_earlier mark.declared later.declared c.declared below.declared) (take_earlier mark.definitions later.definitions c.definitions below.definitions)
+    same_contents (first_of mark (first_of later c)) (first_of mark c) refl
+    (take_earlier mark.abbreviations later.abbreviations c.abbreviations below.abbreviations)
+    (take_earlier mark.names later.names c.ranks below.names)
+    (take_earlier mark.names later.names c.places below.names)
+    (take_earlier mark.declared later.declared c.declared below.declared)
+    (take_earlier mark.definitions later.definitions c.definitions below.definitions)
     (take_earlier mark.terms later.terms c.terms below.terms)
 
-pub earlier_within : (mark later : Mark) (c : Contents) → IsBelow mark later → IsWithin later c → IsWithin mark (first_of later c)
+pub earlier_within : (mark later : Mark) (c : Contents) → IsBelow mark later → IsWithin later c
+    → IsWithin mark (first_of later c)
 earlier_within mark later c below within = record {
-  abbreviations = within_earlier mark.abbreviations later.abbreviations c.abbreviations below.abbreviations within.abbreviations;
+  abbreviations = within_earlier mark.abbreviations later.abbreviations c.abbreviations below.abbreviations
+      within.abbreviations;
   ranks = within_earlier mark.names later.names c.ranks below.names within.ranks;
   places = within_earlier mark.names later.names c.places below.names within.places;
   declared = within_earlier mark.declared later.declared c.declared below.declared within.declared;
-  definitions = within_earlier mark.definitions later.definitions c.definitions below.definitions within.definitions;
+  definitions =
+      within_earlier mark.definitions later.definitions c.definitions below.definitions within.definitions;
   terms = within_earlier mark.terms later.terms c.terms below.terms within.terms;
 }
 
@@ -96,13 +119,15 @@ abbrev pub Goes : {A : Type 0} → List A → List A → Type 0
 Goes {A} xs ys = (more : List A) × (ys ≡ xs ++ more)
 
 goes_on : {A : Type 0} (xs ys zs : List A) → Goes xs ys → Goes ys zs → Goes xs zs
-goes_on {A = A} xs ys zs (more, h) (rest, i) = (more ++ rest, i ∙ ap (λ (ls : List A). ls ++ rest) h ∙ append_assoc xs more rest)
+goes_on {A = A} xs ys zs (more, h) (rest, i) =
+    (more ++ rest, i ∙ ap (λ (ls : List A). ls ++ rest) h ∙ append_assoc xs more rest)
 
 -- what extends an extension extends the first
 pub extends_on : (c d e : Contents) → Extends c d → Extends d e → Extends c e
 extends_on c d e first second = record {
   theories = second.theories ∙ first.theories;
-  abbreviations = goes_on c.abbreviations d.abbreviations e.abbreviations first.abbreviations second.abbreviations;
+  abbreviations =
+      goes_on c.abbreviations d.abbreviations e.abbreviations first.abbreviations second.abbreviations;
   ranks = goes_on c.ranks d.ranks e.ranks first.ranks second.ranks;
   places = goes_on c.places d.places e.places first.places second.places;
   declared = goes_on c.declared d.declared e.declared first.declared second.declared;
@@ -127,6 +152,8 @@ extends_itself c = record {
 }
 
 -- there is perhaps one abbreviation more
-pub more_abbreviations : {A E : Type 0} (P : Sort → Type 0) (r : Result A E) (old new : List (List ℕ × Sort)) (x : List ℕ) → OnOk r ((sort : Sort) × P sort × (new ≡ old ++ (x, sort) ∷ [])) → OnErr r (new ≡ old) → Goes old new
+pub more_abbreviations : {A E : Type 0} (P : Sort → Type 0) (r : Result A E) (old new : List (List ℕ × Sort))
+    (x : List ℕ) → OnOk r ((sort : Sort) × P sort × (new ≡ old ++ (x, sort) ∷ [])) → OnErr r (new ≡ old)
+    → Goes old new
 more_abbreviations P (Ok a) old new x h i = ((x, h.0) ∷ [], h.2)
 more_abbreviations P (Err e) old new x h i = nothing_more old new i

@@ -1,5 +1,7 @@
 -- The labels that an assertion brings are introduced one behind another.
-use Rattle.std.proofs.Common.{◌≡◌, ℕ, Bool, true, false, cond, ◌||◌, List, [], ◌∷◌, ◌++◌, map, Option, Some, None, is_some, option_map, Result, Ok, Err, refl, ap, sym, ◌∙◌, subst, append-nil, ◌⊎◌, inl, inr}
+use Rattle.std.proofs.Common.{◌≡◌, ℕ, Bool, true, false, cond, ◌||◌, List, [], ◌∷◌, ◌++◌, map, Option, Some}
+use Rattle.std.proofs.Common.{None, is_some, option_map, Result, Ok, Err, refl, ap, sym, ◌∙◌, subst}
+use Rattle.std.proofs.Common.{append-nil, ◌⊎◌, inl, inr}
 use Rattle.std.specs.Str.{bytes_eq}
 use Rattle.smt_trees.specs.Sexp.{Sexp, Sexps, Atom, Reserved, Items, Nil, Cons, Symbol}
 use Rattle.smt_trees.specs.declared.reserved.Word.TheVariants.{Bang, Let, Underscore}
@@ -11,13 +13,16 @@ use Rattle.smt_theory.specs.declared.sort.Sort.TheVariants.{Bool as Boolean}
 use Rattle.smt_theory.specs.declared.theories.Theories.{Theories}
 use Rattle.smt_terms.specs.Assertions.{asserted_in, label_entries, label_or_none}
 use Rattle.smt_forms.specs.Bindings.{are_attributes, are_bindings}
-use Rattle.smt_terms.specs.Checking.{bound_in, fault_of_label, fault_of_labels, sort_in, sort_of_call, sorts_in, unless}
+use Rattle.smt_terms.specs.Checking.{bound_in, fault_of_label, fault_of_labels, sort_in, sort_of_call}
+use Rattle.smt_terms.specs.Checking.{sorts_in, unless}
 use Rattle.smt_terms.specs.Definitions.{definition}
 use Rattle.smt_forms.specs.Identifier.{applied}
 use Rattle.smt_terms.specs.Labels.{Labels, Refused, Given, Unread, with_labels}
 use Rattle.smt_forms.specs.Variables.{is_among, uses_variable}
 use Rattle.smt_forms.specs.Labels.{labels_among, labels_in, labels_in_all, labels_in_bindings}
-use Rattle.smt_terms.specs.Signature.{Entry, Names, Rank, Signature, behind, entry_named, in_assertion, is_taken, names_of, rank_of_entry, ranks_of, unlabelled, unlabelled_over}
+use Rattle.smt_terms.specs.Signature.{Entry, Names, Rank, Signature, behind, entry_named, in_assertion}
+use Rattle.smt_terms.specs.Signature.{is_taken, names_of, rank_of_entry, ranks_of, unlabelled}
+use Rattle.smt_terms.specs.Signature.{unlabelled_over}
 use Rattle.smt_terms.specs.WellSorted.{AreIntroduced, Keeps}
 use Rattle.smt_faults.specs.declared.term_fault.TermFault.{TermFault}
 use Rattle.smt_faults.specs.declared.term_fault.TermFault.TheVariants.{BoundTwice, Form, IllSorted, NotFresh}
@@ -37,7 +42,8 @@ MayBeGiven (Given names) = Unit {0}
 MayBeGiven Refused = Unit {0}
 MayBeGiven Unread = ⊥
 
-MayBeGiven-behind : (xs : List (List ℕ)) (labels : Labels) → MayBeGiven labels → MayBeGiven (with_labels xs labels)
+MayBeGiven-behind : (xs : List (List ℕ)) (labels : Labels) → MayBeGiven labels
+    → MayBeGiven (with_labels xs labels)
 MayBeGiven-behind xs (Given names) h = tt
 MayBeGiven-behind xs Refused h = tt
 MayBeGiven-behind xs Unread h = h
@@ -63,52 +69,78 @@ no_more Refused = refl
 no_more (Given names) = ap (λ ls. Given ls) (append-nil names)
 no_more Unread = refl
 
-AreFit-append : (names : Names) (xs ys : Labelled) → AreFit names xs → AreFit (behind xs names) ys → AreFit names (xs ++ ys)
-AreFit-append names [] ys h i = subst (λ labels. AreFit (record names { labels = labels }) ys) (no_more names.labels) i
-AreFit-append names (x ∷ xs) ys h i =
-    (h.0, AreFit-append (behind (x ∷ []) names) xs ys h.1 (subst (λ (ns : Names). AreFit ns ys) (sym (behind-append (x ∷ []) xs names)) i))
+AreFit-append : (names : Names) (xs ys : Labelled) → AreFit names xs → AreFit (behind xs names) ys
+    → AreFit names (xs ++ ys)
+AreFit-append names [] ys h i =
+    subst (λ labels. AreFit (record names { labels = labels }) ys) (no_more names.labels) i
+AreFit-append names (x ∷ xs) ys h i = (
+  h.0,
+  AreFit-append (behind (x ∷ []) names) xs ys h.1
+      (subst (λ (ns : Names). AreFit ns ys) (sym (behind-append (x ∷ []) xs names)) i),
+)
 
 -- a label without a fault
-fit-label : (names : Names) (labels : Labels) (scope : Scope) (term : Sexp) (x : List ℕ) (sort : Sort) → MayBeGiven labels → sort_in (unlabelled names) scope term ≡ Ok sort → fault_of_label names labels scope term x ≡ None
-    → (is_taken names x ≡ false) × (is_given labels x ≡ false) × (sort_in (unlabelled names) [] term ≡ Ok sort)
+fit-label : (names : Names) (labels : Labels) (scope : Scope) (term : Sexp) (x : List ℕ) (sort : Sort)
+    → MayBeGiven labels → sort_in (unlabelled names) scope term ≡ Ok sort
+    → fault_of_label names labels scope term x ≡ None
+    → (is_taken names x ≡ false) × (is_given labels x ≡ false)
+    × (sort_in (unlabelled names) [] term ≡ Ok sort)
 fit-label names Refused scope term x sort may h i = cc
 fit-label names Unread scope term x sort may h i = absurd may
-fit-label names (Given ls) scope term x sort may h i = by (uses_variable scope term) refl (is_taken names x || is_among ls x) refl i
+fit-label names (Given ls) scope term x sort may h i =
+    by (uses_variable scope term) refl (is_taken names x || is_among ls x) refl i
   where
-    by : (u : Bool) → uses_variable scope term ≡ u → (b : Bool) → is_taken names x || is_among ls x ≡ b → cond u (Some IsLabel) (cond b (Some NotFresh) None) ≡ None
-        → (is_taken names x ≡ false) × (is_among ls x ≡ false) × (sort_in (unlabelled names) [] term ≡ Ok sort)
+    by : (u : Bool) → uses_variable scope term ≡ u → (b : Bool) → is_taken names x || is_among ls x ≡ b
+        → cond u (Some IsLabel) (cond b (Some NotFresh) None) ≡ None
+        → (is_taken names x ≡ false) × (is_among ls x ≡ false)
+        × (sort_in (unlabelled names) [] term ≡ Ok sort)
     by true used b taken g = cc
     by false used true taken g = cc
-    by false used false taken g = let n = neither (is_taken names x) (is_among ls x) taken in (n.0, n.1, closed (unlabelled names) scope term sort refl used h)
+    by false used false taken g = let n = neither (is_taken names x) (is_among ls x) taken
+        in (n.0, n.1, closed (unlabelled names) scope term sort refl used h)
 
-fit-labels : (names : Names) (scope : Scope) (term : Sexp) (xs : List (List ℕ)) (sort : Sort) → MayBeGiven names.labels → sort_in (unlabelled names) scope term ≡ Ok sort → fault_of_labels names scope term xs ≡ None → AreFit names (with_term term xs)
+fit-labels : (names : Names) (scope : Scope) (term : Sexp) (xs : List (List ℕ)) (sort : Sort)
+    → MayBeGiven names.labels → sort_in (unlabelled names) scope term ≡ Ok sort
+    → fault_of_labels names scope term xs ≡ None → AreFit names (with_term term xs)
 fit-labels names scope term [] sort may h i = tt
 fit-labels names scope term (x ∷ xs) sort may h i =
     let later = behind ((x, term) ∷ []) names in
-    let n = or_none (fault_of_label names names.labels scope term x) (fault_of_labels later scope term xs) i in
-    let f = fit-label names names.labels scope term x sort may h n.0 in
-    (record { free = f.0; new = f.1; sorted = (sort, f.2) }, fit-labels later scope term xs sort (MayBeGiven-behind (x ∷ []) names.labels may) h n.1)
+    let n =
+    or_none (fault_of_label names names.labels scope term x) (fault_of_labels later scope term xs) i in
+    let f = fit-label names names.labels scope term x sort may h n.0 in (
+      record { free = f.0; new = f.1; sorted = (sort, f.2) },
+      fit-labels later scope term xs sort
+          (MayBeGiven-behind (x ∷ []) names.labels may) h n.1,
+    )
 
 -- what a test lets pass
-pub passed : {A : Type 0} (b : Bool) (r : Result A TermFault) (e : TermFault) (y : A) → cond b r (Err e) ≡ Ok y → r ≡ Ok y
+pub passed : {A : Type 0} (b : Bool) (r : Result A TermFault) (e : TermFault) (y : A)
+    → cond b r (Err e) ≡ Ok y → r ≡ Ok y
 passed true r e y h = h
 passed false r e y h = cc
 
-pub passed-else : {A : Type 0} (b : Bool) (r : Result A TermFault) (e : TermFault) (y : A) → cond b (Err e) r ≡ Ok y → r ≡ Ok y
+pub passed-else : {A : Type 0} (b : Bool) (r : Result A TermFault) (e : TermFault) (y : A)
+    → cond b (Err e) r ≡ Ok y → r ≡ Ok y
 passed-else true r e y h = cc
 passed-else false r e y h = h
 
 -- the labels of a list of terms
-fit-application : (names : Names) (scope : Scope) (head : Sexp) (args : Sexps) (sort : Sort) → ((ss : List Sort) → sorts_in names scope args ≡ Ok ss → AreFit names (labels_in_all args))
-    → result_and_then (applied head args) (λ f. result_and_then (sorts_in names scope args) (λ ss. sort_of_call names scope f ss)) ≡ Ok sort → AreFit names (labels_in_all args)
+fit-application : (names : Names) (scope : Scope) (head : Sexp) (args : Sexps) (sort : Sort)
+    → ((ss : List Sort) → sorts_in names scope args ≡ Ok ss → AreFit names (labels_in_all args))
+    → result_and_then (applied head args)
+    (λ f. result_and_then (sorts_in names scope args) (λ ss. sort_of_call names scope f ss)) ≡ Ok sort
+    → AreFit names (labels_in_all args)
 fit-application names scope head args sort fit h =
-    let a = answered (applied head args) (λ f. result_and_then (sorts_in names scope args) (λ ss. sort_of_call names scope f ss)) sort h in
+    let a =
+    answered (applied head args)
+    (λ f. result_and_then (sorts_in names scope args) (λ ss. sort_of_call names scope f ss)) sort h in
     let b = answered (sorts_in names scope args) (λ ss. sort_of_call names scope a.0 ss) sort a.2 in
     fit b.0 b.1
 
 -- the labels of a term that has a sort
 mutual
-  pub fit : (names : Names) (scope : Scope) (t : Sexp) (sort : Sort) → MayBeGiven names.labels → sort_in names scope t ≡ Ok sort → AreFit names (labels_in t)
+  pub fit : (names : Names) (scope : Scope) (t : Sexp) (sort : Sort) → MayBeGiven names.labels
+      → sort_in names scope t ≡ Ok sort → AreFit names (labels_in t)
   fit names scope (Atom kind x) sort may h = tt
   fit names scope (Reserved word) sort may h = tt
   fit names scope (Items Nil) sort may h = tt
@@ -116,51 +148,73 @@ mutual
   fit names scope (Items (Cons (Reserved Let) (Cons (Items bindings) (Cons body Nil)))) sort may h =
       let ls = labels_in_bindings bindings in
       let next = λ (bound : Scope). sort_in (behind ls names) (bound ++ scope) body in
-      let a = answered (bound_in names scope [] bindings) next sort (passed (are_bindings bindings) (result_and_then (bound_in names scope [] bindings) next) Form sort h) in
-      AreFit-append names ls (labels_in body) (fit-bindings names scope [] bindings a.0 may a.1) (fit (behind ls names) (a.0 ++ scope) body sort (MayBeGiven-behind (map (λ l. l.0) ls) names.labels may) a.2)
+      let a =
+      answered (bound_in names scope [] bindings) next sort
+      (passed (are_bindings bindings)
+      (result_and_then (bound_in names scope [] bindings) next) Form sort h) in
+      AreFit-append names ls (labels_in body) (fit-bindings names scope [] bindings a.0 may a.1)
+      (fit (behind ls names) (a.0 ++ scope) body sort
+      (MayBeGiven-behind (map (λ l. l.0) ls) names.labels may) a.2)
   fit names scope (Items (Cons (Reserved Let) args)) sort may h = cc
   fit names scope (Items (Cons (Reserved Bang) (Cons term attributes))) sort may h =
       let ls = labels_in term in
       let xs = labels_among attributes in
       let next = λ (s : Sort). unless (fault_of_labels (behind ls names) scope term xs) (Ok s) in
-      let a = answered (sort_in names scope term) next sort (passed (are_attributes attributes) (result_and_then (sort_in names scope term) next) Form sort h) in
+      let a =
+      answered (sort_in names scope term) next sort
+      (passed (are_attributes attributes) (result_and_then (sort_in names scope term) next) Form sort h)
+      in
       AreFit-append names ls (with_term term xs) (fit names scope term a.0 may a.1)
-      (fit-labels (behind ls names) scope term xs a.0 (MayBeGiven-behind (map (λ l. l.0) ls) names.labels may) (kept-sort names (unlabelled names) (Keeps-unlabelled names) scope term a.0 a.1)
+      (fit-labels (behind ls names) scope term xs a.0 (MayBeGiven-behind (map (λ l. l.0) ls) names.labels may)
+      (kept-sort names (unlabelled names) (Keeps-unlabelled names) scope term a.0 a.1)
       (unless-none (fault_of_labels (behind ls names) scope term xs) (Ok a.0) sort a.2).0)
   fit names scope (Items (Cons (Reserved Bang) args)) sort may h = cc
-  fit names scope (Items (Cons head args)) sort may h = fit-application names scope head args sort (λ ss. fit-all names scope args ss may) h
+  fit names scope (Items (Cons head args)) sort may h =
+      fit-application names scope head args sort (λ ss. fit-all names scope args ss may) h
 
-  fit-all : (names : Names) (scope : Scope) (ts : Sexps) (sorts : List Sort) → MayBeGiven names.labels → sorts_in names scope ts ≡ Ok sorts → AreFit names (labels_in_all ts)
+  fit-all : (names : Names) (scope : Scope) (ts : Sexps) (sorts : List Sort) → MayBeGiven names.labels
+      → sorts_in names scope ts ≡ Ok sorts → AreFit names (labels_in_all ts)
   fit-all names scope Nil sorts may h = tt
   fit-all names scope (Cons x xs) sorts may h =
       let ls = labels_in x in
       let next = λ (s : Sort). result_and_then (sorts_in (behind ls names) scope xs) (λ ss. Ok (s ∷ ss)) in
       let a = answered (sort_in names scope x) next sorts h in
       let b = answered (sorts_in (behind ls names) scope xs) (λ ss. Ok (a.0 ∷ ss)) sorts a.2 in
-      AreFit-append names ls (labels_in_all xs) (fit names scope x a.0 may a.1) (fit-all (behind ls names) scope xs b.0 (MayBeGiven-behind (map (λ l. l.0) ls) names.labels may) b.1)
+      AreFit-append names ls (labels_in_all xs) (fit names scope x a.0 may a.1)
+      (fit-all (behind ls names) scope xs b.0
+      (MayBeGiven-behind (map (λ l. l.0) ls) names.labels may) b.1)
 
-  fit-bindings : (names : Names) (scope bound : Scope) (bs : Sexps) (vs : Scope) → MayBeGiven names.labels → bound_in names scope bound bs ≡ Ok vs → AreFit names (labels_in_bindings bs)
+  fit-bindings : (names : Names) (scope bound : Scope) (bs : Sexps) (vs : Scope) → MayBeGiven names.labels
+      → bound_in names scope bound bs ≡ Ok vs → AreFit names (labels_in_bindings bs)
   fit-bindings names scope bound (Cons (Items (Cons (Atom Symbol x) (Cons term Nil))) rest) vs may h =
       let ls = labels_in term in
       let next = λ (s : Sort). bound_in (behind ls names) scope (bound ++ (x, s) ∷ []) rest in
-      let a = answered (sort_in names scope term) next vs (passed-else (is_some (look_up bound x)) (result_and_then (sort_in names scope term) next) BoundTwice vs h) in
-      AreFit-append names ls (labels_in_bindings rest) (fit names scope term a.0 may a.1) (fit-bindings (behind ls names) scope (bound ++ (x, a.0) ∷ []) rest vs (MayBeGiven-behind (map (λ l. l.0) ls) names.labels may) a.2)
+      let a =
+      answered (sort_in names scope term) next vs
+      (passed-else (is_some (look_up bound x))
+      (result_and_then (sort_in names scope term) next) BoundTwice vs h) in
+      AreFit-append names ls (labels_in_bindings rest) (fit names scope term a.0 may a.1)
+      (fit-bindings (behind ls names) scope (bound ++ (x, a.0) ∷ []) rest vs
+      (MayBeGiven-behind (map (λ l. l.0) ls) names.labels may) a.2)
   fit-bindings names scope bound _ vs may h = tt
 
 -- ## Entries behind entries
 
 -- what is found does not change with one more entry, which hides nothing
-kept-rank : (es : List Entry) (e : Entry) (x : List ℕ) (rank : Rank) → look_up (ranks_of es) x ≡ Some rank → look_up (ranks_of (es ++ e ∷ [])) x ≡ Some rank
+kept-rank : (es : List Entry) (e : Entry) (x : List ℕ) (rank : Rank) → look_up (ranks_of es) x ≡ Some rank
+    → look_up (ranks_of (es ++ e ∷ [])) x ≡ Some rank
 kept-rank [] e x rank h = cc
 kept-rank (d ∷ es) e x rank h = by (bytes_eq x d.name) h (kept-rank es e x rank)
   where
-    by : (b : Bool) → cond b (Some (rank_of_entry d)) (look_up (ranks_of es) x) ≡ Some rank → (look_up (ranks_of es) x ≡ Some rank → look_up (ranks_of (es ++ e ∷ [])) x ≡ Some rank)
+    by : (b : Bool) → cond b (Some (rank_of_entry d)) (look_up (ranks_of es) x) ≡ Some rank
+        → (look_up (ranks_of es) x ≡ Some rank → look_up (ranks_of (es ++ e ∷ [])) x ≡ Some rank)
         → cond b (Some (rank_of_entry d)) (look_up (ranks_of (es ++ e ∷ [])) x) ≡ Some rank
     by true g rest = g
     by false g rest = rest g
 
 -- what is new then is that entry
-new-rank : (es : List Entry) (e : Entry) (x : List ℕ) (rank : Rank) → look_up (ranks_of es) x ≡ None → look_up (ranks_of (es ++ e ∷ [])) x ≡ Some rank → x ≡ e.name
+new-rank : (es : List Entry) (e : Entry) (x : List ℕ) (rank : Rank) → look_up (ranks_of es) x ≡ None
+    → look_up (ranks_of (es ++ e ∷ [])) x ≡ Some rank → x ≡ e.name
 new-rank [] e x rank none h = by (bytes_eq x e.name) refl h
   where
     by : (b : Bool) → bytes_eq x e.name ≡ b → cond b (Some (rank_of_entry e)) None ≡ Some rank → x ≡ e.name
@@ -168,8 +222,10 @@ new-rank [] e x rank none h = by (bytes_eq x e.name) refl h
     by false is g = cc
 new-rank (d ∷ es) e x rank none h = by (bytes_eq x d.name) none h (new-rank es e x rank)
   where
-    by : (b : Bool) → cond b (Some (rank_of_entry d)) (look_up (ranks_of es) x) ≡ None → cond b (Some (rank_of_entry d)) (look_up (ranks_of (es ++ e ∷ [])) x) ≡ Some rank
-        → (look_up (ranks_of es) x ≡ None → look_up (ranks_of (es ++ e ∷ [])) x ≡ Some rank → x ≡ e.name) → x ≡ e.name
+    by : (b : Bool) → cond b (Some (rank_of_entry d)) (look_up (ranks_of es) x) ≡ None
+        → cond b (Some (rank_of_entry d)) (look_up (ranks_of (es ++ e ∷ [])) x) ≡ Some rank
+        → (look_up (ranks_of es) x ≡ None → look_up (ranks_of (es ++ e ∷ [])) x ≡ Some rank → x ≡ e.name)
+        → x ≡ e.name
     by true g i rest = cc
     by false g i rest = rest g i
 
@@ -181,7 +237,10 @@ no_two : (o : Option Rank) (r q : Rank) → o ≡ Some r → o ≡ Some q → r 
 no_two o r q h i = cc
 
 -- one more entry that is no operator's keeps sorts
-Keeps-entry : (names : Names) (theories : Theories) (earlier : List Entry) (e : Entry) → names.theories ≡ theories → is_plain_operator theories e.name ≡ false → Keeps names (unlabelled_over theories earlier) → Keeps names (unlabelled_over theories (earlier ++ e ∷ []))
+Keeps-entry : (names : Names) (theories : Theories) (earlier : List Entry) (e : Entry)
+    → names.theories ≡ theories → is_plain_operator theories e.name ≡ false
+    → Keeps names (unlabelled_over theories earlier)
+    → Keeps names (unlabelled_over theories (earlier ++ e ∷ []))
 Keeps-entry names theories earlier e same free keeps = record {
   theories = keeps.theories;
   ranks = λ x rank h. kept-rank earlier e x rank (keeps.ranks x rank h);
@@ -189,46 +248,61 @@ Keeps-entry names theories earlier e same free keeps = record {
   fresh = λ x rank none some. by x rank none some (some_or_none (look_up (ranks_of earlier) x));
 }
   where
-    by : (x : List ℕ) (rank : Rank) → look_up names.ranks x ≡ None → look_up (ranks_of (earlier ++ e ∷ [])) x ≡ Some rank → (look_up (ranks_of earlier) x ≡ None) ⊎ ((r : Rank) × (look_up (ranks_of earlier) x ≡ Some r)) → is_plain_operator names.theories x ≡ false
+    by : (x : List ℕ) (rank : Rank) → look_up names.ranks x ≡ None
+        → look_up (ranks_of (earlier ++ e ∷ [])) x ≡ Some rank
+        → (look_up (ranks_of earlier) x ≡ None) ⊎ ((r : Rank) × (look_up (ranks_of earlier) x ≡ Some r))
+        → is_plain_operator names.theories x ≡ false
     by x rank none some (inr p) = keeps.fresh x p.0 none p.1
-    by x rank none some (inl new) = ap (λ y. is_plain_operator names.theories y) (new-rank earlier e x rank new some) ∙ ap (λ ts. is_plain_operator ts e.name) same ∙ free
+    by x rank none some (inl new) = ap (λ y. is_plain_operator names.theories y)
+        (new-rank earlier e x rank new some) ∙ ap (λ ts. is_plain_operator ts e.name) same ∙ free
 
 -- labels are given
 abbrev pub IsGivenList : Labels → Type 0
 IsGivenList (Given names) = Unit {0}
 IsGivenList _ = ⊥
 
-pub IsGivenList-behind : (xs : List (List ℕ)) (labels : Labels) → IsGivenList labels → IsGivenList (with_labels xs labels)
+pub IsGivenList-behind : (xs : List (List ℕ)) (labels : Labels) → IsGivenList labels
+    → IsGivenList (with_labels xs labels)
 IsGivenList-behind xs (Given names) h = tt
 IsGivenList-behind xs Refused h = h
 IsGivenList-behind xs Unread h = h
 
 -- names that are new, and not among the labels, stand for nothing
 abbrev Covers : Names → Labels → List Entry → Type 0
-Covers names labels earlier = (x : List ℕ) → look_up names.ranks x ≡ None → is_given labels x ≡ false → entry_named earlier x ≡ None
+Covers names labels earlier =
+    (x : List ℕ) → look_up names.ranks x ≡ None → is_given labels x ≡ false → entry_named earlier x ≡ None
 
-pub any-split : (xs : List (List ℕ)) (y x : List ℕ) → is_among (xs ++ y ∷ []) x ≡ false → (is_among xs x ≡ false) × (bytes_eq x y ≡ false)
+pub any-split : (xs : List (List ℕ)) (y x : List ℕ) → is_among (xs ++ y ∷ []) x ≡ false
+    → (is_among xs x ≡ false) × (bytes_eq x y ≡ false)
 any-split [] y x h = (refl, (neither (bytes_eq x y) false h).0)
 any-split (z ∷ xs) y x h =
     let n = neither (bytes_eq x z) (is_among (xs ++ y ∷ []) x) h in
     let m = any-split xs y x n.1 in
     (ap (λ b. b || is_among xs x) n.0 ∙ m.0, m.1)
 
-none-push : (es : List Entry) (e : Entry) (x : List ℕ) → entry_named es x ≡ None → bytes_eq x e.name ≡ false → entry_named (es ++ e ∷ []) x ≡ None
+none-push : (es : List Entry) (e : Entry) (x : List ℕ) → entry_named es x ≡ None → bytes_eq x e.name ≡ false
+    → entry_named (es ++ e ∷ []) x ≡ None
 none-push [] e x h i = ap (λ b. cond b (Some e) None) i
 none-push (d ∷ es) e x h i = by (bytes_eq x d.name) h (λ g. none-push es e x g i)
   where
-    by : (b : Bool) → cond b (Some d) (entry_named es x) ≡ None → (entry_named es x ≡ None → entry_named (es ++ e ∷ []) x ≡ None) → cond b (Some d) (entry_named (es ++ e ∷ []) x) ≡ None
+    by : (b : Bool) → cond b (Some d) (entry_named es x) ≡ None
+        → (entry_named es x ≡ None → entry_named (es ++ e ∷ []) x ≡ None)
+        → cond b (Some d) (entry_named (es ++ e ∷ []) x) ≡ None
     by true g rest = cc
     by false g rest = rest g
 
-Covers-push : (names : Names) (labels : Labels) (earlier : List Entry) (e : Entry) → IsGivenList labels → Covers names labels earlier → Covers names (with_labels (e.name ∷ []) labels) (earlier ++ e ∷ [])
-Covers-push names (Given ls) earlier e is covers = λ x none new. let m = any-split ls e.name x new in none-push earlier e x (covers x none m.0) m.1
+Covers-push : (names : Names) (labels : Labels) (earlier : List Entry) (e : Entry) → IsGivenList labels
+    → Covers names labels earlier → Covers names (with_labels (e.name ∷ []) labels) (earlier ++ e ∷ [])
+Covers-push names (Given ls) earlier e is covers =
+    λ x none new. let m = any-split ls e.name x new in none-push earlier e x (covers x none m.0) m.1
 Covers-push names Refused earlier e is covers = absurd is
 Covers-push names Unread earlier e is covers = absurd is
 
 -- labels that fit are introduced
-introduced : (names : Names) (theories : Theories) (earlier : List Entry) (ls : Labelled) → names.theories ≡ theories → IsGivenList names.labels → Keeps (unlabelled names) (unlabelled_over theories earlier) → Covers names names.labels earlier → AreFit names ls
+introduced : (names : Names) (theories : Theories) (earlier : List Entry) (ls : Labelled)
+    → names.theories ≡ theories → IsGivenList names.labels
+    → Keeps (unlabelled names) (unlabelled_over theories earlier) → Covers names names.labels earlier
+    → AreFit names ls
     → AreIntroduced theories earlier (label_entries names ls)
 introduced names theories earlier [] same is keeps covers fits = tt
 introduced names theories earlier (l ∷ ls) same is keeps covers fits =
@@ -236,13 +310,22 @@ introduced names theories earlier (l ∷ ls) same is keeps covers fits =
     let sort = fits.0.sorted.0 in
     let e = definition l.0 [] sort l.1 in
     let free = sym (ap (λ ts. is_plain_operator ts l.0) same) ∙ n.1 in
-    let rest = introduced (behind (l ∷ []) names) theories (earlier ++ e ∷ []) ls same (IsGivenList-behind (l.0 ∷ []) names.labels is) (Keeps-entry (unlabelled names) theories earlier e same free keeps)
+    let rest =
+    introduced (behind (l ∷ []) names) theories (earlier ++ e ∷ []) ls same
+    (IsGivenList-behind (l.0 ∷ []) names.labels is)
+    (Keeps-entry (unlabelled names) theories earlier e same free keeps)
     (Covers-push names names.labels earlier e is covers) fits.1 in
-    subst (λ r. AreIntroduced theories earlier (label_or_none l r ++ label_entries names ls)) (sym fits.0.sorted.1) (
+    subst (λ r. AreIntroduced theories earlier (label_or_none l r ++ label_entries names ls))
+    (sym fits.0.sorted.1) (
       record {
         new = covers l.0 (none_of (look_up names.ranks l.0) n.0) fits.0.new;
         free = free;
-        sorted = record { counted = refl; different = tt; sorted = kept-sort (unlabelled names) (unlabelled_over theories earlier) keeps [] l.1 sort fits.0.sorted.1 };
+        sorted = record {
+          counted = refl;
+          different = tt;
+          sorted = kept-sort (unlabelled names) (unlabelled_over theories earlier) keeps
+              [] l.1 sort fits.0.sorted.1;
+        };
       },
       rest,
     )
@@ -259,19 +342,30 @@ entry_none es x h = by (entry_named es x) (sym (look_up-ranks es x) ∙ h)
     by (Some e) g = cc
 
 -- the labels of an assertion
-pub introduced-asserted : (s : Signature) (term : Sexp) (labels : List Entry) → asserted_in (names_of s) term ≡ Ok labels → AreIntroduced s.theories s.entries labels
+pub introduced-asserted : (s : Signature) (term : Sexp) (labels : List Entry)
+    → asserted_in (names_of s) term ≡ Ok labels → AreIntroduced s.theories s.entries labels
 introduced-asserted s term labels h = by (sort_in names [] term) refl h
   where
     names : Names
     names = in_assertion (names_of s)
 
-    all : (sort : Sort) → sort_in names [] term ≡ Ok sort → AreIntroduced s.theories s.entries (label_entries (names_of s) (labels_in term))
-    all sort is = introduced names s.theories s.entries (labels_in term) refl tt (Keeps-unlabelled (unlabelled names)) (λ x none new. entry_none s.entries x none) (fit names [] term sort tt is)
+    all : (sort : Sort) → sort_in names [] term ≡ Ok sort
+        → AreIntroduced s.theories s.entries (label_entries (names_of s) (labels_in term))
+    all sort is = introduced names s.theories s.entries (labels_in term) refl tt
+        (Keeps-unlabelled (unlabelled names)) (λ x none new. entry_none s.entries x none)
+        (fit names [] term sort tt is)
 
-    test : (sort : Sort) (b : Bool) → sort_in names [] term ≡ Ok sort → cond b (Ok (label_entries (names_of s) (labels_in term))) (Err IllSorted) ≡ Ok labels → AreIntroduced s.theories s.entries labels
-    test sort true is g = subst (λ ls. AreIntroduced s.theories s.entries ls) (of_ok (label_entries (names_of s) (labels_in term)) labels (Ok (label_entries (names_of s) (labels_in term))) refl g) (all sort is)
+    test : (sort : Sort) (b : Bool) → sort_in names [] term ≡ Ok sort
+        → cond b (Ok (label_entries (names_of s) (labels_in term))) (Err IllSorted) ≡ Ok labels
+        → AreIntroduced s.theories s.entries labels
+    test sort true is g = subst (λ ls. AreIntroduced s.theories s.entries ls)
+        (of_ok (label_entries (names_of s) (labels_in term)) labels
+        (Ok (label_entries (names_of s) (labels_in term))) refl g) (all sort is)
     test sort false is g = cc
 
-    by : (r : Result Sort TermFault) → sort_in names [] term ≡ r → result_and_then r (λ sort. cond (is_same_sort sort Boolean) (Ok (label_entries (names_of s) (labels_in term))) (Err IllSorted)) ≡ Ok labels → AreIntroduced s.theories s.entries labels
+    by : (r : Result Sort TermFault) → sort_in names [] term ≡ r
+        → result_and_then r (λ sort. cond (is_same_sort sort Boolean)
+        (Ok (label_entries (names_of s) (labels_in term))) (Err IllSorted)) ≡ Ok labels
+        → AreIntroduced s.theories s.entries labels
     by (Err f) is g = cc
     by (Ok sort) is g = test sort (is_same_sort sort Boolean) is g

@@ -1,5 +1,6 @@
 -- Items, one step at a time.
-use Rattle.std.proofs.Common.{◌≡◌, ℕ, Bool, true, cond, not, ◌&&◌, List, [], map, Option, Some, None, is_some, option_map, Result, Ok, Err, refl, ap, sym, ◌∙◌}
+use Rattle.std.proofs.Common.{◌≡◌, ℕ, Bool, true, cond, not, ◌&&◌, List, [], map, Option, Some, None, is_some}
+use Rattle.std.proofs.Common.{option_map, Result, Ok, Err, refl, ap, sym, ◌∙◌}
 use Rattle.std.specs.Option.{option_and_then}
 use Rattle.smt_trees.specs.Sexp.{Sexp}
 use Rattle.smt_theory.specs.Ranks.{are_exactly}
@@ -11,11 +12,13 @@ use Rattle.smt_terms.specs.Checking.{unless}
 use Rattle.smt_terms.specs.Definitions.{definition_in, parameters_named}
 use Rattle.smt_terms.specs.Internal.LibraryView.{names_of_library, sort_names}
 use Rattle.smt_forms.specs.ItemForm.{ItemForm, item_form}
-use Rattle.smt_terms.specs.Items.{declared_named, defined_as, form_in, has_rank_of, if_declared, item_in, items_before, name_fault}
+use Rattle.smt_terms.specs.Items.{declared_named, defined_as, form_in, has_rank_of, if_declared, item_in}
+use Rattle.smt_terms.specs.Items.{items_before, name_fault}
 use Rattle.smt_terms.specs.Labels.{Refused}
 use Rattle.smt_terms.specs.Library.{HasTheoriesOf, StandsFor, is_declared, places_from}
 use Rattle.smt_terms.specs.Signature as signature
-use Rattle.smt_terms.specs.Signature.{Entry, Names, Origin, Rank, Signature, entry_named, is_taken, names_of, rank_of_entry, ranks_of, sort_names_of}
+use Rattle.smt_terms.specs.Signature.{Entry, Names, Origin, Rank, Signature, entry_named, is_taken, names_of}
+use Rattle.smt_terms.specs.Signature.{rank_of_entry, ranks_of, sort_names_of}
 use Rattle.smt_terms.specs.SortTrees.{sort_named}
 use Rattle.smt_faults.specs.declared.term_fault.TermFault.{TermFault}
 use Rattle.smt_faults.specs.declared.term_fault.TermFault.TheVariants.{BoundTwice, IllSorted, NotFresh}
@@ -26,41 +29,55 @@ use Rattle.smt_terms.proofs.NameLookUps.{some_map}
 use Rattle.smt_terms.proofs.PlaceLemmas.{declared_place, is_declared_place}
 
 -- the names that a library holds are those of what it stands for
-pub names_as : (library : Library) (s : Signature) → StandsFor library s → names_of_library library ≡ names_of s
-names_as library s stands = λ i. record { theories = stands.theories i; ranks = stands.ranks i; labels = Refused }
+pub names_as : (library : Library) (s : Signature) → StandsFor library s
+    → names_of_library library ≡ names_of s
+names_as library s stands =
+    λ i. record { theories = stands.theories i; ranks = stands.ranks i; labels = Refused }
 
 -- and so are those of sorts
-pub sorts_as : (library : Library) (s : Signature) → StandsFor library s → sort_names library.sorts ≡ sort_names_of s
-sorts_as library s stands = λ i. record { theories = stands.theories i; abbreviations = stands.abbreviations i }
+pub sorts_as : (library : Library) (s : Signature) → StandsFor library s
+    → sort_names library.sorts ≡ sort_names_of s
+sorts_as library s stands =
+    λ i. record { theories = stands.theories i; abbreviations = stands.abbreviations i }
 
 -- those of what a model's library stands for are the ones that a body sees
-pub names_before : (library script : Library) (s m : Signature) → HasTheoriesOf library script → StandsFor script s → StandsFor library m → names_of m ≡ names_of (items_before s m.entries)
+pub names_before : (library script : Library) (s m : Signature) → HasTheoriesOf library script
+    → StandsFor script s → StandsFor library m → names_of m ≡ names_of (items_before s m.entries)
 names_before library script s m same stands items =
-    ap (λ (t : Theories). record { theories = t; ranks = ranks_of m.entries; labels = Refused }) (sym items.theories ∙ same ∙ stands.theories)
+    ap (λ (t : Theories). record { theories = t; ranks = ranks_of m.entries; labels = Refused })
+    (sym items.theories ∙ same ∙ stands.theories)
 
 -- whether a name has an entry
 pub is_named : (es : List Entry) (x : List ℕ) → is_some (entry_named es x) ≡ is_some (look_up (ranks_of es) x)
 is_named es x = sym (some_map rank_of_entry (entry_named es x)) ∙ ap is_some (sym (look_up-ranks es x))
 
 -- a name that stands for nothing is not declared
-pub not_declared : (es : List Entry) (x : List ℕ) → None ≡ look_up (ranks_of es) x → None ≡ option_map rank_of_entry (declared_named es x)
+pub not_declared : (es : List Entry) (x : List ℕ) → None ≡ look_up (ranks_of es) x
+    → None ≡ option_map rank_of_entry (declared_named es x)
 not_declared es x h = by (entry_named es x) (h ∙ look_up-ranks es x)
   where
-    by : (o : Option Entry) → None ≡ option_map rank_of_entry o → None ≡ option_map rank_of_entry (option_and_then (λ e. if_declared e e.origin) o)
+    by : (o : Option Entry) → None ≡ option_map rank_of_entry o
+        → None ≡ option_map rank_of_entry (option_and_then (λ e. if_declared e e.origin) o)
     by None h = refl
     by (Some e) h = cc
 
 -- one that stands for something is declared where it stands among the declared names
-pub declared_at : (es : List Entry) (x : List ℕ) (f : Found) (r : Rank) → Some f ≡ look_up (places_from 0 0 es) x → Some r ≡ look_up (ranks_of es) x
+pub declared_at : (es : List Entry) (x : List ℕ) (f : Found) (r : Rank)
+    → Some f ≡ look_up (places_from 0 0 es) x → Some r ≡ look_up (ranks_of es) x
     → cond (is_declared_place f) (Some r) None ≡ option_map rank_of_entry (declared_named es x)
-declared_at es x f r place rank = by (entry_named es x) (ap (option_map is_declared_place) place ∙ declared_place 0 0 es x) (rank ∙ look_up-ranks es x)
+declared_at es x f r place rank = by (entry_named es x)
+    (ap (option_map is_declared_place) place ∙ declared_place 0 0 es x) (rank ∙ look_up-ranks es x)
   where
-    by_origin : (e : Entry) (o : Origin) → is_declared_place f ≡ is_declared o → Some r ≡ Some (rank_of_entry e) → cond (is_declared_place f) (Some r) None ≡ option_map rank_of_entry (if_declared e o)
+    by_origin : (e : Entry) (o : Origin) → is_declared_place f ≡ is_declared o
+        → Some r ≡ Some (rank_of_entry e)
+        → cond (is_declared_place f) (Some r) None ≡ option_map rank_of_entry (if_declared e o)
     by_origin e (signature.Declared command) h g = ap (λ b. cond b (Some r) None) h ∙ g
     by_origin e (signature.Defined ps body) h g = ap (λ b. cond b (Some r) None) h
 
-    by : (o : Option Entry) → Some (is_declared_place f) ≡ option_map (λ e. is_declared e.origin) o → Some r ≡ option_map rank_of_entry o
-        → cond (is_declared_place f) (Some r) None ≡ option_map rank_of_entry (option_and_then (λ e. if_declared e e.origin) o)
+    by : (o : Option Entry) → Some (is_declared_place f) ≡ option_map (λ e. is_declared e.origin) o
+        → Some r ≡ option_map rank_of_entry o
+        → cond (is_declared_place f) (Some r) None
+        ≡ option_map rank_of_entry (option_and_then (λ e. if_declared e e.origin) o)
     by None h g = cc
     by (Some e) h g = by_origin e e.origin (cc) g
 
@@ -70,7 +87,8 @@ is_rank_of None ps sort = true
 is_rank_of (Some r) ps sort = are_exactly r.parameters ps && is_same_sort r.sort sort
 
 -- a declared name keeps its rank
-pub keeps : (o : Option Entry) (r : Option Rank) (ps : List Sort) (sort : Sort) → r ≡ option_map rank_of_entry o → is_rank_of r ps sort ≡ has_rank_of o ps sort
+pub keeps : (o : Option Entry) (r : Option Rank) (ps : List Sort) (sort : Sort)
+    → r ≡ option_map rank_of_entry o → is_rank_of r ps sort ≡ has_rank_of o ps sort
 keeps None r ps sort h = ap (λ o. is_rank_of o ps sort) h
 keeps (Some e) r ps sort h = ap (λ o. is_rank_of o ps sort) h
 
@@ -80,40 +98,71 @@ Params = List (List ℕ × Sort)
 
 -- what is defined by parts with a name that is fit
 abbrev pub item_behind : Signature → List Entry → ItemForm → Result Entry TermFault
-item_behind s es form = result_and_then (parameters_named (sort_names_of s) [] form.parameters) (λ ps. result_and_then (sort_named (sort_names_of s) form.sort) (λ sort. defined_as s es form ps sort))
+item_behind s es form = result_and_then (parameters_named (sort_names_of s) [] form.parameters)
+    (λ ps. result_and_then (sort_named (sort_names_of s) form.sort) (λ sort. defined_as s es form ps sort))
 
-pub item_named : (s : Signature) (es : List Entry) (t : Sexp) (form : ItemForm) → item_form t ≡ Ok form → name_fault s es form.name ≡ None → item_in s es t ≡ item_behind s es form
-item_named s es t form is free = ap (λ r. result_and_then r (λ f. form_in s es f)) is ∙ ap (λ o. unless o (item_behind s es form)) free
+pub item_named : (s : Signature) (es : List Entry) (t : Sexp) (form : ItemForm) → item_form t ≡ Ok form
+    → name_fault s es form.name ≡ None → item_in s es t ≡ item_behind s es form
+item_named s es t form is free =
+    ap (λ r. result_and_then r (λ f. form_in s es f)) is ∙ ap (λ o. unless o (item_behind s es form)) free
 
 -- with parameters that have sorts
-pub item_bound : (s : Signature) (es : List Entry) (t : Sexp) (form : ItemForm) (ps : Params) → item_form t ≡ Ok form → name_fault s es form.name ≡ None → parameters_named (sort_names_of s) [] form.parameters ≡ Ok ps
-    → item_in s es t ≡ result_and_then (sort_named (sort_names_of s) form.sort) (λ sort. defined_as s es form ps sort)
+pub item_bound : (s : Signature) (es : List Entry) (t : Sexp) (form : ItemForm) (ps : Params)
+    → item_form t ≡ Ok form → name_fault s es form.name ≡ None
+    → parameters_named (sort_names_of s) [] form.parameters ≡ Ok ps
+    → item_in s es t ≡ result_and_then (sort_named (sort_names_of s) form.sort)
+    (λ sort. defined_as s es form ps sort)
 item_bound s es t form ps is free bound =
-    item_named s es t form is free ∙ ap (λ r. result_and_then r (λ qs. result_and_then (sort_named (sort_names_of s) form.sort) (λ sort. defined_as s es form qs sort))) bound
+    item_named s es t form is free ∙ ap
+    (λ r. result_and_then r (λ qs. result_and_then (sort_named (sort_names_of s) form.sort)
+    (λ sort. defined_as s es form qs sort))) bound
 
 -- with a sort, and by whether it keeps the rank of its declaration
-pub item_ranked : (s : Signature) (es : List Entry) (t : Sexp) (form : ItemForm) (ps : Params) (sort : Sort) (b : Bool) → item_form t ≡ Ok form → name_fault s es form.name ≡ None → parameters_named (sort_names_of s) [] form.parameters ≡ Ok ps
-    → sort_named (sort_names_of s) form.sort ≡ Ok sort → has_rank_of (declared_named s.entries form.name) (map (λ p. p.1) ps) sort ≡ b
-    → item_in s es t ≡ cond (not b) (Err IllSorted) (definition_in (names_of (items_before s es)) form.name ps sort form.body)
+pub item_ranked : (s : Signature) (es : List Entry) (t : Sexp) (form : ItemForm) (ps : Params) (sort : Sort)
+    (b : Bool) → item_form t ≡ Ok form → name_fault s es form.name ≡ None
+    → parameters_named (sort_names_of s) [] form.parameters ≡ Ok ps
+    → sort_named (sort_names_of s) form.sort ≡ Ok sort
+    → has_rank_of (declared_named s.entries form.name) (map (λ p. p.1) ps) sort ≡ b
+    → item_in s es t ≡ cond (not b) (Err IllSorted)
+    (definition_in (names_of (items_before s es)) form.name ps sort form.body)
 item_ranked s es t form ps sort b is free bound sorted kept =
-    item_bound s es t form ps is free bound ∙ ap (λ r. result_and_then r (λ z. defined_as s es form ps z)) sorted
-    ∙ ap (λ c. cond (not c) (Err IllSorted) (definition_in (names_of (items_before s es)) form.name ps sort form.body)) kept
+    item_bound s es t form ps is free bound ∙ ap
+    (λ r. result_and_then r (λ z. defined_as s es form ps z)) sorted
+    ∙ ap (λ c. cond (not c) (Err IllSorted)
+    (definition_in (names_of (items_before s es)) form.name ps sort form.body)) kept
 
 -- what an item defines, where its name is fit, its sorts are known and it keeps the rank of its declaration
-pub item_step : (library script : Library) (s m : Signature) (t : Sexp) (form : ItemForm) (ps qs rs : Params) (sort : Sort) (b : Bool) → HasTheoriesOf library script → StandsFor script s → StandsFor library m → item_form t ≡ Ok form
-    → name_fault s m.entries form.name ≡ None → parameters_named (sort_names script.sorts) [] form.parameters ≡ Ok ps → Ok sort ≡ sort_named (sort_names script.sorts) form.sort → b ≡ has_rank_of (declared_named s.entries form.name) (map (λ p. p.1) qs) sort → b ≡ true
+pub item_step : (library script : Library) (s m : Signature) (t : Sexp) (form : ItemForm) (ps qs rs : Params)
+    (sort : Sort) (b : Bool) → HasTheoriesOf library script → StandsFor script s → StandsFor library m
+    → item_form t ≡ Ok form
+    → name_fault s m.entries form.name ≡ None
+    → parameters_named (sort_names script.sorts) [] form.parameters ≡ Ok ps
+    → Ok sort ≡ sort_named (sort_names script.sorts) form.sort
+    → b ≡ has_rank_of (declared_named s.entries form.name) (map (λ p. p.1) qs) sort → b ≡ true
     → qs ≡ ps → rs ≡ ps → item_in s m.entries t ≡ definition_in (names_of m) form.name rs sort form.body
-item_step library script s m t form ps qs rs sort b same stands items is free bound sorted kept true_ first second =
-    item_ranked s m.entries t form ps sort true is free (ap (λ sorts. parameters_named sorts [] form.parameters) (sym (sorts_as script s stands)) ∙ bound) (ap (λ sorts. sort_named sorts form.sort) (sym (sorts_as script s stands)) ∙ sym sorted)
-    (ap (λ (vs : Params). has_rank_of (declared_named s.entries form.name) (map (λ p. p.1) vs) sort) (sym first) ∙ sym kept ∙ true_)
-    ∙ ap (λ names. definition_in names form.name ps sort form.body) (sym (names_before library script s m same stands items)) ∙ ap (λ (vs : Params). definition_in (names_of m) form.name vs sort form.body) (sym second)
+item_step library script s m t form ps qs rs sort b same stands items is free bound sorted kept true_ first
+    second =
+    item_ranked s m.entries t form ps sort true is free
+    (ap (λ sorts. parameters_named sorts [] form.parameters) (sym (sorts_as script s stands)) ∙ bound)
+    (ap (λ sorts. sort_named sorts form.sort) (sym (sorts_as script s stands)) ∙ sym sorted)
+    (ap (λ (vs : Params). has_rank_of (declared_named s.entries form.name) (map (λ p. p.1) vs) sort)
+    (sym first) ∙ sym kept ∙ true_)
+    ∙ ap (λ names. definition_in names form.name ps sort form.body)
+    (sym (names_before library script s m same stands items)) ∙ ap
+    (λ (vs : Params). definition_in (names_of m) form.name vs sort form.body) (sym second)
 
 -- a name that a library holds is a name of what it stands for
-pub in_force : (library : Library) (m : Signature) (x : List ℕ) (b c : Bool) → StandsFor library m → b ≡ is_some (look_up (names_of_library library).ranks x) → b ≡ c → is_some (entry_named m.entries x) ≡ c
-in_force library m x b c stands h i = is_named m.entries x ∙ ap (λ rs. is_some (look_up rs x)) (sym stands.ranks) ∙ sym h ∙ i
+pub in_force : (library : Library) (m : Signature) (x : List ℕ) (b c : Bool) → StandsFor library m
+    → b ≡ is_some (look_up (names_of_library library).ranks x) → b ≡ c → is_some (entry_named m.entries x) ≡ c
+in_force library m x b c stands h i =
+    is_named m.entries x ∙ ap (λ rs. is_some (look_up rs x)) (sym stands.ranks) ∙ sym h ∙ i
 
 -- the fault of a name by two tests
-pub name_fault_by : (s : Signature) (es : List Entry) (x : List ℕ) (b c : Bool) → is_some (entry_named es x) ≡ b → c ≡ (not (is_some (declared_named s.entries x)) && is_taken (names_of s) x)
+pub name_fault_by : (s : Signature) (es : List Entry) (x : List ℕ) (b c : Bool)
+    → is_some (entry_named es x) ≡ b
+    → c ≡ (not (is_some (declared_named s.entries x)) && is_taken (names_of s) x)
     → name_fault s es x ≡ cond b (Some BoundTwice) (cond c (Some NotFresh) None)
 name_fault_by s es x b c h i =
-    ap (λ d. cond d (Some BoundTwice) (cond (not (is_some (declared_named s.entries x)) && is_taken (names_of s) x) (Some NotFresh) None)) h ∙ ap (λ d. cond b (Some BoundTwice) (cond d (Some NotFresh) None)) (sym i)
+    ap (λ d. cond d (Some BoundTwice)
+    (cond (not (is_some (declared_named s.entries x)) && is_taken (names_of s) x) (Some NotFresh) None)) h
+    ∙ ap (λ d. cond b (Some BoundTwice) (cond d (Some NotFresh) None)) (sym i)

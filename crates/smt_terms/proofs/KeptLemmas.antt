@@ -1,8 +1,10 @@
 -- A term keeps its sort over more names.
-use Rattle.std.proofs.Common.{◌≡◌, ℕ, ◌*◌, Bool, true, false, cond, List, [], ◌∷◌, ◌++◌, map, length, Option, Some, None, is_some, ok_or, Result, Ok, Err, refl, ap, sym, ◌∙◌}
+use Rattle.std.proofs.Common.{◌≡◌, ℕ, ◌*◌, Bool, true, false, cond, List, [], ◌∷◌, ◌++◌, map, length, Option}
+use Rattle.std.proofs.Common.{Some, None, is_some, ok_or, Result, Ok, Err, refl, ap, sym, ◌∙◌}
 use Rattle.std.specs.Option.{option_or}
 use Rattle.smt_trees.specs.Sexp as sexp
-use Rattle.smt_trees.specs.Sexp.{Sexp, Sexps, Atom, Reserved, Items, Nil, Cons, Symbol, Keyword, Numeral, Hexadecimal, Binary}
+use Rattle.smt_trees.specs.Sexp.{Sexp, Sexps, Atom, Reserved, Items, Nil, Cons, Symbol, Keyword, Numeral}
+use Rattle.smt_trees.specs.Sexp.{Hexadecimal, Binary}
 use Rattle.smt_trees.specs.declared.reserved.Word.TheVariants.{Bang, Let, Underscore}
 use Rattle.smt_theory.specs.Operators.{op_by, plain_op}
 use Rattle.smt_theory.specs.Width.{width_of}
@@ -11,7 +13,9 @@ use Rattle.smt_theory.specs.declared.op.Op.{Op}
 use Rattle.smt_theory.specs.declared.op.OpFault.TheVariants as ops
 use Rattle.smt_theory.specs.declared.sort.Sort.{Sort}
 use Rattle.smt_forms.specs.Bindings.{are_attributes, are_bindings}
-use Rattle.smt_terms.specs.Checking.{bound_in, fault_of_label, fault_of_labels, sort_applied, sort_in, sort_of_call, sort_of_operator, sort_of_plain, sort_of_symbol, sort_unless_variable, sorts_in, unless}
+use Rattle.smt_terms.specs.Checking.{bound_in, fault_of_label, fault_of_labels, sort_applied, sort_in}
+use Rattle.smt_terms.specs.Checking.{sort_of_call, sort_of_operator, sort_of_plain, sort_of_symbol}
+use Rattle.smt_terms.specs.Checking.{sort_unless_variable, sorts_in, unless}
 use Rattle.smt_forms.specs.Identifier.{Identifier, Plain, Indexed, applied, indexed}
 use Rattle.smt_terms.specs.Labels.{Labels, Unread, with_labels}
 use Rattle.smt_forms.specs.Labels.{labels_among, labels_in, labels_in_bindings}
@@ -25,93 +29,132 @@ use Rattle.smt_terms.proofs.CheckerLemmas.{Scope}
 -- ## Answers
 
 -- where the second of two steps is answered, the first is
-pub answered : {A B : Type 0} (r : Result A TermFault) (next : A → Result B TermFault) (y : B) → result_and_then r next ≡ Ok y → (x : A) × (r ≡ Ok x) × (next x ≡ Ok y)
+pub answered : {A B : Type 0} (r : Result A TermFault) (next : A → Result B TermFault) (y : B)
+    → result_and_then r next ≡ Ok y → (x : A) × (r ≡ Ok x) × (next x ≡ Ok y)
 answered (Ok x) next y h = (x, refl, h)
 answered (Err f) next y h = cc
 
 -- two steps that are answered by the same keep the answer
-pub kept-steps : {A B : Type 0} (r s : Result A TermFault) (next more : A → Result B TermFault) (y : B) → ((x : A) → r ≡ Ok x → s ≡ Ok x) → ((x : A) → next x ≡ Ok y → more x ≡ Ok y) → result_and_then r next ≡ Ok y
+pub kept-steps : {A B : Type 0} (r s : Result A TermFault) (next more : A → Result B TermFault) (y : B)
+    → ((x : A) → r ≡ Ok x → s ≡ Ok x) → ((x : A) → next x ≡ Ok y → more x ≡ Ok y)
+    → result_and_then r next ≡ Ok y
     → result_and_then s more ≡ Ok y
 kept-steps r s next more y first second h =
     let a = answered r next y h in
     ap (λ q. result_and_then q more) (first a.0 a.1) ∙ second a.0 a.2
 
 -- so does a test
-pub kept-then : {A : Type 0} (b : Bool) (x y : Result A TermFault) (e : TermFault) (a : A) → (x ≡ Ok a → y ≡ Ok a) → cond b x (Err e) ≡ Ok a → cond b y (Err e) ≡ Ok a
+pub kept-then : {A : Type 0} (b : Bool) (x y : Result A TermFault) (e : TermFault) (a : A)
+    → (x ≡ Ok a → y ≡ Ok a) → cond b x (Err e) ≡ Ok a → cond b y (Err e) ≡ Ok a
 kept-then true x y e a f h = f h
 kept-then false x y e a f h = cc
 
-pub kept-else : {A : Type 0} (b : Bool) (x y : Result A TermFault) (e : TermFault) (a : A) → (x ≡ Ok a → y ≡ Ok a) → cond b (Err e) x ≡ Ok a → cond b (Err e) y ≡ Ok a
+pub kept-else : {A : Type 0} (b : Bool) (x y : Result A TermFault) (e : TermFault) (a : A)
+    → (x ≡ Ok a → y ≡ Ok a) → cond b (Err e) x ≡ Ok a → cond b (Err e) y ≡ Ok a
 kept-else true x y e a f h = cc
 kept-else false x y e a f h = f h
 
 -- ## Names
 
 -- a name that is no plain operator's has no sort as an operator
-no_operator : (o : Option Op) (args : List Sort) (sort : Sort) → is_some o ≡ false → sort_of_operator (ok_or o ops.Unknown) args ≡ Ok sort → ⊥
+no_operator : (o : Option Op) (args : List Sort) (sort : Sort) → is_some o ≡ false
+    → sort_of_operator (ok_or o ops.Unknown) args ≡ Ok sort → ⊥
 no_operator None args sort h i = cc
 no_operator (Some op) args sort h i = cc
 
 -- a plain name
-kept-plain : (names more : Names) → Keeps names more → (f : List ℕ) (args : List Sort) (sort : Sort) (r q : Option Rank) → look_up names.ranks f ≡ r → look_up more.ranks f ≡ q → sort_of_plain names f r args ≡ Ok sort
+kept-plain : (names more : Names) → Keeps names more
+    → (f : List ℕ) (args : List Sort) (sort : Sort) (r q : Option Rank) → look_up names.ranks f ≡ r
+    → look_up more.ranks f ≡ q → sort_of_plain names f r args ≡ Ok sort
     → sort_of_plain more f q args ≡ Ok sort
-kept-plain names more keeps f args sort (Some rank) q is now h = ap (λ (o : Option Rank). sort_of_plain more f o args) (sym now ∙ keeps.ranks f rank is) ∙ h
-kept-plain names more keeps f args sort None None is now h = ap (λ theories. sort_of_operator (op_by theories f []) args) keeps.theories ∙ h
-kept-plain names more keeps f args sort None (Some rank) is now h = absurd (no_operator (plain_op names.theories f) args sort (keeps.fresh f rank is now) h)
+kept-plain names more keeps f args sort (Some rank) q is now h =
+    ap (λ (o : Option Rank). sort_of_plain more f o args) (sym now ∙ keeps.ranks f rank is) ∙ h
+kept-plain names more keeps f args sort None None is now h =
+    ap (λ theories. sort_of_operator (op_by theories f []) args) keeps.theories ∙ h
+kept-plain names more keeps f args sort None (Some rank) is now h =
+    absurd (no_operator (plain_op names.theories f) args sort (keeps.fresh f rank is now) h)
 
-kept-applied : (names more : Names) → Keeps names more → (f : Identifier) (args : List Sort) (sort : Sort) → sort_applied names f args ≡ Ok sort → sort_applied more f args ≡ Ok sort
-kept-applied names more keeps (Plain f) args sort h = kept-plain names more keeps f args sort (look_up names.ranks f) (look_up more.ranks f) refl refl h
-kept-applied names more keeps (Indexed f is) args sort h = ap (λ theories. sort_of_operator (op_by theories f is) args) keeps.theories ∙ h
+kept-applied : (names more : Names) → Keeps names more → (f : Identifier) (args : List Sort) (sort : Sort)
+    → sort_applied names f args ≡ Ok sort → sort_applied more f args ≡ Ok sort
+kept-applied names more keeps (Plain f) args sort h =
+    kept-plain names more keeps f args sort (look_up names.ranks f) (look_up more.ranks f) refl refl h
+kept-applied names more keeps (Indexed f is) args sort h =
+    ap (λ theories. sort_of_operator (op_by theories f is) args) keeps.theories ∙ h
 
-kept-symbol : (names more : Names) → Keeps names more → (x : List ℕ) (o : Option Sort) (sort : Sort) → sort_of_symbol names x o ≡ Ok sort → sort_of_symbol more x o ≡ Ok sort
+kept-symbol : (names more : Names) → Keeps names more → (x : List ℕ) (o : Option Sort) (sort : Sort)
+    → sort_of_symbol names x o ≡ Ok sort → sort_of_symbol more x o ≡ Ok sort
 kept-symbol names more keeps x None sort h = kept-applied names more keeps (Plain x) [] sort h
 kept-symbol names more keeps x (Some s) sort h = h
 
-kept-unless : (o : Option Sort) (x y : Result Sort TermFault) (sort : Sort) → (x ≡ Ok sort → y ≡ Ok sort) → sort_unless_variable o x ≡ Ok sort → sort_unless_variable o y ≡ Ok sort
+kept-unless : (o : Option Sort) (x y : Result Sort TermFault) (sort : Sort) → (x ≡ Ok sort → y ≡ Ok sort)
+    → sort_unless_variable o x ≡ Ok sort → sort_unless_variable o y ≡ Ok sort
 kept-unless None x y sort f h = f h
 kept-unless (Some s) x y sort f h = cc
 
-kept-call : (names more : Names) → Keeps names more → (scope : Scope) (f : Identifier) (args : List Sort) (sort : Sort) → sort_of_call names scope f args ≡ Ok sort → sort_of_call more scope f args ≡ Ok sort
+kept-call : (names more : Names) → Keeps names more
+    → (scope : Scope) (f : Identifier) (args : List Sort) (sort : Sort)
+    → sort_of_call names scope f args ≡ Ok sort → sort_of_call more scope f args ≡ Ok sort
 kept-call names more keeps scope (Plain f) args sort h =
-    kept-unless (look_up scope f) (sort_applied names (Plain f) args) (sort_applied more (Plain f) args) sort (kept-applied names more keeps (Plain f) args sort) h
-kept-call names more keeps scope (Indexed f is) args sort h = kept-applied names more keeps (Indexed f is) args sort h
+    kept-unless (look_up scope f) (sort_applied names (Plain f) args) (sort_applied more (Plain f) args) sort
+    (kept-applied names more keeps (Plain f) args sort) h
+kept-call names more keeps scope (Indexed f is) args sort h =
+    kept-applied names more keeps (Indexed f is) args sort h
 
 -- ## Terms
 
 -- what a list applies
 abbrev application : Names → Scope → Sexp → Sexps → Result Sort TermFault
-application names scope head args = result_and_then (applied head args) (λ f. result_and_then (sorts_in names scope args) (λ ss. sort_of_call names scope f ss))
+application names scope head args = result_and_then (applied head args)
+    (λ f. result_and_then (sorts_in names scope args) (λ ss. sort_of_call names scope f ss))
 
-kept-application : (names more : Names) → Keeps names more → (scope : Scope) (head : Sexp) (args : Sexps) (sort : Sort) → ((ss : List Sort) → sorts_in names scope args ≡ Ok ss → sorts_in more scope args ≡ Ok ss)
+kept-application : (names more : Names) → Keeps names more
+    → (scope : Scope) (head : Sexp) (args : Sexps) (sort : Sort)
+    → ((ss : List Sort) → sorts_in names scope args ≡ Ok ss → sorts_in more scope args ≡ Ok ss)
     → application names scope head args ≡ Ok sort → application more scope head args ≡ Ok sort
 kept-application names more keeps scope head args sort sorts h =
-    kept-steps (applied head args) (applied head args) (λ f. result_and_then (sorts_in names scope args) (λ ss. sort_of_call names scope f ss)) (λ f. result_and_then (sorts_in more scope args) (λ ss. sort_of_call more scope f ss)) sort
-    (λ f is. is) (λ f i. kept-steps (sorts_in names scope args) (sorts_in more scope args) (λ ss. sort_of_call names scope f ss) (λ ss. sort_of_call more scope f ss) sort sorts (λ ss. kept-call names more keeps scope f ss sort) i) h
+    kept-steps (applied head args) (applied head args)
+    (λ f. result_and_then (sorts_in names scope args) (λ ss. sort_of_call names scope f ss))
+    (λ f. result_and_then (sorts_in more scope args) (λ ss. sort_of_call more scope f ss)) sort
+    (λ f is. is) (λ f i. kept-steps (sorts_in names scope args) (sorts_in more scope args)
+    (λ ss. sort_of_call names scope f ss) (λ ss. sort_of_call more scope f ss) sort sorts
+    (λ ss. kept-call names more keeps scope f ss sort) i) h
 
 -- ## Labels
 
 -- labels that are not looked at are not looked at behind more
-pub Unread-behind : (ls : List (List ℕ × Sexp)) (labels : Labels) → labels ≡ Unread → with_labels (map (λ l. l.0) ls) labels ≡ Unread
+pub Unread-behind : (ls : List (List ℕ × Sexp)) (labels : Labels) → labels ≡ Unread
+    → with_labels (map (λ l. l.0) ls) labels ≡ Unread
 Unread-behind ls labels h = ap (λ ks. with_labels (map (λ l. l.0) ls) ks) h
 
 -- and have no fault
-unread_fault : (names : Names) (labels : Labels) (scope : Scope) (term : Sexp) (x : List ℕ) → labels ≡ Unread → fault_of_label names labels scope term x ≡ None
+unread_fault : (names : Names) (labels : Labels) (scope : Scope) (term : Sexp) (x : List ℕ) → labels ≡ Unread
+    → fault_of_label names labels scope term x ≡ None
 unread_fault names labels scope term x h = ap (λ ks. fault_of_label names ks scope term x) h
 
-pub unread_faults : (names : Names) (scope : Scope) (term : Sexp) (xs : List (List ℕ)) → names.labels ≡ Unread → fault_of_labels names scope term xs ≡ None
+pub unread_faults : (names : Names) (scope : Scope) (term : Sexp) (xs : List (List ℕ)) → names.labels ≡ Unread
+    → fault_of_labels names scope term xs ≡ None
 unread_faults names scope term [] h = refl
 unread_faults names scope term (x ∷ xs) h =
-    ap (λ o. option_or o (fault_of_labels (behind ((x, term) ∷ []) names) scope term xs)) (unread_fault names names.labels scope term x h)
-    ∙ unread_faults (behind ((x, term) ∷ []) names) scope term xs (Unread-behind ((x, term) ∷ []) names.labels h)
+    ap (λ o. option_or o (fault_of_labels (behind ((x, term) ∷ []) names) scope term xs))
+    (unread_fault names names.labels scope term x h)
+    ∙ unread_faults (behind ((x, term) ∷ []) names) scope term xs
+    (Unread-behind ((x, term) ∷ []) names.labels h)
 
 -- what has no fault is what comes then
-pub unless-none : {A : Type 0} (o : Option TermFault) (r : Result A TermFault) (y : A) → unless o r ≡ Ok y → (o ≡ None) × (r ≡ Ok y)
+pub unless-none : {A : Type 0} (o : Option TermFault) (r : Result A TermFault) (y : A) → unless o r ≡ Ok y
+    → (o ≡ None) × (r ≡ Ok y)
 unless-none None r y h = (refl, h)
 unless-none (Some f) r y h = cc
 
 -- the labels of a term change nothing of the names that are kept
-pub Keeps-behind : (names more : Names) (ls ks : List (List ℕ × Sexp)) → Keeps names more → Keeps (behind ls names) (behind ks more)
-Keeps-behind names more ls ks keeps = record { theories = keeps.theories; ranks = keeps.ranks; labels = Unread-behind ks more.labels keeps.labels; fresh = keeps.fresh }
+pub Keeps-behind : (names more : Names) (ls ks : List (List ℕ × Sexp)) → Keeps names more
+    → Keeps (behind ls names) (behind ks more)
+Keeps-behind names more ls ks keeps = record {
+  theories = keeps.theories;
+  ranks = keeps.ranks;
+  labels = Unread-behind ks more.labels keeps.labels;
+  fresh = keeps.fresh;
+}
 
 no_rank : (o : Option Rank) (rank : Rank) → o ≡ None → o ≡ Some rank → ⊥
 no_rank None rank h i = cc
@@ -119,54 +162,93 @@ no_rank (Some r) rank h i = cc
 
 -- names are kept where labels are not looked at
 pub Keeps-unlabelled : (names : Names) → Keeps names (unlabelled names)
-Keeps-unlabelled names = record { theories = refl; ranks = λ x rank h. h; labels = refl; fresh = λ x rank none some. absurd (no_rank (look_up names.ranks x) rank none some) }
+Keeps-unlabelled names = record {
+  theories = refl;
+  ranks = λ x rank h. h;
+  labels = refl;
+  fresh = λ x rank none some. absurd (no_rank (look_up names.ranks x) rank none some);
+}
 
 mutual
-  pub kept-sort : (names more : Names) → Keeps names more → (scope : Scope) (t : Sexp) (sort : Sort) → sort_in names scope t ≡ Ok sort → sort_in more scope t ≡ Ok sort
-  kept-sort names more keeps scope (Atom Symbol x) sort h = kept-symbol names more keeps x (look_up scope x) sort h
+  pub kept-sort : (names more : Names) → Keeps names more → (scope : Scope) (t : Sexp) (sort : Sort)
+      → sort_in names scope t ≡ Ok sort → sort_in more scope t ≡ Ok sort
+  kept-sort names more keeps scope (Atom Symbol x) sort h =
+      kept-symbol names more keeps x (look_up scope x) sort h
   kept-sort names more keeps scope (Atom Numeral x) sort h = ap integers keeps.theories ∙ h
-  kept-sort names more keeps scope (Atom Hexadecimal x) sort h = ap (λ theories. bit_vectors theories (width_of (4 * length x))) keeps.theories ∙ h
-  kept-sort names more keeps scope (Atom Binary x) sort h = ap (λ theories. bit_vectors theories (width_of (length x))) keeps.theories ∙ h
+  kept-sort names more keeps scope (Atom Hexadecimal x) sort h =
+      ap (λ theories. bit_vectors theories (width_of (4 * length x))) keeps.theories ∙ h
+  kept-sort names more keeps scope (Atom Binary x) sort h =
+      ap (λ theories. bit_vectors theories (width_of (length x))) keeps.theories ∙ h
   kept-sort names more keeps scope (Atom sexp.Decimal x) sort h = cc
   kept-sort names more keeps scope (Atom sexp.Text x) sort h = cc
   kept-sort names more keeps scope (Atom Keyword x) sort h = cc
   kept-sort names more keeps scope (Reserved word) sort h = cc
   kept-sort names more keeps scope (Items Nil) sort h = cc
   kept-sort names more keeps scope (Items (Cons (Reserved Underscore) parts)) sort h =
-      kept-steps (indexed parts) (indexed parts) (λ f. sort_applied names f []) (λ f. sort_applied more f []) sort (λ f is. is) (λ f. kept-applied names more keeps f [] sort) h
-  kept-sort names more keeps scope (Items (Cons (Reserved Let) (Cons (Items bindings) (Cons body Nil)))) sort h =
+      kept-steps (indexed parts) (indexed parts) (λ f. sort_applied names f [])
+      (λ f. sort_applied more f []) sort (λ f is. is) (λ f. kept-applied names more keeps f [] sort) h
+  kept-sort names more keeps scope
+      (Items (Cons (Reserved Let) (Cons (Items bindings) (Cons body Nil)))) sort h =
       let ls = labels_in_bindings bindings in
-      kept-then (are_bindings bindings) (result_and_then (bound_in names scope [] bindings) (λ bound. sort_in (behind ls names) (bound ++ scope) body))
-      (result_and_then (bound_in more scope [] bindings) (λ bound. sort_in (behind ls more) (bound ++ scope) body)) Form sort
-      (kept-steps (bound_in names scope [] bindings) (bound_in more scope [] bindings) (λ bound. sort_in (behind ls names) (bound ++ scope) body) (λ bound. sort_in (behind ls more) (bound ++ scope) body) sort
-      (kept-bound names more keeps scope [] bindings) (λ bound. kept-sort (behind ls names) (behind ls more) (Keeps-behind names more ls ls keeps) (bound ++ scope) body sort)) h
+      kept-then (are_bindings bindings)
+      (result_and_then (bound_in names scope [] bindings)
+      (λ bound. sort_in (behind ls names) (bound ++ scope) body))
+      (result_and_then (bound_in more scope [] bindings)
+      (λ bound. sort_in (behind ls more) (bound ++ scope) body)) Form sort
+      (kept-steps (bound_in names scope [] bindings) (bound_in more scope [] bindings)
+      (λ bound. sort_in (behind ls names) (bound ++ scope) body)
+      (λ bound. sort_in (behind ls more) (bound ++ scope) body) sort
+      (kept-bound names more keeps scope [] bindings)
+      (λ bound. kept-sort (behind ls names) (behind ls more) (Keeps-behind names more ls ls keeps)
+      (bound ++ scope) body sort)) h
   kept-sort names more keeps scope (Items (Cons (Reserved Let) args)) sort h = cc
   kept-sort names more keeps scope (Items (Cons (Reserved Bang) (Cons term attributes))) sort h =
       let ls = labels_in term in
       let xs = labels_among attributes in
-      kept-then (are_attributes attributes) (result_and_then (sort_in names scope term) (λ s. unless (fault_of_labels (behind ls names) scope term xs) (Ok s)))
-      (result_and_then (sort_in more scope term) (λ s. unless (fault_of_labels (behind ls more) scope term xs) (Ok s))) Form sort
-      (kept-steps (sort_in names scope term) (sort_in more scope term) (λ s. unless (fault_of_labels (behind ls names) scope term xs) (Ok s)) (λ s. unless (fault_of_labels (behind ls more) scope term xs) (Ok s)) sort
+      kept-then (are_attributes attributes)
+      (result_and_then (sort_in names scope term)
+      (λ s. unless (fault_of_labels (behind ls names) scope term xs) (Ok s)))
+      (result_and_then (sort_in more scope term)
+      (λ s. unless (fault_of_labels (behind ls more) scope term xs) (Ok s))) Form sort
+      (kept-steps (sort_in names scope term) (sort_in more scope term)
+      (λ s. unless (fault_of_labels (behind ls names) scope term xs) (Ok s))
+      (λ s. unless (fault_of_labels (behind ls more) scope term xs) (Ok s)) sort
       (kept-sort names more keeps scope term)
-      (λ s i. ap (λ o. unless o (Ok s)) (unread_faults (behind ls more) scope term xs (Unread-behind ls more.labels keeps.labels)) ∙ (unless-none (fault_of_labels (behind ls names) scope term xs) (Ok s) sort i).1)) h
+      (λ s i. ap (λ o. unless o (Ok s))
+      (unread_faults (behind ls more) scope term xs (Unread-behind ls more.labels keeps.labels)) ∙
+      (unless-none (fault_of_labels (behind ls names) scope term xs) (Ok s) sort i).1)) h
   kept-sort names more keeps scope (Items (Cons (Reserved Bang) args)) sort h = cc
-  kept-sort names more keeps scope (Items (Cons head args)) sort h = kept-application names more keeps scope head args sort (kept-sorts names more keeps scope args) h
+  kept-sort names more keeps scope (Items (Cons head args)) sort h =
+      kept-application names more keeps scope head args sort (kept-sorts names more keeps scope args) h
 
-  pub kept-sorts : (names more : Names) → Keeps names more → (scope : Scope) (ts : Sexps) (sorts : List Sort) → sorts_in names scope ts ≡ Ok sorts → sorts_in more scope ts ≡ Ok sorts
+  pub kept-sorts : (names more : Names) → Keeps names more → (scope : Scope) (ts : Sexps) (sorts : List Sort)
+      → sorts_in names scope ts ≡ Ok sorts → sorts_in more scope ts ≡ Ok sorts
   kept-sorts names more keeps scope Nil sorts h = h
   kept-sorts names more keeps scope (Cons x xs) sorts h =
       let ls = labels_in x in
-      kept-steps (sort_in names scope x) (sort_in more scope x) (λ s. result_and_then (sorts_in (behind ls names) scope xs) (λ ss. Ok (s ∷ ss))) (λ s. result_and_then (sorts_in (behind ls more) scope xs) (λ ss. Ok (s ∷ ss))) sorts
+      kept-steps (sort_in names scope x) (sort_in more scope x)
+      (λ s. result_and_then (sorts_in (behind ls names) scope xs) (λ ss. Ok (s ∷ ss)))
+      (λ s. result_and_then (sorts_in (behind ls more) scope xs) (λ ss. Ok (s ∷ ss))) sorts
       (kept-sort names more keeps scope x)
-      (λ s. kept-steps (sorts_in (behind ls names) scope xs) (sorts_in (behind ls more) scope xs) (λ ss. Ok (s ∷ ss)) (λ ss. Ok (s ∷ ss)) sorts
-      (kept-sorts (behind ls names) (behind ls more) (Keeps-behind names more ls ls keeps) scope xs) (λ ss i. i)) h
+      (λ s. kept-steps (sorts_in (behind ls names) scope xs) (sorts_in (behind ls more) scope xs)
+      (λ ss. Ok (s ∷ ss)) (λ ss. Ok (s ∷ ss)) sorts
+      (kept-sorts (behind ls names) (behind ls more) (Keeps-behind names more ls ls keeps) scope xs)
+      (λ ss i. i)) h
 
-  kept-bound : (names more : Names) → Keeps names more → (scope bound : Scope) (bs : Sexps) (vs : Scope) → bound_in names scope bound bs ≡ Ok vs → bound_in more scope bound bs ≡ Ok vs
+  kept-bound : (names more : Names) → Keeps names more → (scope bound : Scope) (bs : Sexps) (vs : Scope)
+      → bound_in names scope bound bs ≡ Ok vs → bound_in more scope bound bs ≡ Ok vs
   kept-bound names more keeps scope bound Nil vs h = h
   kept-bound names more keeps scope bound (Cons (Items (Cons (Atom Symbol x) (Cons term Nil))) rest) vs h =
       let ls = labels_in term in
-      kept-else (is_some (look_up bound x)) (result_and_then (sort_in names scope term) (λ s. bound_in (behind ls names) scope (bound ++ (x, s) ∷ []) rest))
-      (result_and_then (sort_in more scope term) (λ s. bound_in (behind ls more) scope (bound ++ (x, s) ∷ []) rest)) BoundTwice vs
-      (kept-steps (sort_in names scope term) (sort_in more scope term) (λ s. bound_in (behind ls names) scope (bound ++ (x, s) ∷ []) rest) (λ s. bound_in (behind ls more) scope (bound ++ (x, s) ∷ []) rest) vs
-      (kept-sort names more keeps scope term) (λ s. kept-bound (behind ls names) (behind ls more) (Keeps-behind names more ls ls keeps) scope (bound ++ (x, s) ∷ []) rest vs)) h
+      kept-else (is_some (look_up bound x))
+      (result_and_then (sort_in names scope term)
+      (λ s. bound_in (behind ls names) scope (bound ++ (x, s) ∷ []) rest))
+      (result_and_then (sort_in more scope term)
+      (λ s. bound_in (behind ls more) scope (bound ++ (x, s) ∷ []) rest)) BoundTwice vs
+      (kept-steps (sort_in names scope term) (sort_in more scope term)
+      (λ s. bound_in (behind ls names) scope (bound ++ (x, s) ∷ []) rest)
+      (λ s. bound_in (behind ls more) scope (bound ++ (x, s) ∷ []) rest) vs
+      (kept-sort names more keeps scope term)
+      (λ s. kept-bound (behind ls names) (behind ls more) (Keeps-behind names more ls ls keeps) scope
+      (bound ++ (x, s) ∷ []) rest vs)) h
   kept-bound names more keeps scope bound _ vs h = cc

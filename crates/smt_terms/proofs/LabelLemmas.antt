@@ -1,5 +1,7 @@
 -- Labels that are given, one behind another.
-use Rattle.std.proofs.Common.{◌≡◌, ◌⊎◌, ℕ, Bool, true, false, cond, ◌||◌, List, [], ◌∷◌, ◌++◌, map, Option, Some, None, Result, Ok, Err, OnOk, refl, ap, sym, subst, ◌∙◌, append_assoc, append-nil, inl, inr}
+use Rattle.std.proofs.Common.{◌≡◌, ◌⊎◌, ℕ, Bool, true, false, cond, ◌||◌, List, [], ◌∷◌, ◌++◌, map, Option}
+use Rattle.std.proofs.Common.{Some, None, Result, Ok, Err, OnOk, refl, ap, sym, subst, ◌∙◌, append_assoc}
+use Rattle.std.proofs.Common.{append-nil, inl, inr}
 use Rattle.std.specs.Option.{option_or}
 use Rattle.std.proofs.lemmas.List.{map-append}
 use Rattle.smt_trees.specs.Sexp.{Sexp, Sexps, Atom, Cons, Items, Keyword, Reserved}
@@ -7,7 +9,8 @@ use Rattle.smt_trees.specs.declared.reserved.Word.TheVariants.{Bang, Let, Unders
 use Rattle.smt_trees.specs.Tree.{sexp_of}
 use Rattle.smt_theory.specs.Words.{look_up}
 use Rattle.smt_theory.specs.declared.sort.Sort.{Sort}
-use Rattle.smt_terms.specs.Checking.{fault_of_label, fault_of_labels, sort_in, sort_of_call, sort_of_plain, sort_unless_variable}
+use Rattle.smt_terms.specs.Checking.{fault_of_label, fault_of_labels, sort_in, sort_of_call, sort_of_plain}
+use Rattle.smt_terms.specs.Checking.{sort_unless_variable}
 use Rattle.smt_forms.specs.Heads.{is_underscore_tree}
 use Rattle.smt_forms.specs.Identifier.{Identifier, Plain, Indexed}
 use Rattle.smt_forms.specs.Labels.{label_of_tree}
@@ -32,33 +35,48 @@ Labelled = List (List ℕ × Sexp)
 
 -- ## Labels without their terms
 
-names_of_terms : (ls : List Label) → map (λ l. l.name.items) ls ≡ map (λ (p : List ℕ × Sexp). p.0) (map (λ l. (l.name.items, sexp_of l.body)) ls)
+names_of_terms : (ls : List Label)
+    → map (λ l. l.name.items) ls
+    ≡ map (λ (p : List ℕ × Sexp). p.0) (map (λ l. (l.name.items, sexp_of l.body)) ls)
 names_of_terms [] = refl
 names_of_terms (l ∷ ls) = ap (λ xs. l.name.items ∷ xs) (names_of_terms ls)
 
-given-names : (old new : Labels) (more : Labelled) → given_terms new ≡ given_terms old ++ more → given_names new ≡ given_names old ++ map (λ (p : List ℕ × Sexp). p.0) more
+given-names : (old new : Labels) (more : Labelled) → given_terms new ≡ given_terms old ++ more
+    → given_names new ≡ given_names old ++ map (λ (p : List ℕ × Sexp). p.0) more
 given-names old new more h =
-    names_of_terms new.given.items ∙ ap (λ (ps : Labelled). map (λ (p : List ℕ × Sexp). p.0) ps) h ∙ map-append (λ (p : List ℕ × Sexp). p.0) (given_terms old) more ∙ ap (λ xs. xs ++ map (λ (p : List ℕ × Sexp). p.0) more) (sym (names_of_terms old.given.items))
+    names_of_terms new.given.items ∙ ap
+    (λ (ps : Labelled). map (λ (p : List ℕ × Sexp). p.0) ps) h ∙ map-append (λ (p : List ℕ × Sexp). p.0)
+    (given_terms old) more ∙ ap (λ xs. xs ++ map (λ (p : List ℕ × Sexp). p.0) more)
+    (sym (names_of_terms old.given.items))
 
-given-view : (old new : Bool) (before after : List (List ℕ)) (more : List (List ℕ)) → new ≡ old → after ≡ before ++ more → cond new spec.Refused (spec.Given after) ≡ with_labels more (cond old spec.Refused (spec.Given before))
+given-view : (old new : Bool) (before after : List (List ℕ)) (more : List (List ℕ)) → new ≡ old
+    → after ≡ before ++ more
+    → cond new spec.Refused (spec.Given after) ≡ with_labels more (cond old spec.Refused (spec.Given before))
 given-view true new before after more same h = rw same refl
 given-view false new before after more same h = rw (same, h) refl
 
 -- what the labels are behind those that are given
-pub given_view : (names : Names) (old new : Labels) (more : Labelled) → AreGiven names old new more → labels_view new ≡ with_labels (map (λ (p : List ℕ × Sexp). p.0) more) (labels_view old)
-given_view names old new more given = given-view old.refused new.refused (given_names old) (given_names new) (map (λ (p : List ℕ × Sexp). p.0) more) given.refused (given-names old new more given.given)
+pub given_view : (names : Names) (old new : Labels) (more : Labelled) → AreGiven names old new more
+    → labels_view new ≡ with_labels (map (λ (p : List ℕ × Sexp). p.0) more) (labels_view old)
+given_view names old new more given = given-view old.refused new.refused (given_names old) (given_names new)
+    (map (λ (p : List ℕ × Sexp). p.0) more) given.refused (given-names old new more given.given)
 
-pub names_behind : (library : Library) (names : Names) (old new : Labels) (more : Labelled) → AreGiven names old new more → names_for library (labels_view new) ≡ behind more (names_for library (labels_view old))
-names_behind library names old new more given = ap (λ labels. names_for library labels) (given_view names old new more given)
+pub names_behind : (library : Library) (names : Names) (old new : Labels) (more : Labelled)
+    → AreGiven names old new more
+    → names_for library (labels_view new) ≡ behind more (names_for library (labels_view old))
+names_behind library names old new more given =
+    ap (λ labels. names_for library labels) (given_view names old new more given)
 
 -- ## Labels behind labels
 
 -- none
 pub AreGiven-none : (names : Names) (labels : Labels) → AreGiven names labels labels []
-AreGiven-none names labels = record { refused = refl; given = sym (append-nil (given_terms labels)); sorted = λ h. h }
+AreGiven-none names labels =
+    record { refused = refl; given = sym (append-nil (given_terms labels)); sorted = λ h. h }
 
 -- some, and then others
-pub AreGiven-append : (names : Names) (old mid new : Labels) (xs ys : Labelled) → AreGiven names old mid xs → AreGiven names mid new ys → AreGiven names old new (xs ++ ys)
+pub AreGiven-append : (names : Names) (old mid new : Labels) (xs ys : Labelled) → AreGiven names old mid xs
+    → AreGiven names mid new ys → AreGiven names old new (xs ++ ys)
 AreGiven-append names old mid new xs ys first second = record {
   refused = second.refused ∙ first.refused;
   given = second.given ∙ ap (λ ls. ls ++ ys) first.given ∙ append_assoc (given_terms old) xs ys;
@@ -71,40 +89,50 @@ pub record AreGivenOf (names : Names) (old new : Labels) (all left : Labelled) :
   pub given : AreGiven names old new more
   pub are : all ≡ more ++ left
 
-pub AreGivenOf-none : (names : Names) (labels : Labels) (all : Labelled) → AreGivenOf names labels labels all all
+pub AreGivenOf-none : (names : Names) (labels : Labels) (all : Labelled)
+    → AreGivenOf names labels labels all all
 AreGivenOf-none names labels all = record { more = []; given = AreGiven-none names labels; are = refl }
 
-pub AreGivenOf-next : (names : Names) (old mid new : Labels) (all left xs rest : Labelled) → AreGivenOf names old mid all left → left ≡ xs ++ rest → AreGiven names mid new xs → AreGivenOf names old new all rest
+pub AreGivenOf-next : (names : Names) (old mid new : Labels) (all left xs rest : Labelled)
+    → AreGivenOf names old mid all left → left ≡ xs ++ rest → AreGiven names mid new xs
+    → AreGivenOf names old new all rest
 AreGivenOf-next names old mid new all left xs rest first split second = record {
   more = first.more ++ xs;
   given = AreGiven-append names old mid new first.more xs first.given second;
   are = first.are ∙ ap (λ ls. first.more ++ ls) split ∙ sym (append_assoc first.more xs rest);
 }
 
-pub AreGivenOf-all : (names : Names) (old new : Labels) (all left : Labelled) → AreGivenOf names old new all left → left ≡ [] → AreGiven names old new all
+pub AreGivenOf-all : (names : Names) (old new : Labels) (all left : Labelled)
+    → AreGivenOf names old new all left → left ≡ [] → AreGiven names old new all
 AreGivenOf-all names old new all left given none =
     rw (given.are ∙ ap (λ ls. given.more ++ ls) none ∙ append-nil given.more) given.given
 
 -- ## One label
 
-AreSorted-push : (names : Names) (ls : List Label) (l : Label) → AreSorted names ls → sort_in (unlabelled names) [] (sexp_of l.body) ≡ Ok l.sort → AreSorted names (ls ++ l ∷ [])
+AreSorted-push : (names : Names) (ls : List Label) (l : Label) → AreSorted names ls
+    → sort_in (unlabelled names) [] (sexp_of l.body) ≡ Ok l.sort → AreSorted names (ls ++ l ∷ [])
 AreSorted-push names [] l h is = (is, tt)
 AreSorted-push names (k ∷ ls) l h is = (h.0, AreSorted-push names ls l h.1 is)
 
 -- a label of a term that has its sort
-pub AreGiven-push : (names : Names) (old new : Labels) (x : List ℕ) (sort : Sort) (term : Sexp) (l : Label) → new.refused ≡ old.refused → new.given.items ≡ old.given.items ++ l ∷ [] → l.name.items ≡ x → l.sort ≡ sort → sexp_of l.body ≡ term
+pub AreGiven-push : (names : Names) (old new : Labels) (x : List ℕ) (sort : Sort) (term : Sexp) (l : Label)
+    → new.refused ≡ old.refused → new.given.items ≡ old.given.items ++ l ∷ [] → l.name.items ≡ x
+    → l.sort ≡ sort → sexp_of l.body ≡ term
     → sort_in (unlabelled names) [] term ≡ Ok sort → AreGiven names old new ((x, term) ∷ [])
 AreGiven-push names old new x sort term l refused pushed named sorted is has = record {
   refused = refused;
-  given = ap (λ (ls : List Label). map (λ k. (k.name.items, sexp_of k.body)) ls) pushed ∙ map-append (λ (k : Label). (k.name.items, sexp_of k.body)) old.given.items (l ∷ [])
+  given = ap (λ (ls : List Label). map (λ k. (k.name.items, sexp_of k.body)) ls) pushed ∙ map-append
+      (λ (k : Label). (k.name.items, sexp_of k.body)) old.given.items (l ∷ [])
       ∙ ap (λ p. given_terms old ++ p ∷ []) (ap (λ y. (y, sexp_of l.body)) named ∙ ap (λ t. (x, t)) is);
-  sorted = λ h. rw pushed (AreSorted-push names old.given.items l h (ap (λ t. sort_in (unlabelled names) [] t) is ∙ has ∙ ap (λ s. Ok s) (sym sorted)));
+  sorted = λ h. rw pushed (AreSorted-push names old.given.items l h
+      (ap (λ t. sort_in (unlabelled names) [] t) is ∙ has ∙ ap (λ s. Ok s) (sym sorted)));
 }
 
 -- ## Faults of labels
 
 -- the label that stands first among attributes, and the others
-pub labels_among-first : (tree : Sexp) (rest : Sexps) → labels_among (Cons tree rest) ≡ label_of_tree tree rest ++ labels_among rest
+pub labels_among-first : (tree : Sexp) (rest : Sexps)
+    → labels_among (Cons tree rest) ≡ label_of_tree tree rest ++ labels_among rest
 labels_among-first (Atom Keyword k) rest = refl
 labels_among-first _ rest = refl
 
@@ -112,55 +140,76 @@ labels_among-first _ rest = refl
 abbrev pub with_term : Sexp → List (List ℕ) → Labelled
 with_term term xs = map (λ x. (x, term)) xs
 
-labels-append : (xs ys : List (List ℕ)) (labels : spec.Labels) → with_labels ys (with_labels xs labels) ≡ with_labels (xs ++ ys) labels
+labels-append : (xs ys : List (List ℕ)) (labels : spec.Labels)
+    → with_labels ys (with_labels xs labels) ≡ with_labels (xs ++ ys) labels
 labels-append xs ys spec.Refused = refl
 labels-append xs ys (spec.Given names) = ap (λ ls. spec.Given ls) (append_assoc names xs ys)
 labels-append xs ys spec.Unread = refl
 
 pub behind-append : (xs ys : Labelled) (names : Names) → behind ys (behind xs names) ≡ behind (xs ++ ys) names
 behind-append xs ys names =
-    ap (λ labels. record names { labels = labels }) (labels-append (map (λ (l : List ℕ × Sexp). l.0) xs) (map (λ (l : List ℕ × Sexp). l.0) ys) names.labels ∙ ap (λ ls. with_labels ls names.labels) (sym (map-append (λ (l : List ℕ × Sexp). l.0) xs ys)))
+    ap (λ labels. record names { labels = labels })
+    (labels-append (map (λ (l : List ℕ × Sexp). l.0) xs)
+    (map (λ (l : List ℕ × Sexp). l.0) ys) names.labels ∙ ap (λ ls. with_labels ls names.labels)
+    (sym (map-append (λ (l : List ℕ × Sexp). l.0) xs ys)))
 
 pub or_none : (o p : Option TermFault) → option_or o p ≡ None → (o ≡ None) × (p ≡ None)
 or_none None p h = (refl, h)
 or_none (Some f) p h = cc
 
 -- behind labels without a fault come the others
-faults-behind : (names : Names) (scope : Scope) (term : Sexp) (xs ys : List (List ℕ)) → fault_of_labels names scope term xs ≡ None → fault_of_labels names scope term (xs ++ ys) ≡ fault_of_labels (behind (with_term term xs) names) scope term ys
-faults-behind names scope term [] ys h = ap (λ (ns : Names). fault_of_labels ns scope term ys) (ap (λ labels. record names { labels = labels }) (none names.labels))
+faults-behind : (names : Names) (scope : Scope) (term : Sexp) (xs ys : List (List ℕ))
+    → fault_of_labels names scope term xs ≡ None
+    → fault_of_labels names scope term (xs ++ ys)
+    ≡ fault_of_labels (behind (with_term term xs) names) scope term ys
+faults-behind names scope term [] ys h = ap (λ (ns : Names). fault_of_labels ns scope term ys)
+    (ap (λ labels. record names { labels = labels }) (none names.labels))
   where
     none : (labels : spec.Labels) → labels ≡ with_labels [] labels
     none spec.Refused = refl
     none (spec.Given ls) = ap (λ ks. spec.Given ks) (sym (append-nil ls))
     none spec.Unread = refl
 faults-behind names scope term (x ∷ xs) ys h =
-    let n = or_none (fault_of_label names names.labels scope term x) (fault_of_labels (behind ((x, term) ∷ []) names) scope term xs) h in
-    ap (λ o. option_or o (fault_of_labels (behind ((x, term) ∷ []) names) scope term (xs ++ ys))) n.0 ∙ faults-behind (behind ((x, term) ∷ []) names) scope term xs ys n.1
-    ∙ ap (λ (ns : Names). fault_of_labels ns scope term ys) (behind-append ((x, term) ∷ []) (with_term term xs) names)
+    let n =
+    or_none (fault_of_label names names.labels scope term x)
+    (fault_of_labels (behind ((x, term) ∷ []) names) scope term xs) h in
+    ap (λ o. option_or o (fault_of_labels (behind ((x, term) ∷ []) names) scope term (xs ++ ys))) n.0 ∙
+    faults-behind (behind ((x, term) ∷ []) names) scope term xs ys n.1
+    ∙ ap (λ (ns : Names). fault_of_labels ns scope term ys)
+    (behind-append ((x, term) ∷ []) (with_term term xs) names)
 
-pub faults-next : (names later : Names) (scope : Scope) (term : Sexp) (all xs ys : List (List ℕ)) → later ≡ behind (with_term term xs) names → all ≡ xs ++ ys → fault_of_labels names scope term xs ≡ None
+pub faults-next : (names later : Names) (scope : Scope) (term : Sexp) (all xs ys : List (List ℕ))
+    → later ≡ behind (with_term term xs) names → all ≡ xs ++ ys → fault_of_labels names scope term xs ≡ None
     → fault_of_labels names scope term all ≡ fault_of_labels later scope term ys
 faults-next names later scope term all xs ys next split none =
-    ap (λ ls. fault_of_labels names scope term ls) split ∙ faults-behind names scope term xs ys none ∙ ap (λ (ns : Names). fault_of_labels ns scope term ys) (sym next)
+    ap (λ ls. fault_of_labels names scope term ls) split ∙ faults-behind names scope term xs ys none ∙ ap
+    (λ (ns : Names). fault_of_labels ns scope term ys) (sym next)
 
 -- and a fault of the first is that of all
-faults-first : (names : Names) (scope : Scope) (term : Sexp) (xs ys : List (List ℕ)) (e : TermFault) → fault_of_labels names scope term xs ≡ Some e → fault_of_labels names scope term (xs ++ ys) ≡ Some e
+faults-first : (names : Names) (scope : Scope) (term : Sexp) (xs ys : List (List ℕ)) (e : TermFault)
+    → fault_of_labels names scope term xs ≡ Some e → fault_of_labels names scope term (xs ++ ys) ≡ Some e
 faults-first names scope term [] ys e h = cc
-faults-first names scope term (x ∷ xs) ys e h = by (fault_of_label names names.labels scope term x) h (faults-first (behind ((x, term) ∷ []) names) scope term xs ys e)
+faults-first names scope term (x ∷ xs) ys e h = by (fault_of_label names names.labels scope term x) h
+    (faults-first (behind ((x, term) ∷ []) names) scope term xs ys e)
   where
-    by : (o : Option TermFault) → option_or o (fault_of_labels (behind ((x, term) ∷ []) names) scope term xs) ≡ Some e
-        → (fault_of_labels (behind ((x, term) ∷ []) names) scope term xs ≡ Some e → fault_of_labels (behind ((x, term) ∷ []) names) scope term (xs ++ ys) ≡ Some e)
+    by : (o : Option TermFault)
+        → option_or o (fault_of_labels (behind ((x, term) ∷ []) names) scope term xs) ≡ Some e
+        → (fault_of_labels (behind ((x, term) ∷ []) names) scope term xs ≡ Some e
+        → fault_of_labels (behind ((x, term) ∷ []) names) scope term (xs ++ ys) ≡ Some e)
         → option_or o (fault_of_labels (behind ((x, term) ∷ []) names) scope term (xs ++ ys)) ≡ Some e
     by None g rest = rest g
     by (Some f) g rest = g
 
-pub faults-fault : (names : Names) (scope : Scope) (term : Sexp) (all xs ys : List (List ℕ)) (e : TermFault) → all ≡ xs ++ ys → (e ≡ Memory) ⊎ (fault_of_labels names scope term xs ≡ Some e)
+pub faults-fault : (names : Names) (scope : Scope) (term : Sexp) (all xs ys : List (List ℕ)) (e : TermFault)
+    → all ≡ xs ++ ys → (e ≡ Memory) ⊎ (fault_of_labels names scope term xs ≡ Some e)
     → (e ≡ Memory) ⊎ (fault_of_labels names scope term all ≡ Some e)
 faults-fault names scope term all xs ys e split (inl m) = inl m
-faults-fault names scope term all xs ys e split (inr h) = inr (ap (λ ls. fault_of_labels names scope term ls) split ∙ faults-first names scope term xs ys e h)
+faults-fault names scope term all xs ys e split (inr h) =
+    inr (ap (λ ls. fault_of_labels names scope term ls) split ∙ faults-first names scope term xs ys e h)
 
 -- one label
-pub one_fault : (names : Names) (scope : Scope) (term : Sexp) (x : List ℕ) (o : Option TermFault) → fault_of_label names names.labels scope term x ≡ o → fault_of_labels names scope term (x ∷ []) ≡ o
+pub one_fault : (names : Names) (scope : Scope) (term : Sexp) (x : List ℕ) (o : Option TermFault)
+    → fault_of_label names names.labels scope term x ≡ o → fault_of_labels names scope term (x ∷ []) ≡ o
 one_fault names scope term x o h = ap (λ p. option_or p None) h ∙ same o
   where
     same : (p : Option TermFault) → option_or p None ≡ p
@@ -168,13 +217,20 @@ one_fault names scope term x o h = ap (λ p. option_or p None) h ∙ same o
     same (Some f) = refl
 
 -- a label where none may stand, and one by its tests
-pub label_refused : (names : Names) (labels : Labels) (scope : Scope) (term : Sexp) (x : List ℕ) → labels.refused ≡ true → fault_of_label names (labels_view labels) scope term x ≡ Some IsLabel
-label_refused names labels scope term x h = ap (λ b. fault_of_label names (cond b spec.Refused (spec.Given (given_names labels))) scope term x) h
+pub label_refused : (names : Names) (labels : Labels) (scope : Scope) (term : Sexp) (x : List ℕ)
+    → labels.refused ≡ true → fault_of_label names (labels_view labels) scope term x ≡ Some IsLabel
+label_refused names labels scope term x h =
+    ap (λ b. fault_of_label names (cond b spec.Refused (spec.Given (given_names labels))) scope term x) h
 
-pub label_tested : (names : Names) (labels : Labels) (scope : Scope) (term : Sexp) (x : List ℕ) (used taken : Bool) → labels.refused ≡ false → uses_variable scope term ≡ used → is_taken names x || is_among (given_names labels) x ≡ taken
-    → fault_of_label names (labels_view labels) scope term x ≡ cond used (Some IsLabel) (cond taken (Some NotFresh) None)
+pub label_tested : (names : Names) (labels : Labels) (scope : Scope) (term : Sexp) (x : List ℕ)
+    (used taken : Bool) → labels.refused ≡ false → uses_variable scope term ≡ used
+    → is_taken names x || is_among (given_names labels) x ≡ taken
+    → fault_of_label names (labels_view labels) scope term x
+    ≡ cond used (Some IsLabel) (cond taken (Some NotFresh) None)
 label_tested names labels scope term x used taken h u t =
-    ap (λ b. fault_of_label names (cond b spec.Refused (spec.Given (given_names labels))) scope term x) h ∙ ap (λ b. cond b (Some IsLabel) (cond (is_taken names x || is_among (given_names labels) x) (Some NotFresh) None)) u
+    ap (λ b. fault_of_label names (cond b spec.Refused (spec.Given (given_names labels))) scope term x) h ∙ ap
+    (λ b. cond b (Some IsLabel)
+    (cond (is_taken names x || is_among (given_names labels) x) (Some NotFresh) None)) u
     ∙ ap (λ b. cond used (Some IsLabel) (cond b (Some NotFresh) None)) t
 
 -- what follows where there is an answer
@@ -183,28 +239,38 @@ on_ok (Ok v) P Q f h = f h
 on_ok (Err e) P Q f h = h
 
 -- a fault of what is the same
-pub carried_fault : (e : TermFault) (o p : Option TermFault) → p ≡ o → (e ≡ Memory) ⊎ (o ≡ Some e) → (e ≡ Memory) ⊎ (p ≡ Some e)
+pub carried_fault : (e : TermFault) (o p : Option TermFault) → p ≡ o → (e ≡ Memory) ⊎ (o ≡ Some e)
+    → (e ≡ Memory) ⊎ (p ≡ Some e)
 carried_fault e o p same (inl m) = inl m
 carried_fault e o p same (inr h) = inr (same ∙ h)
 
 -- labels are nothing to a call
-plain_without_labels : (library : Library) (labels : spec.Labels) (f : List ℕ) (args : List Sort) (o : Option Rank) → sort_of_plain (names_for library labels) f o args ≡ sort_of_plain (names_of_library library) f o args
+plain_without_labels : (library : Library) (labels : spec.Labels) (f : List ℕ) (args : List Sort)
+    (o : Option Rank) → sort_of_plain (names_for library labels) f o args
+    ≡ sort_of_plain (names_of_library library) f o args
 plain_without_labels library labels f args None = refl
 plain_without_labels library labels f args (Some rank) = refl
 
-pub call_without_labels : (library : Library) (labels : spec.Labels) (scope : Scope) (f : Identifier) (args : List Sort) → sort_of_call (names_for library labels) scope f args ≡ sort_of_call (names_of_library library) scope f args
-call_without_labels library labels scope (Plain f) args = ap (λ r. sort_unless_variable (look_up scope f) r) (plain_without_labels library labels f args (look_up (names_of_library library).ranks f))
+pub call_without_labels : (library : Library) (labels : spec.Labels) (scope : Scope) (f : Identifier)
+    (args : List Sort) → sort_of_call (names_for library labels) scope f args
+    ≡ sort_of_call (names_of_library library) scope f args
+call_without_labels library labels scope (Plain f) args = ap (λ r. sort_unless_variable (look_up scope f) r)
+    (plain_without_labels library labels f args (look_up (names_of_library library).ranks f))
 call_without_labels library labels scope (Indexed f is) args = refl
 
 -- a list with another head has the labels of its arguments
-other_labels : (head : Sexp) (args : Sexps) → is_underscore_tree head ≡ false → is_let_tree head ≡ false → is_bang_tree head ≡ false → labels_in (Items (Cons head args)) ≡ labels_in_all args
+other_labels : (head : Sexp) (args : Sexps) → is_underscore_tree head ≡ false → is_let_tree head ≡ false
+    → is_bang_tree head ≡ false → labels_in (Items (Cons head args)) ≡ labels_in_all args
 other_labels (Reserved Underscore) args h i j = cc
 other_labels (Reserved Let) args h i j = cc
 other_labels (Reserved Bang) args h i j = cc
 other_labels _ args h i j = refl
 
-pub given_by_args : (r : Result Sort TermFault) (names : Names) (old new : Labels) (head : Sexp) (args parts : Sexps) → parts ≡ Cons head args → is_underscore_tree head ≡ false → is_let_tree head ≡ false → is_bang_tree head ≡ false
+pub given_by_args : (r : Result Sort TermFault) (names : Names) (old new : Labels) (head : Sexp)
+    (args parts : Sexps) → parts ≡ Cons head args → is_underscore_tree head ≡ false → is_let_tree head ≡ false
+    → is_bang_tree head ≡ false
     → AreGiven names old new (labels_in_all args) → OnOk r (AreGiven names old new (labels_in (Items parts)))
 given_by_args (Err e) names old new head args parts split h i j given = tt
 given_by_args (Ok sort) names old new head args parts split h i j given =
-    subst (AreGiven names old new) (sym (ap (λ ps. labels_in (Items ps)) split ∙ other_labels head args h i j)) given
+    subst (AreGiven names old new)
+    (sym (ap (λ ps. labels_in (Items ps)) split ∙ other_labels head args h i j)) given

@@ -1,5 +1,6 @@
 -- Whether a name is known.
-use Rattle.std.proofs.Common.{◌≡◌, Bool, true, false, ◌&&◌, ◌||◌, Option, Some, None, is_some, option_map, ok_or, refl, ap, sym, ◌∙◌}
+use Rattle.std.proofs.Common.{◌≡◌, Bool, true, false, ◌&&◌, ◌||◌, Option, Some, None, is_some, option_map}
+use Rattle.std.proofs.Common.{ok_or, refl, ap, sym, ◌∙◌}
 use Rattle.std.specs.Result.{is_ok}
 
 -- whether something is found does not hang on what is seen of it
@@ -17,7 +18,8 @@ not_taken None b h = refl
 not_taken (Some a) b h = cc
 
 -- something is found for the one where it is for the other
-pub same_some : {A B C : Type 0} (f : A → C) (g : B → C) (o : Option A) (r : Option B) → option_map f o ≡ option_map g r → is_some o ≡ is_some r
+pub same_some : {A B C : Type 0} (f : A → C) (g : B → C) (o : Option A) (r : Option B)
+    → option_map f o ≡ option_map g r → is_some o ≡ is_some r
 same_some f g o r h = sym (some_map f o) ∙ ap is_some h ∙ some_map g r
 
 -- a conjunction that goes on is its second part

@@ -1,5 +1,6 @@
 -- The sorts that trees name, one more at a time.
-use Rattle.std.proofs.Common.{◌≡◌, ℕ, Bool, true, false, ◌||◌, List, ◌++◌, Option, Some, None, is_some, refl, Result, Ok}
+use Rattle.std.proofs.Common.{◌≡◌, ℕ, Bool, true, false, ◌||◌, List, ◌++◌, Option, Some, None, is_some, refl}
+use Rattle.std.proofs.Common.{Result, Ok}
 use Rattle.std.specs.Prelude.{bytes_eq, codes}
 use Rattle.smt_trees.specs.Sexp.{Sexps}
 use Rattle.smt_theory.specs.Words.{look_up, result_and_then}
@@ -17,8 +18,11 @@ neither false true c h = cc
 neither true b c h = cc
 
 -- a name that is not taken abbreviates nothing
-pub not_abbreviated : (names : SortNames) (x : List ℕ) → is_sort_taken names x ≡ false → look_up names.abbreviations x ≡ None
-not_abbreviated names x h = by (look_up names.abbreviations x) (neither (bytes_eq x (codes "Bool")) (bytes_eq x (codes "Int")) (is_some (look_up names.abbreviations x)) h)
+pub not_abbreviated : (names : SortNames) (x : List ℕ) → is_sort_taken names x ≡ false
+    → look_up names.abbreviations x ≡ None
+not_abbreviated names x h = by (look_up names.abbreviations x)
+    (neither (bytes_eq x (codes "Bool")) (bytes_eq x (codes "Int"))
+    (is_some (look_up names.abbreviations x)) h)
   where
     by : (o : Option Sort) → is_some o ≡ false → o ≡ None
     by None h = refl

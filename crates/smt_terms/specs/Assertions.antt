@@ -1,5 +1,5 @@
--- SMT-LIB 2.6, sections 3.6.5 and 4.2.5: the terms that are asserted, and the labels that they bring, which stand for their terms from
--- the next command on.
+-- SMT-LIB 2.6, sections 3.6.5 and 4.2.5: the terms that are asserted, and the labels that they bring, which
+-- stand for their terms from the next command on.
 use Rattle.std.specs.Prelude.{ℕ, List, [], ◌∷◌, ◌++◌, Result, Ok, Err, if◌then◌else◌}
 use Rattle.smt_trees.specs.Sexp.{Sexp}
 use Rattle.smt_theory.specs.Sort.{is_same_sort}
@@ -21,9 +21,13 @@ label_or_none label (Err fault) = []
 -- what labels bring, each with its term
 abbrev pub label_entries : Names → List (List ℕ × Sexp) → List Entry
 label_entries names [] = []
-label_entries names (label ∷ labels) = label_or_none label (sort_in (unlabelled names) [] label.1) ++ label_entries names labels
+label_entries names (label ∷ labels) =
+    label_or_none label (sort_in (unlabelled names) [] label.1) ++ label_entries names labels
 
--- the names that an asserted term brings, which are its labels; or its first fault: the term has to be a formula
+-- the names that an asserted term brings, which are its labels; or its first fault: the term has to be a
+-- formula
 abbrev pub asserted_in : Names → Sexp → Result (List Entry) TermFault
 asserted_in names term =
-    result_and_then (sort_in (in_assertion names) [] term) (λ sort. if is_same_sort sort Boolean then Ok (label_entries names (labels_in term)) else Err IllSorted)
+    result_and_then (sort_in (in_assertion names) [] term)
+    (λ sort. if is_same_sort sort Boolean then Ok (label_entries names (labels_in term))
+    else Err IllSorted)

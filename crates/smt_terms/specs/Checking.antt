@@ -1,9 +1,11 @@
--- SMT-LIB 2.6, sections 3.6 and 5.2: the sort of a term, or its first fault. That decimals and strings are not supported as terms is
--- this project's choice, and so is the order of the faults.
-use Rattle.std.specs.Prelude.{ℕ, ◌*◌, List, [], ◌∷◌, ◌++◌, Bool, true, false, ◌||◌, Option, Some, None, is_some, Result, Ok, Err, length, if◌then◌else◌}
+-- SMT-LIB 2.6, sections 3.6 and 5.2: the sort of a term, or its first fault. That decimals and strings are
+-- not supported as terms is this project's choice, and so is the order of the faults.
+use Rattle.std.specs.Prelude.{ℕ, ◌*◌, List, [], ◌∷◌, ◌++◌, Bool, true, false, ◌||◌, Option, Some, None}
+use Rattle.std.specs.Prelude.{is_some, Result, Ok, Err, length, if◌then◌else◌}
 use Rattle.std.specs.Option.{option_or}
 use Rattle.smt_trees.specs.Sexp as sexp
-use Rattle.smt_trees.specs.Sexp.{Sexp, Sexps, Atom, Reserved, Items, Nil, Cons, Symbol, Keyword, Numeral, Hexadecimal, Binary}
+use Rattle.smt_trees.specs.Sexp.{Sexp, Sexps, Atom, Reserved, Items, Nil, Cons, Symbol, Keyword, Numeral}
+use Rattle.smt_trees.specs.Sexp.{Hexadecimal, Binary}
 use Rattle.smt_trees.specs.declared.reserved.Word.TheVariants.{Bang, Let, Underscore}
 use Rattle.smt_theory.specs.Operators.{op_by}
 use Rattle.smt_theory.specs.Ranks.{are_exactly, rank_of}
@@ -21,7 +23,8 @@ use Rattle.smt_forms.specs.Labels.{labels_among, labels_in, labels_in_bindings}
 use Rattle.smt_terms.specs.Signature.{Names, Rank, behind, is_taken}
 use Rattle.smt_terms.specs.SortTrees.{bit_vectors, integers}
 use Rattle.smt_faults.specs.declared.term_fault.TermFault.{TermFault}
-use Rattle.smt_faults.specs.declared.term_fault.TermFault.TheVariants.{Form, Unsupported, Unknown, IllSorted, Index, BoundTwice, NotFresh, Label}
+use Rattle.smt_faults.specs.declared.term_fault.TermFault.TheVariants.{Form, Unsupported, Unknown, IllSorted}
+use Rattle.smt_faults.specs.declared.term_fault.TermFault.TheVariants.{Index, BoundTwice, NotFresh, Label}
 
 -- the sort of a rank that fits
 abbrev pub sort_of_rank : Option Sort → Result Sort TermFault
@@ -58,7 +61,8 @@ sort_unless_variable None found = found
 sort_unless_variable (Some sort) found = Err IllSorted
 
 abbrev pub sort_of_call : Names → List (List ℕ × Sort) → Identifier → List Sort → Result Sort TermFault
-sort_of_call names scope (Plain f) args = sort_unless_variable (look_up scope f) (sort_applied names (Plain f) args)
+sort_of_call names scope (Plain f) args =
+    sort_unless_variable (look_up scope f) (sort_applied names (Plain f) args)
 sort_of_call names scope (Indexed f indexes) args = sort_applied names (Indexed f indexes) args
 
 -- a fault, or what comes where there is none
@@ -70,16 +74,19 @@ unless (Some fault) next = Err fault
 abbrev pub fault_of_label : Names → Labels → List (List ℕ × Sort) → Sexp → List ℕ → Option TermFault
 fault_of_label names Refused scope term x = Some Label
 fault_of_label names (Given labels) scope term x =
-    if uses_variable scope term then Some Label else if is_taken names x || is_among labels x then Some NotFresh else None
+    if uses_variable scope term then Some Label
+    else if is_taken names x || is_among labels x then Some NotFresh else None
 fault_of_label names Unread scope term x = None
 
 -- the first fault of labels of a term, one behind another
 abbrev pub fault_of_labels : Names → List (List ℕ × Sort) → Sexp → List (List ℕ) → Option TermFault
 fault_of_labels names scope term [] = None
 fault_of_labels names scope term (x ∷ xs) =
-    option_or (fault_of_label names names.labels scope term x) (fault_of_labels (behind ((x, term) ∷ []) names) scope term xs)
+    option_or (fault_of_label names names.labels scope term x)
+    (fault_of_labels (behind ((x, term) ∷ []) names) scope term xs)
 
--- the sort of a term over names and variables, the innermost variable first, or the first fault; the sorts of terms, in order
+-- the sort of a term over names and variables, the innermost variable first, or the first fault; the sorts of
+-- terms, in order
 abbrev mutual
   pub sort_in : Names → List (List ℕ × Sort) → Sexp → Result Sort TermFault
   sort_in names scope (Atom Symbol x) = sort_of_symbol names x (look_up scope x)
@@ -91,22 +98,34 @@ abbrev mutual
   sort_in names scope (Atom Keyword x) = Err Form
   sort_in names scope (Reserved word) = Err Form
   sort_in names scope (Items Nil) = Err Form
-  sort_in names scope (Items (Cons (Reserved Underscore) parts)) = result_and_then (indexed parts) (λ f. sort_applied names f [])
+  sort_in names scope (Items (Cons (Reserved Underscore) parts)) =
+      result_and_then (indexed parts) (λ f. sort_applied names f [])
   sort_in names scope (Items (Cons (Reserved Let) (Cons (Items bindings) (Cons body Nil)))) =
-      if are_bindings bindings then result_and_then (bound_in names scope [] bindings) (λ bound. sort_in (behind (labels_in_bindings bindings) names) (bound ++ scope) body) else Err Form
+      if are_bindings bindings
+      then result_and_then (bound_in names scope [] bindings)
+      (λ bound. sort_in (behind (labels_in_bindings bindings) names) (bound ++ scope) body) else Err Form
   sort_in names scope (Items (Cons (Reserved Bang) (Cons term attributes))) =
-      if are_attributes attributes then result_and_then (sort_in names scope term) (λ s. unless (fault_of_labels (behind (labels_in term) names) scope term (labels_among attributes)) (Ok s)) else Err Form
+      if are_attributes attributes
+      then result_and_then (sort_in names scope term)
+      (λ s. unless (fault_of_labels (behind (labels_in term) names) scope term (labels_among attributes))
+      (Ok s)) else Err Form
   sort_in names scope (Items (Cons head args)) =
-      result_and_then (applied head args) (λ f. result_and_then (sorts_in names scope args) (λ ss. sort_of_call names scope f ss))
+      result_and_then (applied head args)
+      (λ f. result_and_then (sorts_in names scope args) (λ ss. sort_of_call names scope f ss))
 
   pub sorts_in : Names → List (List ℕ × Sort) → Sexps → Result (List Sort) TermFault
   sorts_in names scope Nil = Ok []
   sorts_in names scope (Cons x xs) =
-      result_and_then (sort_in names scope x) (λ s. result_and_then (sorts_in (behind (labels_in x) names) scope xs) (λ ss. Ok (s ∷ ss)))
+      result_and_then (sort_in names scope x)
+      (λ s. result_and_then (sorts_in (behind (labels_in x) names) scope xs) (λ ss. Ok (s ∷ ss)))
 
-  -- the variables that bindings bring behind those of the earlier ones, with their sorts: each term is seen without them
-  pub bound_in : Names → List (List ℕ × Sort) → List (List ℕ × Sort) → Sexps → Result (List (List ℕ × Sort)) TermFault
+  -- the variables that bindings bring behind those of the earlier ones, with their sorts: each term is seen
+  -- without them
+  pub bound_in : Names → List (List ℕ × Sort) → List (List ℕ × Sort) → Sexps
+      → Result (List (List ℕ × Sort)) TermFault
   bound_in names scope bound Nil = Ok bound
   bound_in names scope bound (Cons (Items (Cons (Atom Symbol x) (Cons term Nil))) rest) =
-      if is_some (look_up bound x) then Err BoundTwice else result_and_then (sort_in names scope term) (λ s. bound_in (behind (labels_in term) names) scope (bound ++ (x, s) ∷ []) rest)
+      if is_some (look_up bound x) then Err BoundTwice
+      else result_and_then (sort_in names scope term)
+      (λ s. bound_in (behind (labels_in term) names) scope (bound ++ (x, s) ∷ []) rest)
   bound_in names scope bound _ = Err Form

@@ -20,10 +20,11 @@ pub record Declaration : Type 0 where
   pub command : ℕ
 
 abbrev pub declaration_view : Declared → Declaration
-declaration_view d = record { name = d.name; parameters = d.params.items; sort = d.result; command = d.command }
+declaration_view d =
+    record { name = d.name; parameters = d.params.items; sort = d.result; command = d.command }
 
--- the theories; the abbreviations, and the names with their ranks and with where they stand; the declarations, the definitions and the
--- terms; each in the order in which they came
+-- the theories; the abbreviations, and the names with their ranks and with where they stand; the
+-- declarations, the definitions and the terms; each in the order in which they came
 pub record Contents : Type 0 where
   pub theories : Theories
   pub abbreviations : List (List ℕ × Sort)

@@ -1,5 +1,7 @@
--- SMT-LIB 2.6, section 4.2.6: the items of a printed model, which are definitions. The order of the faults is this project's rule.
-use Rattle.std.specs.Prelude.{ℕ, List, [], Bool, true, not, ◌&&◌, Option, Some, None, is_some, option_and_then, Result, Ok, Err, map, if◌then◌else◌}
+-- SMT-LIB 2.6, section 4.2.6: the items of a printed model, which are definitions. The order of the faults is
+-- this project's rule.
+use Rattle.std.specs.Prelude.{ℕ, List, [], Bool, true, not, ◌&&◌, Option, Some, None, is_some}
+use Rattle.std.specs.Prelude.{option_and_then, Result, Ok, Err, map, if◌then◌else◌}
 use Rattle.smt_trees.specs.Sexp.{Sexp}
 use Rattle.smt_theory.specs.Ranks.{are_exactly}
 use Rattle.smt_theory.specs.Sort.{is_same_sort}
@@ -8,7 +10,8 @@ use Rattle.smt_theory.specs.declared.sort.Sort.{Sort}
 use Rattle.smt_forms.specs.ItemForm.{ItemForm, item_form}
 use Rattle.smt_terms.specs.Checking.{unless}
 use Rattle.smt_terms.specs.Definitions.{definition_in, parameters_named}
-use Rattle.smt_terms.specs.Signature.{Entry, Origin, Declared, Defined, Signature, entry_named, is_taken, names_of, no_names, sort_names_of}
+use Rattle.smt_terms.specs.Signature.{Entry, Origin, Declared, Defined, Signature, entry_named, is_taken}
+use Rattle.smt_terms.specs.Signature.{names_of, no_names, sort_names_of}
 use Rattle.smt_terms.specs.SortTrees.{sort_named}
 use Rattle.smt_faults.specs.declared.term_fault.TermFault.{TermFault}
 use Rattle.smt_faults.specs.declared.term_fault.TermFault.TheVariants.{IllSorted, BoundTwice, NotFresh}
@@ -38,18 +41,22 @@ has_rank_of (Some e) parameters sort = are_exactly e.parameters parameters && is
 abbrev pub items_before : Signature → List Entry → Signature
 items_before script earlier = record (no_names script.theories) { entries = earlier }
 
--- what an item of this rank defines: the rank fits a declaration of its name, and its body has its sort over the earlier items and
--- its parameters
-abbrev pub defined_as : Signature → List Entry → ItemForm → List (List ℕ × Sort) → Sort → Result Entry TermFault
+-- what an item of this rank defines: the rank fits a declaration of its name, and its body has its sort over
+-- the earlier items and its parameters
+abbrev pub defined_as : Signature → List Entry → ItemForm → List (List ℕ × Sort) → Sort
+    → Result Entry TermFault
 defined_as script earlier form parameters sort =
-    if not (has_rank_of (declared_named script.entries form.name) (map (λ p. p.1) parameters) sort) then Err IllSorted
+    if not (has_rank_of (declared_named script.entries form.name) (map (λ p. p.1) parameters) sort)
+    then Err IllSorted
     else definition_in (names_of (items_before script earlier)) form.name parameters sort form.body
 
 -- what an item of these parts defines, or its first fault
 abbrev pub form_in : Signature → List Entry → ItemForm → Result Entry TermFault
 form_in script earlier form =
     unless (name_fault script earlier form.name)
-    (result_and_then (parameters_named (sort_names_of script) [] form.parameters) (λ ps. result_and_then (sort_named (sort_names_of script) form.sort) (λ s. defined_as script earlier form ps s)))
+    (result_and_then (parameters_named (sort_names_of script) [] form.parameters)
+    (λ ps. result_and_then (sort_named (sort_names_of script) form.sort)
+    (λ s. defined_as script earlier form ps s)))
 
 -- what an item of a model of the script's names defines behind the earlier items, or its first fault
 abbrev pub item_in : Signature → List Entry → Sexp → Result Entry TermFault

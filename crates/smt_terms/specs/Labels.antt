@@ -1,5 +1,5 @@
--- SMT-LIB 2.6, section 3.6.5: which labels a term may have. That a label is given to closed terms of assertions alone is the standard's
--- rule; which fault is told is this project's.
+-- SMT-LIB 2.6, section 3.6.5: which labels a term may have. That a label is given to closed terms of
+-- assertions alone is the standard's rule; which fault is told is this project's.
 use Rattle.std.specs.Prelude.{ℕ, List, ◌++◌}
 
 -- none, as outside assertions; or any but those that were given before; or they are not looked at

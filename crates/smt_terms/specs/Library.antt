@@ -1,5 +1,6 @@
 -- What a library stands for: a signature, with its declarations and definitions, and terms by their numbers.
-use Rattle.std.specs.Prelude.{◌≡◌, ℕ, ◌+◌, List, [], ◌∷◌, ◌++◌, Bool, true, false, not, Option, Some, length, map, slice_get}
+use Rattle.std.specs.Prelude.{◌≡◌, ℕ, ◌+◌, List, [], ◌∷◌, ◌++◌, Bool, true, false, not, Option, Some, length}
+use Rattle.std.specs.Prelude.{map, slice_get}
 use Rattle.smt_trees.specs.Sexp.{Sexp}
 use Rattle.smt_terms.specs.Contents.{Contents, Declaration, contents_of}
 use Rattle.smt_terms.specs.Internal.LibraryView.{ranks_of_library}
@@ -28,7 +29,8 @@ IsTerm library id t = IsTermOf (contents_of library) id t
 -- ---- declared and defined names
 
 abbrev pub declaration_at : ℕ → Entry → Origin → List Declaration
-declaration_at place e (signature.Declared command) = record { name = place; parameters = e.parameters; sort = e.sort; command = command } ∷ []
+declaration_at place e (signature.Declared command) =
+    record { name = place; parameters = e.parameters; sort = e.sort; command = command } ∷ []
 declaration_at place e (signature.Defined parameters body) = []
 
 -- the declarations among entries, the first of which has this place, in order
@@ -45,7 +47,8 @@ pub record IsDefinitionOf (c : Contents) (d : Definition) (e : Entry) : Type 0 w
   pub name : d.name.items ≡ e.name
   pub parameters : map (λ p. p.1) d.params.items ≡ e.parameters
   pub sort : d.result ≡ e.sort
-  pub body : (t : Sexp) × IsTermOf c d.body t × (e.origin ≡ signature.Defined (map (λ p. p.0.items) d.params.items) t)
+  pub body : (t : Sexp) × IsTermOf c d.body t
+      × (e.origin ≡ signature.Defined (map (λ p. p.0.items) d.params.items) t)
 
 -- these are the definitions of the entries, in order
 abbrev pub AreDefinitions : Contents → List Definition → List Entry → Type 0
@@ -78,7 +81,8 @@ with_defined n (signature.Defined parameters body) = n + 1
 abbrev pub places_from : ℕ → ℕ → List Entry → List (List ℕ × Found)
 places_from declared defined [] = []
 places_from declared defined (e ∷ es) =
-    (e.name, place_behind declared defined e.origin) ∷ places_from (with_declared declared e.origin) (with_defined defined e.origin) es
+    (e.name, place_behind declared defined e.origin)
+    ∷ places_from (with_declared declared e.origin) (with_defined defined e.origin) es
 
 -- ---- what a library stands for
 
@@ -86,8 +90,8 @@ places_from declared defined (e ∷ es) =
 abbrev pub name_count : Library → ℕ
 name_count library = length (ranks_of_library library)
 
--- the contents are the theories, the abbreviations, the names, the declarations and the definitions of the signature, in which no name
--- stands twice
+-- the contents are the theories, the abbreviations, the names, the declarations and the definitions of the
+-- signature, in which no name stands twice
 pub record Holds (c : Contents) (s : Signature) : Type 0 where
   pub theories : c.theories ≡ s.theories
   pub distinct : AreDistinct s.entries

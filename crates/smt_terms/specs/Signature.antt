@@ -1,7 +1,8 @@
--- SMT-LIB 2.6, sections 4.2.3 and 5.1: a signature: the theories, the abbreviations of sorts in force, and the names in force, with what
--- they stand for, in the order in which they came.
+-- SMT-LIB 2.6, sections 4.2.3 and 5.1: a signature: the theories, the abbreviations of sorts in force, and
+-- the names in force, with what they stand for, in the order in which they came.
 use Rattle.std.specs.List.{filter}
-use Rattle.std.specs.Prelude.{◌≡◌, ℕ, List, [], ◌∷◌, ◌++◌, Bool, Option, Some, None, Result, Ok, Err, is_some, true, false, not, ◌||◌, map, bytes_eq, if◌then◌else◌}
+use Rattle.std.specs.Prelude.{◌≡◌, ℕ, List, [], ◌∷◌, ◌++◌, Bool, Option, Some, None, Result, Ok, Err, is_some}
+use Rattle.std.specs.Prelude.{true, false, not, ◌||◌, map, bytes_eq, if◌then◌else◌}
 use Rattle.smt_trees.specs.Sexp.{Sexp, Sexps}
 use Rattle.smt_theory.specs.Operators.{is_plain_operator}
 use Rattle.smt_theory.specs.Words.{look_up, result_and_then}
@@ -105,23 +106,28 @@ abbrev pub KeepsRank : Entry → Option Entry → Type 0
 KeepsRank e None = ⊥
 KeepsRank e (Some d) = (d.parameters ≡ e.parameters) × (d.sort ≡ e.sort)
 
--- whether a name may not be given to something new: it stands for something, or is a plain operator of the theories
+-- whether a name may not be given to something new: it stands for something, or is a plain operator of the
+-- theories
 abbrev pub is_taken : Names → List ℕ → Bool
 is_taken names x = is_some (look_up names.ranks x) || is_plain_operator names.theories x
 
 -- the rank that trees name: the sorts of parameters, and the sort of a result
 abbrev pub rank_named : SortNames → Sexps → Sexp → Result Rank TermFault
 rank_named sorts parameters tree =
-    result_and_then (sorts_named sorts parameters) (λ ps. result_and_then (sort_named sorts tree) (λ s. Ok (record { parameters = ps; sort = s })))
+    result_and_then (sorts_named sorts parameters)
+    (λ ps. result_and_then (sort_named sorts tree) (λ s. Ok (record { parameters = ps; sort = s })))
 
 -- a name declared by the command, of this rank
 abbrev pub declaration : List ℕ → ℕ → Rank → Entry
-declaration x command rank = record { name = x; parameters = rank.parameters; sort = rank.sort; origin = Declared command }
+declaration x command rank =
+    record { name = x; parameters = rank.parameters; sort = rank.sort; origin = Declared command }
 
 -- what the declaration of a name with parameters and a result of these sorts brings, or its first fault
 abbrev pub declared_in : Signature → ℕ → List ℕ → Sexps → Sexp → Result Entry TermFault
 declared_in s command x parameters tree =
-    if is_taken (names_of s) x then Err NotFresh else result_and_then (rank_named (sort_names_of s) parameters tree) (λ rank. Ok (declaration x command rank))
+    if is_taken (names_of s) x then Err NotFresh
+    else result_and_then (rank_named (sort_names_of s) parameters tree)
+    (λ rank. Ok (declaration x command rank))
 
 -- ---- what is declared, and what is defined
 

@@ -1,6 +1,7 @@
--- SMT-LIB 2.6, sections 3.5 and 4.2.3: the sort that a tree names, or its first fault, and abbreviations of sorts. Which sorts are not
--- supported, and which fault is told, is this project's choice.
-use Rattle.std.specs.Prelude.{ℕ, List, [], ◌∷◌, Bool, true, false, not, ◌||◌, Option, Some, None, is_some, option_map, Result, Ok, Err, ok_or, bytes_eq, codes, if◌then◌else◌}
+-- SMT-LIB 2.6, sections 3.5 and 4.2.3: the sort that a tree names, or its first fault, and abbreviations of
+-- sorts. Which sorts are not supported, and which fault is told, is this project's choice.
+use Rattle.std.specs.Prelude.{ℕ, List, [], ◌∷◌, Bool, true, false, not, ◌||◌, Option, Some, None, is_some}
+use Rattle.std.specs.Prelude.{option_map, Result, Ok, Err, ok_or, bytes_eq, codes, if◌then◌else◌}
 use Rattle.std.specs.Str.Parse.{digits_value}
 use Rattle.smt_trees.specs.Sexp.{Sexp, Sexps, Atom, Reserved, Items, Nil, Cons, Numeral, Symbol}
 use Rattle.smt_trees.specs.declared.reserved.Word.TheVariants.{Underscore}
@@ -11,7 +12,8 @@ use Rattle.smt_theory.specs.Width.{width_of}
 use Rattle.smt_theory.specs.Words.{look_up, result_and_then}
 use Rattle.smt_forms.specs.Identifier.{all_indexes}
 use Rattle.smt_faults.specs.declared.term_fault.TermFault.{TermFault}
-use Rattle.smt_faults.specs.declared.term_fault.TermFault.TheVariants.{Form, Unsupported, Unknown, Index, NotFresh}
+use Rattle.smt_faults.specs.declared.term_fault.TermFault.TheVariants.{Form, Unsupported, Unknown, Index}
+use Rattle.smt_faults.specs.declared.term_fault.TermFault.TheVariants.{NotFresh}
 
 abbrev pub integers : Theories → Result Sort TermFault
 integers theories = if theories.ints then Ok Int else Err Unknown
@@ -19,7 +21,9 @@ integers theories = if theories.ints then Ok Int else Err Unknown
 -- the sort of a symbol that abbreviates none
 abbrev pub sort_of_word : Theories → List ℕ → Result Sort TermFault
 sort_of_word theories name =
-    if bytes_eq name (codes "Bool") then Ok Boolean else if bytes_eq name (codes "Int") then integers theories else if bytes_eq name (codes "Real") || bytes_eq name (codes "String") then Err Unsupported else Err Unknown
+    if bytes_eq name (codes "Bool") then Ok Boolean else if bytes_eq name (codes "Int") then integers theories
+    else if bytes_eq name (codes "Real") || bytes_eq name (codes "String") then Err Unsupported
+    else Err Unknown
 
 -- the sort of a symbol, by what it abbreviates
 abbrev pub sort_of_symbol : Theories → List ℕ → Option Sort → Result Sort TermFault
@@ -32,13 +36,15 @@ bit_vectors theories width = if theories.bits then ok_or (option_map Bits width)
 
 -- the sort `(_ BitVec index ..)` of these indexes
 abbrev pub bit_vector_sort : Theories → Sexps → Result Sort TermFault
-bit_vector_sort theories (Cons (Atom Numeral digits) Nil) = bit_vectors theories (width_of (digits_value 10 digits))
+bit_vector_sort theories (Cons (Atom Numeral digits) Nil) =
+    bit_vectors theories (width_of (digits_value 10 digits))
 bit_vector_sort theories _ = Err Form
 
 -- the sort `(_ symbol index ..)`, by what stands behind the `_`
 abbrev pub indexed_sort : Theories → Sexps → Result Sort TermFault
 indexed_sort theories (Cons (Atom Symbol name) indexes) =
-    if not (is_some (all_indexes indexes)) then Err Form else if bytes_eq name (codes "BitVec") then bit_vector_sort theories indexes else Err Unknown
+    if not (is_some (all_indexes indexes)) then Err Form
+    else if bytes_eq name (codes "BitVec") then bit_vector_sort theories indexes else Err Unknown
 indexed_sort theories _ = Err Form
 
 abbrev pub is_some_tree : Sexps → Bool
@@ -49,7 +55,8 @@ is_some_tree (Cons x xs) = true
 abbrev pub sort_of_list : Theories → Sexps → Result Sort TermFault
 sort_of_list theories (Cons (Reserved Underscore) parts) = indexed_sort theories parts
 sort_of_list theories (Cons (Atom Symbol name) args) =
-    if bytes_eq name (codes "Array") then Err Unsupported else if is_some_tree args then Err Unknown else Err Form
+    if bytes_eq name (codes "Array") then Err Unsupported else if is_some_tree args then Err Unknown
+    else Err Form
 sort_of_list theories _ = Err Form
 
 -- what names sorts: the theories, and the abbreviations in force with the sorts that they stand for
@@ -71,7 +78,8 @@ sorts_named names (Cons x xs) =
 
 -- whether a name may not be given to a new abbreviation: it is that of a sort, or abbreviates one
 abbrev pub is_sort_taken : SortNames → List ℕ → Bool
-is_sort_taken names x = bytes_eq x (codes "Bool") || bytes_eq x (codes "Int") || is_some (look_up names.abbreviations x)
+is_sort_taken names x =
+    bytes_eq x (codes "Bool") || bytes_eq x (codes "Int") || is_some (look_up names.abbreviations x)
 
 -- the sort that a new abbreviation stands for, or its first fault
 abbrev pub abbreviated_in : SortNames → List ℕ → Sexp → Result Sort TermFault

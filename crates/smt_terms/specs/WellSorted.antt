@@ -8,16 +8,18 @@ use Rattle.smt_theory.specs.declared.sort.Sort.{Sort}
 use Rattle.smt_theory.specs.declared.theories.Theories.{Theories}
 use Rattle.smt_terms.specs.Checking.{sort_in}
 use Rattle.smt_terms.specs.Labels.{Unread}
-use Rattle.smt_terms.specs.Signature.{Entry, Names, Origin, Rank, Declared, Defined, entry_named, unlabelled_over}
+use Rattle.smt_terms.specs.Signature.{Entry, Names, Origin, Rank, Declared, Defined, entry_named}
+use Rattle.smt_terms.specs.Signature.{unlabelled_over}
 
 -- no name stands twice
 abbrev pub AreDifferent : List (List ℕ) → Type 0
 AreDifferent [] = Unit {0}
 AreDifferent (x ∷ xs) = (list_any (bytes_eq x) xs ≡ false) × AreDifferent xs
 
--- a definition with these parameters and this body: it has a sort for each parameter, no parameter stands twice, and its body has its
--- sort, over the earlier names and its parameters
-pub record IsDefinition (names : Names) (sorts : List Sort) (sort : Sort) (parameters : List (List ℕ)) (body : Sexp) : Type 0 where
+-- a definition with these parameters and this body: it has a sort for each parameter, no parameter stands
+-- twice, and its body has its sort, over the earlier names and its parameters
+pub record IsDefinition (names : Names) (sorts : List Sort) (sort : Sort) (parameters : List (List ℕ))
+    (body : Sexp) : Type 0 where
   pub counted : length parameters ≡ length sorts
   pub different : AreDifferent parameters
   pub sorted : sort_in names (zip parameters sorts) body ≡ Ok sort
@@ -28,20 +30,24 @@ IsWellSortedFrom names sorts sort (Declared command) = ⊥
 
 -- the entry is a definition that is well sorted over the earlier ones
 abbrev pub IsWellSorted : Theories → List Entry → Entry → Type 0
-IsWellSorted theories earlier e = IsWellSortedFrom (unlabelled_over theories earlier) e.parameters e.sort e.origin
+IsWellSorted theories earlier e =
+    IsWellSortedFrom (unlabelled_over theories earlier) e.parameters e.sort e.origin
 
 -- each definition is well sorted over the earlier ones
 abbrev pub AreWellSorted : Theories → List Entry → List Entry → Type 0
 AreWellSorted theories earlier [] = Unit {0}
-AreWellSorted theories earlier (e ∷ es) = IsWellSorted theories earlier e × AreWellSorted theories (earlier ++ e ∷ []) es
+AreWellSorted theories earlier (e ∷ es) =
+    IsWellSorted theories earlier e × AreWellSorted theories (earlier ++ e ∷ []) es
 
--- more names, over which the terms of these keep their sorts: the theories are the same, a name keeps its rank, no name that is new is a
--- plain operator's, and labels are not looked at
+-- more names, over which the terms of these keep their sorts: the theories are the same, a name keeps its
+-- rank, no name that is new is a plain operator's, and labels are not looked at
 pub record Keeps (names more : Names) : Type 0 where
   pub theories : more.theories ≡ names.theories
-  pub ranks : (x : List ℕ) (rank : Rank) → look_up names.ranks x ≡ Some rank → look_up more.ranks x ≡ Some rank
+  pub ranks : (x : List ℕ) (rank : Rank) → look_up names.ranks x ≡ Some rank
+      → look_up more.ranks x ≡ Some rank
   pub labels : more.labels ≡ Unread
-  pub fresh : (x : List ℕ) (rank : Rank) → look_up names.ranks x ≡ None → look_up more.ranks x ≡ Some rank → is_plain_operator names.theories x ≡ false
+  pub fresh : (x : List ℕ) (rank : Rank) → look_up names.ranks x ≡ None → look_up more.ranks x ≡ Some rank
+      → is_plain_operator names.theories x ≡ false
 
 -- ---- the names of a script
 
@@ -50,7 +56,8 @@ abbrev pub IsSortedIfDefined : Names → List Sort → Sort → Origin → Type 
 IsSortedIfDefined names sorts sort (Defined parameters body) = IsDefinition names sorts sort parameters body
 IsSortedIfDefined names sorts sort (Declared command) = Unit {0}
 
--- the name is new among the earlier ones and no operator's, and a definition is well sorted over the earlier ones
+-- the name is new among the earlier ones and no operator's, and a definition is well sorted over the earlier
+-- ones
 pub record IsIntroduced (theories : Theories) (earlier : List Entry) (e : Entry) : Type 0 where
   pub new : entry_named earlier e.name ≡ None
   pub free : is_plain_operator theories e.name ≡ false
@@ -59,4 +66,5 @@ pub record IsIntroduced (theories : Theories) (earlier : List Entry) (e : Entry)
 -- each name is introduced behind the earlier ones
 abbrev pub AreIntroduced : Theories → List Entry → List Entry → Type 0
 AreIntroduced theories earlier [] = Unit {0}
-AreIntroduced theories earlier (e ∷ es) = IsIntroduced theories earlier e × AreIntroduced theories (earlier ++ e ∷ []) es
+AreIntroduced theories earlier (e ∷ es) =
+    IsIntroduced theories earlier e × AreIntroduced theories (earlier ++ e ∷ []) es

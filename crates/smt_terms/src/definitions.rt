@@ -17,15 +17,18 @@ use smt_theory::Sort;
 use smt_trees::Tree;
 use std::alloc::Global;
 
-// The variables that parameters are, with their sorts; or the first fault: of each parameter that of its sort, and then whether its
-// name has come before.
+// The variables that parameters are, with their sorts; or the first fault: of each parameter that of its
+// sort, and then whether its name has come before.
 pub(crate) fn sorted_params<'a>(
     alloc: Global,
     sorts: &SortNames,
     params: &[Param<'a>],
 ) -> Result<Vec<Variable<'a, Sort>>, TermFault>
-    ensures { MatchResult result (λ variables. parameters_named (sort_names sorts.now) [] (map param_view params.now) ≡ Ok (scope_view variables.items))
-        (λ fault. (fault ≡ OutOfMemory) ⊎ (parameters_named (sort_names sorts.now) [] (map param_view params.now) ≡ Err fault)) }
+    ensures { MatchResult result
+        (λ variables. parameters_named (sort_names sorts.now) [] (map param_view params.now)
+        ≡ Ok (scope_view variables.items))
+        (λ fault. (fault ≡ OutOfMemory)
+        ⊎ (parameters_named (sort_names sorts.now) [] (map param_view params.now) ≡ Err fault)) }
 {
     let mut variables = Vec::new(alloc);
     push_sorted(&mut variables, sorts, params)?;
@@ -39,8 +42,11 @@ fn push_sorted<'a>(
     params: &[Param<'a>],
 ) -> Result<(), TermFault>
     requires { variables.old.items ≡ [] }
-    ensures { MatchResult result (λ _. parameters_named (sort_names sorts.now) [] (map param_view params.now) ≡ Ok (scope_view variables.new.items))
-        (λ fault. (fault ≡ OutOfMemory) ⊎ (parameters_named (sort_names sorts.now) [] (map param_view params.now) ≡ Err fault)) }
+    ensures { MatchResult result
+        (λ _. parameters_named (sort_names sorts.now) [] (map param_view params.now)
+        ≡ Ok (scope_view variables.new.items))
+        (λ fault. (fault ≡ OutOfMemory)
+        ⊎ (parameters_named (sort_names sorts.now) [] (map param_view params.now) ≡ Err fault)) }
 {
     for param in params {
         let value = sorts.sort_of(param.sort)?;
@@ -58,8 +64,11 @@ pub(crate) fn sorted_params_of<'a>(
     sorts: &SortNames,
     trees: &'a [Tree],
 ) -> Result<Vec<Variable<'a, Sort>>, TermFault>
-    ensures { MatchResult result (λ variables. parameters_named (sort_names sorts.now) [] (named_trees (sexps_of trees.now)) ≡ Ok (scope_view variables.items))
-        (λ fault. (fault ≡ OutOfMemory) ⊎ (parameters_named (sort_names sorts.now) [] (named_trees (sexps_of trees.now)) ≡ Err fault)) }
+    ensures { MatchResult result
+        (λ variables. parameters_named (sort_names sorts.now) [] (named_trees (sexps_of trees.now))
+        ≡ Ok (scope_view variables.items))
+        (λ fault. (fault ≡ OutOfMemory)
+        ⊎ (parameters_named (sort_names sorts.now) [] (named_trees (sexps_of trees.now)) ≡ Err fault)) }
 {
     let params = params_of(alloc, trees)?;
     sorted_params(alloc, sorts, params.as_slice())

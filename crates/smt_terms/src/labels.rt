@@ -71,7 +71,9 @@ impl Labels {
         sort: Sort,
         term: &Tree,
     ) -> Result<(), Memory>
-        ensures pushed { OnOk result ((l : Label) × (self.new.given.items ≡ self.old.given.items ++ l ∷ []) × (l.name.items ≡ name.now) × (l.sort ≡ sort) × (sexp_of l.body ≡ sexp_of term.now)) }
+        ensures pushed { OnOk result
+            ((l : Label) × (self.new.given.items ≡ self.old.given.items ++ l ∷ []) × (l.name.items ≡ name.now)
+            × (l.sort ≡ sort) × (sexp_of l.body ≡ sexp_of term.now)) }
         ensures refuses { self.new.refused ≡ self.old.refused }
     {
         let name = Vec::from_slice(alloc, name)?;

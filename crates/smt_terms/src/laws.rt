@@ -1,7 +1,8 @@
 //! What holds of the definitions that the contracts name. Nothing here does anything: each contract is a law.
 
 ghost use Rattle.std.specs.List.{All, Contains, flat_map};
-ghost use Rattle.std.specs.Prelude.{◌≡◌, ◌≢◌, ◌↔◌, ◌∷◌, ◌++◌, ℕ, List, Some, None, true, false, Ok, Err, bytes_eq, map};
+ghost use Rattle.std.specs.Prelude.{◌≡◌, ◌≢◌, ◌↔◌, ◌∷◌, ◌++◌, ℕ, List, Some, None, true, false, Ok, Err};
+ghost use Rattle.std.specs.Prelude.{bytes_eq, map};
 ghost use Rattle.smt_trees.specs.Sexp.{Sexp, Sexps};
 ghost use Rattle.smt_theory.specs.declared.sort.Sort.{Sort};
 ghost use Rattle.smt_terms.specs.Checking.{sort_in};
@@ -11,7 +12,8 @@ ghost use Rattle.smt_terms.specs.Definitions.{defined_in};
 ghost use Rattle.smt_forms.specs.Labels.{labels_in};
 ghost use Rattle.smt_terms.specs.Library.{IsTermOf};
 ghost use Rattle.smt_terms.specs.Items.{declared_named, item_in};
-ghost use Rattle.smt_terms.specs.Signature.{Entry, KeepsRank, Names, Signature, declared_in, entry_named, is_taken, names_of, sort_names_of};
+ghost use Rattle.smt_terms.specs.Signature.{Entry, KeepsRank, Names, Signature, declared_in, entry_named};
+ghost use Rattle.smt_terms.specs.Signature.{is_taken, names_of, sort_names_of};
 ghost use Rattle.smt_terms.specs.SortTrees.{SortNames, abbreviated_in};
 ghost use Rattle.smt_terms.specs.WellSorted.{AreIntroduced, IsWellSorted, Keeps};
 ghost use Rattle.smt_terms.specs.Written.{AreLabelsOf, IsDeclaredAs, IsDefinedAs, IsPrintedAs};
@@ -23,32 +25,45 @@ use smt_theory::laws::sorts_are_compared;
 
 /// No definition answers that memory was refused.
 pub fn faults_are_no_memory()
-    ensures sorts { (names : Names) (scope : List (List ℕ × Sort)) (term : Sexp) → sort_in names scope term ≡ Err Memory → ⊥ }
-    ensures abbreviations { (names : SortNames) (x : List ℕ) (sort : Sexp) → abbreviated_in names x sort ≡ Err Memory → ⊥ }
-    ensures declarations { (s : Signature) (command : ℕ) (x : List ℕ) (parameters : Sexps) (sort : Sexp) → declared_in s command x parameters sort ≡ Err Memory → ⊥ }
-    ensures definitions { (s : Signature) (x : List ℕ) (parameters : List (List ℕ × Sexp)) (sort body : Sexp) → defined_in s x parameters sort body ≡ Err Memory → ⊥ }
+    ensures sorts { (names : Names) (scope : List (List ℕ × Sort)) (term : Sexp)
+        → sort_in names scope term ≡ Err Memory → ⊥ }
+    ensures abbreviations { (names : SortNames) (x : List ℕ) (sort : Sexp)
+        → abbreviated_in names x sort ≡ Err Memory → ⊥ }
+    ensures declarations { (s : Signature) (command : ℕ) (x : List ℕ) (parameters : Sexps) (sort : Sexp)
+        → declared_in s command x parameters sort ≡ Err Memory → ⊥ }
+    ensures definitions { (s : Signature) (x : List ℕ) (parameters : List (List ℕ × Sexp)) (sort body : Sexp)
+        → defined_in s x parameters sort body ≡ Err Memory → ⊥ }
     ensures assertions { (names : Names) (term : Sexp) → asserted_in names term ≡ Err Memory → ⊥ }
-    ensures items { (script : Signature) (earlier : List Entry) (tree : Sexp) → item_in script earlier tree ≡ Err Memory → ⊥ }
+    ensures items { (script : Signature) (earlier : List Entry) (tree : Sexp)
+        → item_in script earlier tree ≡ Err Memory → ⊥ }
 {}
 
-/// What a definition brings is well sorted over the earlier names (SMT-LIB 2.6, sections 4.2.3 and 5.2), and has the name that was
-/// given, which stood for nothing and is no plain operator's.
+/// What a definition brings is well sorted over the earlier names (SMT-LIB 2.6, sections 4.2.3 and 5.2), and
+/// has the name that was given, which stood for nothing and is no plain operator's.
 pub fn definitions_are_well_sorted()
-    ensures sorted { (s : Signature) (x : List ℕ) (parameters : List (List ℕ × Sexp)) (sort body : Sexp) (e : Entry) → defined_in s x parameters sort body ≡ Ok e → IsWellSorted s.theories s.entries e }
-    ensures named { (s : Signature) (x : List ℕ) (parameters : List (List ℕ × Sexp)) (sort body : Sexp) (e : Entry) → defined_in s x parameters sort body ≡ Ok e → e.name ≡ x }
-    ensures free { (s : Signature) (x : List ℕ) (parameters : List (List ℕ × Sexp)) (sort body : Sexp) (e : Entry) → defined_in s x parameters sort body ≡ Ok e → is_taken (names_of s) x ≡ false }
+    ensures sorted { (s : Signature) (x : List ℕ) (parameters : List (List ℕ × Sexp)) (sort body : Sexp)
+        (e : Entry) → defined_in s x parameters sort body ≡ Ok e → IsWellSorted s.theories s.entries e }
+    ensures named { (s : Signature) (x : List ℕ) (parameters : List (List ℕ × Sexp)) (sort body : Sexp)
+        (e : Entry) → defined_in s x parameters sort body ≡ Ok e → e.name ≡ x }
+    ensures free { (s : Signature) (x : List ℕ) (parameters : List (List ℕ × Sexp)) (sort body : Sexp)
+        (e : Entry) → defined_in s x parameters sort body ≡ Ok e → is_taken (names_of s) x ≡ false }
 {
     sorts_are_compared();
 }
 
-/// What an item of a model defines is well sorted over the earlier items (SMT-LIB 2.6, sections 4.2.6 and 5.2), and its name is new
-/// among them. Where the script declares the name, the item has the rank of that declaration; elsewhere the name is free in the script.
+/// What an item of a model defines is well sorted over the earlier items (SMT-LIB 2.6, sections 4.2.6 and
+/// 5.2), and its name is new among them. Where the script declares the name, the item has the rank of that
+/// declaration; elsewhere the name is free in the script.
 pub fn items_are_well_sorted()
-    ensures sorted { (script : Signature) (earlier : List Entry) (tree : Sexp) (e : Entry) → item_in script earlier tree ≡ Ok e → IsWellSorted script.theories earlier e }
-    ensures fresh { (script : Signature) (earlier : List Entry) (tree : Sexp) (e : Entry) → item_in script earlier tree ≡ Ok e → entry_named earlier e.name ≡ None }
-    ensures ranked { (script : Signature) (earlier : List Entry) (tree : Sexp) (e d : Entry) → item_in script earlier tree ≡ Ok e
+    ensures sorted { (script : Signature) (earlier : List Entry) (tree : Sexp) (e : Entry)
+        → item_in script earlier tree ≡ Ok e → IsWellSorted script.theories earlier e }
+    ensures fresh { (script : Signature) (earlier : List Entry) (tree : Sexp) (e : Entry)
+        → item_in script earlier tree ≡ Ok e → entry_named earlier e.name ≡ None }
+    ensures ranked { (script : Signature) (earlier : List Entry) (tree : Sexp) (e d : Entry)
+        → item_in script earlier tree ≡ Ok e
         → declared_named script.entries e.name ≡ Some d → KeepsRank d (Some e) }
-    ensures free { (script : Signature) (earlier : List Entry) (tree : Sexp) (e : Entry) → item_in script earlier tree ≡ Ok e
+    ensures free { (script : Signature) (earlier : List Entry) (tree : Sexp) (e : Entry)
+        → item_in script earlier tree ≡ Ok e
         → declared_named script.entries e.name ≡ None → is_taken (names_of script) e.name ≡ false }
 {
     sorts_are_compared();
@@ -56,38 +71,42 @@ pub fn items_are_well_sorted()
 
 /// A term keeps its sort over more names, none of which hides an operator, where labels are not looked at.
 pub fn sorts_are_kept()
-    ensures { (names more : Names) (scope : List (List ℕ × Sort)) (term : Sexp) (sort : Sort) → Keeps names more → sort_in names scope term ≡ Ok sort → sort_in more scope term ≡ Ok sort }
+    ensures { (names more : Names) (scope : List (List ℕ × Sort)) (term : Sexp) (sort : Sort)
+        → Keeps names more → sort_in names scope term ≡ Ok sort → sort_in more scope term ≡ Ok sort }
 {}
 
-/// What an assertion brings (SMT-LIB 2.6, section 3.6.5) is new behind the names in force and what it brought before, no operator's,
-/// and well sorted over them.
+/// What an assertion brings (SMT-LIB 2.6, section 3.6.5) is new behind the names in force and what it brought
+/// before, no operator's, and well sorted over them.
 pub fn labels_are_introduced()
-    ensures { (s : Signature) (term : Sexp) (labels : List Entry) → asserted_in (names_of s) term ≡ Ok labels → AreIntroduced s.theories s.entries labels }
+    ensures { (s : Signature) (term : Sexp) (labels : List Entry) → asserted_in (names_of s) term ≡ Ok labels
+        → AreIntroduced s.theories s.entries labels }
 {}
 
-/// A declaration brings what it says (SMT-LIB 2.6, section 4.2.3): its name, with the sorts that its trees name, as its command.
+/// A declaration brings what it says (SMT-LIB 2.6, section 4.2.3): its name, with the sorts that its trees
+/// name, as its command.
 pub fn declarations_are_as_written()
     ensures { (s : Signature) (command : ℕ) (x : List ℕ) (parameters : Sexps) (sort : Sexp) (e : Entry)
         → declared_in s command x parameters sort ≡ Ok e
         → IsDeclaredAs (sort_names_of s) command x parameters sort e }
 {}
 
-/// A definition brings what it says (SMT-LIB 2.6, section 4.2.3): its name, with the sorts that its trees name, its parameters and
-/// its body.
+/// A definition brings what it says (SMT-LIB 2.6, section 4.2.3): its name, with the sorts that its trees
+/// name, its parameters and its body.
 pub fn definitions_are_as_written()
     ensures { (s : Signature) (x : List ℕ) (parameters : List (List ℕ × Sexp)) (sort body : Sexp) (e : Entry)
         → defined_in s x parameters sort body ≡ Ok e
         → IsDefinedAs (sort_names_of s) x parameters sort body e }
 {}
 
-/// An item of a model defines what is printed (SMT-LIB 2.6, section 4.2.6), each sort as the script's abbreviations have it.
+/// An item of a model defines what is printed (SMT-LIB 2.6, section 4.2.6), each sort as the script's
+/// abbreviations have it.
 pub fn items_are_as_printed()
     ensures { (script : Signature) (earlier : List Entry) (tree : Sexp) (e : Entry)
         → item_in script earlier tree ≡ Ok e → IsPrintedAs (sort_names_of script) tree e }
 {}
 
-/// An assertion brings its labels, in order (SMT-LIB 2.6, section 3.6.5): each is a constant that the term which it annotates
-/// defines.
+/// An assertion brings its labels, in order (SMT-LIB 2.6, section 3.6.5): each is a constant that the term
+/// which it annotates defines.
 pub fn assertions_bring_their_labels()
     ensures { (names : Names) (term : Sexp) (es : List Entry)
         → asserted_in names term ≡ Ok es → AreLabelsOf names (labels_in term) es }
@@ -98,7 +117,8 @@ pub fn names_are_compared()
     ensures { (x y : List ℕ) → (bytes_eq x y ≡ true) ↔ (x ≡ y) }
 {}
 
-/// A name is found at its first entry: one of its name, with none before it; and none is found where no entry has the name.
+/// A name is found at its first entry: one of its name, with none before it; and none is found where no entry
+/// has the name.
 pub fn entries_are_found()
     ensures found { (entries : List Entry) (x : List ℕ) (e : Entry) → (entry_named entries x ≡ Some e)
         ↔ ((before after : List Entry) × (entries ≡ before ++ e ∷ after) × (e.name ≡ x)
@@ -109,14 +129,17 @@ pub fn entries_are_found()
 
 /// What a mark counts is the same in longer contents, where it counts no more than there was.
 pub fn marks_are_kept()
-    ensures first { (mark : Mark) (c d : Contents) → IsWithin mark c → Extends c d → first_of mark d ≡ first_of mark c }
+    ensures first { (mark : Mark) (c d : Contents) → IsWithin mark c → Extends c d
+        → first_of mark d ≡ first_of mark c }
     ensures within { (mark : Mark) (c d : Contents) → IsWithin mark c → Extends c d → IsWithin mark d }
 {}
 
 /// A mark counts the same in contents that are cut to a later one.
 pub fn earlier_marks_are_kept()
-    ensures first { (mark later : Mark) (c : Contents) → IsBelow mark later → first_of mark (first_of later c) ≡ first_of mark c }
-    ensures within { (mark later : Mark) (c : Contents) → IsBelow mark later → IsWithin later c → IsWithin mark (first_of later c) }
+    ensures first { (mark later : Mark) (c : Contents) → IsBelow mark later
+        → first_of mark (first_of later c) ≡ first_of mark c }
+    ensures within { (mark later : Mark) (c : Contents) → IsBelow mark later → IsWithin later c
+        → IsWithin mark (first_of later c) }
 {}
 
 /// A term of contents is one of longer contents.

@@ -1,4 +1,5 @@
-//! The names in force, in the order in which they came, where each stands, and the terms that were checked over them.
+//! The names in force, in the order in which they came, where each stands, and the terms that were checked
+//! over them.
 
 ghost use Rattle.std.specs.Prelude.{bytes_eq};
 ghost use Rattle.std.specs.List.{IsDistinct};
@@ -77,7 +78,8 @@ pub struct TermId {
     number: usize,
 }
 
-/// The names of a signature in order of insertion, abbreviations of sorts, and terms over the names. No name stands twice.
+/// The names of a signature in order of insertion, abbreviations of sorts, and terms over the names. No name
+/// stands twice.
 #[derive(Drop)]
 pub struct Library {
     alloc: Global,
@@ -90,17 +92,23 @@ pub struct Library {
 }
 
 impl Library {
-    ghost use Rattle.std.specs.Prelude.{◌≡◌, ◌<◌, ◌∷◌, ◌++◌, ◌⊎◌, ◌||◌, List, [], map, is_some, length, slice_get, option_copied, option_map, Some, None, Ok, Err, MatchOption, MatchResult, OnOk, OnErr, IfOk, IfErr};
+    ghost use Rattle.std.specs.Prelude.{◌≡◌, ◌<◌, ◌∷◌, ◌++◌, ◌⊎◌, ◌||◌, List, [], map, is_some, length};
+    ghost use Rattle.std.specs.Prelude.{slice_get, option_copied, option_map, Some, None, Ok, Err};
+    ghost use Rattle.std.specs.Prelude.{MatchOption, MatchResult, OnOk, OnErr, IfOk, IfErr};
     ghost use Rattle.smt_trees.specs.Sexp.{Sexp};
     ghost use Rattle.smt_trees.specs.Tree.{sexp_of, sexps_of};
     ghost use Rattle.smt_theory.specs.Operators.{is_plain_operator};
     ghost use Rattle.smt_theory.specs.Words.{look_up};
     ghost use Rattle.smt_terms.specs.Checking.{sort_in};
     ghost use Rattle.smt_terms.specs.Contents.{Extends, contents_of, declaration_view};
-    ghost use Rattle.smt_terms.specs.Internal.LibraryView.{names_of_library, places_of_library, rank_of, ranks_of_library, sort_names};
-    ghost use Rattle.smt_terms.specs.Library.{AreDefinitions, HasTheoriesOf, IsFound, IsTerm, StandsFor, declarations_from, defined_among, definitions_of, name_count};
+    ghost use Rattle.smt_terms.specs.Internal.LibraryView.{names_of_library, places_of_library, rank_of};
+    ghost use Rattle.smt_terms.specs.Internal.LibraryView.{ranks_of_library, sort_names};
+    ghost use Rattle.smt_terms.specs.Library.{AreDefinitions, HasTheoriesOf, IsFound, IsTerm, StandsFor};
+    ghost use Rattle.smt_terms.specs.Library.{declarations_from, defined_among, definitions_of, name_count};
     ghost use Rattle.smt_terms.specs.Signature as signature;
-    ghost use Rattle.smt_terms.specs.Signature.{Rank, Signature, declaration, declared_in, entry_named, is_taken, names_of, no_names, rank_named, sort_names_of, with_abbreviation, with_entry};
+    ghost use Rattle.smt_terms.specs.Signature.{Rank, Signature, declaration, declared_in, entry_named};
+    ghost use Rattle.smt_terms.specs.Signature.{is_taken, names_of, no_names, rank_named, sort_names_of};
+    ghost use Rattle.smt_terms.specs.Signature.{with_abbreviation, with_entry};
     ghost use Rattle.smt_terms.specs.SortTrees.{abbreviated_in};
     ghost use Rattle.smt_theory.specs.declared.sort.Sort.{Sort};
     ghost use Rattle.smt_faults.specs.declared.term_fault.TermFault.TheVariants.{Memory as OutOfMemory};
@@ -134,14 +142,16 @@ impl Library {
 
     /// The declared names, in order.
     pub fn declared(&self) -> &[Declared]
-        ensures { (s : Signature) → StandsFor self.now s → map declaration_view result.now ≡ declarations_from 0 s.entries }
+        ensures { (s : Signature) → StandsFor self.now s
+            → map declaration_view result.now ≡ declarations_from 0 s.entries }
     {
         self.declared.as_slice()
     }
 
     /// The definitions, in order.
     pub fn definitions(&self) -> &[Definition]
-        ensures stands { (s : Signature) → StandsFor self.now s → AreDefinitions (contents_of self.now) result.now (defined_among s.entries) }
+        ensures stands { (s : Signature) → StandsFor self.now s
+            → AreDefinitions (contents_of self.now) result.now (defined_among s.entries) }
         ensures view { result.now ≡ definitions_of self.now }
     {
         self.definitions.as_slice()
@@ -150,21 +160,25 @@ impl Library {
     /// The name at a place among all names; places count from 0.
     pub fn name(&self, place: usize) -> &[u8]
         requires { place < name_count self.now }
-        ensures { (s : Signature) → StandsFor self.now s → (e : signature.Entry) × (slice_get s.entries place ≡ Some e) × (result.now ≡ e.name) }
+        ensures { (s : Signature) → StandsFor self.now s
+            → (e : signature.Entry) × (slice_get s.entries place ≡ Some e) × (result.now ≡ e.name) }
     {
         self.get_index(place).0
     }
 
     /// Where a name stands, if it is in force.
     pub fn find(&self, name: &[u8]) -> Option<Found>
-        ensures { (s : Signature) → StandsFor self.now s → MatchOption result (entry_named s.entries name.now ≡ None)
-            (λ found. (e : signature.Entry) × (entry_named s.entries name.now ≡ Some e) × IsFound found s.entries e) }
+        ensures { (s : Signature) → StandsFor self.now s
+            → MatchOption result (entry_named s.entries name.now ≡ None)
+            (λ found. (e : signature.Entry) × (entry_named s.entries name.now ≡ Some e)
+            × IsFound found s.entries e) }
     {
         self.place_of(name)
     }
 
-    /// Declares a name by the command of this number (SMT-LIB 2.6, section 4.2.3), with the sorts of its parameters and of its result.
-    /// Refused are a name that is in use or is a plain operator's, and a tree that names no sort, in this order; then nothing changes.
+    /// Declares a name by the command of this number (SMT-LIB 2.6, section 4.2.3), with the sorts of its
+    /// parameters and of its result. Refused are a name that is in use or is a plain operator's, and a tree
+    /// that names no sort, in this order; then nothing changes.
     #[tactic(auto, using(crate::proofs::ContentsLemmas::extends_itself))]
     pub fn declare(
         &mut self,
@@ -174,9 +188,11 @@ impl Library {
         sort: &Tree,
     ) -> Result<(), TermFault>
         ensures declared { OnOk result ((s : Signature) → StandsFor self.old s → (e : signature.Entry)
-            × (declared_in s command name.now (sexps_of params.now) (sexp_of sort.now) ≡ Ok e) × StandsFor self.new (with_entry s e)) }
+            × (declared_in s command name.now (sexps_of params.now) (sexp_of sort.now) ≡ Ok e)
+            × StandsFor self.new (with_entry s e)) }
         ensures refused { IfErr result (λ fault. (s : Signature) → StandsFor self.old s
-            → (fault ≡ OutOfMemory) ⊎ (declared_in s command name.now (sexps_of params.now) (sexp_of sort.now) ≡ Err fault)) }
+            → (fault ≡ OutOfMemory) ⊎
+            (declared_in s command name.now (sexps_of params.now) (sexp_of sort.now) ≡ Err fault)) }
         ensures unchanged { OnErr result ((s : Signature) → StandsFor self.old s → StandsFor self.new s) }
         ensures grown { Extends (contents_of self.old) (contents_of self.new) }
     {
@@ -187,25 +203,30 @@ impl Library {
         Ok(self.add_declared(name, declared)?)
     }
 
-    /// Makes a name abbreviate the sort of a tree (SMT-LIB 2.6, section 4.2.3, `define-sort` without parameters). It stands for that sort,
-    /// whatever comes later. Refused are a name that abbreviates a sort, `Bool` and `Int` (`NotFresh`), and then a tree that names no
-    /// sort, with its fault; then nothing changes.
+    /// Makes a name abbreviate the sort of a tree (SMT-LIB 2.6, section 4.2.3, `define-sort` without
+    /// parameters). It stands for that sort, whatever comes later. Refused are a name that abbreviates a
+    /// sort, `Bool` and `Int` (`NotFresh`), and then a tree that names no sort, with its fault; then nothing
+    /// changes.
     pub fn abbreviate(&mut self, name: &[u8], sort: &Tree) -> Result<(), TermFault>
         ensures abbreviated { OnOk result ((s : Signature) → StandsFor self.old s → (found : Sort)
-            × (abbreviated_in (sort_names_of s) name.now (sexp_of sort.now) ≡ Ok found) × StandsFor self.new (with_abbreviation s name.now found)) }
+            × (abbreviated_in (sort_names_of s) name.now (sexp_of sort.now) ≡ Ok found)
+            × StandsFor self.new (with_abbreviation s name.now found)) }
         ensures refused { IfErr result (λ fault. (s : Signature) → StandsFor self.old s
-            → (fault ≡ OutOfMemory) ⊎ (abbreviated_in (sort_names_of s) name.now (sexp_of sort.now) ≡ Err fault)) }
+            → (fault ≡ OutOfMemory) ⊎
+            (abbreviated_in (sort_names_of s) name.now (sexp_of sort.now) ≡ Err fault)) }
         ensures unchanged { OnErr result ((s : Signature) → StandsFor self.old s → StandsFor self.new s) }
         ensures grown { Extends (contents_of self.old) (contents_of self.new) }
     {
         self.sorts.abbreviate(self.alloc, name, sort)
     }
 
-    /// Checks a term without labels over the names: its number and its sort, or its first fault (SMT-LIB 2.6, sections 3.6 and 5.2).
+    /// Checks a term without labels over the names: its number and its sort, or its first fault (SMT-LIB 2.6,
+    /// sections 3.6 and 5.2).
     #[tactic(auto, using(crate::proofs::ContentsLemmas::extends_itself))]
     pub fn check(&mut self, term: &Tree) -> Result<(TermId, Sort), TermFault>
         ensures answer { (s : Signature) → StandsFor self.old s
-            → MatchResult result (λ p. (sort_in (names_of s) [] (sexp_of term.now) ≡ Ok p.1) × IsTerm self.new p.0 (sexp_of term.now))
+            → MatchResult result (λ p. (sort_in (names_of s) [] (sexp_of term.now) ≡ Ok p.1)
+            × IsTerm self.new p.0 (sexp_of term.now))
             (λ fault. (fault ≡ OutOfMemory) ⊎ (sort_in (names_of s) [] (sexp_of term.now) ≡ Err fault)) }
         ensures kept { (s : Signature) → StandsFor self.old s → StandsFor self.new s }
         ensures grown { Extends (contents_of self.old) (contents_of self.new) }
@@ -252,8 +273,10 @@ impl Library {
 
     // What a name stands for.
     fn get(&self, name: &[u8]) -> Option<&Entry>
-        ensures ranked { option_map (λ e. rank_of e.now) result ≡ look_up (names_of_library self.now).ranks name.now }
-        ensures placed { option_map (λ e. e.now.place) result ≡ look_up (places_of_library self.now) name.now }
+        ensures ranked { option_map (λ e. rank_of e.now) result
+            ≡ look_up (names_of_library self.now).ranks name.now }
+        ensures placed { option_map (λ e. e.now.place) result
+            ≡ look_up (places_of_library self.now) name.now }
     {
         if self.names.len() > FEW {
             self.names.get(name)
@@ -264,7 +287,8 @@ impl Library {
 
     // The same, by comparing one name after another: for few that takes less than a hash.
     fn get_among_few(&self, name: &[u8]) -> Option<&Entry>
-        ensures { option_copied result ≡ look_up (map (λ p. (p.0.items, p.1)) self.now.names.entries) name.now }
+        ensures { option_copied result
+            ≡ look_up (map (λ p. (p.0.items, p.1)) self.now.names.entries) name.now }
     {
         for place in 0..self.names.len() {
             let (key, entry) = self.names.get_index(place).unwrap();
@@ -309,8 +333,12 @@ impl Library {
 
     // A declaration by the command, as the next name.
     fn declaration(&self, command: u64, params: &[Tree], sort: &Tree) -> Result<Declared, TermFault>
-        ensures rank { MatchResult result (λ d. rank_named (sort_names self.now.sorts) (sexps_of params.now) (sexp_of sort.now) ≡ Ok (record { parameters = d.params.items; sort = d.result }))
-            (λ fault. (fault ≡ OutOfMemory) ⊎ (rank_named (sort_names self.now.sorts) (sexps_of params.now) (sexp_of sort.now) ≡ Err fault)) }
+        ensures rank { MatchResult result
+            (λ d. rank_named (sort_names self.now.sorts) (sexps_of params.now) (sexp_of sort.now)
+            ≡ Ok (record { parameters = d.params.items; sort = d.result }))
+            (λ fault. (fault ≡ OutOfMemory)
+            ⊎ (rank_named (sort_names self.now.sorts) (sexps_of params.now) (sexp_of sort.now)
+            ≡ Err fault)) }
         ensures next { IfOk result (λ d. (d.command ≡ command) × (d.name ≡ name_count self.now)) }
     {
         let params = self.sorts.sorts_of(self.alloc, params)?;
@@ -329,7 +357,9 @@ impl Library {
         requires absent { look_up (names_of_library self.old).ranks name.now ≡ None }
         requires next { declared.name ≡ name_count self.old }
         ensures added { OnOk result ((s : Signature) → StandsFor self.old s
-            → StandsFor self.new (with_entry s (declaration name.now declared.command (record { parameters = declared.params.items; sort = declared.result })))) }
+            → StandsFor self.new (with_entry s
+            (declaration name.now declared.command
+            (record { parameters = declared.params.items; sort = declared.result })))) }
         ensures unchanged { OnErr result ((s : Signature) → StandsFor self.old s → StandsFor self.new s) }
         ensures grown { Extends (contents_of self.old) (contents_of self.new) }
     {
@@ -351,9 +381,13 @@ impl Library {
     // Adds a name alone at the end, or changes nothing.
     fn insert(&mut self, name: &[u8], entry: Entry) -> Result<(), Memory>
         requires { look_up (names_of_library self.old).ranks name.now ≡ None }
-        ensures ranks { OnOk result (ranks_of_library self.new ≡ ranks_of_library self.old ++ (name.now, rank_of entry) ∷ []) }
-        ensures places { OnOk result (places_of_library self.new ≡ places_of_library self.old ++ (name.now, entry.place) ∷ []) }
-        ensures unchanged { OnErr result ((ranks_of_library self.new ≡ ranks_of_library self.old) × (places_of_library self.new ≡ places_of_library self.old)) }
+        ensures ranks { OnOk result
+            (ranks_of_library self.new ≡ ranks_of_library self.old ++ (name.now, rank_of entry) ∷ []) }
+        ensures places { OnOk result
+            (places_of_library self.new ≡ places_of_library self.old ++ (name.now, entry.place) ∷ []) }
+        ensures unchanged { OnErr result
+            ((ranks_of_library self.new ≡ ranks_of_library self.old)
+            × (places_of_library self.new ≡ places_of_library self.old)) }
         ensures sorts { self.new.sorts ≡ self.old.sorts }
         ensures declared { self.new.declared.items ≡ self.old.declared.items }
         ensures definitions { self.new.definitions.items ≡ self.old.definitions.items }

@@ -13,7 +13,8 @@ pub(crate) fn push_variable<'a>(
     name: &'a [u8],
     value: Sort,
 ) -> Result<(), Memory>
-    ensures { OnOk result (scope_view variables.new.items ≡ scope_view variables.old.items ++ (name.now, value) ∷ []) }
+    ensures { OnOk result (scope_view variables.new.items
+        ≡ scope_view variables.old.items ++ (name.now, value) ∷ []) }
 {
     match variables.push(Variable { name, value }) {
         Ok(()) => Ok(()),

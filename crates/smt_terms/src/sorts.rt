@@ -1,6 +1,7 @@
 //! The trees that name sorts, and abbreviations of sorts.
 
-ghost use Rattle.std.specs.Prelude.{◌≡◌, ◌⊎◌, ◌++◌, ◌∷◌, [], bytes_eq, Ok, Err, IfErr, MatchResult, OnErr, OnOk};
+ghost use Rattle.std.specs.Prelude.{◌≡◌, ◌⊎◌, ◌++◌, ◌∷◌, [], bytes_eq, Ok, Err, IfErr, MatchResult, OnErr};
+ghost use Rattle.std.specs.Prelude.{OnOk};
 ghost use Rattle.std.specs.Str.Parse.{digits_value};
 ghost use Rattle.smt_trees.specs.Tree.{sexp_of, sexps_of};
 ghost use Rattle.smt_theory.specs.Width.{width_of};
@@ -19,8 +20,8 @@ use smt_theory::{Sort, Theories, Width, number};
 use smt_trees::{Tree, Word, split_first};
 use std::alloc::Global;
 
-/// What names sorts: theories, and abbreviations of sorts (SMT-LIB 2.6, sections 3.5 and 4.2.3), in the order in which they came. No
-/// name abbreviates twice.
+/// What names sorts: theories, and abbreviations of sorts (SMT-LIB 2.6, sections 3.5 and 4.2.3), in the order
+/// in which they came. No name abbreviates twice.
 #[derive(Drop)]
 pub(crate) struct SortNames {
     pub(crate) theories: Theories,
@@ -42,8 +43,8 @@ impl SortNames {
         }
     }
 
-    /// The sort that a tree names, or what is wrong with it: out of form, a sort of the standard that is not supported, unknown, or bit
-    /// vectors of a width out of range.
+    /// The sort that a tree names, or what is wrong with it: out of form, a sort of the standard that is not
+    /// supported, unknown, or bit vectors of a width out of range.
     pub(crate) fn sort_of(&self, tree: &Tree) -> Result<Sort, TermFault>
         ensures { result ≡ sort_named (sort_names self.now) (sexp_of tree.now) }
     {
@@ -56,8 +57,10 @@ impl SortNames {
 
     /// The sorts that trees name, in order, or the first fault.
     pub(crate) fn sorts_of(&self, alloc: Global, trees: &[Tree]) -> Result<Vec<Sort>, TermFault>
-        ensures { MatchResult result (λ found. sorts_named (sort_names self.now) (sexps_of trees.now) ≡ Ok found.items)
-            (λ fault. (fault ≡ Memory) ⊎ (sorts_named (sort_names self.now) (sexps_of trees.now) ≡ Err fault)) }
+        ensures { MatchResult result
+            (λ found. sorts_named (sort_names self.now) (sexps_of trees.now) ≡ Ok found.items)
+            (λ fault. (fault ≡ Memory)
+            ⊎ (sorts_named (sort_names self.now) (sexps_of trees.now) ≡ Err fault)) }
     {
         let mut found = Vec::new(alloc);
         let mut left = trees;
@@ -68,16 +71,20 @@ impl SortNames {
         Ok(found)
     }
 
-    /// Makes a name abbreviate the sort of a tree, or changes nothing: where the name is that of a sort, or the tree names none.
+    /// Makes a name abbreviate the sort of a tree, or changes nothing: where the name is that of a sort, or
+    /// the tree names none.
     pub(crate) fn abbreviate(
         &mut self,
         alloc: Global,
         name: &[u8],
         tree: &Tree,
     ) -> Result<(), TermFault>
-        ensures abbreviated { OnOk result ((sort : Sort) × (abbreviated_in (sort_names self.old) name.now (sexp_of tree.now) ≡ Ok sort)
+        ensures abbreviated { OnOk result
+            ((sort : Sort) × (abbreviated_in (sort_names self.old) name.now (sexp_of tree.now) ≡ Ok sort)
             × (abbreviations_of self.new ≡ abbreviations_of self.old ++ (name.now, sort) ∷ [])) }
-        ensures refused { IfErr result (λ fault. (fault ≡ Memory) ⊎ (abbreviated_in (sort_names self.old) name.now (sexp_of tree.now) ≡ Err fault)) }
+        ensures refused { IfErr result
+            (λ fault. (fault ≡ Memory)
+            ⊎ (abbreviated_in (sort_names self.old) name.now (sexp_of tree.now) ≡ Err fault)) }
         ensures unchanged { OnErr result (abbreviations_of self.new ≡ abbreviations_of self.old) }
         ensures theories { self.new.theories ≡ self.old.theories }
     {
@@ -110,7 +117,8 @@ impl SortNames {
 
     // The sort that a symbol names: what it abbreviates, or else the sort of that name.
     fn sort_of_symbol(&self, name: &[u8]) -> Result<Sort, TermFault>
-        ensures { result ≡ sorts.sort_of_symbol (sort_names self.now).theories name.now (look_up (abbreviations_of self.now) name.now) }
+        ensures { result ≡ sorts.sort_of_symbol (sort_names self.now).theories name.now
+            (look_up (abbreviations_of self.now) name.now) }
     {
         match self.get(name) {
             Some(sort) => Ok(sort),

@@ -38,10 +38,13 @@ abbrev pub decreases-evaluator::known_of_one : goal.decreases-evaluator::known_o
 decreases-evaluator::known_of_one l = 8 * (seen_weight l.over + weight (sexp_of l.only.now)) + 4
 
 abbrev pub decreases-evaluator::known_of_two : goal.decreases-evaluator::known_of_two
-decreases-evaluator::known_of_two l = 8 * (seen_weight l.over + weight (sexp_of l.first.now) + weight (sexp_of l.second.now)) + 4
+decreases-evaluator::known_of_two l =
+    8 * (seen_weight l.over + weight (sexp_of l.first.now) + weight (sexp_of l.second.now)) + 4
 
 abbrev pub decreases-evaluator::known_of_three : goal.decreases-evaluator::known_of_three
-decreases-evaluator::known_of_three l = 8 * (seen_weight l.over + weight (sexp_of l.first.now) + weight (sexp_of l.second.now) + weight (sexp_of l.third.now)) + 4
+decreases-evaluator::known_of_three l = 8
+    * (seen_weight l.over + weight (sexp_of l.first.now) + weight (sexp_of l.second.now)
+    + weight (sexp_of l.third.now)) + 4
 
 abbrev pub decreases-evaluator::known_call : goal.decreases-evaluator::known_call
 decreases-evaluator::known_call l = 8 * (seen_weight l.over + weight_all (sexps_of l.args.now)) + 6
@@ -64,21 +67,27 @@ decreases-calls::known_body l = 8 * seen_weight l.over + 2
 abbrev pub invariant-evaluator::known_all-loop-term : goal.invariant-evaluator::known_all-loop-term
 invariant-evaluator::known_all-loop-term l = record {
   answer : (d : Signature) → Evaluates l.over d
-      → knowns_of (meaning_over l.over d) (known_scope l.scope) (sexps_of l.terms) ≡ known_elements l.known.items ++ knowns_of (meaning_over l.over d) (known_scope l.scope) (sexps_of l.left);
+      → knowns_of (meaning_over l.over d) (known_scope l.scope) (sexps_of l.terms)
+      ≡ known_elements l.known.items
+      ++ knowns_of (meaning_over l.over d) (known_scope l.scope) (sexps_of l.left);
   lighter : weight_all (sexps_of l.left) ≤ weight_all (sexps_of l.terms);
 }
 
 abbrev pub decreases-evaluator::known_all-loop-term : goal.decreases-evaluator::known_all-loop-term
 decreases-evaluator::known_all-loop-term l = weight_all (sexps_of l.left)
 
-abbrev pub invariant-evaluator::knowns_bound_by-loop-name : goal.invariant-evaluator::knowns_bound_by-loop-name
+abbrev pub invariant-evaluator::knowns_bound_by-loop-name :
+    goal.invariant-evaluator::knowns_bound_by-loop-name
 invariant-evaluator::knowns_bound_by-loop-name l = record {
   answer : (d : Signature) → Evaluates l.over d
-      → knowns_bound (meaning_over l.over d) (known_scope l.scope) (sexps_of l.bindings) ≡ known_scope l.variables.items ++ knowns_bound (meaning_over l.over d) (known_scope l.scope) (sexps_of l.left);
+      → knowns_bound (meaning_over l.over d) (known_scope l.scope) (sexps_of l.bindings)
+      ≡ known_scope l.variables.items
+      ++ knowns_bound (meaning_over l.over d) (known_scope l.scope) (sexps_of l.left);
   lighter : weight_all (sexps_of l.left) ≤ weight_all (sexps_of l.bindings);
 }
 
-abbrev pub decreases-evaluator::knowns_bound_by-loop-name : goal.decreases-evaluator::knowns_bound_by-loop-name
+abbrev pub decreases-evaluator::knowns_bound_by-loop-name :
+    goal.decreases-evaluator::knowns_bound_by-loop-name
 decreases-evaluator::knowns_bound_by-loop-name l = weight_all (sexps_of l.left)
 
 abbrev pub decreases-evaluator::known_choice : goal.decreases-evaluator::known_choice

@@ -4,7 +4,8 @@ use Rattle.smt_values.specs.Element.{Element}
 use Rattle.smt_terms.specs.Signature.{Entry, Origin, Declared, Defined, Signature}
 use Rattle.smt_eval.specs.Known.{KnownMeaning, known_of, known_operators, with_known}
 
--- what is kept of a definition, where earlier names mean m: the value of a constant. A function has one for all arguments
+-- what is kept of a definition, where earlier names mean m: the value of a constant. A function has one for
+-- all arguments
 abbrev pub kept_value : KnownMeaning → Origin → Option Element
 kept_value m (Defined [] body) = known_of m [] body
 kept_value m (Defined (p ∷ ps) body) = None

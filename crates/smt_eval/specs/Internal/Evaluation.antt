@@ -12,14 +12,16 @@ use Rattle.smt_eval.specs.Known.{KnownMeaning, known_in}
 use Rattle.smt_eval.specs.Structure.{structure_of}
 use Rattle.smt_eval.specs.declared.definitions.Definitions.{Definitions}
 
--- the libraries hold the script's names and the definitions of a model of them, and in the structure of both no name stands twice
+-- the libraries hold the script's names and the definitions of a model of them, and in the structure of both
+-- no name stands twice
 pub record HaveStructure (script model : Library) (s definitions : Signature) : Type 0 where
   pub names : StandsFor script s
   pub stands : StandsFor model definitions
   pub defined : AllDefined definitions.entries
   pub distinct : AreDistinct (structure_of s definitions).entries
 
--- these are the definitions of a structure with what is known of the values of the first of them; those that are seen are among these
+-- these are the definitions of a structure with what is known of the values of the first of them; those that
+-- are seen are among these
 pub record Evaluates (over : Definitions) (d : Signature) : Type 0 where
   pub script : Signature
   pub definitions : Signature

@@ -38,4 +38,5 @@ label_entry l = definition l.name.items [] l.sort (sexp_of l.body)
 -- the name of each label stands for nothing, behind those before it
 abbrev pub AreNew : List (List ℕ × Rank) → List Label → Type 0
 AreNew ranks [] = Unit {0}
-AreNew ranks (l ∷ ls) = (look_up ranks l.name.items ≡ None) × AreNew (ranks ++ (l.name.items, rank_of_entry (label_entry l)) ∷ []) ls
+AreNew ranks (l ∷ ls) = (look_up ranks l.name.items ≡ None)
+    × AreNew (ranks ++ (l.name.items, rank_of_entry (label_entry l)) ∷ []) ls

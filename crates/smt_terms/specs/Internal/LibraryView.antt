@@ -31,7 +31,8 @@ sort_names sorts = record { theories = sorts.theories; abbreviations = abbreviat
 
 -- what the sort checker needs, without labels
 abbrev pub names_of_library : Library → Names
-names_of_library library = record { theories = library.sorts.theories; ranks = ranks_of_library library; labels = Refused }
+names_of_library library =
+    record { theories = library.sorts.theories; ranks = ranks_of_library library; labels = Refused }
 
 -- the same where a term may have these labels
 abbrev pub names_for : Library → Labels → Names

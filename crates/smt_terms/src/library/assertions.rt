@@ -1,6 +1,7 @@
 //! Assertions.
 
-ghost use Rattle.std.specs.Prelude.{◌≡◌, ◌⊎◌, ◌∷◌, ◌++◌, List, [], None, Ok, Err, map, IfErr, IfOk, OnErr, OnOk};
+ghost use Rattle.std.specs.Prelude.{◌≡◌, ◌⊎◌, ◌∷◌, ◌++◌, List, [], None, Ok, Err, map, IfErr, IfOk, OnErr};
+ghost use Rattle.std.specs.Prelude.{OnOk};
 ghost use Rattle.smt_trees.specs.Tree.{sexp_of};
 ghost use Rattle.smt_theory.specs.Words.{look_up};
 ghost use Rattle.smt_terms.specs.Assertions.{asserted_in};
@@ -20,16 +21,20 @@ use smt_theory::Sort;
 use smt_trees::Tree;
 
 impl Library {
-    /// Checks a term that is asserted, and adds the labels in it, which stand for their terms from then on (SMT-LIB 2.6, sections 3.6.5
-    /// and 4.2.5): the number of the term. No term sees a label of its own assertion.
+    /// Checks a term that is asserted, and adds the labels in it, which stand for their terms from then on
+    /// (SMT-LIB 2.6, sections 3.6.5 and 4.2.5): the number of the term. No term sees a label of its own
+    /// assertion.
     ///
-    /// Refused is a term with a fault, with the first; for a label that is a term that uses a variable bound outside it (`Label`), and
-    /// then a name that is in use, a plain operator's, or that of an earlier label of the assertion (`NotFresh`). Then a term that is no
-    /// formula (`IllSorted`). Then, and where memory is refused (`Memory`), no name is added; a term that nothing names may be.
+    /// Refused is a term with a fault, with the first; for a label that is a term that uses a variable bound
+    /// outside it (`Label`), and then a name that is in use, a plain operator's, or that of an earlier label
+    /// of the assertion (`NotFresh`). Then a term that is no formula (`IllSorted`). Then, and where memory is
+    /// refused (`Memory`), no name is added; a term that nothing names may be.
     #[tactic(auto, using(crate::proofs::ContentsLemmas::extends_itself))]
     pub fn assert(&mut self, term: Tree) -> Result<TermId, TermFault>
-        ensures asserted { OnOk result ((s : Signature) → StandsFor self.old s → (labels : List signature.Entry)
-            × (asserted_in (names_of s) (sexp_of term) ≡ Ok labels) × StandsFor self.new (with_entries s labels)) }
+        ensures asserted { OnOk result
+            ((s : Signature) → StandsFor self.old s → (labels : List signature.Entry)
+            × (asserted_in (names_of s) (sexp_of term) ≡ Ok labels)
+            × StandsFor self.new (with_entries s labels)) }
         ensures term { IfOk result (λ i. IsTerm self.new i (sexp_of term)) }
         ensures refused { IfErr result (λ fault. (s : Signature) → StandsFor self.old s
             → (fault ≡ OutOfMemory) ⊎ (asserted_in (names_of s) (sexp_of term) ≡ Err fault)) }
@@ -54,8 +59,10 @@ impl Library {
     /// As `assert`, but keeps a copy of the term in place of the term itself.
     #[tactic(auto, using(crate::proofs::ContentsLemmas::extends_itself))]
     pub fn check_assert(&mut self, term: &Tree) -> Result<TermId, TermFault>
-        ensures asserted { OnOk result ((s : Signature) → StandsFor self.old s → (labels : List signature.Entry)
-            × (asserted_in (names_of s) (sexp_of term.now) ≡ Ok labels) × StandsFor self.new (with_entries s labels)) }
+        ensures asserted { OnOk result
+            ((s : Signature) → StandsFor self.old s → (labels : List signature.Entry)
+            × (asserted_in (names_of s) (sexp_of term.now) ≡ Ok labels)
+            × StandsFor self.new (with_entries s labels)) }
         ensures term { IfOk result (λ i. IsTerm self.new i (sexp_of term.now)) }
         ensures refused { IfErr result (λ fault. (s : Signature) → StandsFor self.old s
             → (fault ≡ OutOfMemory) ⊎ (asserted_in (names_of s) (sexp_of term.now) ≡ Err fault)) }
@@ -66,10 +73,13 @@ impl Library {
         self.assert(copy)
     }
 
-    // Adds the term of an assertion, and the labels that it gave. Where memory is refused, some of them may have been added.
+    // Adds the term of an assertion, and the labels that it gave. Where memory is refused, some of them may
+    // have been added.
     fn add_assertion(&mut self, labels: &[Label], term: Tree) -> Result<TermId, Memory>
         requires { AreNew (ranks_of_library self.old) labels.now }
-        ensures added { OnOk result ((s : Signature) → StandsFor self.old s → StandsFor self.new (with_entries s (map label_entry labels.now))) }
+        ensures added { OnOk result
+            ((s : Signature) → StandsFor self.old s
+            → StandsFor self.new (with_entries s (map label_entry labels.now))) }
         ensures term { IfOk result (λ i. IsTerm self.new i (sexp_of term)) }
         ensures grown { Extends (contents_of self.old) (contents_of self.new) }
     {
@@ -78,10 +88,13 @@ impl Library {
         Ok(number)
     }
 
-    // Adds labels, each as a constant that its term defines. Where memory is refused, some of them may have been added.
+    // Adds labels, each as a constant that its term defines. Where memory is refused, some of them may have
+    // been added.
     fn add_labels(&mut self, labels: &[Label]) -> Result<(), Memory>
         requires { AreNew (ranks_of_library self.old) labels.now }
-        ensures added { OnOk result ((s : Signature) → StandsFor self.old s → StandsFor self.new (with_entries s (map label_entry labels.now))) }
+        ensures added { OnOk result
+            ((s : Signature) → StandsFor self.old s
+            → StandsFor self.new (with_entries s (map label_entry labels.now))) }
         ensures grown { Extends (contents_of self.old) (contents_of self.new) }
     {
         let mut left = labels;
@@ -94,8 +107,13 @@ impl Library {
 
     fn add_label(&mut self, label: &Label) -> Result<(), Memory>
         requires { look_up (ranks_of_library self.old) label.now.name.items ≡ None }
-        ensures added { OnOk result ((s : Signature) → StandsFor self.old s → StandsFor self.new (with_entry s (label_entry label.now))) }
-        ensures ranks { OnOk result (ranks_of_library self.new ≡ ranks_of_library self.old ++ (label.now.name.items, rank_of_entry (label_entry label.now)) ∷ []) }
+        ensures added { OnOk result
+            ((s : Signature) → StandsFor self.old s
+            → StandsFor self.new (with_entry s (label_entry label.now))) }
+        ensures ranks { OnOk result
+            (ranks_of_library self.new
+            ≡ ranks_of_library self.old ++ (label.now.name.items, rank_of_entry (label_entry label.now))
+            ∷ []) }
         ensures grown { Extends (contents_of self.old) (contents_of self.new) }
     {
         let body = self.add_term(&label.body)?;

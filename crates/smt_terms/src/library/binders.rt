@@ -1,6 +1,7 @@
 //! The sorts of terms that bind variables, and of annotated ones, whose labels are kept.
 
-ghost use Rattle.std.specs.Prelude.{◌≡◌, ◌⊎◌, ◌∷◌, ◌||◌, [], true, None, Some, Ok, Err, map, MatchResult, OnOk};
+ghost use Rattle.std.specs.Prelude.{◌≡◌, ◌⊎◌, ◌∷◌, ◌||◌, [], true, None, Some, Ok, Err, map, MatchResult};
+ghost use Rattle.std.specs.Prelude.{OnOk};
 ghost use Rattle.smt_trees.specs.Sexp.{Cons, Items, Reserved};
 ghost use Rattle.smt_trees.specs.Tree.{sexp_of, sexps_of};
 ghost use Rattle.smt_trees.specs.declared.reserved.Word.TheVariants.{Bang, Let};
@@ -20,12 +21,16 @@ use crate::labels::Labels;
 use crate::library::Library;
 use crate::scope::push_variable;
 use smt_faults::TermFault;
-use smt_forms::{Variable, are_attributes, are_named, find_variable, label_at, split_let, split_named, uses_variable};
+use smt_forms::{
+    Variable, are_attributes, are_named, find_variable, label_at, split_let, split_named,
+    uses_variable,
+};
 use smt_theory::Sort;
 use smt_trees::{Tree, split_first};
 
 impl Library {
-    // The sort of a `let` (SMT-LIB 2.6, section 3.6.1), by what stands behind its word. Its variables come before those around it.
+    // The sort of a `let` (SMT-LIB 2.6, section 3.6.1), by what stands behind its word. Its variables come
+    // before those around it.
     #[cycle(check)]
     pub(super) fn sort_of_let<'a>(
         &self,
@@ -33,9 +38,15 @@ impl Library {
         labels: &mut Labels,
         args: &'a [Tree],
     ) -> Result<Sort, TermFault>
-        ensures sort { MatchResult result (λ sort. sort_in (names_for self.now (labels_view labels.old)) (scope_view scope.now) (Items (Cons (Reserved Let) (sexps_of args.now))) ≡ Ok sort)
-            (λ fault. (fault ≡ Memory) ⊎ (sort_in (names_for self.now (labels_view labels.old)) (scope_view scope.now) (Items (Cons (Reserved Let) (sexps_of args.now))) ≡ Err fault)) }
-        ensures labels { OnOk result (AreGiven (names_of_library self.now) labels.old labels.new (labels_in (Items (Cons (Reserved Let) (sexps_of args.now))))) }
+        ensures sort { MatchResult result
+            (λ sort. sort_in (names_for self.now (labels_view labels.old)) (scope_view scope.now)
+            (Items (Cons (Reserved Let) (sexps_of args.now))) ≡ Ok sort)
+            (λ fault. (fault ≡ Memory)
+            ⊎ (sort_in (names_for self.now (labels_view labels.old)) (scope_view scope.now)
+            (Items (Cons (Reserved Let) (sexps_of args.now))) ≡ Err fault)) }
+        ensures labels { OnOk result
+            (AreGiven (names_of_library self.now) labels.old labels.new
+            (labels_in (Items (Cons (Reserved Let) (sexps_of args.now))))) }
     {
         let Some((bindings, body)) = split_let(args) else {
             return Err(TermFault::Form);
@@ -57,9 +68,15 @@ impl Library {
         bindings: &'a [Tree],
     ) -> Result<Vec<Variable<'a, Sort>>, TermFault>
         requires { are_named_trees (sexps_of bindings.now) ≡ true }
-        ensures bound { MatchResult result (λ bound. bound_in (names_for self.now (labels_view labels.old)) (scope_view scope.now) [] (sexps_of bindings.now) ≡ Ok (scope_view bound.items))
-            (λ fault. (fault ≡ Memory) ⊎ (bound_in (names_for self.now (labels_view labels.old)) (scope_view scope.now) [] (sexps_of bindings.now) ≡ Err fault)) }
-        ensures labels { OnOk result (AreGiven (names_of_library self.now) labels.old labels.new (labels_in_bindings (sexps_of bindings.now))) }
+        ensures bound { MatchResult result
+            (λ bound. bound_in (names_for self.now (labels_view labels.old)) (scope_view scope.now) []
+            (sexps_of bindings.now) ≡ Ok (scope_view bound.items))
+            (λ fault. (fault ≡ Memory)
+            ⊎ (bound_in (names_for self.now (labels_view labels.old)) (scope_view scope.now) []
+            (sexps_of bindings.now) ≡ Err fault)) }
+        ensures labels { OnOk result
+            (AreGiven (names_of_library self.now) labels.old labels.new
+            (labels_in_bindings (sexps_of bindings.now))) }
     {
         let mut bound = Vec::new(self.alloc);
         let mut left = bindings;
@@ -74,7 +91,8 @@ impl Library {
         Ok(bound)
     }
 
-    // The sort of an annotated term (SMT-LIB 2.6, section 3.6.5), by what stands behind the `!`: that of the term.
+    // The sort of an annotated term (SMT-LIB 2.6, section 3.6.5), by what stands behind the `!`: that of the
+    // term.
     #[cycle(check)]
     pub(super) fn sort_of_annotated<'a>(
         &self,
@@ -82,9 +100,15 @@ impl Library {
         labels: &mut Labels,
         args: &'a [Tree],
     ) -> Result<Sort, TermFault>
-        ensures sort { MatchResult result (λ sort. sort_in (names_for self.now (labels_view labels.old)) (scope_view scope.now) (Items (Cons (Reserved Bang) (sexps_of args.now))) ≡ Ok sort)
-            (λ fault. (fault ≡ Memory) ⊎ (sort_in (names_for self.now (labels_view labels.old)) (scope_view scope.now) (Items (Cons (Reserved Bang) (sexps_of args.now))) ≡ Err fault)) }
-        ensures labels { OnOk result (AreGiven (names_of_library self.now) labels.old labels.new (labels_in (Items (Cons (Reserved Bang) (sexps_of args.now))))) }
+        ensures sort { MatchResult result
+            (λ sort. sort_in (names_for self.now (labels_view labels.old)) (scope_view scope.now)
+            (Items (Cons (Reserved Bang) (sexps_of args.now))) ≡ Ok sort)
+            (λ fault. (fault ≡ Memory)
+            ⊎ (sort_in (names_for self.now (labels_view labels.old)) (scope_view scope.now)
+            (Items (Cons (Reserved Bang) (sexps_of args.now))) ≡ Err fault)) }
+        ensures labels { OnOk result
+            (AreGiven (names_of_library self.now) labels.old labels.new
+            (labels_in (Items (Cons (Reserved Bang) (sexps_of args.now))))) }
     {
         let Some((term, attributes)) = split_first(args) else {
             return Err(TermFault::Form);
@@ -106,10 +130,17 @@ impl Library {
         sort: &Sort,
         attributes: &[Tree],
     ) -> Result<(), TermFault>
-        requires { sort_in (unlabelled (names_of_library self.now)) (scope_view scope.now) (sexp_of term.now) ≡ Ok sort.now }
-        ensures fault { MatchResult result (λ _. fault_of_labels (names_for self.now (labels_view labels.old)) (scope_view scope.now) (sexp_of term.now) (labels_among (sexps_of attributes.now)) ≡ None)
-            (λ fault. (fault ≡ Memory) ⊎ (fault_of_labels (names_for self.now (labels_view labels.old)) (scope_view scope.now) (sexp_of term.now) (labels_among (sexps_of attributes.now)) ≡ Some fault)) }
-        ensures labels { OnOk result (AreGiven (names_of_library self.now) labels.old labels.new (map (λ x. (x, sexp_of term.now)) (labels_among (sexps_of attributes.now)))) }
+        requires { sort_in (unlabelled (names_of_library self.now)) (scope_view scope.now) (sexp_of term.now)
+            ≡ Ok sort.now }
+        ensures fault { MatchResult result
+            (λ _. fault_of_labels (names_for self.now (labels_view labels.old)) (scope_view scope.now)
+            (sexp_of term.now) (labels_among (sexps_of attributes.now)) ≡ None)
+            (λ fault. (fault ≡ Memory)
+            ⊎ (fault_of_labels (names_for self.now (labels_view labels.old)) (scope_view scope.now)
+            (sexp_of term.now) (labels_among (sexps_of attributes.now)) ≡ Some fault)) }
+        ensures labels { OnOk result
+            (AreGiven (names_of_library self.now) labels.old labels.new
+            (map (λ x. (x, sexp_of term.now)) (labels_among (sexps_of attributes.now)))) }
     {
         let mut left = attributes;
         while let Some((tree, rest)) = split_first(left) {
@@ -119,7 +150,8 @@ impl Library {
         Ok(())
     }
 
-    // Gives a term of this sort the label that a tree with what stands behind it is, if it is one, or answers its fault.
+    // Gives a term of this sort the label that a tree with what stands behind it is, if it is one, or answers
+    // its fault.
     fn give_label_at(
         &self,
         scope: &[Variable<'_, Sort>],
@@ -129,10 +161,17 @@ impl Library {
         tree: &Tree,
         rest: &[Tree],
     ) -> Result<(), TermFault>
-        requires { sort_in (unlabelled (names_of_library self.now)) (scope_view scope.now) (sexp_of term.now) ≡ Ok sort.now }
-        ensures fault { MatchResult result (λ _. fault_of_labels (names_for self.now (labels_view labels.old)) (scope_view scope.now) (sexp_of term.now) (label_of_tree (sexp_of tree.now) (sexps_of rest.now)) ≡ None)
-            (λ fault. (fault ≡ Memory) ⊎ (fault_of_labels (names_for self.now (labels_view labels.old)) (scope_view scope.now) (sexp_of term.now) (label_of_tree (sexp_of tree.now) (sexps_of rest.now)) ≡ Some fault)) }
-        ensures labels { OnOk result (AreGiven (names_of_library self.now) labels.old labels.new (map (λ x. (x, sexp_of term.now)) (label_of_tree (sexp_of tree.now) (sexps_of rest.now)))) }
+        requires { sort_in (unlabelled (names_of_library self.now)) (scope_view scope.now) (sexp_of term.now)
+            ≡ Ok sort.now }
+        ensures fault { MatchResult result
+            (λ _. fault_of_labels (names_for self.now (labels_view labels.old)) (scope_view scope.now)
+            (sexp_of term.now) (label_of_tree (sexp_of tree.now) (sexps_of rest.now)) ≡ None)
+            (λ fault. (fault ≡ Memory)
+            ⊎ (fault_of_labels (names_for self.now (labels_view labels.old)) (scope_view scope.now)
+            (sexp_of term.now) (label_of_tree (sexp_of tree.now) (sexps_of rest.now)) ≡ Some fault)) }
+        ensures labels { OnOk result
+            (AreGiven (names_of_library self.now) labels.old labels.new
+            (map (λ x. (x, sexp_of term.now)) (label_of_tree (sexp_of tree.now) (sexps_of rest.now)))) }
     {
         match label_at(tree, rest) {
             Some(name) => self.give_label(scope, labels, term, sort, name),
@@ -149,10 +188,16 @@ impl Library {
         sort: &Sort,
         name: &[u8],
     ) -> Result<(), TermFault>
-        requires { sort_in (unlabelled (names_of_library self.now)) (scope_view scope.now) (sexp_of term.now) ≡ Ok sort.now }
-        ensures fault { MatchResult result (λ _. fault_of_label (names_for self.now (labels_view labels.old)) (labels_view labels.old) (scope_view scope.now) (sexp_of term.now) name.now ≡ None)
-            (λ fault. (fault ≡ Memory) ⊎ (fault_of_label (names_for self.now (labels_view labels.old)) (labels_view labels.old) (scope_view scope.now) (sexp_of term.now) name.now ≡ Some fault)) }
-        ensures labels { OnOk result (AreGiven (names_of_library self.now) labels.old labels.new ((name.now, sexp_of term.now) ∷ [])) }
+        requires { sort_in (unlabelled (names_of_library self.now)) (scope_view scope.now) (sexp_of term.now)
+            ≡ Ok sort.now }
+        ensures fault { MatchResult result
+            (λ _. fault_of_label (names_for self.now (labels_view labels.old)) (labels_view labels.old)
+            (scope_view scope.now) (sexp_of term.now) name.now ≡ None)
+            (λ fault. (fault ≡ Memory)
+            ⊎ (fault_of_label (names_for self.now (labels_view labels.old)) (labels_view labels.old)
+            (scope_view scope.now) (sexp_of term.now) name.now ≡ Some fault)) }
+        ensures labels { OnOk result
+            (AreGiven (names_of_library self.now) labels.old labels.new ((name.now, sexp_of term.now) ∷ [])) }
     {
         if labels.are_refused() {
             return Err(TermFault::Label);
@@ -168,7 +213,8 @@ impl Library {
 
     // Whether a name is taken, or that of a label that was given.
     fn is_in_use(&self, labels: &Labels, name: &[u8]) -> bool
-        ensures { result ≡ is_taken (names_of_library self.now) name.now || is_among (given_names labels.now) name.now }
+        ensures { result ≡ is_taken (names_of_library self.now) name.now
+            || is_among (given_names labels.now) name.now }
     {
         self.is_taken(name) || labels.is_given(name)
     }

@@ -23,7 +23,10 @@ use crate::library::{Entry, Library};
 use crate::sorts;
 use smallvec::SmallVec;
 use smt_faults::TermFault;
-use smt_forms::{Identifier, Variable, applied_identifier, find_variable, indexed_identifier, is_bang, is_let, is_underscore};
+use smt_forms::{
+    Identifier, Variable, applied_identifier, find_variable, indexed_identifier, is_bang, is_let,
+    is_underscore,
+};
 use smt_theory::{Op, OpFault, Sort, Width, op_of, rank};
 use smt_trees::{Tree, Trees, split_first};
 
@@ -31,7 +34,8 @@ use smt_trees::{Tree, Trees, split_first};
 const FEW: usize = 4;
 
 impl Library {
-    /// The sort of a term over these names and the variables that it sees, the innermost first, or its first fault.
+    /// The sort of a term over these names and the variables that it sees, the innermost first, or its first
+    /// fault.
     #[cycle(check)]
     #[inline(always)]
     pub(crate) fn sort_of<'a>(
@@ -40,9 +44,14 @@ impl Library {
         labels: &mut Labels,
         term: &'a Tree,
     ) -> Result<Sort, TermFault>
-        ensures sort { MatchResult result (λ sort. sort_in (names_for self.now (labels_view labels.old)) (scope_view scope.now) (sexp_of term.now) ≡ Ok sort)
-            (λ fault. (fault ≡ Memory) ⊎ (sort_in (names_for self.now (labels_view labels.old)) (scope_view scope.now) (sexp_of term.now) ≡ Err fault)) }
-        ensures labels { OnOk result (AreGiven (names_of_library self.now) labels.old labels.new (labels_in (sexp_of term.now))) }
+        ensures sort { MatchResult result
+            (λ sort. sort_in (names_for self.now (labels_view labels.old)) (scope_view scope.now)
+            (sexp_of term.now) ≡ Ok sort)
+            (λ fault. (fault ≡ Memory)
+            ⊎ (sort_in (names_for self.now (labels_view labels.old)) (scope_view scope.now)
+            (sexp_of term.now) ≡ Err fault)) }
+        ensures labels { OnOk result
+            (AreGiven (names_of_library self.now) labels.old labels.new (labels_in (sexp_of term.now))) }
     {
         match term {
             Tree::Symbol(name) => self.sort_of_symbol(scope, name.as_slice()),
@@ -58,9 +67,14 @@ impl Library {
         labels: &mut Labels,
         term: &'a Tree,
     ) -> Result<Sort, TermFault>
-        ensures sort { MatchResult result (λ sort. sort_in (names_for self.now (labels_view labels.old)) (scope_view scope.now) (sexp_of term.now) ≡ Ok sort)
-            (λ fault. (fault ≡ Memory) ⊎ (sort_in (names_for self.now (labels_view labels.old)) (scope_view scope.now) (sexp_of term.now) ≡ Err fault)) }
-        ensures labels { OnOk result (AreGiven (names_of_library self.now) labels.old labels.new (labels_in (sexp_of term.now))) }
+        ensures sort { MatchResult result
+            (λ sort. sort_in (names_for self.now (labels_view labels.old)) (scope_view scope.now)
+            (sexp_of term.now) ≡ Ok sort)
+            (λ fault. (fault ≡ Memory)
+            ⊎ (sort_in (names_for self.now (labels_view labels.old)) (scope_view scope.now)
+            (sexp_of term.now) ≡ Err fault)) }
+        ensures labels { OnOk result
+            (AreGiven (names_of_library self.now) labels.old labels.new (labels_in (sexp_of term.now))) }
     {
         match term {
             Tree::Symbol(name) => self.sort_of_symbol(scope, name.as_slice()),
@@ -85,7 +99,8 @@ impl Library {
 
     // The sort of digits that stand for so many bits each.
     fn sort_of_digits(&self, bits: u64, digits: &[u8]) -> Result<Sort, TermFault>
-        ensures { result ≡ bit_vectors (names_of_library self.now).theories (width_of (bits * length digits.now)) }
+        ensures { result ≡ bit_vectors (names_of_library self.now).theories
+            (width_of (bits * length digits.now)) }
     {
         sorts::bit_vectors(self.sorts.theories, width_of_digits(bits, digits))
     }
@@ -98,9 +113,14 @@ impl Library {
         labels: &mut Labels,
         parts: &'a Trees,
     ) -> Result<Sort, TermFault>
-        ensures sort { MatchResult result (λ sort. sort_in (names_for self.now (labels_view labels.old)) (scope_view scope.now) (Items parts.now) ≡ Ok sort)
-            (λ fault. (fault ≡ Memory) ⊎ (sort_in (names_for self.now (labels_view labels.old)) (scope_view scope.now) (Items parts.now) ≡ Err fault)) }
-        ensures labels { OnOk result (AreGiven (names_of_library self.now) labels.old labels.new (labels_in (Items parts.now))) }
+        ensures sort { MatchResult result
+            (λ sort. sort_in (names_for self.now (labels_view labels.old)) (scope_view scope.now)
+            (Items parts.now) ≡ Ok sort)
+            (λ fault. (fault ≡ Memory)
+            ⊎ (sort_in (names_for self.now (labels_view labels.old)) (scope_view scope.now)
+            (Items parts.now) ≡ Err fault)) }
+        ensures labels { OnOk result
+            (AreGiven (names_of_library self.now) labels.old labels.new (labels_in (Items parts.now))) }
     {
         let Some((head, args)) = split_first(parts.as_slice()) else {
             return Err(TermFault::Form);
@@ -128,9 +148,15 @@ impl Library {
         labels: &mut Labels,
         terms: &'a [Tree],
     ) -> Result<SmallVec<Sort, FEW>, TermFault>
-        ensures sorts { MatchResult result (λ sorts. sorts_in (names_for self.now (labels_view labels.old)) (scope_view scope.now) (sexps_of terms.now) ≡ Ok sorts.items)
-            (λ fault. (fault ≡ Memory) ⊎ (sorts_in (names_for self.now (labels_view labels.old)) (scope_view scope.now) (sexps_of terms.now) ≡ Err fault)) }
-        ensures labels { OnOk result (AreGiven (names_of_library self.now) labels.old labels.new (labels_in_all (sexps_of terms.now))) }
+        ensures sorts { MatchResult result
+            (λ sorts. sorts_in (names_for self.now (labels_view labels.old)) (scope_view scope.now)
+            (sexps_of terms.now) ≡ Ok sorts.items)
+            (λ fault. (fault ≡ Memory)
+            ⊎ (sorts_in (names_for self.now (labels_view labels.old)) (scope_view scope.now)
+            (sexps_of terms.now) ≡ Err fault)) }
+        ensures labels { OnOk result
+            (AreGiven (names_of_library self.now) labels.old labels.new
+            (labels_in_all (sexps_of terms.now))) }
     {
         let mut sorts = SmallVec::new(self.alloc);
         sorts.reserve(terms.len())?;
@@ -145,7 +171,8 @@ impl Library {
     // The sort of a symbol alone: that of a variable, or else of a name or an operator without arguments.
     #[inline(always)]
     fn sort_of_symbol(&self, scope: &[Variable<'_, Sort>], name: &[u8]) -> Result<Sort, TermFault>
-        ensures { result ≡ checking.sort_of_symbol (names_of_library self.now) name.now (look_up (scope_view scope.now) name.now) }
+        ensures { result ≡ checking.sort_of_symbol (names_of_library self.now) name.now
+            (look_up (scope_view scope.now) name.now) }
     {
         match find_variable(scope, name) {
             Some(sort) => Ok(sort),
@@ -153,7 +180,8 @@ impl Library {
         }
     }
 
-    // The sort of an identifier applied to arguments of these sorts, where it may be a variable, which takes none.
+    // The sort of an identifier applied to arguments of these sorts, where it may be a variable, which takes
+    // none.
     #[inline(always)]
     fn sort_of_call(
         &self,
@@ -161,7 +189,8 @@ impl Library {
         identifier: &Identifier<'_>,
         args: &[Sort],
     ) -> Result<Sort, TermFault>
-        ensures { result ≡ checking.sort_of_call (names_of_library self.now) (scope_view scope.now) (identifier_view identifier.now) args.now }
+        ensures { result ≡ checking.sort_of_call (names_of_library self.now) (scope_view scope.now)
+            (identifier_view identifier.now) args.now }
     {
         if is_variable(scope, identifier) {
             return Err(TermFault::IllSorted);
@@ -172,7 +201,8 @@ impl Library {
     // The sort of an identifier applied to arguments of these sorts.
     #[inline(always)]
     fn sort_applied(&self, identifier: &Identifier<'_>, args: &[Sort]) -> Result<Sort, TermFault>
-        ensures { result ≡ checking.sort_applied (names_of_library self.now) (identifier_view identifier.now) args.now }
+        ensures { result ≡ checking.sort_applied (names_of_library self.now)
+            (identifier_view identifier.now) args.now }
     {
         match identifier {
             Identifier::Plain(name) => self.sort_of_plain(*name, args),
@@ -196,7 +226,8 @@ impl Library {
 
 // The sort of a name in force applied to arguments of these sorts.
 fn sort_of_entry(entry: &Entry, args: &[Sort]) -> Result<Sort, TermFault>
-    ensures { result ≡ sort_of_name (record { parameters = entry.now.parameters.items; sort = entry.now.sort }) args.now }
+    ensures { result ≡ sort_of_name
+        (record { parameters = entry.now.parameters.items; sort = entry.now.sort }) args.now }
 {
     if are_same(entry.parameters.as_slice(), args) {
         Ok(entry.sort)

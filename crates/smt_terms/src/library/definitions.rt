@@ -24,13 +24,14 @@ use smt_theory::Sort;
 use smt_trees::Tree;
 
 impl Library {
-    /// Defines a name (SMT-LIB 2.6, section 4.2.3) by its parameters, the tree of its sort, and its body, which sees the earlier names
-    /// and the parameters, and not the name itself.
+    /// Defines a name (SMT-LIB 2.6, section 4.2.3) by its parameters, the tree of its sort, and its body,
+    /// which sees the earlier names and the parameters, and not the name itself.
     ///
-    /// Refused are, in this order: a name that is in use or is a plain operator's (`NotFresh`); of each parameter a tree that names no
-    /// sort, with its fault, and then a name that an earlier parameter has (`BoundTwice`); for the result a tree that names no sort,
-    /// with its fault; a body with a fault, with the first; a body of another sort (`IllSorted`). Then, and where memory is refused
-    /// (`Memory`), no name is added; a term that nothing names may be.
+    /// Refused are, in this order: a name that is in use or is a plain operator's (`NotFresh`); of each
+    /// parameter a tree that names no sort, with its fault, and then a name that an earlier parameter has
+    /// (`BoundTwice`); for the result a tree that names no sort, with its fault; a body with a fault, with
+    /// the first; a body of another sort (`IllSorted`). Then, and where memory is refused (`Memory`), no name
+    /// is added; a term that nothing names may be.
     #[tactic(auto, using(crate::proofs::ContentsLemmas::extends_itself))]
     pub fn define(
         &mut self,
@@ -40,9 +41,12 @@ impl Library {
         body: &Tree,
     ) -> Result<(), TermFault>
         ensures defined { OnOk result ((s : Signature) → StandsFor self.old s → (e : signature.Entry)
-            × (defined_in s name.now (map param_view params.now) (sexp_of sort.now) (sexp_of body.now) ≡ Ok e) × StandsFor self.new (with_entry s e)) }
+            × (defined_in s name.now (map param_view params.now) (sexp_of sort.now) (sexp_of body.now) ≡ Ok e)
+            × StandsFor self.new (with_entry s e)) }
         ensures refused { IfErr result (λ fault. (s : Signature) → StandsFor self.old s
-            → (fault ≡ OutOfMemory) ⊎ (defined_in s name.now (map param_view params.now) (sexp_of sort.now) (sexp_of body.now) ≡ Err fault)) }
+            → (fault ≡ OutOfMemory) ⊎
+            (defined_in s name.now (map param_view params.now) (sexp_of sort.now) (sexp_of body.now)
+            ≡ Err fault)) }
         ensures unchanged { OnErr result ((s : Signature) → StandsFor self.old s → StandsFor self.new s) }
         ensures grown { Extends (contents_of self.old) (contents_of self.new) }
     {
@@ -54,8 +58,8 @@ impl Library {
         self.add_definition(name, parameters.as_slice(), sort, body)
     }
 
-    // Adds the definition of a new name with these parameters, where its body has this sort over the names and the parameters, or
-    // changes no name.
+    // Adds the definition of a new name with these parameters, where its body has this sort over the names
+    // and the parameters, or changes no name.
     #[tactic(auto, using(crate::proofs::ContentsLemmas::extends_itself))]
     pub(super) fn add_definition(
         &mut self,
@@ -66,9 +70,12 @@ impl Library {
     ) -> Result<(), TermFault>
         requires { look_up (names_of_library self.old).ranks name.now ≡ None }
         ensures added { OnOk result ((s : Signature) → StandsFor self.old s → (e : signature.Entry)
-            × (definition_in (names_of s) name.now (scope_view parameters.now) sort (sexp_of body.now) ≡ Ok e) × StandsFor self.new (with_entry s e)) }
+            × (definition_in (names_of s) name.now (scope_view parameters.now) sort (sexp_of body.now) ≡ Ok e)
+            × StandsFor self.new (with_entry s e)) }
         ensures refused { IfErr result (λ fault. (s : Signature) → StandsFor self.old s
-            → (fault ≡ OutOfMemory) ⊎ (definition_in (names_of s) name.now (scope_view parameters.now) sort (sexp_of body.now) ≡ Err fault)) }
+            → (fault ≡ OutOfMemory) ⊎
+            (definition_in (names_of s) name.now (scope_view parameters.now) sort (sexp_of body.now)
+            ≡ Err fault)) }
         ensures unchanged { OnErr result ((s : Signature) → StandsFor self.old s → StandsFor self.new s) }
         ensures grown { Extends (contents_of self.old) (contents_of self.new) }
         ensures sorts { self.new.sorts ≡ self.old.sorts }
@@ -91,9 +98,14 @@ impl Library {
         body: TermId,
     ) -> Result<(), Memory>
         requires { look_up (names_of_library self.old).ranks name.now ≡ None }
-        ensures added { OnOk result ((s : Signature) (t : Sexp) → StandsFor self.old s → IsTerm self.old body t
+        ensures added { OnOk result
+            ((s : Signature) (t : Sexp) → StandsFor self.old s → IsTerm self.old body t
             → StandsFor self.new (with_entry s (definition name.now (scope_view parameters.now) sort t))) }
-        ensures ranks { OnOk result (ranks_of_library self.new ≡ ranks_of_library self.old ++ (name.now, record { parameters = map (λ p. p.1) (scope_view parameters.now); sort = sort }) ∷ []) }
+        ensures ranks { OnOk result
+            (ranks_of_library self.new
+            ≡ ranks_of_library self.old
+            ++ (name.now, record { parameters = map (λ p. p.1) (scope_view parameters.now); sort = sort })
+            ∷ []) }
         ensures unchanged { OnErr result ((s : Signature) → StandsFor self.old s → StandsFor self.new s) }
         ensures grown { Extends (contents_of self.old) (contents_of self.new) }
         ensures sorts { self.new.sorts ≡ self.old.sorts }

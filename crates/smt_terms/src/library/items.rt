@@ -1,6 +1,7 @@
 //! Items of models.
 
-ghost use Rattle.std.specs.Prelude.{◌≡◌, ◌⊎◌, ◌&&◌, map, not, is_some, option_map, None, Some, Ok, Err, MatchResult, OnOk, OnErr, IfErr, IfOk};
+ghost use Rattle.std.specs.Prelude.{◌≡◌, ◌⊎◌, ◌&&◌, map, not, is_some, option_map, None, Some, Ok, Err};
+ghost use Rattle.std.specs.Prelude.{MatchResult, OnOk, OnErr, IfErr, IfOk};
 ghost use Rattle.smt_trees.specs.Sexp.{Sexp};
 ghost use Rattle.smt_trees.specs.Tree.{sexp_of, sexps_of};
 ghost use Rattle.smt_theory.specs.Ranks.{are_exactly};
@@ -12,7 +13,8 @@ ghost use Rattle.smt_terms.specs.Items.{declared_named, has_rank_of, item_in, na
 ghost use Rattle.smt_terms.specs.Library.{HasTheoriesOf, IsTerm, StandsFor};
 ghost use Rattle.smt_forms.specs.ScopeView.{scope_view};
 ghost use Rattle.smt_terms.specs.Signature as signature;
-ghost use Rattle.smt_terms.specs.Signature.{Signature, is_taken, names_of, no_names, rank_of_entry, with_entry};
+ghost use Rattle.smt_terms.specs.Signature.{Signature, is_taken, names_of, no_names, rank_of_entry};
+ghost use Rattle.smt_terms.specs.Signature.{with_entry};
 ghost use Rattle.smt_terms.specs.SortTrees.{sort_named};
 ghost use Rattle.smt_faults.specs.declared.term_fault.TermFault.TheVariants.{Memory as OutOfMemory};
 
@@ -25,29 +27,35 @@ use smt_theory::Sort;
 use smt_trees::Tree;
 
 impl Library {
-    /// A library for the items of a model of these names (SMT-LIB 2.6, section 4.2.6): of the same theories, and without names.
+    /// A library for the items of a model of these names (SMT-LIB 2.6, section 4.2.6): of the same theories,
+    /// and without names.
     pub fn for_model(&self) -> Result<Library, Memory>
-        ensures names { IfOk result (λ library. (s : Signature) → StandsFor self.now s → StandsFor library (no_names s.theories)) }
+        ensures names { IfOk result
+            (λ library. (s : Signature) → StandsFor self.now s → StandsFor library (no_names s.theories)) }
         ensures theories { IfOk result (λ library. HasTheoriesOf library self.now) }
     {
         Ok(Library::new(self.alloc, self.sorts.theories))
     }
 
-    /// Adds what an item of a model of the script's names defines (SMT-LIB 2.6, section 4.2.6), behind the items that were added
-    /// before. Its body sees these and the theories, and no name of the script; its sorts may be abbreviations of the script.
+    /// Adds what an item of a model of the script's names defines (SMT-LIB 2.6, section 4.2.6), behind the
+    /// items that were added before. Its body sees these and the theories, and no name of the script; its
+    /// sorts may be abbreviations of the script.
     ///
-    /// Refused are, in this order: an item out of form (`Form`), or a recursive one (`Unsupported`); a name that an earlier item has
-    /// (`BoundTwice`); one that the script does not declare and that is in use or a plain operator's (`NotFresh`); of each
-    /// parameter a tree that names no sort, with its fault, and then a name that an earlier parameter has (`BoundTwice`); for the result
-    /// a tree that names no sort, with its fault; another rank than the declared one (`IllSorted`); a body with a fault over the earlier
-    /// items and the parameters, with the first (any label is one); a body of another sort (`IllSorted`). Then, and where memory is refused (`Memory`), no
-    /// name is added; a term that nothing names may be.
+    /// Refused are, in this order: an item out of form (`Form`), or a recursive one (`Unsupported`); a name
+    /// that an earlier item has (`BoundTwice`); one that the script does not declare and that is in use or a
+    /// plain operator's (`NotFresh`); of each parameter a tree that names no sort, with its fault, and then a
+    /// name that an earlier parameter has (`BoundTwice`); for the result a tree that names no sort, with its
+    /// fault; another rank than the declared one (`IllSorted`); a body with a fault over the earlier items
+    /// and the parameters, with the first (any label is one); a body of another sort (`IllSorted`). Then, and
+    /// where memory is refused (`Memory`), no name is added; a term that nothing names may be.
     #[tactic(auto, using(crate::proofs::ContentsLemmas::extends_itself))]
     pub fn define_item(&mut self, script: &Library, item: &Tree) -> Result<(), TermFault>
         requires { HasTheoriesOf self.old script.now }
         ensures defined { OnOk result ((s m : Signature) → StandsFor script.now s → StandsFor self.old m
-            → (e : signature.Entry) × (item_in s m.entries (sexp_of item.now) ≡ Ok e) × StandsFor self.new (with_entry m e)) }
-        ensures refused { IfErr result (λ fault. (s m : Signature) → StandsFor script.now s → StandsFor self.old m
+            → (e : signature.Entry) × (item_in s m.entries (sexp_of item.now) ≡ Ok e)
+            × StandsFor self.new (with_entry m e)) }
+        ensures refused { IfErr result
+            (λ fault. (s m : Signature) → StandsFor script.now s → StandsFor self.old m
             → (fault ≡ OutOfMemory) ⊎ (item_in s m.entries (sexp_of item.now) ≡ Err fault)) }
         ensures unchanged { OnErr result ((m : Signature) → StandsFor self.old m → StandsFor self.new m) }
         ensures grown { Extends (contents_of self.old) (contents_of self.new) }
@@ -72,7 +80,8 @@ impl Library {
         sort: Sort,
     ) -> Result<bool, Memory>
         ensures { IfOk result (λ kept. (s : Signature) → StandsFor script.now s
-            → kept ≡ has_rank_of (declared_named s.entries name.now) (map (λ p. p.1) (scope_view parameters.now)) sort) }
+            → kept ≡ has_rank_of (declared_named s.entries name.now)
+            (map (λ p. p.1) (scope_view parameters.now)) sort) }
     {
         let sorts = sorts_of_variables(self.alloc, parameters)?;
         Ok(script.keeps_rank(name, sorts.as_slice(), sort))
@@ -81,7 +90,8 @@ impl Library {
     // Refuses a name that an earlier item has, and one that the script does not declare and that is taken.
     fn check_name(&self, script: &Library, name: &[u8]) -> Result<(), TermFault>
         ensures fault { (s m : Signature) → StandsFor script.now s → StandsFor self.now m
-            → MatchResult result (λ _. name_fault s m.entries name.now ≡ None) (λ fault. name_fault s m.entries name.now ≡ Some fault) }
+            → MatchResult result (λ _. name_fault s m.entries name.now ≡ None)
+            (λ fault. name_fault s m.entries name.now ≡ Some fault) }
         ensures absent { OnOk result (look_up (names_of_library self.now).ranks name.now ≡ None) }
     {
         if self.is_in_force(name) {
@@ -95,20 +105,24 @@ impl Library {
 
     // Whether no item may have this name: it is taken, and not declared.
     fn is_unfit(&self, name: &[u8]) -> bool
-        ensures { (s : Signature) → StandsFor self.now s → result ≡ not (is_some (declared_named s.entries name.now)) && is_taken (names_of s) name.now }
+        ensures { (s : Signature) → StandsFor self.now s
+            → result ≡ not (is_some (declared_named s.entries name.now)) && is_taken (names_of s) name.now }
     {
         !self.is_declared(name) && self.is_taken(name)
     }
 
     fn is_declared(&self, name: &[u8]) -> bool
-        ensures { (s : Signature) → StandsFor self.now s → result ≡ is_some (declared_named s.entries name.now) }
+        ensures { (s : Signature) → StandsFor self.now s
+            → result ≡ is_some (declared_named s.entries name.now) }
     {
         self.get_declared(name).is_some()
     }
 
     // What a name stands for, if a command declared it.
     fn get_declared(&self, name: &[u8]) -> Option<&Entry>
-        ensures { (s : Signature) → StandsFor self.now s → option_map (λ e. rank_of e.now) result ≡ option_map rank_of_entry (declared_named s.entries name.now) }
+        ensures { (s : Signature) → StandsFor self.now s
+            → option_map (λ e. rank_of e.now) result
+            ≡ option_map rank_of_entry (declared_named s.entries name.now) }
     {
         let Some(entry) = self.get(name) else {
             return None;
@@ -121,7 +135,8 @@ impl Library {
 
     // Whether the name is declared with this rank, if it is declared.
     fn keeps_rank(&self, name: &[u8], parameters: &[Sort], sort: Sort) -> bool
-        ensures { (s : Signature) → StandsFor self.now s → result ≡ has_rank_of (declared_named s.entries name.now) parameters.now sort }
+        ensures { (s : Signature) → StandsFor self.now s
+            → result ≡ has_rank_of (declared_named s.entries name.now) parameters.now sort }
     {
         match self.get_declared(name) {
             Some(entry) => has_rank(entry, parameters, sort),
@@ -132,7 +147,8 @@ impl Library {
 
 // Whether a name stands for a function of this rank.
 fn has_rank(entry: &Entry, parameters: &[Sort], sort: Sort) -> bool
-    ensures { result ≡ are_exactly entry.now.parameters.items parameters.now && is_same_sort entry.now.sort sort }
+    ensures { result ≡ are_exactly entry.now.parameters.items parameters.now
+        && is_same_sort entry.now.sort sort }
 {
     are_same(entry.parameters.as_slice(), parameters) && are_equal(entry.sort, sort)
 }

@@ -6,7 +6,8 @@ ghost use Rattle.smt_terms.specs.Contents.{IsBelow, IsWithin, contents_of, first
 
 use crate::library::Library;
 
-/// How many names, declarations, definitions (labels are definitions), abbreviations and terms a library held.
+/// How many names, declarations, definitions (labels are definitions), abbreviations and terms a library
+/// held.
 #[derive(Clone, Copy, Debug, PartialEq, Eq)]
 pub struct Mark {
     pub(crate) names: usize,
@@ -32,7 +33,8 @@ impl Library {
         }
     }
 
-    /// Leaves the first so many names, declarations, definitions, abbreviations and terms as a mark counts, at the cost of what goes.
+    /// Leaves the first so many names, declarations, definitions, abbreviations and terms as a mark counts,
+    /// at the cost of what goes.
     pub fn cut(&mut self, mark: Mark)
         ensures { contents_of self.new ≡ first_of mark (contents_of self.old) }
     {

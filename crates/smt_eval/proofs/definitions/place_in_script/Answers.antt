@@ -9,10 +9,16 @@ prove-unreachable-requires c =
     let e = c.requires.1 in
     let f = c.in-Some.ensures e.script e.structure.names in
     let within = slice_get_within (defined_among e.script.entries) c.in-Some.place f.0 f.1 in
-    let counted = ap (λ ds. length ds) c.definitions-scripts.ensures.view ∙ definitions_counted c.args.over.script.now e.script e.structure.names in
+    let counted =
+    ap (λ ds. length ds) c.definitions-scripts.ensures.view ∙ definitions_counted c.args.over.script.now
+    e.script e.structure.names in
     omega (arith, within, counted, c.if-prove.true)
 
 pub returns-in-Some : goal.returns-in-Some
 returns-in-Some c = λ d e.
-    let f = c.in-Some.ensures e.script e.structure.names in
-    (f.0, of_script c.args.over d e _ c.in-Some.place f.0 (ap (λ ds. length ds + c.in-Some.place) c.definitions.ensures.view) f.1, f.2)
+    let f = c.in-Some.ensures e.script e.structure.names in (
+      f.0,
+      of_script c.args.over d e _ c.in-Some.place f.0
+          (ap (λ ds. length ds + c.in-Some.place) c.definitions.ensures.view) f.1,
+      f.2,
+    )

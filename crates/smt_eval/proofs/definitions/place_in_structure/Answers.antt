@@ -12,12 +12,16 @@ returns-in-Some c = λ d e.
     (f.0, of_model c.args.over d e c.in-Some.place f.0 f.1, f.2)
 
 -- what is found in the script, where the model has no definition of the name
-found_in_script : (over : Definitions) (d : Signature) (e : Evaluates over d) (x : List ℕ) (r : Option ℕ) → entry_named (defined_among e.definitions.entries) x ≡ None
-    → MatchOption r (entry_named (defined_among e.script.entries) x ≡ None) (λ place. (f : Entry) × (slice_get d.entries place ≡ Some f) × (f.name ≡ x))
-    → MatchOption r (entry_named d.entries x ≡ None) (λ place. (f : Entry) × (slice_get d.entries place ≡ Some f) × (f.name ≡ x))
+found_in_script : (over : Definitions) (d : Signature) (e : Evaluates over d) (x : List ℕ) (r : Option ℕ)
+    → entry_named (defined_among e.definitions.entries) x ≡ None
+    → MatchOption r (entry_named (defined_among e.script.entries) x ≡ None)
+    (λ place. (f : Entry) × (slice_get d.entries place ≡ Some f) × (f.name ≡ x))
+    → MatchOption r (entry_named d.entries x ≡ None)
+    (λ place. (f : Entry) × (slice_get d.entries place ≡ Some f) × (f.name ≡ x))
 found_in_script over d e x None other h = of_neither over d e x other h
 found_in_script over d e x (Some place) other h = h
 
 pub returns-in-None : goal.returns-in-None
 returns-in-None c = λ d e.
-    found_in_script c.args.over d e c.args.name.now c.place_in_script.result (c.in-None.ensures e.definitions e.structure.stands) (c.place_in_script.ensures d e)
+    found_in_script c.args.over d e c.args.name.now c.place_in_script.result
+    (c.in-None.ensures e.definitions e.structure.stands) (c.place_in_script.ensures d e)

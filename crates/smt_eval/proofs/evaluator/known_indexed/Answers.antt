@@ -12,5 +12,8 @@ pub returns-in-Ok : goal.returns-in-Ok
 returns-in-Ok c = λ d e.
     let f = identifier_view c.in-Ok.identifier in
     c.known_of_operator.ensures
-    ∙ ap (λ o. known_of_op o []) (c.operator.ensures ∙ ap (λ t. operator_of t f) (c.theories.ensures e.definitions e.structure.stands ∙ theories_are c.args.over d e))
-    ∙ sym (indexed_means d f (sexps_of c.args.parts.now) c.args.over.count c.in-Ok.ensures) ∙ sym (ap (λ o. known_by o (λ g. meaning_over c.args.over d g [])) c.in-Ok.ensures)
+    ∙ ap (λ o. known_of_op o [])
+    (c.operator.ensures ∙ ap (λ t. operator_of t f)
+    (c.theories.ensures e.definitions e.structure.stands ∙ theories_are c.args.over d e))
+    ∙ sym (indexed_means d f (sexps_of c.args.parts.now) c.args.over.count c.in-Ok.ensures) ∙ sym
+    (ap (λ o. known_by o (λ g. meaning_over c.args.over d g [])) c.in-Ok.ensures)

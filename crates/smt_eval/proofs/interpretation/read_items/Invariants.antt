@@ -11,5 +11,7 @@ abbrev pub invariant-loop-index : goal.invariant-loop-index
 invariant-loop-index l = record {
   theories : HasTheoriesOf l.definitions l.declared;
   items : (s : Signature) → StandsFor l.declared s
-      → (es : List Entry) × StandsFor l.definitions (items_before s es) × (items_from s [] 1 (sexps_of l.items) ≡ items_from s es (l.index + 1) (sexps_of (drop l.index l.items)));
+      → (es : List Entry) × StandsFor l.definitions (items_before s es)
+      × (items_from s [] 1 (sexps_of l.items)
+      ≡ items_from s es (l.index + 1) (sexps_of (drop l.index l.items)));
 }

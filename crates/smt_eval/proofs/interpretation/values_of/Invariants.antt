@@ -10,5 +10,6 @@ use Rattle.smt_eval.proofs.interpretation.values_of.Given as goal
 abbrev pub invariant-loop-place : goal.invariant-loop-place
 invariant-loop-place l = record {
   counted : length l.values.items ≡ l.place;
-  valued : (s d : Signature) → HaveStructure l.declared l.definitions s d → known_elements l.values.items ≡ definition_values (first l.place (structure_of s d));
+  valued : (s d : Signature) → HaveStructure l.declared l.definitions s d
+      → known_elements l.values.items ≡ definition_values (first l.place (structure_of s d));
 }

@@ -1,4 +1,5 @@
-use Rattle.std.proofs.Common.{◌+◌, [], ◌∷◌, ◌++◌, drop, map, refl, ap, sym, ◌∙◌, append_assoc, append-nil, arith}
+use Rattle.std.proofs.Common.{◌+◌, [], ◌∷◌, ◌++◌, drop, map, refl, ap, sym, ◌∙◌, append_assoc, append-nil}
+use Rattle.std.proofs.Common.{arith}
 use Rattle.std.specs.List.{zip}
 use Rattle.smt_values.specs.Element.{known_element, known_elements}
 use Rattle.smt_eval.specs.Internal.Evaluation.{known_scope}
@@ -12,13 +13,24 @@ pub loop-place-preserved : goal.loop-place-preserved
 loop-place-preserved c =
     let n = c.loop-place.place in
     let before = known_scope c.loop-place.variables.items in
-    let rest = zip (map (λ p. p.0.items) (drop (n + 1) c.args.params.now)) (known_elements (drop (n + 1) c.args.args.now)) in
+    let rest =
+    zip (map (λ p. p.0.items) (drop (n + 1) c.args.params.now))
+    (known_elements (drop (n + 1) c.args.args.now)) in
     c.loop-place.invariant
-    ∙ ap (λ xs. before ++ xs) (zip_on (λ p. p.0.items) known_element c.args.params.now c.args.args.now n c.index-params-place.result c.index-args-place.result (omega (arith, c.loop-place-test.true, c.min-place-end.ensures)) (omega (arith, c.loop-place-test.true, c.min-place-end.ensures)) c.index-params-place.is c.index-args-place.is)
-    ∙ ap (λ x. before ++ (x, known_element c.index-args-place.result) ∷ rest) (ap (λ q. q.0.items) c.index-params-place.is ∙ sym c.as_slice.ensures.value)
-    ∙ sym (ap (λ xs. xs ++ rest) c.in_ok-push_variable.ensures ∙ append_assoc before ((c.as_slice.result.now, known_element c.index-args-place.result) ∷ []) rest)
+    ∙ ap (λ xs. before ++ xs)
+    (zip_on (λ p. p.0.items) known_element c.args.params.now c.args.args.now n c.index-params-place.result
+    c.index-args-place.result (omega (arith, c.loop-place-test.true, c.min-place-end.ensures))
+    (omega (arith, c.loop-place-test.true, c.min-place-end.ensures)) c.index-params-place.is
+    c.index-args-place.is)
+    ∙ ap (λ x. before ++ (x, known_element c.index-args-place.result) ∷ rest)
+    (ap (λ q. q.0.items) c.index-params-place.is ∙ sym c.as_slice.ensures.value)
+    ∙ sym (ap (λ xs. xs ++ rest) c.in_ok-push_variable.ensures ∙ append_assoc before
+    ((c.as_slice.result.now, known_element c.index-args-place.result) ∷ []) rest)
 
 pub returns : goal.returns
 returns c =
     let n = c.loop-place.place in
-    sym (c.loop-place.invariant ∙ ap (λ xs. known_scope c.loop-place.variables.items ++ xs) (zip_done (λ p. p.0.items) known_element c.args.params.now c.args.args.now n (omega (arith, c.loop-place-test.false, c.min-place-end.ensures))) ∙ append-nil (known_scope c.loop-place.variables.items))
+    sym (c.loop-place.invariant ∙ ap (λ xs. known_scope c.loop-place.variables.items ++ xs)
+    (zip_done (λ p. p.0.items) known_element c.args.params.now c.args.args.now n
+    (omega (arith, c.loop-place-test.false, c.min-place-end.ensures))) ∙ append-nil
+    (known_scope c.loop-place.variables.items))

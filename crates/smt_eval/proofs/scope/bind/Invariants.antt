@@ -7,4 +7,6 @@ use Rattle.smt_eval.proofs.scope.bind.Given as goal
 
 abbrev pub invariant-loop-place : goal.invariant-loop-place
 invariant-loop-place l =
-    zip (map (λ p. p.0.items) l.params) (known_elements l.args) ≡ known_scope l.variables.items ++ zip (map (λ p. p.0.items) (drop l.place l.params)) (known_elements (drop l.place l.args))
+    zip (map (λ p. p.0.items) l.params) (known_elements l.args)
+    ≡ known_scope l.variables.items
+    ++ zip (map (λ p. p.0.items) (drop l.place l.params)) (known_elements (drop l.place l.args))

@@ -7,7 +7,8 @@ use Rattle.smt_forms.proofs.IdentifierLemmas.{indexes_behind}
 use Rattle.smt_forms.proofs.identifier.indexes_of.Given as goal
 
 abbrev pub invariant-loop-tree : goal.invariant-loop-tree
-invariant-loop-tree l = all_indexes (sexps_of l.trees) ≡ indexes_behind (map index_view l.indexes.items) (sexps_of l.left)
+invariant-loop-tree l =
+    all_indexes (sexps_of l.trees) ≡ indexes_behind (map index_view l.indexes.items) (sexps_of l.left)
 
 abbrev pub decreases-loop-tree : goal.decreases-loop-tree
 decreases-loop-tree l = weight_all (sexps_of l.left)

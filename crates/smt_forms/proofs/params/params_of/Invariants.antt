@@ -6,7 +6,8 @@ use Rattle.smt_forms.specs.ParamView.{param_view}
 use Rattle.smt_forms.proofs.params.params_of.Given as goal
 
 abbrev pub invariant-loop-name : goal.invariant-loop-name
-invariant-loop-name l = named_trees (sexps_of l.trees) ≡ map param_view l.params.items ++ named_trees (sexps_of l.left)
+invariant-loop-name l =
+    named_trees (sexps_of l.trees) ≡ map param_view l.params.items ++ named_trees (sexps_of l.left)
 
 abbrev pub decreases-loop-name : goal.decreases-loop-name
 decreases-loop-name l = weight_all (sexps_of l.left)

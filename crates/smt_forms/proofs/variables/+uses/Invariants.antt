@@ -25,7 +25,8 @@ decreases-bindings_use_outer l = 2 * weight_all (sexps_of l.bindings.now) + 1
 
 abbrev pub invariant-any_uses_outer-loop-term : goal.invariant-any_uses_outer-loop-term
 invariant-any_uses_outer-loop-term l = record {
-  answer : any_uses_outer (map (λ n. n.now) l.inner) (scope_view l.scope) (sexps_of l.terms) ≡ any_uses_outer (map (λ n. n.now) l.inner) (scope_view l.scope) (sexps_of l.left);
+  answer : any_uses_outer (map (λ n. n.now) l.inner) (scope_view l.scope) (sexps_of l.terms)
+      ≡ any_uses_outer (map (λ n. n.now) l.inner) (scope_view l.scope) (sexps_of l.left);
   lighter : weight_all (sexps_of l.left) ≤ weight_all (sexps_of l.terms);
 }
 
@@ -34,7 +35,8 @@ decreases-any_uses_outer-loop-term l = weight_all (sexps_of l.left)
 
 abbrev pub invariant-bindings_use_outer-loop-term : goal.invariant-bindings_use_outer-loop-term
 invariant-bindings_use_outer-loop-term l = record {
-  answer : bindings_use_outer (map (λ n. n.now) l.inner) (scope_view l.scope) (sexps_of l.bindings) ≡ bindings_use_outer (map (λ n. n.now) l.inner) (scope_view l.scope) (sexps_of l.left);
+  answer : bindings_use_outer (map (λ n. n.now) l.inner) (scope_view l.scope) (sexps_of l.bindings)
+      ≡ bindings_use_outer (map (λ n. n.now) l.inner) (scope_view l.scope) (sexps_of l.left);
   lighter : weight_all (sexps_of l.left) ≤ weight_all (sexps_of l.bindings);
 }
 

@@ -16,4 +16,5 @@ empty (v ∷ vs) h = cc
 
 pub returns-then-is_empty : goal.returns-then-is_empty
 returns-then-is_empty c =
-    sym (uses_no_variable (scope_view c.args.scope.now) (sexp_of c.args.term.now) (empty c.args.scope.now (none_of (length c.args.scope.now) c.if-is_empty.ensures)))
+    sym (uses_no_variable (scope_view c.args.scope.now) (sexp_of c.args.term.now)
+    (empty c.args.scope.now (none_of (length c.args.scope.now) c.if-is_empty.ensures)))

@@ -7,4 +7,6 @@ use Rattle.smt_terms.proofs.definitions.push_sorted.Given as goal
 
 abbrev pub invariant-loop-param : goal.invariant-loop-param
 invariant-loop-param l =
-    parameters_named (sort_names l.sorts) [] (map param_view l.params) ≡ parameters_named (sort_names l.sorts) (scope_view l.variables.items) (map param_view (drop l.param-index l.params))
+    parameters_named (sort_names l.sorts) [] (map param_view l.params)
+    ≡ parameters_named (sort_names l.sorts) (scope_view l.variables.items)
+    (map param_view (drop l.param-index l.params))

@@ -35,8 +35,11 @@ decreases-bound_by l = 3 * weight_all (sexps_of l.bindings.now) + 2
 
 abbrev pub invariant-sorts_of-loop-term : goal.invariant-sorts_of-loop-term
 invariant-sorts_of-loop-term l = record {
-  answer : sorts_in (names_for l.self (labels_view l.fn.labels)) (scope_view l.scope) (sexps_of l.terms) ≡ sorts_behind (names_for l.self (labels_view l.labels)) (scope_view l.scope) l.sorts.items (sexps_of l.left);
-  given : AreGivenOf (names_of_library l.self) l.fn.labels l.labels (labels_in_all (sexps_of l.terms)) (labels_in_all (sexps_of l.left));
+  answer : sorts_in (names_for l.self (labels_view l.fn.labels)) (scope_view l.scope) (sexps_of l.terms)
+      ≡ sorts_behind (names_for l.self (labels_view l.labels)) (scope_view l.scope) l.sorts.items
+      (sexps_of l.left);
+  given : AreGivenOf (names_of_library l.self) l.fn.labels l.labels (labels_in_all (sexps_of l.terms))
+      (labels_in_all (sexps_of l.left));
   lighter : weight_all (sexps_of l.left) ≤ weight_all (sexps_of l.terms);
   room : HasRoomFor l.sorts (count (sexps_of l.left));
 }
@@ -46,8 +49,11 @@ decreases-sorts_of-loop-term l = weight_all (sexps_of l.left)
 
 abbrev pub invariant-bound_by-loop-name : goal.invariant-bound_by-loop-name
 invariant-bound_by-loop-name l = record {
-  answer : bound_in (names_for l.self (labels_view l.fn.labels)) (scope_view l.scope) [] (sexps_of l.bindings) ≡ bound_in (names_for l.self (labels_view l.labels)) (scope_view l.scope) (scope_view l.bound.items) (sexps_of l.left);
-  given : AreGivenOf (names_of_library l.self) l.fn.labels l.labels (labels_in_bindings (sexps_of l.bindings)) (labels_in_bindings (sexps_of l.left));
+  answer : bound_in (names_for l.self (labels_view l.fn.labels)) (scope_view l.scope) [] (sexps_of l.bindings)
+      ≡ bound_in (names_for l.self (labels_view l.labels)) (scope_view l.scope) (scope_view l.bound.items)
+      (sexps_of l.left);
+  given : AreGivenOf (names_of_library l.self) l.fn.labels l.labels (labels_in_bindings (sexps_of l.bindings))
+      (labels_in_bindings (sexps_of l.left));
   named : are_named_trees (sexps_of l.left) ≡ true;
   lighter : weight_all (sexps_of l.left) ≤ weight_all (sexps_of l.bindings);
 }

@@ -17,8 +17,10 @@ returns-clause-abbreviated c =
     on_ok_weaker c.abbreviate.result
     (λ more s stands. (
       more.0,
-      ap (λ n. abbreviated_in n c.args.name.now (sexp_of c.args.sort.now)) (sym (sorts_as old s stands)) ∙ more.1,
-      stands_abbreviated (contents_of old) _ s c.args.name.now more.0 c.abbreviate.ensures.theories more.2 refl refl refl refl (λ i t is. is) stands,
+      ap (λ n. abbreviated_in n c.args.name.now (sexp_of c.args.sort.now))
+          (sym (sorts_as old s stands)) ∙ more.1,
+      stands_abbreviated (contents_of old) _ s c.args.name.now more.0 c.abbreviate.ensures.theories more.2
+          refl refl refl refl (λ i t is. is) stands,
     ))
     c.abbreviate.ensures.abbreviated
 
@@ -29,17 +31,24 @@ returns-clause-refused c =
     let tree = sexp_of c.args.sort.now in
     IfErr-weaker c.abbreviate.result _ _
     (λ fault refused s stands.
-    same_fault (abbreviated_in (sort_names old.sorts) x tree) (abbreviated_in (sort_names_of s) x tree) fault (ap (λ n. abbreviated_in n x tree) (sym (sorts_as old s stands))) refused)
+    same_fault (abbreviated_in (sort_names old.sorts) x tree) (abbreviated_in (sort_names_of s) x tree) fault
+    (ap (λ n. abbreviated_in n x tree) (sym (sorts_as old s stands))) refused)
     c.abbreviate.ensures.refused
 
 pub returns-clause-unchanged : goal.returns-clause-unchanged
 returns-clause-unchanged c =
-    on_err_weaker c.abbreviate.result (λ same s stands. stands_still (contents_of c.args.self.now) _ s c.abbreviate.ensures.theories same refl refl refl refl (λ i t is. is) stands) c.abbreviate.ensures.unchanged
+    on_err_weaker c.abbreviate.result
+    (λ same s stands. stands_still (contents_of c.args.self.now) _ s c.abbreviate.ensures.theories same
+    refl refl refl refl (λ i t is. is) stands) c.abbreviate.ensures.unchanged
 
 pub returns-clause-grown : goal.returns-clause-grown
 returns-clause-grown c = record {
   theories = c.abbreviate.ensures.theories;
-  abbreviations = more_abbreviations (λ found. abbreviated_in (sort_names c.args.self.now.sorts) c.args.name.now (sexp_of c.args.sort.now) ≡ Ok found) c.abbreviate.result (abbreviations_of c.args.self.now.sorts) (abbreviations_of c.abbreviate.new.self) c.args.name.now c.abbreviate.ensures.abbreviated c.abbreviate.ensures.unchanged;
+  abbreviations = more_abbreviations
+      (λ found. abbreviated_in (sort_names c.args.self.now.sorts) c.args.name.now (sexp_of c.args.sort.now)
+      ≡ Ok found) c.abbreviate.result (abbreviations_of c.args.self.now.sorts)
+      (abbreviations_of c.abbreviate.new.self) c.args.name.now c.abbreviate.ensures.abbreviated
+      c.abbreviate.ensures.unchanged;
   ranks = nothing_more _ _ refl;
   places = nothing_more _ _ refl;
   declared = nothing_more _ _ refl;

@@ -11,4 +11,5 @@ pub returns-clause-grown : goal.returns-clause-grown
 returns-clause-grown c = extends_on _ _ _ c.in_ok-number.ensures.grown c.in_ok-add_labels.ensures.grown
 
 pub returns-in_err-add_labels-clause-grown : goal.returns-in_err-add_labels-clause-grown
-returns-in_err-add_labels-clause-grown c = extends_on _ _ _ c.in_ok-number.ensures.grown c.in_err-add_labels.ensures.grown
+returns-in_err-add_labels-clause-grown c =
+    extends_on _ _ _ c.in_ok-number.ensures.grown c.in_err-add_labels.ensures.grown

@@ -14,7 +14,9 @@ use Rattle.smt_terms.proofs.library.Library.add_declared.Goals as goal
 
 pub returns-in_err-push-clause-unchanged : goal.returns-in_err-push-clause-unchanged
 returns-in_err-push-clause-unchanged c =
-    on_err c.from_residual-in_err-push.result (λ s stands. stands_still (contents_of c.args.self.now) _ s refl refl refl refl (ap (map declaration_view) c.in_err-push.ensures.items) refl (λ i t h. h) stands)
+    on_err c.from_residual-in_err-push.result
+    (λ s stands. stands_still (contents_of c.args.self.now) _ s refl refl refl refl
+    (ap (map declaration_view) c.in_err-push.ensures.items) refl (λ i t h. h) stands)
 
 pub returns-in_err-push-clause-grown : goal.returns-in_err-push-clause-grown
 returns-in_err-push-clause-grown c = record {
@@ -29,14 +31,32 @@ returns-in_err-push-clause-grown c = record {
 
 pub returns-in-Err-clause-unchanged : goal.returns-in-Err-clause-unchanged
 returns-in-Err-clause-unchanged c =
-    let same : c.pop.new.self.items ≡ c.args.self.now.declared.items = grind (arith, common_steps, c.pop.ensures.items, c.pop.ensures.variant, c.insert.ensures.declared, c.in_ok-push.ensures.items) in
+    let same : c.pop.new.self.items ≡ c.args.self.now.declared.items =
+    grind (
+      arith,
+      common_steps,
+      c.pop.ensures.items,
+      c.pop.ensures.variant,
+      c.insert.ensures.declared,
+      c.in_ok-push.ensures.items,
+    ) in
     λ s stands.
-    stands_still (contents_of c.args.self.now) _ s (ap (λ (z : SortNames). z.theories) c.insert.ensures.sorts) (ap abbreviations_of c.insert.ensures.sorts) c.in-Err.ensures.unchanged.0 c.in-Err.ensures.unchanged.1 (ap (map declaration_view) same) c.insert.ensures.definitions
+    stands_still (contents_of c.args.self.now) _ s (ap (λ (z : SortNames). z.theories) c.insert.ensures.sorts)
+    (ap abbreviations_of c.insert.ensures.sorts) c.in-Err.ensures.unchanged.0 c.in-Err.ensures.unchanged.1
+    (ap (map declaration_view) same) c.insert.ensures.definitions
     (λ i t is. rw c.insert.ensures.terms is) stands
 
 pub returns-in-Err-clause-grown : goal.returns-in-Err-clause-grown
 returns-in-Err-clause-grown c =
-    let same : c.pop.new.self.items ≡ c.args.self.now.declared.items = grind (arith, common_steps, c.pop.ensures.items, c.pop.ensures.variant, c.insert.ensures.declared, c.in_ok-push.ensures.items) in
+    let same : c.pop.new.self.items ≡ c.args.self.now.declared.items =
+    grind (
+      arith,
+      common_steps,
+      c.pop.ensures.items,
+      c.pop.ensures.variant,
+      c.insert.ensures.declared,
+      c.in_ok-push.ensures.items,
+    ) in
     record {
       theories = ap (λ (z : SortNames). z.theories) c.insert.ensures.sorts;
       abbreviations = nothing_more _ _ (ap abbreviations_of c.insert.ensures.sorts);
@@ -51,12 +71,23 @@ pub returns-in-Ok-clause-added : goal.returns-in-Ok-clause-added
 returns-in-Ok-clause-added c =
     let old = c.args.self.now in
     let params = c.in_ok-from_slice.ensures.items ∙ c.as_slice.ensures.value in
-    let stood : c.len.result ≡ length (map declaration_view old.declared.items) = counted old.declared c.len.result c.len.ensures ∙ sym (length-map old.declared.items declaration_view) in
+    let stood : c.len.result ≡ length (map declaration_view old.declared.items) =
+    counted old.declared c.len.result c.len.ensures ∙ sym (length-map old.declared.items declaration_view)
+    in
     λ s stands.
-    stands_declared (contents_of old) (contents_of c.insert.new.self) s c.args.name.now (declaration_view c.args.declared) c.requires.absent c.requires.next (ap (λ (z : SortNames). z.theories) c.insert.ensures.sorts) (ap abbreviations_of c.insert.ensures.sorts)
-    (c.in-Ok.ensures.ranks ∙ ap (λ (ps : List Sort). ranks_of_library old ++ (c.args.name.now, record { parameters = ps; sort = c.args.declared.result }) ∷ []) params)
-    (c.in-Ok.ensures.places ∙ ap (λ (n : ℕ). places_of_library old ++ (c.args.name.now, place.Declared n) ∷ []) stood)
-    (ap (map declaration_view) (c.insert.ensures.declared ∙ c.in_ok-push.ensures.items) ∙ map-append declaration_view c.args.self.now.declared.items (c.args.declared ∷ [])) c.insert.ensures.definitions (λ i t is. rw c.insert.ensures.terms is) stands
+    stands_declared (contents_of old) (contents_of c.insert.new.self) s c.args.name.now
+    (declaration_view c.args.declared) c.requires.absent c.requires.next
+    (ap (λ (z : SortNames). z.theories) c.insert.ensures.sorts)
+    (ap abbreviations_of c.insert.ensures.sorts)
+    (c.in-Ok.ensures.ranks ∙ ap
+    (λ (ps : List Sort). ranks_of_library old
+    ++ (c.args.name.now, record { parameters = ps; sort = c.args.declared.result }) ∷ []) params)
+    (c.in-Ok.ensures.places ∙ ap
+    (λ (n : ℕ). places_of_library old ++ (c.args.name.now, place.Declared n) ∷ []) stood)
+    (ap (map declaration_view)
+    (c.insert.ensures.declared ∙ c.in_ok-push.ensures.items) ∙ map-append declaration_view
+    c.args.self.now.declared.items (c.args.declared ∷ [])) c.insert.ensures.definitions
+    (λ i t is. rw c.insert.ensures.terms is) stands
 
 pub returns-in-Ok-clause-grown : goal.returns-in-Ok-clause-grown
 returns-in-Ok-clause-grown c = record {
@@ -64,7 +95,11 @@ returns-in-Ok-clause-grown c = record {
   abbreviations = nothing_more _ _ (ap abbreviations_of c.insert.ensures.sorts);
   ranks = (_, c.in-Ok.ensures.ranks);
   places = (_, c.in-Ok.ensures.places);
-  declared = (_, ap (map declaration_view) (c.insert.ensures.declared ∙ c.in_ok-push.ensures.items) ∙ map-append declaration_view c.args.self.now.declared.items (c.args.declared ∷ []));
+  declared = (
+    _,
+    ap (map declaration_view) (c.insert.ensures.declared ∙ c.in_ok-push.ensures.items) ∙
+        map-append declaration_view c.args.self.now.declared.items (c.args.declared ∷ []),
+  );
   definitions = nothing_more _ _ c.insert.ensures.definitions;
   terms = nothing_more _ _ (ap (map sexp_of) c.insert.ensures.terms);
 }

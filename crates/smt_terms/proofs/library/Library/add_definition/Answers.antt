@@ -19,7 +19,8 @@ returns-clause-added c =
       definition c.args.name.now ps c.args.sort body,
       definition_by (names_of s) (names_of_library c.args.self.now) c.args.name.now ps c.args.sort
           c.in_ok-sort_of.field-0 body true (names_as c.args.self.now s stands)
-          (ap (λ (l : Labels). sort_in (names_for c.args.self.now l) ps body) (sym c.refused-labels.ensures.view)
+          (ap (λ (l : Labels). sort_in (names_for c.args.self.now l) ps body)
+          (sym c.refused-labels.ensures.view)
           ∙ c.in_ok-sort_of.ensures.sort)
           (sym c.are_equal.ensures ∙ c.if-not-are_equal.false),
       c.in_ok-insert_definition.ensures.added s body (c.in_ok-body.ensures.kept s stands)

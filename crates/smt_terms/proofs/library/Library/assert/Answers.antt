@@ -12,20 +12,26 @@ use Rattle.smt_terms.proofs.library.Library.assert.Goals as goal
 pub add_assertion-requires : goal.add_assertion-requires
 add_assertion-requires c =
     subst (λ ls. AreNew (ranks_of_library c.args.self.now) ls) (sym c.as_slice.ensures.value)
-    (given_are_new c.args.self.now c.new-labels.result c.sort_of.new.labels (sexp_of c.args.term) c.in_ok-sort.sort c.new-labels.ensures.view c.new-labels.ensures.given c.in_ok-sort.ensures.sort c.in_ok-sort.ensures.labels)
+    (given_are_new c.args.self.now c.new-labels.result c.sort_of.new.labels
+    (sexp_of c.args.term) c.in_ok-sort.sort c.new-labels.ensures.view c.new-labels.ensures.given
+    c.in_ok-sort.ensures.sort c.in_ok-sort.ensures.labels)
 
 pub returns-in-Ok-clause-asserted : goal.returns-in-Ok-clause-asserted
 returns-in-Ok-clause-asserted c = λ s stands. (
   map label_entry c.sort_of.new.labels.given.items,
-  asserted_by c.args.self.now s c.new-labels.result c.sort_of.new.labels (sexp_of c.args.term) c.in_ok-sort.sort stands c.new-labels.ensures.view c.new-labels.ensures.given c.in_ok-sort.ensures.sort
+  asserted_by c.args.self.now s c.new-labels.result c.sort_of.new.labels (sexp_of c.args.term)
+      c.in_ok-sort.sort stands c.new-labels.ensures.view c.new-labels.ensures.given c.in_ok-sort.ensures.sort
       (sym c.are_equal.ensures ∙ c.if-not-are_equal.false) c.in_ok-sort.ensures.labels,
-  subst (λ ls. StandsFor c.add_assertion.new.self (with_entries s (map label_entry ls))) c.as_slice.ensures.value (c.in-Ok.ensures.added s stands),
+  subst (λ ls. StandsFor c.add_assertion.new.self (with_entries s (map label_entry ls)))
+      c.as_slice.ensures.value (c.in-Ok.ensures.added s stands),
 )
 
 pub returns-clause-grown : goal.returns-clause-grown
 returns-clause-grown c =
     subst (λ d. Extends (contents_of c.args.self.now) d)
-    (sym (undone c.mark-mark.result (contents_of c.args.self.now) (contents_of c.add_assertion.new.self) (contents_of c.cut.new.self) c.mark-mark.ensures.all c.mark-mark.ensures.within c.in-Err.ensures.grown c.cut.ensures))
+    (sym (undone c.mark-mark.result (contents_of c.args.self.now) (contents_of c.add_assertion.new.self)
+    (contents_of c.cut.new.self) c.mark-mark.ensures.all c.mark-mark.ensures.within c.in-Err.ensures.grown
+    c.cut.ensures))
     (extends_itself (contents_of c.args.self.now))
 
 pub returns-then-not-are_equal-clause-refused : goal.returns-then-not-are_equal-clause-refused

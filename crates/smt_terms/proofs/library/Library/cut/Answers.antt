@@ -9,8 +9,13 @@ pub returns : goal.returns
 returns c =
     let old = c.args.self.now in
     let mark = c.args.mark in
-    same_contents _ (first_of mark (contents_of old)) refl (mapped (λ p. (p.0.items, p.1)) mark.abbreviations old.sorts.abbreviations.entries c.truncate-4.new.self.entries c.truncate-4.ensures.entries)
-    (mapped (λ p. (p.0.items, rank_of p.1)) mark.names old.names.entries c.truncate.new.self.entries c.truncate.ensures.entries)
-    (mapped (λ p. (p.0.items, p.1.place)) mark.names old.names.entries c.truncate.new.self.entries c.truncate.ensures.entries)
-    (mapped declaration_view mark.declared old.declared.items c.truncate-2.new.self.items c.truncate-2.ensures.items) c.truncate-3.ensures.items
+    same_contents _ (first_of mark (contents_of old)) refl
+    (mapped (λ p. (p.0.items, p.1)) mark.abbreviations old.sorts.abbreviations.entries
+    c.truncate-4.new.self.entries c.truncate-4.ensures.entries)
+    (mapped (λ p. (p.0.items, rank_of p.1)) mark.names old.names.entries c.truncate.new.self.entries
+    c.truncate.ensures.entries)
+    (mapped (λ p. (p.0.items, p.1.place)) mark.names old.names.entries c.truncate.new.self.entries
+    c.truncate.ensures.entries)
+    (mapped declaration_view mark.declared old.declared.items c.truncate-2.new.self.items
+    c.truncate-2.ensures.items) c.truncate-3.ensures.items
     (mapped sexp_of mark.terms old.terms.items c.truncate-5.new.self.items c.truncate-5.ensures.items)

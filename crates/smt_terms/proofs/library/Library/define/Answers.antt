@@ -22,7 +22,9 @@ returns-clause-defined c =
     (λ added s stands.
     let more = added s stands in (
       more.0,
-      define_step c.args.self.now s c.args.name.now params tree body (scope_view c.in_ok-parameters.parameters.items) rs c.in_ok-sort.sort stands (sym c.if-is_taken.ensures) c.in_ok-parameters.ensures
+      define_step c.args.self.now s c.args.name.now params tree body
+          (scope_view c.in_ok-parameters.parameters.items) rs c.in_ok-sort.sort stands
+          (sym c.if-is_taken.ensures) c.in_ok-parameters.ensures
           c.in_ok-sort.ensures (ap scope_view c.as_slice.ensures.value) ∙ more.1,
       more.2,
     ))
@@ -36,8 +38,11 @@ returns-clause-refused c =
     let rs = scope_view c.as_slice.result.now in
     IfErr-weaker c.add_definition.result _ _
     (λ fault refused s stands.
-    same_fault (definition_in (names_of s) c.args.name.now rs c.in_ok-sort.sort body) (defined_in s c.args.name.now params tree body) fault
-    (define_step c.args.self.now s c.args.name.now params tree body (scope_view c.in_ok-parameters.parameters.items) rs c.in_ok-sort.sort stands (sym c.if-is_taken.ensures) c.in_ok-parameters.ensures
+    same_fault (definition_in (names_of s) c.args.name.now rs c.in_ok-sort.sort body)
+    (defined_in s c.args.name.now params tree body) fault
+    (define_step c.args.self.now s c.args.name.now params tree body
+    (scope_view c.in_ok-parameters.parameters.items) rs c.in_ok-sort.sort stands
+    (sym c.if-is_taken.ensures) c.in_ok-parameters.ensures
     c.in_ok-sort.ensures (ap scope_view c.as_slice.ensures.value)) (refused s stands))
     c.add_definition.ensures.refused
 

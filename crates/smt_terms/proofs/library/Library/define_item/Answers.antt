@@ -21,8 +21,11 @@ returns-clause-defined c =
     (λ added s m stands items.
     let more = added m items in (
       more.0,
-      item_step c.args.self.now c.args.script.now s m tree form ps (scope_view c.as_slice.result.now) rs sort c.in_ok-has_declared_rank.field-0 c.requires stands items c.in_ok-form.ensures
-          (c.in_ok-check_name.ensures.fault s m stands items) c.in_ok-parameters.ensures c.in_ok-sort.ensures (c.in_ok-has_declared_rank.ensures s stands) c.if-not-branch.false (ap scope_view c.as_slice.ensures.value)
+      item_step c.args.self.now c.args.script.now s m tree form ps (scope_view c.as_slice.result.now) rs sort
+          c.in_ok-has_declared_rank.field-0 c.requires stands items c.in_ok-form.ensures
+          (c.in_ok-check_name.ensures.fault s m stands items) c.in_ok-parameters.ensures c.in_ok-sort.ensures
+          (c.in_ok-has_declared_rank.ensures s stands) c.if-not-branch.false
+          (ap scope_view c.as_slice.ensures.value)
           (ap scope_view c.as_slice-2.ensures.value)
           ∙ more.1,
       more.2,
@@ -39,7 +42,10 @@ returns-clause-refused c =
     IfErr-weaker c.add_definition.result _ _
     (λ fault refused s m stands items.
     same_fault (definition_in (names_of m) form.name rs sort form.body) (item_in s m.entries tree) fault
-    (item_step c.args.self.now c.args.script.now s m tree form ps (scope_view c.as_slice.result.now) rs sort c.in_ok-has_declared_rank.field-0 c.requires stands items c.in_ok-form.ensures
-    (c.in_ok-check_name.ensures.fault s m stands items) c.in_ok-parameters.ensures c.in_ok-sort.ensures (c.in_ok-has_declared_rank.ensures s stands) c.if-not-branch.false (ap scope_view c.as_slice.ensures.value)
+    (item_step c.args.self.now c.args.script.now s m tree form ps (scope_view c.as_slice.result.now) rs sort
+    c.in_ok-has_declared_rank.field-0 c.requires stands items c.in_ok-form.ensures
+    (c.in_ok-check_name.ensures.fault s m stands items) c.in_ok-parameters.ensures c.in_ok-sort.ensures
+    (c.in_ok-has_declared_rank.ensures s stands) c.if-not-branch.false
+    (ap scope_view c.as_slice.ensures.value)
     (ap scope_view c.as_slice-2.ensures.value)) (refused m items))
     c.add_definition.ensures.refused

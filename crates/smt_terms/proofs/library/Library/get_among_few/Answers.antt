@@ -13,7 +13,8 @@ returns-then-eq c =
     let at = sym c.get_index.ensures.entry ∙ ap (option_map deref_pair) c.unwrap.ensures in
     let same = ap (bytes_eq x) (sym c.as_slice.ensures.value) ∙ sym c.if-eq.ensures in
     let rest = look_up (viewed (λ v. v) (drop (c.loop-place.place + 1) es)) x in
-    sym (c.loop-place.invariant ∙ look_on es x c.loop-place.place (r.0.now, r.1.now) at ∙ ap (λ b. cond b (Some r.1.now) rest) same)
+    sym (c.loop-place.invariant ∙ look_on es x c.loop-place.place (r.0.now, r.1.now) at ∙ ap
+    (λ b. cond b (Some r.1.now) rest) same)
 
 pub loop-place-preserved : goal.loop-place-preserved
 loop-place-preserved c =
@@ -23,4 +24,5 @@ loop-place-preserved c =
     let at = sym c.get_index.ensures.entry ∙ ap (option_map deref_pair) c.unwrap.ensures in
     let other = ap (bytes_eq x) (sym c.as_slice.ensures.value) ∙ sym c.if-eq.ensures in
     let rest = look_up (viewed (λ v. v) (drop (c.loop-place.place + 1) es)) x in
-    c.loop-place.invariant ∙ look_on es x c.loop-place.place (r.0.now, r.1.now) at ∙ ap (λ b. cond b (Some r.1.now) rest) other
+    c.loop-place.invariant ∙ look_on es x c.loop-place.place (r.0.now, r.1.now) at ∙ ap
+    (λ b. cond b (Some r.1.now) rest) other

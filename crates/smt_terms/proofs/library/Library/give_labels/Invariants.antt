@@ -11,9 +11,13 @@ use Rattle.smt_terms.proofs.library.Library.give_labels.Given as goal
 
 abbrev pub invariant-loop-tree : goal.invariant-loop-tree
 invariant-loop-tree l = record {
-  fault : fault_of_labels (names_for l.self (labels_view l.fn.labels)) (scope_view l.scope) (sexp_of l.term) (labels_among (sexps_of l.attributes))
-      ≡ fault_of_labels (names_for l.self (labels_view l.labels)) (scope_view l.scope) (sexp_of l.term) (labels_among (sexps_of l.left));
-  given : AreGivenOf (names_of_library l.self) l.fn.labels l.labels (with_term (sexp_of l.term) (labels_among (sexps_of l.attributes))) (with_term (sexp_of l.term) (labels_among (sexps_of l.left)));
+  fault : fault_of_labels (names_for l.self (labels_view l.fn.labels)) (scope_view l.scope) (sexp_of l.term)
+      (labels_among (sexps_of l.attributes))
+      ≡ fault_of_labels (names_for l.self (labels_view l.labels)) (scope_view l.scope) (sexp_of l.term)
+      (labels_among (sexps_of l.left));
+  given : AreGivenOf (names_of_library l.self) l.fn.labels l.labels
+      (with_term (sexp_of l.term) (labels_among (sexps_of l.attributes)))
+      (with_term (sexp_of l.term) (labels_among (sexps_of l.left)));
 }
 
 abbrev pub decreases-loop-tree : goal.decreases-loop-tree

@@ -14,7 +14,9 @@ use Rattle.smt_terms.proofs.library.Library.insert_definition.Goals as goal
 
 pub returns-in_err-push-clause-unchanged : goal.returns-in_err-push-clause-unchanged
 returns-in_err-push-clause-unchanged c =
-    on_err c.from_residual-in_err-push.result (λ s stands. stands_still (contents_of c.args.self.now) _ s refl refl refl refl refl c.in_err-push.ensures.items (λ i t h. h) stands)
+    on_err c.from_residual-in_err-push.result
+    (λ s stands. stands_still (contents_of c.args.self.now) _ s refl refl refl refl refl
+    c.in_err-push.ensures.items (λ i t h. h) stands)
 
 pub returns-in_err-push-clause-grown : goal.returns-in_err-push-clause-grown
 returns-in_err-push-clause-grown c = record {
@@ -29,14 +31,32 @@ returns-in_err-push-clause-grown c = record {
 
 pub returns-in-Err-clause-unchanged : goal.returns-in-Err-clause-unchanged
 returns-in-Err-clause-unchanged c =
-    let same : c.pop.new.self.items ≡ c.args.self.now.definitions.items = grind (arith, common_steps, c.pop.ensures.items, c.pop.ensures.variant, c.insert.ensures.definitions, c.in_ok-push.ensures.items) in
+    let same : c.pop.new.self.items ≡ c.args.self.now.definitions.items =
+    grind (
+      arith,
+      common_steps,
+      c.pop.ensures.items,
+      c.pop.ensures.variant,
+      c.insert.ensures.definitions,
+      c.in_ok-push.ensures.items,
+    ) in
     λ s stands.
-    stands_still (contents_of c.args.self.now) _ s (ap (λ (z : SortNames). z.theories) c.insert.ensures.sorts) (ap abbreviations_of c.insert.ensures.sorts) c.in-Err.ensures.unchanged.0 c.in-Err.ensures.unchanged.1 (ap (map declaration_view) c.insert.ensures.declared) same
+    stands_still (contents_of c.args.self.now) _ s (ap (λ (z : SortNames). z.theories) c.insert.ensures.sorts)
+    (ap abbreviations_of c.insert.ensures.sorts) c.in-Err.ensures.unchanged.0 c.in-Err.ensures.unchanged.1
+    (ap (map declaration_view) c.insert.ensures.declared) same
     (λ i t is. rw c.insert.ensures.terms is) stands
 
 pub returns-in-Err-clause-grown : goal.returns-in-Err-clause-grown
 returns-in-Err-clause-grown c =
-    let same : c.pop.new.self.items ≡ c.args.self.now.definitions.items = grind (arith, common_steps, c.pop.ensures.items, c.pop.ensures.variant, c.insert.ensures.definitions, c.in_ok-push.ensures.items) in
+    let same : c.pop.new.self.items ≡ c.args.self.now.definitions.items =
+    grind (
+      arith,
+      common_steps,
+      c.pop.ensures.items,
+      c.pop.ensures.variant,
+      c.insert.ensures.definitions,
+      c.in_ok-push.ensures.items,
+    ) in
     record {
       theories = ap (λ (z : SortNames). z.theories) c.insert.ensures.sorts;
       abbreviations = nothing_more _ _ (ap abbreviations_of c.insert.ensures.sorts);
@@ -49,15 +69,27 @@ returns-in-Err-clause-grown c =
 
 pub returns-in-Ok-clause-added : goal.returns-in-Ok-clause-added
 returns-in-Ok-clause-added c = λ s t stands body.
-    stands_defined (contents_of c.args.self.now) (contents_of c.insert.new.self) s c.args.name.now (scope_view c.args.parameters.now) _ t c.requires c.in_ok-from_slice.ensures.items c.in_ok-named_parameters.ensures body
+    stands_defined (contents_of c.args.self.now) (contents_of c.insert.new.self) s c.args.name.now
+    (scope_view c.args.parameters.now) _ t c.requires c.in_ok-from_slice.ensures.items
+    c.in_ok-named_parameters.ensures body
     (ap (λ (z : SortNames). z.theories) c.insert.ensures.sorts) (ap abbreviations_of c.insert.ensures.sorts)
-    (c.in-Ok.ensures.ranks ∙ ap (λ (ps : List Sort). ranks_of_library c.args.self.now ++ (c.args.name.now, record { parameters = ps; sort = c.args.sort }) ∷ []) c.in_ok-sorts_of_variables.ensures)
-    (c.in-Ok.ensures.places ∙ ap (λ (n : ℕ). places_of_library c.args.self.now ++ (c.args.name.now, place.Defined n) ∷ []) (counted c.args.self.now.definitions c.len.result c.len.ensures))
-    (ap (map declaration_view) c.insert.ensures.declared) (c.insert.ensures.definitions ∙ c.in_ok-push.ensures.items) (λ i t is. rw c.insert.ensures.terms is) stands
+    (c.in-Ok.ensures.ranks ∙ ap
+    (λ (ps : List Sort). ranks_of_library c.args.self.now
+    ++ (c.args.name.now, record { parameters = ps; sort = c.args.sort }) ∷ [])
+    c.in_ok-sorts_of_variables.ensures)
+    (c.in-Ok.ensures.places ∙ ap
+    (λ (n : ℕ). places_of_library c.args.self.now ++ (c.args.name.now, place.Defined n) ∷ [])
+    (counted c.args.self.now.definitions c.len.result c.len.ensures))
+    (ap (map declaration_view) c.insert.ensures.declared)
+    (c.insert.ensures.definitions ∙ c.in_ok-push.ensures.items)
+    (λ i t is. rw c.insert.ensures.terms is) stands
 
 pub returns-in-Ok-clause-ranks : goal.returns-in-Ok-clause-ranks
 returns-in-Ok-clause-ranks c =
-    c.in-Ok.ensures.ranks ∙ ap (λ (ps : List Sort). ranks_of_library c.args.self.now ++ (c.args.name.now, record { parameters = ps; sort = c.args.sort }) ∷ []) c.in_ok-sorts_of_variables.ensures
+    c.in-Ok.ensures.ranks ∙ ap
+    (λ (ps : List Sort). ranks_of_library c.args.self.now
+    ++ (c.args.name.now, record { parameters = ps; sort = c.args.sort }) ∷ [])
+    c.in_ok-sorts_of_variables.ensures
 
 pub returns-in-Ok-clause-grown : goal.returns-in-Ok-clause-grown
 returns-in-Ok-clause-grown c = record {

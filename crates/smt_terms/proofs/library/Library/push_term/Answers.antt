@@ -8,11 +8,14 @@ use Rattle.smt_terms.proofs.TermLemmas.{term_added, term_stays}
 use Rattle.smt_terms.proofs.library.Library.push_term.Goals as goal
 
 pub returns-in_err-push-clause-kept : goal.returns-in_err-push-clause-kept
-returns-in_err-push-clause-kept c = λ s stands. stands_still (contents_of c.args.self.now) _ s refl refl refl refl refl refl (λ i t h. rw c.in_err-push.ensures.items h) stands
+returns-in_err-push-clause-kept c = λ s stands. stands_still (contents_of c.args.self.now) _ s refl refl refl
+    refl refl refl (λ i t h. rw c.in_err-push.ensures.items h) stands
 
 pub returns-clause-kept : goal.returns-clause-kept
 returns-clause-kept c = λ s stands.
-    stands_still (contents_of c.args.self.now) _ s refl refl refl refl refl refl (λ i t h. term_stays c.args.self.now.terms.items c.push.new.self.items c.args.term i.number t c.in_ok-push.ensures.items h) stands
+    stands_still (contents_of c.args.self.now) _ s refl refl refl refl refl refl
+    (λ i t h. term_stays c.args.self.now.terms.items c.push.new.self.items c.args.term i.number t
+    c.in_ok-push.ensures.items h) stands
 
 pub returns-clause-grown : goal.returns-clause-grown
 returns-clause-grown c = record {
@@ -22,7 +25,11 @@ returns-clause-grown c = record {
   places = nothing_more _ _ refl;
   declared = nothing_more _ _ refl;
   definitions = nothing_more _ _ refl;
-  terms = (map sexp_of (c.args.term ∷ []), ap (map sexp_of) c.in_ok-push.ensures.items ∙ map-append sexp_of c.args.self.now.terms.items (c.args.term ∷ []));
+  terms = (
+    map sexp_of (c.args.term ∷ []),
+    ap (map sexp_of) c.in_ok-push.ensures.items ∙ map-append sexp_of
+        c.args.self.now.terms.items (c.args.term ∷ []),
+  );
 }
 
 pub returns-in_err-push-clause-grown : goal.returns-in_err-push-clause-grown
@@ -37,4 +44,6 @@ returns-in_err-push-clause-grown c = record {
 }
 
 pub returns-clause-term : goal.returns-clause-term
-returns-clause-term c = term_added c.args.self.now.terms.items c.push.new.self.items c.args.term c.len-number.result _ c.in_ok-push.ensures.items (counted c.args.self.now.terms c.len-number.result c.len-number.ensures) refl
+returns-clause-term c = term_added c.args.self.now.terms.items c.push.new.self.items c.args.term
+    c.len-number.result _ c.in_ok-push.ensures.items
+    (counted c.args.self.now.terms c.len-number.result c.len-number.ensures) refl

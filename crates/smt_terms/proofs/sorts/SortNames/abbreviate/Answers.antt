@@ -11,7 +11,10 @@ pub returns-clause-abbreviated : goal.returns-clause-abbreviated
 returns-clause-abbreviated c =
     let old = c.args.self.now in (
       c.in_ok-sort.sort,
-      ap (λ b. cond b (Err NotFresh) (sort_named (sort_names old) (sexp_of c.args.tree.now))) (sym c.if-is_taken.ensures) ∙ sym c.in_ok-sort.ensures,
-      goes_last (λ s. s) (λ s. s) old.abbreviations.entries c.insert.new.self.entries c.in-Ok.key c.args.name.now c.in_ok-sort.sort (not_abbreviated (sort_names old) c.args.name.now (sym c.if-is_taken.ensures)) c.in-Ok.ensures.items
+      ap (λ b. cond b (Err NotFresh) (sort_named (sort_names old) (sexp_of c.args.tree.now)))
+          (sym c.if-is_taken.ensures) ∙ sym c.in_ok-sort.ensures,
+      goes_last (λ s. s) (λ s. s) old.abbreviations.entries c.insert.new.self.entries c.in-Ok.key
+          c.args.name.now c.in_ok-sort.sort
+          (not_abbreviated (sort_names old) c.args.name.now (sym c.if-is_taken.ensures)) c.in-Ok.ensures.items
           c.in-Ok-insert.ensures.entries,
     )

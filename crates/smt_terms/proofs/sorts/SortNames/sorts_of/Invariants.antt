@@ -7,7 +7,8 @@ use Rattle.smt_terms.proofs.SortLemmas.{named_behind}
 use Rattle.smt_terms.proofs.sorts.SortNames.sorts_of.Given as goal
 
 abbrev pub invariant-loop-tree : goal.invariant-loop-tree
-invariant-loop-tree l = sorts_named (sort_names l.self) (sexps_of l.trees) ≡ named_behind (sort_names l.self) l.found.items (sexps_of l.left)
+invariant-loop-tree l = sorts_named (sort_names l.self) (sexps_of l.trees)
+    ≡ named_behind (sort_names l.self) l.found.items (sexps_of l.left)
 
 abbrev pub decreases-loop-tree : goal.decreases-loop-tree
 decreases-loop-tree l = weight_all (sexps_of l.left)
