@@ -2,7 +2,9 @@
 -- commands take an answer only where it fits is this project's rule, for what solvers print.
 use Rattle.std.specs.Prelude.{Bool, true, false, not, ◌||◌, Option, Some, None, codes, if◌then◌else◌}
 use Rattle.smt_trees.specs.Sexp.{Sexp, Atom, Items, Nil, Cons, Text, is_symbol}
-use Rattle.smt_script.specs.Command.{Command, SetPrintSuccess, SetGlobalDeclarations, SetOption, SetInfo, Exit, CheckSat, GetModel, Echo, Get}
+use Rattle.smt_script.specs.Command.{Command, kind_of}
+use Rattle.smt_script.specs.declared.command.Kind.{Kind}
+use Rattle.smt_script.specs.declared.command.Kind.TheVariants as kinds
 use Rattle.smt_dialogue.specs.declared.answer.AnswerForm.{AnswerForm}
 use Rattle.smt_dialogue.specs.declared.answer.AnswerForm.TheVariants as forms
 use Rattle.smt_dialogue.specs.declared.answer.Need.{Need}
@@ -50,17 +52,20 @@ general_need = Needed forms.General
 
 -- what a command needs of the answers, where `success` is printed for a command that has no answer of its own, or is not. A command that
 -- sets whether it is printed goes by the value that it sets
+abbrev pub need_of_kind : Bool → Kind → Need
+need_of_kind on kinds.Check = Needed forms.Check
+need_of_kind on kinds.Model = Needed forms.Model
+need_of_kind on kinds.Echo = Needed forms.Echo
+need_of_kind on kinds.Query = Needed forms.Other
+need_of_kind on kinds.Exit = Optional forms.Success
+need_of_kind on (kinds.PrintSuccess value) = if value then general_need else Optional forms.General
+need_of_kind on kinds.Setting = if on then general_need else Optional forms.Unsupported
+need_of_kind on kinds.Logic = if on then general_need else Nothing
+need_of_kind on kinds.Change = if on then general_need else Nothing
+need_of_kind on kinds.Reset = if on then general_need else Nothing
+
 abbrev pub need_of : Bool → Command → Need
-need_of on CheckSat = Needed forms.Check
-need_of on GetModel = Needed forms.Model
-need_of on (Echo text) = Needed forms.Echo
-need_of on (Get query) = Needed forms.Other
-need_of on Exit = Optional forms.Success
-need_of on (SetPrintSuccess value) = if value then general_need else Optional forms.General
-need_of on (SetGlobalDeclarations value) = if on then general_need else Optional forms.Unsupported
-need_of on (SetOption keyword value) = if on then general_need else Optional forms.Unsupported
-need_of on (SetInfo keyword value) = if on then general_need else Optional forms.Unsupported
-need_of on command = if on then general_need else Nothing
+need_of on command = need_of_kind on (kind_of command)
 
 -- what is taken for a command: an answer or none; or it waits for one; or one is missing; or the next one is unfit
 pub data Taken : Type 0 where

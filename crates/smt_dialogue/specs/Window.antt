@@ -1,9 +1,11 @@
 -- The window of a check, and the models printed in it. These are this project's rules.
-use Rattle.std.specs.Prelude.{ℕ, ◌+◌, List, [], ◌∷◌, ◌++◌, Bool, ◌&&◌, ◌||◌, Option, Some, if◌then◌else◌}
+use Rattle.std.specs.Prelude.{ℕ, ◌+◌, List, [], ◌∷◌, ◌++◌, Bool, true, false, ◌&&◌, ◌||◌, Option, Some, if◌then◌else◌}
 use Rattle.smt_trees.specs.Sexp.{Sexp, Sexps, Items}
 use Rattle.smt_terms.specs.Signature.{Signature}
 use Rattle.smt_eval.specs.Structure.{structure_of}
-use Rattle.smt_script.specs.Command.{Command, GetModel, closes_window, is_check}
+use Rattle.smt_script.specs.Command.{Command, closes_window, is_check, kind_of}
+use Rattle.smt_script.specs.declared.command.Kind.{Kind}
+use Rattle.smt_script.specs.declared.command.Kind.TheVariants as kinds
 use Rattle.smt_dialogue.specs.InForce.{signature_after}
 use Rattle.smt_dialogue.specs.Pairs.{Pair, is_effective}
 
@@ -25,10 +27,17 @@ pub record Printed : Type 0 where
   pub command : ℕ
   pub parts : Sexps
 
+abbrev pub asks_model : Kind → Bool
+asks_model kinds.Model = true
+asks_model _ = false
+
+abbrev pub printed_in : ℕ → Option Sexp → List Printed
+printed_in n (Some (Items parts)) = record { command = n; parts = parts } ∷ []
+printed_in n _ = []
+
+-- the model that command n printed by its answer: a list, for a command that asks for one
 abbrev pub printed_by : ℕ → Command → Option Sexp → List Printed
-printed_by n GetModel (Some (Items parts)) = record { command = n; parts = parts } ∷ []
-printed_by n GetModel _ = []
-printed_by n _ answer = []
+printed_by n command answer = if asks_model (kind_of command) then printed_in n answer else []
 
 -- the models that the pairs printed, the first pair being command n
 abbrev pub models_from : ℕ → List Pair → List Printed

@@ -5,7 +5,7 @@ ghost use Rattle.smt_trees.specs.Tree.{sexp_of};
 ghost use Rattle.smt_script.specs.CommandView.{command_view};
 ghost use Rattle.smt_dialogue.specs.Answers as answers;
 
-use smt_script::Command;
+use smt_script::{Command, Kind};
 use smt_trees::{Tree, split_first};
 
 /// Which answers a command takes (SMT-LIB 2.6, section 3.9.1).
@@ -107,29 +107,15 @@ pub(crate) fn has_form(form: AnswerForm, answer: &Tree) -> bool
 pub(crate) fn need_of(print_success: bool, command: &Command) -> Need
     ensures { result ≡ answers.need_of print_success (command_view command.now) }
 {
-    match command {
-        Command::CheckSat => Need::Needed(AnswerForm::Check),
-        Command::GetModel => Need::Needed(AnswerForm::Model),
-        Command::Echo { .. } => Need::Needed(AnswerForm::Echo),
-        Command::Get { .. } => Need::Needed(AnswerForm::Other),
-        Command::Exit => Need::Optional(AnswerForm::Success),
-        Command::SetPrintSuccess { on } => needed_or(*on, Need::Optional(AnswerForm::General)),
-        Command::SetGlobalDeclarations { .. }
-        | Command::SetOption { .. }
-        | Command::SetInfo { .. } => {
-            needed_or(print_success, Need::Optional(AnswerForm::Unsupported))
-        }
-        Command::SetLogic { .. } | Command::DeclareConst { .. } => {
-            needed_or(print_success, Need::Nothing)
-        }
-        Command::DeclareFun { .. } | Command::DefineFun { .. } => {
-            needed_or(print_success, Need::Nothing)
-        }
-        Command::DefineSort { .. } | Command::Assert { .. } => {
-            needed_or(print_success, Need::Nothing)
-        }
-        Command::Push { .. } | Command::Pop { .. } => needed_or(print_success, Need::Nothing),
-        Command::Reset | Command::ResetAssertions => needed_or(print_success, Need::Nothing),
+    match command.kind() {
+        Kind::Check => Need::Needed(AnswerForm::Check),
+        Kind::Model => Need::Needed(AnswerForm::Model),
+        Kind::Echo => Need::Needed(AnswerForm::Echo),
+        Kind::Query => Need::Needed(AnswerForm::Other),
+        Kind::Exit => Need::Optional(AnswerForm::Success),
+        Kind::PrintSuccess { on } => needed_or(on, Need::Optional(AnswerForm::General)),
+        Kind::Setting => needed_or(print_success, Need::Optional(AnswerForm::Unsupported)),
+        Kind::Logic | Kind::Change | Kind::Reset => needed_or(print_success, Need::Nothing),
     }
 }
 

@@ -16,7 +16,7 @@ use crate::answer::is_error;
 use crate::judgement::{Judgement, judge};
 use smt_eval::Memory;
 use smt_report::{CheckAnswer, Line, Report};
-use smt_script::{Command, Stack};
+use smt_script::{Command, Kind, Stack};
 use smt_trees::{Tree, Trees};
 use std::alloc::Global;
 
@@ -195,17 +195,12 @@ impl Checks {
 pub(crate) fn role_of(command: &Command) -> Role
     ensures { result ≡ state.role_of (command_view command.now) }
 {
-    match command {
-        Command::CheckSat => Role::Check,
-        Command::GetModel => Role::Model,
-        Command::SetLogic { .. } | Command::DeclareConst { .. } => Role::Change,
-        Command::DeclareFun { .. } | Command::DefineFun { .. } => Role::Change,
-        Command::DefineSort { .. } | Command::Assert { .. } => Role::Change,
-        Command::Push { .. } | Command::Pop { .. } => Role::Change,
-        Command::Reset | Command::ResetAssertions => Role::Change,
-        Command::SetPrintSuccess { .. } | Command::SetGlobalDeclarations { .. } => Role::Other,
-        Command::SetOption { .. } | Command::SetInfo { .. } | Command::Exit => Role::Other,
-        Command::Echo { .. } | Command::Get { .. } => Role::Other,
+    match command.kind() {
+        Kind::Check => Role::Check,
+        Kind::Model => Role::Model,
+        Kind::Logic | Kind::Change | Kind::Reset => Role::Change,
+        Kind::PrintSuccess { .. } | Kind::Setting | Kind::Exit => Role::Other,
+        Kind::Echo | Kind::Query => Role::Other,
     }
 }
 

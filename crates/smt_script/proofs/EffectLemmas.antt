@@ -17,9 +17,9 @@ use Rattle.smt_faults.specs.Faults.{command_fault}
 use Rattle.smt_faults.specs.declared.term_fault.TermFault.{TermFault}
 use Rattle.smt_faults.specs.declared.term_fault.TermFault.TheVariants as terms
 use Rattle.smt_terms.specs.declared.library.Library.{Library}
-use Rattle.smt_script.specs.Command.{Command, Query, SetLogic, SetPrintSuccess, SetGlobalDeclarations, SetOption, SetInfo, DeclareConst, DeclareFun, DefineFun, DefineSort, Assert, Exit, CheckSat, GetModel, Echo, Get}
+use Rattle.smt_script.specs.Command.{Command, Effect, Item, SetLogic, DeclareConst, DeclareFun, DefineFun, DefineSort, Assert, Brings, Removing, Nothing, effect_of}
 use Rattle.smt_script.specs.Stack as spec
-use Rattle.smt_script.specs.Stack.{Brought, Numbered, abbreviations_by, abbreviations_of, assertions_by, assertions_in_force, assertions_of, brought_by, depth_after, depth_in_force, entries_by, entries_of, fault_of, fault_of_effect, has_exited, history, in_force, names_stand, is_exit, is_reset, one_or_none, print_success_after, print_success_in_force, signature_in_force, signature_of, theories_after, theories_in_force, theories_or, assertions_stand, is_logic_set, is_too_late}
+use Rattle.smt_script.specs.Stack.{Brought, Numbered, abbreviations_by, abbreviations_of_effect, assertions_of_effect, depth_by, entries_of_effect, fault_by, removed_of_effect, resets, theories_by, abbreviations_of, assertions_by, assertions_in_force, assertions_of, brought_by, depth_after, depth_in_force, entries_by, entries_of, fault_of, fault_of_effect, has_exited, history, in_force, names_stand, is_exit, is_reset, one_or_none, print_success_after, print_success_in_force, signature_in_force, signature_of, theories_after, theories_in_force, theories_or, assertions_stand, is_logic_set, is_too_late}
 use Rattle.smt_script.specs.StackView.{AreAssertions, IsLevel, StandsFor, to_level}
 use Rattle.smt_script.specs.Internal.Effect.{ContentsAreKept, HasEffect, IsUnchanged, noted, logic_after}
 use Rattle.smt_faults.specs.declared.command_fault.CommandFault.{CommandFault}
@@ -176,35 +176,27 @@ idle_effect law s n command idle = record {
   start = refl;
 }
 
-adds_nothing : (command : Command) → is_reset command ≡ false → ((d : ℕ) → depth_after d command ≡ d) → ((t : Theories) → theories_after t command ≡ t) → Adds command
-adds_nothing command a b c = record { no_reset = a; level = b; theories = c }
+-- a command that brings an item adds it
+pub item_adds : (command : Command) (item : Item) → effect_of command ≡ Brings item → Adds command
+item_adds command item is = record {
+  no_reset = ap (λ (e : Effect). resets (removed_of_effect e)) is;
+  level = λ d. ap (depth_by d) is;
+  theories = λ t. ap (theories_by t) is;
+}
 
-pub check_idle : Idle CheckSat
-check_idle = record { adds = adds_nothing CheckSat refl (λ d. refl) (λ t. refl); entries = λ s n. refl; abbreviations = λ s. refl; assertions = λ n. refl; faultless = λ cs n. refl }
-
-pub model_idle : Idle GetModel
-model_idle = record { adds = adds_nothing GetModel refl (λ d. refl) (λ t. refl); entries = λ s n. refl; abbreviations = λ s. refl; assertions = λ n. refl; faultless = λ cs n. refl }
-
-pub exit_idle : Idle Exit
-exit_idle = record { adds = adds_nothing Exit refl (λ d. refl) (λ t. refl); entries = λ s n. refl; abbreviations = λ s. refl; assertions = λ n. refl; faultless = λ cs n. refl }
-
-pub print_idle : (on : Bool) → Idle (SetPrintSuccess on)
-print_idle on = record { adds = adds_nothing (SetPrintSuccess on) refl (λ d. refl) (λ t. refl); entries = λ s n. refl; abbreviations = λ s. refl; assertions = λ n. refl; faultless = λ cs n. refl }
-
-pub global_idle : (on : Bool) → Idle (SetGlobalDeclarations on)
-global_idle on = record { adds = adds_nothing (SetGlobalDeclarations on) refl (λ d. refl) (λ t. refl); entries = λ s n. refl; abbreviations = λ s. refl; assertions = λ n. refl; faultless = λ cs n. refl }
-
-pub option_idle : (k : List ℕ) (v : Option Sexp) → Idle (SetOption k v)
-option_idle k v = record { adds = adds_nothing (SetOption k v) refl (λ d. refl) (λ t. refl); entries = λ s n. refl; abbreviations = λ s. refl; assertions = λ n. refl; faultless = λ cs n. refl }
-
-pub info_idle : (k : List ℕ) (v : Option Sexp) → Idle (SetInfo k v)
-info_idle k v = record { adds = adds_nothing (SetInfo k v) refl (λ d. refl) (λ t. refl); entries = λ s n. refl; abbreviations = λ s. refl; assertions = λ n. refl; faultless = λ cs n. refl }
-
-pub echo_idle : (t : List ℕ) → Idle (Echo t)
-echo_idle x = record { adds = adds_nothing (Echo x) refl (λ d. refl) (λ t. refl); entries = λ s n. refl; abbreviations = λ s. refl; assertions = λ n. refl; faultless = λ cs n. refl }
-
-pub get_idle : (q : Query) → Idle (Get q)
-get_idle q = record { adds = adds_nothing (Get q) refl (λ d. refl) (λ t. refl); entries = λ s n. refl; abbreviations = λ s. refl; assertions = λ n. refl; faultless = λ cs n. refl }
+-- so is each that has no effect
+pub no_effect_is_idle : (command : Command) → effect_of command ≡ Removing Nothing → Idle command
+no_effect_is_idle command is = record {
+  adds = record {
+    no_reset = ap (λ (e : Effect). resets (removed_of_effect e)) is;
+    level = λ d. ap (depth_by d) is;
+    theories = λ t. ap (theories_by t) is;
+  };
+  entries = λ s n. ap (entries_of_effect s n) is;
+  abbreviations = λ s. ap (abbreviations_of_effect s) is;
+  assertions = λ n. ap (assertions_of_effect n) is;
+  faultless = λ cs n. ap (fault_by cs n) is;
+}
 
 -- ---- names
 
@@ -243,7 +235,7 @@ pub declare_const_effect : ContentsAreKept → (old : Stack) (l : Library) (n : 
     → HasEffect old (record old { library = l }) n (DeclareConst x sort)
 declare_const_effect law old l n x sort declares grown =
     names_effect law old l n (DeclareConst x sort) (record {
-      adds = adds_nothing (DeclareConst x sort) refl (λ d. refl) (λ t. refl);
+      adds = item_adds (DeclareConst x sort) _ refl;
       grown = grown;
       assertions = refl;
       names = λ cs h.
@@ -255,7 +247,7 @@ pub declare_fun_effect : ContentsAreKept → (old : Stack) (l : Library) (n : �
     → HasEffect old (record old { library = l }) n (DeclareFun x parameters sort)
 declare_fun_effect law old l n x parameters sort declares grown =
     names_effect law old l n (DeclareFun x parameters sort) (record {
-      adds = adds_nothing (DeclareFun x parameters sort) refl (λ d. refl) (λ t. refl);
+      adds = item_adds (DeclareFun x parameters sort) _ refl;
       grown = grown;
       assertions = refl;
       names = λ cs h.
@@ -271,7 +263,7 @@ pub define_effect : ContentsAreKept → (old : Stack) (l : Library) (n : ℕ) (x
     → HasEffect old (record old { library = l }) n (DefineFun x parameters sort body)
 define_effect law old l n x parameters sort body defines grown =
     names_effect law old l n (DefineFun x parameters sort body) (record {
-      adds = adds_nothing (DefineFun x parameters sort body) refl (λ d. refl) (λ t. refl);
+      adds = item_adds (DefineFun x parameters sort body) _ refl;
       grown = grown;
       assertions = refl;
       names = λ cs h.
@@ -294,7 +286,7 @@ pub define_sort_effect : ContentsAreKept → (old : Stack) (l : Library) (n : �
     → HasEffect old (record old { library = l }) n (DefineSort x sort)
 define_sort_effect law old l n x sort abbreviates grown =
     names_effect law old l n (DefineSort x sort) (record {
-      adds = adds_nothing (DefineSort x sort) refl (λ d. refl) (λ t. refl);
+      adds = item_adds (DefineSort x sort) _ refl;
       grown = grown;
       assertions = refl;
       names = λ cs h.
@@ -322,7 +314,7 @@ assert_effect law old l as' a term asserts stored grown pushed = record {
   stands = λ cs h.
       let made = asserts (signature_in_force cs) h.library in
       let P : List Assertion → Type 0 = λ xs. AreAssertions (contents_of l) xs (assertions_in_force cs ++ record { command = a.command; term = term } ∷ []) in
-      added law old (record old { library = l; assertions = as' }) (a ∷ []) cs a.command (Assert term) h (adds_nothing (Assert term) refl (λ d. refl) (λ t. refl)) refl refl refl refl refl grown pushed
+      added law old (record old { library = l; assertions = as' }) (a ∷ []) cs a.command (Assert term) h (item_adds (Assert term) _ refl) refl refl refl refl refl grown pushed
       (some_entries l (signature_in_force cs) a.command (Assert term) made.0 refl (ap spec.all_or_none made.1) made.2)
       (subst P (sym pushed)
       (one_more_assertion (contents_of l) old.assertions.items (assertions_in_force cs) a (record { command = a.command; term = term })

@@ -11,8 +11,11 @@ use Rattle.std.proofs.lemmas.Grind.{flat_map-append}
 use Rattle.smt_theory.specs.declared.sort.Sort.{Sort}
 use Rattle.smt_theory.specs.declared.theories.Theories.{Theories}
 use Rattle.smt_terms.specs.Signature.{Entry, Signature}
-use Rattle.smt_script.specs.Command.{Command, SetLogic, SetPrintSuccess, SetGlobalDeclarations, SetOption, SetInfo, DeclareConst, DeclareFun, DefineFun, DefineSort, Assert, Push, Pop, Reset, ResetAssertions, Exit, CheckSat, GetModel, Echo, Get}
-use Rattle.smt_script.specs.Stack.{Assertion, Brought, Numbered, abbreviations_by, abbreviations_of, all_theories, assertions_by, assertions_of, brought_by, brought_from, depth_after, depth_in_force, entries_by, entries_of, has_exited, history, in_force, names_stand, is_exit, is_reset, print_success_after, print_success_in_force, signature_of, stands_after, theories_after, theories_in_force, is_late_after, is_logic_set, is_set_after, is_too_late, resets}
+use Rattle.smt_script.specs.Command.{Command, Effect, Removing, Everything, changes_force, effect_of, kind_of}
+use Rattle.smt_script.specs.Command as removals
+use Rattle.smt_script.specs.declared.command.Kind.{Kind}
+use Rattle.smt_script.specs.declared.command.Kind.TheVariants as kinds
+use Rattle.smt_script.specs.Stack.{Assertion, Brought, Numbered, abbreviations_by, abbreviations_of_effect, assertions_of_effect, depth_by, entries_of_effect, is_late_by, is_set_by, removed_of_effect, abbreviations_of, all_theories, assertions_by, assertions_of, brought_by, brought_from, depth_after, depth_in_force, entries_by, entries_of, has_exited, history, in_force, names_stand, is_exit, is_reset, print_success_after, print_success_in_force, signature_of, stands_after, theories_after, theories_in_force, is_late_after, is_logic_set, is_set_after, is_too_late, resets}
 use Rattle.smt_script.specs.StackView.{logic_state, to_level}
 use Rattle.smt_script.specs.Internal.Effect.{logic_after}
 use Rattle.smt_script.specs.declared.stack.LogicState.{LogicState}
@@ -198,7 +201,7 @@ Unfixed before brought = Bounded before brought × ((is_logic_set before || is_t
 
 -- a command after which a logic may be set removes all, or changes nothing
 pub data Unfixing (fixed : Bool) (command : Command) : Type 0 where
-  Resets : command ≡ Reset → Unfixing fixed command
+  Resets : effect_of command ≡ Removing Everything → Unfixing fixed command
   Idles : (fixed ≡ false) → ((s : Signature) (n : ℕ) → entries_by s n command ≡ []) → ((s : Signature) → abbreviations_by s command ≡ []) → ((n : ℕ) → assertions_by n command ≡ [])
       → is_reset command ≡ false → ((d : ℕ) → depth_after d command ≡ d) → Unfixing fixed command
 
@@ -213,26 +216,30 @@ late_there true late h = absurd (cc)
 late_there false true h = absurd (cc)
 late_there false false h = absurd (cc)
 
-unfixing : (set late : Bool) (command : Command) → (is_set_after set command || is_late_after late command) ≡ false → Unfixing (set || late) command
-unfixing set late Reset h = Resets refl
-unfixing set late (SetLogic x) h = absurd (cc)
-unfixing set late (SetPrintSuccess on) h = Idles (free set late h) (λ s n. refl) (λ s. refl) (λ n. refl) refl (λ d. refl)
-unfixing set late (SetGlobalDeclarations on) h = Idles (free set late h) (λ s n. refl) (λ s. refl) (λ n. refl) refl (λ d. refl)
-unfixing set late (SetOption k v) h = Idles (free set late h) (λ s n. refl) (λ s. refl) (λ n. refl) refl (λ d. refl)
-unfixing set late (SetInfo k v) h = Idles (free set late h) (λ s n. refl) (λ s. refl) (λ n. refl) refl (λ d. refl)
-unfixing set late Exit h = Idles (free set late h) (λ s n. refl) (λ s. refl) (λ n. refl) refl (λ d. refl)
-unfixing set late GetModel h = Idles (free set late h) (λ s n. refl) (λ s. refl) (λ n. refl) refl (λ d. refl)
-unfixing set late (Echo t) h = Idles (free set late h) (λ s n. refl) (λ s. refl) (λ n. refl) refl (λ d. refl)
-unfixing set late (Get q) h = Idles (free set late h) (λ s n. refl) (λ s. refl) (λ n. refl) refl (λ d. refl)
-unfixing set late (DeclareConst x s) h = absurd (late_there set late h)
-unfixing set late (DeclareFun x ps s) h = absurd (late_there set late h)
-unfixing set late (DefineFun x ps s t) h = absurd (late_there set late h)
-unfixing set late (DefineSort x s) h = absurd (late_there set late h)
-unfixing set late (Assert t) h = absurd (late_there set late h)
-unfixing set late (Push n) h = absurd (late_there set late h)
-unfixing set late (Pop n) h = absurd (late_there set late h)
-unfixing set late ResetAssertions h = absurd (late_there set late h)
-unfixing set late CheckSat h = absurd (late_there set late h)
+reset_effect : (command : Command) → kind_of command ≡ kinds.Reset → effect_of command ≡ Removing Everything
+reset_effect command h = grind (arith)
+
+-- a command of a kind that changes nothing in force has no effect
+pub no_effect : (command : Command) → changes_force (kind_of command) ≡ false → effect_of command ≡ Removing removals.Nothing
+no_effect command h = grind (arith)
+
+idles : (fixed : Bool) (command : Command) → fixed ≡ false → effect_of command ≡ Removing removals.Nothing → Unfixing fixed command
+idles fixed command free is =
+    Idles free (λ s n. ap (entries_of_effect s n) is) (λ s. ap (abbreviations_of_effect s) is)
+    (λ n. ap (assertions_of_effect n) is) (ap (λ (e : Effect). resets (removed_of_effect e)) is) (λ d. ap (depth_by d) is)
+
+unfixing : (set late : Bool) (command : Command) (k : Kind) → kind_of command ≡ k → (is_set_by set k || is_late_by late k) ≡ false
+    → Unfixing (set || late) command
+unfixing set late command kinds.Reset is h = Resets (reset_effect command is)
+unfixing set late command kinds.Logic is h = absurd (cc)
+unfixing set late command kinds.Change is h = absurd (late_there set late h)
+unfixing set late command kinds.Check is h = absurd (late_there set late h)
+unfixing set late command (kinds.PrintSuccess on) is h = idles (set || late) command (free set late h) (no_effect command (ap changes_force is))
+unfixing set late command kinds.Setting is h = idles (set || late) command (free set late h) (no_effect command (ap changes_force is))
+unfixing set late command kinds.Exit is h = idles (set || late) command (free set late h) (no_effect command (ap changes_force is))
+unfixing set late command kinds.Model is h = idles (set || late) command (free set late h) (no_effect command (ap changes_force is))
+unfixing set late command kinds.Echo is h = idles (set || late) command (free set late h) (no_effect command (ap changes_force is))
+unfixing set late command kinds.Query is h = idles (set || late) command (free set late h) (no_effect command (ap changes_force is))
 
 abbrev AfterStep : List Numbered → List Brought → Numbered → Type 0
 AfterStep before brought c = Nothing (still (brought_by before brought c) ((in_force names_stand) brought) ++ brought_by before brought c ∷ []) × (depth_after (depth_in_force before) c.command ≡ 0)
@@ -240,16 +247,16 @@ AfterStep before brought c = Nothing (still (brought_by before brought c) ((in_f
 unfixed_by : (before : List Numbered) (brought : List Brought) (c : Numbered) → Unfixed before brought → Unfixing (is_logic_set before || is_too_late before) c.command → AfterStep before brought c
 unfixed_by before brought c h (Resets is) =
     let b = brought_by before brought c in
-    let gone : still b ((in_force names_stand) brought) ≡ [] = none_still b ((in_force names_stand) brought) (ap is_reset is) in
+    let gone : still b ((in_force names_stand) brought) ≡ [] = none_still b ((in_force names_stand) brought) (ap (λ (e : Effect). resets (removed_of_effect e)) is) in
     let s = signature_of (theories_in_force before) ((in_force names_stand) brought) in
-    let P : Command → Type 0 = λ d. (entries_by s c.number d ≡ []) × (abbreviations_by s d ≡ []) × (assertions_by c.number d ≡ []) in
-    let none : P c.command = subst P (sym is) (refl, refl, refl) in (
+    let P : Effect → Type 0 = λ e. (entries_of_effect s c.number e ≡ []) × (abbreviations_of_effect s e ≡ []) × (assertions_of_effect c.number e ≡ []) in
+    let none : P (effect_of c.command) = subst P (sym is) (refl, refl, refl) in (
       record {
         entries = entries-push (still b ((in_force names_stand) brought)) b ∙ ap (λ (l : List Brought). entries_of l ++ b.entries) gone ∙ none.0;
         abbreviations = abbreviations-push (still b ((in_force names_stand) brought)) b ∙ ap (λ (l : List Brought). abbreviations_of l ++ b.abbreviations) gone ∙ none.1;
         assertions = assertions-push (still b ((in_force names_stand) brought)) b ∙ ap (λ (l : List Brought). assertions_of l ++ b.assertions) gone ∙ none.2;
       },
-      ap (λ (d : Command). depth_after (depth_in_force before) d) is,
+      ap (depth_by (depth_in_force before)) is,
     )
 unfixed_by before brought c h (Idles unfixed entries abbreviations assertions keeps depth) =
     let b = brought_by before brought c in
@@ -269,7 +276,7 @@ unfixed_step before brought c h = (
   bound_step before brought c h.0,
   λ is.
       let b = brought_by before brought c in
-      let after = unfixed_by before brought c h (unfixing (is_logic_set before) (is_too_late before) c.command (sym (ap (λ (l : LogicState). l.set || l.late) (logic-push before c)) ∙ is)) in
+      let after = unfixed_by before brought c h (unfixing (is_logic_set before) (is_too_late before) c.command (kind_of c.command) refl (sym (ap (λ (l : LogicState). l.set || l.late) (logic-push before c)) ∙ is)) in
       (subst Nothing (sym (in_force-push brought b)) after.0, depth-push before c ∙ after.1),
 )
 

@@ -15,10 +15,10 @@ use Rattle.smt_terms.specs.Signature.{Entry, Names, Origin, Declared, Defined, R
 use Rattle.smt_terms.specs.WellSorted.{AreIntroduced, IsIntroduced, IsSortedIfDefined, IsWellSorted, IsWellSortedFrom}
 use Rattle.smt_faults.specs.declared.term_fault.TermFault.{TermFault}
 use Rattle.smt_faults.specs.declared.term_fault.TermFault.TheVariants as terms
-use Rattle.smt_script.specs.Command.{Command, SetLogic, SetPrintSuccess, SetGlobalDeclarations, SetOption, SetInfo, DeclareConst, DeclareFun, DefineFun, DefineSort, Assert, Push, Pop, Reset, ResetAssertions, Exit, CheckSat, GetModel, Echo, Get}
-use Rattle.smt_script.specs.Stack.{Brought, HaveNoFault, Numbered, all_or_none, brought_by, depth_after, entries_by, entries_of, fault_of, fault_of_effect, fault_of_logic, history, in_force, names_stand, is_reset, one_or_none, signature_in_force, theories_after, theories_in_force, is_logic_set, is_too_late}
+use Rattle.smt_script.specs.Command.{Command, Effect, Item, SetLogic, Pop, Declaration, Definition, Abbreviation, Assertion, SetsLogic, Brings, Pushes, Pops, Removing, Nothing, AllButOptions, Everything, effect_of}
+use Rattle.smt_script.specs.Stack.{Brought, HaveNoFault, Numbered, all_or_none, brought_by, depth_by, entries_by, entries_of_effect, entries_of_item, fault_by, fault_of_item, removed_of_effect, resets, theories_by, entries_of, fault_of, fault_of_effect, fault_of_logic, history, in_force, names_stand, is_reset, one_or_none, signature_in_force, theories_in_force, is_logic_set, is_too_late}
 use Rattle.smt_script.specs.StackView.{to_level}
-use Rattle.smt_script.proofs.EffectLemmas.{Keeps, signature-add}
+use Rattle.smt_script.proofs.EffectLemmas.{Keeps, adds_keeps, item_adds, no_effect_is_idle, signature-add}
 use Rattle.smt_script.proofs.HistoryLemmas.{AtMost, Kept, entries-push, history-push, in_force-grow, in_force-push, kept_by_all, levels_still, none_still, still, still_at_most, theories-push, unfixed_is_empty}
 
 -- ---- what is in force stands in the order of its levels
@@ -154,6 +154,12 @@ IsWell s = AreIntroduced s.theories [] s.entries
 abbrev BringsWell : Signature → List Entry → Type 0
 BringsWell s brought = AreIntroduced s.theories s.entries brought
 
+logic_alone : (command : Command) (x : List ℕ) → effect_of command ≡ SetsLogic x → command ≡ SetLogic x
+logic_alone command x h = grind (arith)
+
+pop_alone : (command : Command) (m : ℕ) → effect_of command ≡ Pops m → command ≡ Pop m
+pop_alone command m h = grind (arith)
+
 module _ (law : NamesAreIntroduced) where
   declares : (s : Signature) (n : ℕ) (x : List ℕ) (parameters : Sexps) (sort : Sexp) → fault_of (declared_in s n x parameters sort) ≡ None → BringsWell s (one_or_none (declared_in s n x parameters sort))
   declares s n x parameters sort h =
@@ -180,9 +186,6 @@ module _ (law : NamesAreIntroduced) where
   adds cs c keeps all brought =
       let s = signature_in_force cs in
       subst IsWell (sym (signature-add cs c keeps)) (more_names s.theories [] s.entries (entries_by s c.number c.command) all brought)
-
-  keeps_all : (command : Command) → is_reset command ≡ false → ((d : ℕ) → depth_after d command ≡ d) → ((t : Theories) → theories_after t command ≡ t) → Keeps command
-  keeps_all command a b c = record { no_reset = a; level = λ d. (let e = b d in omega arith); theories = c }
 
   unfixed : (set late : Bool) (theories : Option Theories) → fault_of_logic set late theories ≡ None → (set || late) ≡ false
   unfixed true late theories h = absurd (cc)
@@ -215,40 +218,59 @@ module _ (law : NamesAreIntroduced) where
       (subst (λ (es : List Entry). AreIntroduced (theories_in_force cs) [] es) (sym now)
       (fewer_names (theories_in_force cs) [] (entries_of (to_level b.level B)) (entries_of first.0) (subst (λ (es : List Entry). AreIntroduced (theories_in_force cs) [] es) split all)))
 
-  resets : (cs : List Numbered) (c : Numbered) → is_reset c.command ≡ true → ((s : Signature) (n : ℕ) → entries_by s n c.command ≡ []) → IsWell (signature_in_force (cs ++ c ∷ []))
-  resets cs c all none =
+  behind_reset : (cs : List Numbered) (c : Numbered) → is_reset c.command ≡ true → ((s : Signature) (n : ℕ) → entries_by s n c.command ≡ []) → IsWell (signature_in_force (cs ++ c ∷ []))
+  behind_reset cs c all none =
       let b = brought_by cs (history cs) c in
       no_entries (signature_in_force (cs ++ c ∷ []))
       (ap (λ (h : List Brought). entries_of ((in_force names_stand) h)) (history-push cs c) ∙ ap entries_of (in_force-push (history cs) b)
       ∙ entries-push (still b ((in_force names_stand) (history cs))) b ∙ ap (λ (l : List Brought). entries_of l ++ b.entries) (none_still b ((in_force names_stand) (history cs)) all) ∙ none (signature_in_force cs) c.number)
 
-  -- one more command
-  step : (cs : List Numbered) (n : ℕ) (command : Command) → IsWell (signature_in_force cs) → fault_of_effect cs n command ≡ None → IsWell (signature_in_force (cs ++ record { number = n; command = command } ∷ []))
-  step cs n (SetLogic x) all h = sets_logic cs n x h
-  step cs n (DeclareConst x sort) all h = adds cs (record { number = n; command = DeclareConst x sort }) (keeps_all (DeclareConst x sort) refl (λ d. refl) (λ t. refl)) all (declares (signature_in_force cs) n x Nil sort h)
-  step cs n (DeclareFun x ps sort) all h = adds cs (record { number = n; command = DeclareFun x ps sort }) (keeps_all (DeclareFun x ps sort) refl (λ d. refl) (λ t. refl)) all (declares (signature_in_force cs) n x ps sort h)
-  step cs n (DefineFun x ps sort body) all h = adds cs (record { number = n; command = DefineFun x ps sort body }) (keeps_all (DefineFun x ps sort body) refl (λ d. refl) (λ t. refl)) all (defines (signature_in_force cs) x ps sort body h)
-  step cs n (Assert term) all h = adds cs (record { number = n; command = Assert term }) (keeps_all (Assert term) refl (λ d. refl) (λ t. refl)) all (asserts (signature_in_force cs) term h)
-  step cs n (DefineSort x sort) all h = adds cs (record { number = n; command = DefineSort x sort }) (keeps_all (DefineSort x sort) refl (λ d. refl) (λ t. refl)) all tt
-  step cs n (Push m) all h = adds cs (record { number = n; command = Push m }) (record { no_reset = refl; level = λ d. omega arith; theories = λ t. refl }) all tt
-  step cs n (Pop m) all h = pops cs n m all
-  step cs n Reset all h = resets cs (record { number = n; command = Reset }) refl (λ s k. refl)
-  step cs n ResetAssertions all h = resets cs (record { number = n; command = ResetAssertions }) refl (λ s k. refl)
-  step cs n (SetPrintSuccess on) all h = adds cs (record { number = n; command = SetPrintSuccess on }) (keeps_all (SetPrintSuccess on) refl (λ d. refl) (λ t. refl)) all tt
-  step cs n (SetGlobalDeclarations on) all h = adds cs (record { number = n; command = SetGlobalDeclarations on }) (keeps_all (SetGlobalDeclarations on) refl (λ d. refl) (λ t. refl)) all tt
-  step cs n (SetOption k v) all h = adds cs (record { number = n; command = SetOption k v }) (keeps_all (SetOption k v) refl (λ d. refl) (λ t. refl)) all tt
-  step cs n (SetInfo k v) all h = adds cs (record { number = n; command = SetInfo k v }) (keeps_all (SetInfo k v) refl (λ d. refl) (λ t. refl)) all tt
-  step cs n Exit all h = adds cs (record { number = n; command = Exit }) (keeps_all Exit refl (λ d. refl) (λ t. refl)) all tt
-  step cs n CheckSat all h = adds cs (record { number = n; command = CheckSat }) (keeps_all CheckSat refl (λ d. refl) (λ t. refl)) all tt
-  step cs n GetModel all h = adds cs (record { number = n; command = GetModel }) (keeps_all GetModel refl (λ d. refl) (λ t. refl)) all tt
-  step cs n (Echo t) all h = adds cs (record { number = n; command = Echo t }) (keeps_all (Echo t) refl (λ d. refl) (λ t. refl)) all tt
-  step cs n (Get q) all h = adds cs (record { number = n; command = Get q }) (keeps_all (Get q) refl (λ d. refl) (λ t. refl)) all tt
+  -- one more command, by what it does
+  brings : (s : Signature) (n : ℕ) (item : Item) → fault_of_item s n item ≡ None → BringsWell s (entries_of_item s n item)
+  brings s n (Declaration x ps sort) h = declares s n x ps sort h
+  brings s n (Definition x ps sort body) h = defines s x ps sort body h
+  brings s n (Abbreviation x sort) h = tt
+  brings s n (Assertion term) h = asserts s term h
+
+  abbrev IsWellBehind : List Numbered → ℕ → Command → Type 0
+  IsWellBehind cs n command = IsWell (signature_in_force (cs ++ record { number = n; command = command } ∷ []))
+
+  -- a command that brings no name
+  adds_none : (cs : List Numbered) (n : ℕ) (command : Command) → Keeps command
+      → entries_by (signature_in_force cs) n command ≡ [] → IsWell (signature_in_force cs) → IsWellBehind cs n command
+  adds_none cs n command keeps none all =
+      adds cs (record { number = n; command = command }) keeps all (subst (BringsWell (signature_in_force cs)) (sym none) tt)
+
+  step : (cs : List Numbered) (n : ℕ) (command : Command) (e : Effect) → effect_of command ≡ e → IsWell (signature_in_force cs)
+      → fault_by cs n e ≡ None → IsWellBehind cs n command
+  step cs n command (SetsLogic x) is all h =
+      subst (IsWellBehind cs n) (sym (logic_alone command x is)) (sets_logic cs n x h)
+  step cs n command (Brings item) is all h =
+      let s = signature_in_force cs in
+      adds cs (record { number = n; command = command }) (adds_keeps command (item_adds command item is)) all
+      (subst (BringsWell s) (sym (ap (entries_of_effect s n) is)) (brings s n item h))
+  step cs n command (Pushes m) is all h =
+      adds_none cs n command (record {
+        no_reset = ap (λ (e : Effect). resets (removed_of_effect e)) is;
+        level = λ d. (let e = ap (depth_by d) is in omega arith);
+        theories = λ t. ap (theories_by t) is;
+      }) (ap (entries_of_effect (signature_in_force cs) n) is) all
+  step cs n command (Pops m) is all h = subst (IsWellBehind cs n) (sym (pop_alone command m is)) (pops cs n m all)
+  step cs n command (Removing Nothing) is all h =
+      adds_none cs n command (adds_keeps command (no_effect_is_idle command is).adds)
+      (ap (entries_of_effect (signature_in_force cs) n) is) all
+  step cs n command (Removing AllButOptions) is all h =
+      behind_reset cs (record { number = n; command = command }) (ap (λ (e : Effect). resets (removed_of_effect e)) is)
+      (λ s k. ap (entries_of_effect s k) is)
+  step cs n command (Removing Everything) is all h =
+      behind_reset cs (record { number = n; command = command }) (ap (λ (e : Effect). resets (removed_of_effect e)) is)
+      (λ s k. ap (entries_of_effect s k) is)
 
   from : (before cs : List Numbered) → IsWell (signature_in_force before) → HaveNoFault before cs → IsWell (signature_in_force (before ++ cs))
   from before [] all h = subst (λ (cs : List Numbered). IsWell (signature_in_force cs)) (sym (append-nil before)) all
   from before (c ∷ cs) all h =
       subst (λ (ds : List Numbered). IsWell (signature_in_force ds)) (append_assoc before (c ∷ []) cs)
-      (from (before ++ c ∷ []) cs (step before c.number c.command all h.0) h.1)
+      (from (before ++ c ∷ []) cs (step before c.number c.command (effect_of c.command) refl all h.0) h.1)
 
   pub names_introduced : (cs : List Numbered) → HaveNoFault [] cs → IsWell (signature_in_force cs)
   names_introduced cs h = from [] cs tt h

@@ -8,9 +8,9 @@ use Rattle.std.proofs.lemmas.List.Sums.{fold-append}
 use Rattle.smt_theory.specs.Theories.{theories_named}
 use Rattle.smt_theory.specs.declared.theories.Theories.{Theories}
 use Rattle.smt_faults.specs.declared.command_fault.CommandFault.TheVariants.{NoLevel}
-use Rattle.smt_script.specs.Command.{Command, SetLogic, SetPrintSuccess, SetGlobalDeclarations, SetOption, SetInfo, DeclareConst, DeclareFun, DefineFun, DefineSort, Assert, Push, Pop, Reset, ResetAssertions, Exit, CheckSat, GetModel, Echo, Get}
-use Rattle.smt_script.specs.Stack.{HaveNoFault, Numbered, all_theories, depth_after, depth_in_force, fault_of_effect, has_exited, is_exit, is_late_after, is_logic_set, is_reset, is_set_after, is_too_late, makes_late, print_success_after, print_success_in_force, theories_after, theories_in_force, theories_or}
-use Rattle.smt_script.specs.Standing.{AreSince, Behind, IsAmong, IsLast, Never, Start, is_whole_reset, popped, popped_by, pushed, pushed_by, sets_logic, sets_print_success, sets_theories}
+use Rattle.smt_script.specs.Command.{Command, Effect, SetLogic, SetPrintSuccess, Exit, SetsLogic, Brings, Pushes, Pops, Removing, Nothing, AllButOptions, Everything, effect_of}
+use Rattle.smt_script.specs.Stack.{HaveNoFault, Numbered, all_theories, depth_after, depth_by, depth_in_force, fault_by, has_exited, is_exit, is_late_after, is_logic_set, is_reset, is_set_after, is_too_late, makes_late, print_success_after, print_success_in_force, removed_of_effect, resets, theories_after, theories_in_force, theories_or}
+use Rattle.smt_script.specs.Standing.{AreSince, Behind, IsAmong, IsLast, Never, Start, is_whole_reset, levels_popped, levels_pushed, popped, pushed, sets_logic, sets_print_success, sets_theories}
 use Rattle.smt_script.proofs.StandingLemmas.{depth-push}
 
 -- ---- commands since one
@@ -135,38 +135,27 @@ late_since commands since s =
 
 -- ---- levels
 
-levels_by : (before : List Numbered) (n : ℕ) (command : Command) → fault_of_effect before n command ≡ None → is_reset command ≡ false
-    → depth_after (depth_in_force before) command + popped_by command ≡ depth_in_force before + pushed_by command
-levels_by before n (Pop m) h k = popped_all (depth_in_force before) (nat_lt (depth_in_force before) m) refl h
+levels_by : (before : List Numbered) (n : ℕ) (e : Effect) → fault_by before n e ≡ None
+    → resets (removed_of_effect e) ≡ false
+    → depth_by (depth_in_force before) e + levels_popped e ≡ depth_in_force before + levels_pushed e
+levels_by before n (Pops m) h k = popped_all (depth_in_force before) (nat_lt (depth_in_force before) m) refl h
   where
     popped_all : (d : ℕ) → (b : Bool) → nat_lt d m ≡ b → cond b (Some NoLevel) None ≡ None → d - m + m ≡ d + 0
     popped_all d true e i = absurd (cc)
     popped_all d false e i = grind (arith)
-levels_by before n (Push m) h k = omega arith
-levels_by before n Reset h k = absurd (cc)
-levels_by before n ResetAssertions h k = absurd (cc)
-levels_by before n (SetLogic x) h k = refl
-levels_by before n (SetPrintSuccess on) h k = refl
-levels_by before n (SetGlobalDeclarations on) h k = refl
-levels_by before n (SetOption x v) h k = refl
-levels_by before n (SetInfo x v) h k = refl
-levels_by before n (DeclareConst x s) h k = refl
-levels_by before n (DeclareFun x ps s) h k = refl
-levels_by before n (DefineFun x ps s t) h k = refl
-levels_by before n (DefineSort x s) h k = refl
-levels_by before n (Assert t) h k = refl
-levels_by before n Exit h k = refl
-levels_by before n CheckSat h k = refl
-levels_by before n GetModel h k = refl
-levels_by before n (Echo t) h k = refl
-levels_by before n (Get q) h k = refl
+levels_by before n (Pushes m) h k = omega arith
+levels_by before n (SetsLogic x) h k = refl
+levels_by before n (Brings item) h k = refl
+levels_by before n (Removing Nothing) h k = refl
+levels_by before n (Removing AllButOptions) h k = absurd (cc)
+levels_by before n (Removing Everything) h k = absurd (cc)
 
 summed_from : (before cs : List Numbered) → HaveNoFault before cs → Never is_reset cs → depth_in_force (before ++ cs) + popped cs ≡ depth_in_force before + pushed cs
 summed_from before [] h none = ap (λ (l : List Numbered). depth_in_force l + 0) (append-nil before)
 summed_from before (c ∷ cs) h none =
     let b = none_of_either (is_reset c.command) (list_any (λ d. is_reset d.command) cs) none in
     let rest = summed_from (before ++ c ∷ []) cs h.1 b.1 in
-    let here = levels_by before c.number c.command h.0 b.0 in
+    let here = levels_by before c.number (effect_of c.command) h.0 b.0 in
     let push = depth-push before c in
     let same : depth_in_force ((before ++ c ∷ []) ++ cs) ≡ depth_in_force (before ++ c ∷ cs) = ap depth_in_force (append_assoc before (c ∷ []) cs) in
     omega arith

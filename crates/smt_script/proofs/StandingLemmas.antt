@@ -5,8 +5,9 @@ use Rattle.std.specs.List.{list_all, list_any}
 use Rattle.std.proofs.lemmas.List.{append-nil}
 use Rattle.std.proofs.lemmas.List.Sums.{fold-append}
 use Rattle.smt_trees.specs.Sexp.{Sexp}
-use Rattle.smt_script.specs.Command.{Command, SetLogic, SetPrintSuccess, SetGlobalDeclarations, SetOption, SetInfo, DeclareConst, DeclareFun, DefineFun, DefineSort, Assert, Push, Pop, Reset, ResetAssertions, Exit, CheckSat, GetModel, Echo, Get}
-use Rattle.smt_script.specs.Stack.{Brought, KeepLevels, Numbered, assertions_by, brought_by, brought_from, depth_after, depth_in_force, is_reset, stands_after}
+use Rattle.smt_script.specs.Command.{Command, Effect, Assert, SetsLogic, Brings, Pushes, Pops, Removing, effect_of}
+use Rattle.smt_script.specs.Command as items
+use Rattle.smt_script.specs.Stack.{Brought, KeepLevels, Numbered, assertions_by, assertions_of_effect, brought_by, brought_from, depth_after, depth_in_force, is_reset, stands_after}
 
 -- what commands bring, behind those before them
 abbrev pub steps : List Numbered → List Brought → List Numbered → List Brought
@@ -90,23 +91,19 @@ pub data IsAssertion (n : ℕ) (command : Command) : Type 0 where
   Yes : (term : Sexp) → (command ≡ Assert term) → IsAssertion n command
   No : assertions_by n command ≡ [] → IsAssertion n command
 
+assertion_alone : (command : Command) (term : Sexp) → effect_of command ≡ Brings (items.Assertion term) → command ≡ Assert term
+assertion_alone command term h = grind (arith)
+
+-- by what it does
+brings_or_not : (n : ℕ) (command : Command) (e : Effect) → effect_of command ≡ e → IsAssertion n command
+brings_or_not n command (Brings (items.Assertion term)) is = Yes term (assertion_alone command term is)
+brings_or_not n command (Brings (items.Declaration x ps sort)) is = No (ap (assertions_of_effect n) is)
+brings_or_not n command (Brings (items.Definition x ps sort t)) is = No (ap (assertions_of_effect n) is)
+brings_or_not n command (Brings (items.Abbreviation x sort)) is = No (ap (assertions_of_effect n) is)
+brings_or_not n command (SetsLogic x) is = No (ap (assertions_of_effect n) is)
+brings_or_not n command (Pushes m) is = No (ap (assertions_of_effect n) is)
+brings_or_not n command (Pops m) is = No (ap (assertions_of_effect n) is)
+brings_or_not n command (Removing what) is = No (ap (assertions_of_effect n) is)
+
 pub assertion_or_not : (n : ℕ) (command : Command) → IsAssertion n command
-assertion_or_not n (Assert term) = Yes term refl
-assertion_or_not n (SetLogic x) = No refl
-assertion_or_not n (SetPrintSuccess on) = No refl
-assertion_or_not n (SetGlobalDeclarations on) = No refl
-assertion_or_not n (SetOption k v) = No refl
-assertion_or_not n (SetInfo k v) = No refl
-assertion_or_not n (DeclareConst x s) = No refl
-assertion_or_not n (DeclareFun x ps s) = No refl
-assertion_or_not n (DefineFun x ps s t) = No refl
-assertion_or_not n (DefineSort x s) = No refl
-assertion_or_not n (Push k) = No refl
-assertion_or_not n (Pop k) = No refl
-assertion_or_not n Reset = No refl
-assertion_or_not n ResetAssertions = No refl
-assertion_or_not n Exit = No refl
-assertion_or_not n CheckSat = No refl
-assertion_or_not n GetModel = No refl
-assertion_or_not n (Echo t) = No refl
-assertion_or_not n (Get q) = No refl
+assertion_or_not n command = brings_or_not n command (effect_of command) refl

@@ -1,8 +1,10 @@
 -- SMT-LIB 2.6, section 4.2: the trees that are commands. Which commands are supported is this project's choice.
 use Rattle.std.specs.Prelude.{ℕ, List, Bool, true, false, ◌&&◌, Option, Some, None, is_some, option_map, option_and_then, Result, Err, ok_or, bytes_eq, codes, if◌then◌else◌}
-use Rattle.smt_trees.specs.Sexp.{Sexp, Sexps, Atom, Reserved, Items, Cons, Symbol}
+use Rattle.smt_trees.specs.Sexp.{Sexp, Sexps, Atom, Reserved, Items, Nil, Cons, Symbol}
 use Rattle.smt_trees.specs.declared.reserved.Word.{Word}
 use Rattle.smt_trees.specs.declared.reserved.Word.TheVariants as words
+use Rattle.smt_script.specs.declared.command.Kind.{Kind}
+use Rattle.smt_script.specs.declared.command.Kind.TheVariants as kinds
 use Rattle.smt_script.specs.Parts.{is_none, keyword_and_value, list_and_tree, name_and_abbreviated, name_and_definition, name_and_rank, name_and_sort, one_keyword, one_list, one_numeral, one_symbol, one_text, one_tree, truth_of_value}
 use Rattle.smt_faults.specs.declared.command_fault.CommandFault.{CommandFault}
 use Rattle.smt_faults.specs.declared.command_fault.CommandFault.TheVariants.{Form, Unsupported}
@@ -127,21 +129,92 @@ command_of _ = Err Form
 
 -- ---- what commands are
 
+-- the kind of a command: all that is asked of commands but for what they do to the stack is asked of their kinds
+abbrev pub kind_of : Command → Kind
+kind_of (SetLogic name) = kinds.Logic
+kind_of (SetPrintSuccess on) = kinds.PrintSuccess on
+kind_of (SetGlobalDeclarations on) = kinds.Setting
+kind_of (SetOption keyword value) = kinds.Setting
+kind_of (SetInfo keyword value) = kinds.Setting
+kind_of (DeclareConst x sort) = kinds.Change
+kind_of (DeclareFun x parameters sort) = kinds.Change
+kind_of (DefineFun x parameters sort body) = kinds.Change
+kind_of (DefineSort x sort) = kinds.Change
+kind_of (Assert term) = kinds.Change
+kind_of (Push levels) = kinds.Change
+kind_of (Pop levels) = kinds.Change
+kind_of Reset = kinds.Reset
+kind_of ResetAssertions = kinds.Change
+kind_of Exit = kinds.Exit
+kind_of CheckSat = kinds.Check
+kind_of GetModel = kinds.Model
+kind_of (Echo text) = kinds.Echo
+kind_of (Get query) = kinds.Query
+
+abbrev pub asks_check : Kind → Bool
+asks_check kinds.Check = true
+asks_check _ = false
+
 -- a command that asks whether the assertions in force are satisfiable
 abbrev pub is_check : Command → Bool
-is_check CheckSat = true
-is_check _ = false
+is_check command = asks_check (kind_of command)
+
+abbrev pub changes_force : Kind → Bool
+changes_force kinds.Logic = true
+changes_force kinds.Change = true
+changes_force kinds.Reset = true
+changes_force (kinds.PrintSuccess on) = false
+changes_force kinds.Setting = false
+changes_force kinds.Exit = false
+changes_force kinds.Check = false
+changes_force kinds.Model = false
+changes_force kinds.Echo = false
+changes_force kinds.Query = false
 
 -- a command whose effect changes what is in force. (A logic is set before every check; so in a script without a fault it ends no window.)
 abbrev pub closes_window : Command → Bool
-closes_window (SetLogic name) = true
-closes_window (DeclareConst x sort) = true
-closes_window (DeclareFun x parameters sort) = true
-closes_window (DefineFun x parameters sort body) = true
-closes_window (DefineSort x sort) = true
-closes_window (Assert term) = true
-closes_window (Push levels) = true
-closes_window (Pop levels) = true
-closes_window Reset = true
-closes_window ResetAssertions = true
-closes_window _ = false
+closes_window command = changes_force (kind_of command)
+
+-- ---- what commands do to the stack
+
+-- what a command brings
+pub data Item : Type 0 where
+  Declaration : (name : List ℕ) → (parameters : Sexps) → (sort : Sexp) → Item
+  Definition : (name : List ℕ) → (parameters : List (List ℕ × Sexp)) → (sort : Sexp) → (body : Sexp) → Item
+  Abbreviation : (name : List ℕ) → (sort : Sexp) → Item
+  Assertion : (term : Sexp) → Item
+
+-- what a command removes of what there was before it
+pub data Removes : Type 0 where
+  Nothing : Removes
+  AllButOptions : Removes
+  Everything : Removes
+
+-- what a command does to what is in force
+pub data Effect : Type 0 where
+  SetsLogic : (name : List ℕ) → Effect
+  Brings : (item : Item) → Effect
+  Pushes : (levels : ℕ) → Effect
+  Pops : (levels : ℕ) → Effect
+  Removing : (what : Removes) → Effect
+
+abbrev pub effect_of : Command → Effect
+effect_of (SetLogic name) = SetsLogic name
+effect_of (SetPrintSuccess on) = Removing Nothing
+effect_of (SetGlobalDeclarations on) = Removing Nothing
+effect_of (SetOption keyword value) = Removing Nothing
+effect_of (SetInfo keyword value) = Removing Nothing
+effect_of (DeclareConst x sort) = Brings (Declaration x Nil sort)
+effect_of (DeclareFun x parameters sort) = Brings (Declaration x parameters sort)
+effect_of (DefineFun x parameters sort body) = Brings (Definition x parameters sort body)
+effect_of (DefineSort x sort) = Brings (Abbreviation x sort)
+effect_of (Assert term) = Brings (Assertion term)
+effect_of (Push levels) = Pushes levels
+effect_of (Pop levels) = Pops levels
+effect_of Reset = Removing Everything
+effect_of ResetAssertions = Removing AllButOptions
+effect_of Exit = Removing Nothing
+effect_of CheckSat = Removing Nothing
+effect_of GetModel = Removing Nothing
+effect_of (Echo text) = Removing Nothing
+effect_of (Get query) = Removing Nothing

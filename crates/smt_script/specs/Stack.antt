@@ -3,7 +3,7 @@
 -- `:global-declarations` is false. That there are at most 10,000 levels is this project's limit.
 use Rattle.std.specs.Prelude.{◌≡◌, ◌≤◌, ℕ, ◌+◌, ◌-◌, List, [], ◌∷◌, ◌++◌, Bool, true, false, not, ◌&&◌, ◌||◌, Option, Some, None, is_some, Result, Ok, Err, fold, nat_le, nat_lt, if◌then◌else◌}
 use Rattle.std.specs.List.{flat_map, list_all, list_any}
-use Rattle.smt_trees.specs.Sexp.{Sexp, Nil}
+use Rattle.smt_trees.specs.Sexp.{Sexp}
 use Rattle.smt_theory.specs.Theories.{theories_named}
 use Rattle.smt_theory.specs.declared.sort.Sort.{Sort}
 use Rattle.smt_theory.specs.declared.theories.Theories.{Theories}
@@ -12,7 +12,10 @@ use Rattle.smt_terms.specs.Definitions.{defined_in}
 use Rattle.smt_terms.specs.Signature.{Entry, Signature, declared_in, names_of, sort_names_of}
 use Rattle.smt_terms.specs.SortTrees.{abbreviated_in}
 use Rattle.smt_faults.specs.declared.term_fault.TermFault.{TermFault}
-use Rattle.smt_script.specs.Command.{Command, SetLogic, SetPrintSuccess, DeclareConst, DeclareFun, DefineFun, DefineSort, Assert, Push, Pop, Reset, ResetAssertions, Exit, CheckSat}
+use Rattle.smt_script.specs.Command.{Command, Effect, Item, Removes, SetsLogic, Brings, Pushes, Pops, Removing, Nothing, AllButOptions, Everything, effect_of, kind_of}
+use Rattle.smt_script.specs.Command as items
+use Rattle.smt_script.specs.declared.command.Kind.{Kind}
+use Rattle.smt_script.specs.declared.command.Kind.TheVariants as kinds
 use Rattle.smt_faults.specs.declared.command_fault.CommandFault.{CommandFault}
 use Rattle.smt_faults.specs.declared.command_fault.CommandFault.TheVariants.{TooDeep, NoLevel, Logic, Term}
 
@@ -37,58 +40,72 @@ abbrev pub theories_or : Theories → Option Theories → Theories
 theories_or theories None = theories
 theories_or theories (Some named) = named
 
+-- whether what a command removes is all names, abbreviations and assertions
+abbrev pub resets : Removes → Bool
+resets Nothing = false
+resets AllButOptions = true
+resets Everything = true
+
+-- the theories once so much is removed
+abbrev pub theories_left : Theories → Removes → Theories
+theories_left theories Nothing = theories
+theories_left theories AllButOptions = theories
+theories_left theories Everything = all_theories
+
+abbrev pub theories_by : Theories → Effect → Theories
+theories_by theories (SetsLogic name) = theories_or theories (theories_named name)
+theories_by theories (Brings item) = theories
+theories_by theories (Pushes levels) = theories
+theories_by theories (Pops levels) = theories
+theories_by theories (Removing what) = theories_left theories what
+
 -- the theories after a command, from those before it
 abbrev pub theories_after : Theories → Command → Theories
-theories_after theories (SetLogic name) = theories_or theories (theories_named name)
-theories_after theories Reset = all_theories
-theories_after theories _ = theories
+theories_after theories command = theories_by theories (effect_of command)
 
 -- the theories in force after commands: those of the last logic that was set since the last reset
 abbrev pub theories_in_force : List Numbered → Theories
 theories_in_force commands = fold (λ theories c. theories_after theories c.command) all_theories commands
 
+abbrev pub depth_by : ℕ → Effect → ℕ
+depth_by depth (SetsLogic name) = depth
+depth_by depth (Brings item) = depth
+depth_by depth (Pushes levels) = depth + levels
+depth_by depth (Pops levels) = depth - levels
+depth_by depth (Removing what) = if resets what then 0 else depth
+
 -- how many levels there are after a command
 abbrev pub depth_after : ℕ → Command → ℕ
-depth_after depth (Push levels) = depth + levels
-depth_after depth (Pop levels) = depth - levels
-depth_after depth Reset = 0
-depth_after depth ResetAssertions = 0
-depth_after depth _ = depth
+depth_after depth command = depth_by depth (effect_of command)
 
 -- how many levels there are after commands
 abbrev pub depth_in_force : List Numbered → ℕ
 depth_in_force commands = fold (λ depth c. depth_after depth c.command) 0 commands
 
+abbrev pub print_success_by : Bool → Bool → Kind → Bool
+print_success_by start on (kinds.PrintSuccess value) = value
+print_success_by start on kinds.Reset = start
+print_success_by start on _ = on
+
 -- whether `success` is printed after a command: `start` says whether it is at the start
 abbrev pub print_success_after : Bool → Bool → Command → Bool
-print_success_after start on (SetPrintSuccess value) = value
-print_success_after start on Reset = start
-print_success_after start on _ = on
+print_success_after start on command = print_success_by start on (kind_of command)
 
 abbrev pub print_success_in_force : Bool → List Numbered → Bool
 print_success_in_force start commands = fold (λ on c. print_success_after start on c.command) start commands
 
+abbrev pub exits : Kind → Bool
+exits kinds.Exit = true
+exits _ = false
+
 abbrev pub is_exit : Command → Bool
-is_exit Exit = true
-is_exit _ = false
+is_exit command = exits (kind_of command)
 
 -- whether an `exit` is among commands
 abbrev pub has_exited : List Numbered → Bool
 has_exited commands = list_any (λ c. is_exit c.command) commands
 
 -- ---- what each command brought
-
--- what a command removes of what there was before it
-pub data Removes : Type 0 where
-  Nothing : Removes
-  AllButOptions : Removes
-  Everything : Removes
-
--- whether that is all names, abbreviations and assertions
-abbrev pub resets : Removes → Bool
-resets Nothing = false
-resets AllButOptions = true
-resets Everything = true
 
 -- what a command brought: names, abbreviations and assertions; the level at which they came; and what it removed
 pub record Brought : Type 0 where
@@ -141,29 +158,68 @@ abbrev pub named : List ℕ → List Sort → List (List ℕ × Sort)
 named x [] = []
 named x (sort ∷ sorts) = (x, sort) ∷ named x sorts
 
+-- the names that an item of command n brings to a signature
+abbrev pub entries_of_item : Signature → ℕ → Item → List Entry
+entries_of_item s n (items.Declaration x parameters sort) = one_or_none (declared_in s n x parameters sort)
+entries_of_item s n (items.Definition x parameters sort body) = one_or_none (defined_in s x parameters sort body)
+entries_of_item s n (items.Abbreviation x sort) = []
+entries_of_item s n (items.Assertion term) = all_or_none (asserted_in (names_of s) term)
+
+abbrev pub entries_of_effect : Signature → ℕ → Effect → List Entry
+entries_of_effect s n (SetsLogic name) = []
+entries_of_effect s n (Brings item) = entries_of_item s n item
+entries_of_effect s n (Pushes levels) = []
+entries_of_effect s n (Pops levels) = []
+entries_of_effect s n (Removing what) = []
+
 -- the names that command n brings to a signature
 abbrev pub entries_by : Signature → ℕ → Command → List Entry
-entries_by s n (DeclareConst x sort) = one_or_none (declared_in s n x Nil sort)
-entries_by s n (DeclareFun x parameters sort) = one_or_none (declared_in s n x parameters sort)
-entries_by s n (DefineFun x parameters sort body) = one_or_none (defined_in s x parameters sort body)
-entries_by s n (Assert term) = all_or_none (asserted_in (names_of s) term)
-entries_by s n _ = []
+entries_by s n command = entries_of_effect s n (effect_of command)
+
+abbrev pub abbreviations_of_item : Signature → Item → List (List ℕ × Sort)
+abbreviations_of_item s (items.Declaration x parameters sort) = []
+abbreviations_of_item s (items.Definition x parameters sort body) = []
+abbreviations_of_item s (items.Abbreviation x sort) = named x (one_or_none (abbreviated_in (sort_names_of s) x sort))
+abbreviations_of_item s (items.Assertion term) = []
+
+abbrev pub abbreviations_of_effect : Signature → Effect → List (List ℕ × Sort)
+abbreviations_of_effect s (SetsLogic name) = []
+abbreviations_of_effect s (Brings item) = abbreviations_of_item s item
+abbreviations_of_effect s (Pushes levels) = []
+abbreviations_of_effect s (Pops levels) = []
+abbreviations_of_effect s (Removing what) = []
 
 -- the abbreviations that a command brings
 abbrev pub abbreviations_by : Signature → Command → List (List ℕ × Sort)
-abbreviations_by s (DefineSort x sort) = named x (one_or_none (abbreviated_in (sort_names_of s) x sort))
-abbreviations_by s _ = []
+abbreviations_by s command = abbreviations_of_effect s (effect_of command)
+
+abbrev pub assertions_of_item : ℕ → Item → List Assertion
+assertions_of_item n (items.Declaration x parameters sort) = []
+assertions_of_item n (items.Definition x parameters sort body) = []
+assertions_of_item n (items.Abbreviation x sort) = []
+assertions_of_item n (items.Assertion term) = record { command = n; term = term } ∷ []
+
+abbrev pub assertions_of_effect : ℕ → Effect → List Assertion
+assertions_of_effect n (SetsLogic name) = []
+assertions_of_effect n (Brings item) = assertions_of_item n item
+assertions_of_effect n (Pushes levels) = []
+assertions_of_effect n (Pops levels) = []
+assertions_of_effect n (Removing what) = []
 
 -- the assertion that command n brings
 abbrev pub assertions_by : ℕ → Command → List Assertion
-assertions_by n (Assert term) = record { command = n; term = term } ∷ []
-assertions_by n _ = []
+assertions_by n command = assertions_of_effect n (effect_of command)
+
+abbrev pub removed_of_effect : Effect → Removes
+removed_of_effect (SetsLogic name) = Nothing
+removed_of_effect (Brings item) = Nothing
+removed_of_effect (Pushes levels) = Nothing
+removed_of_effect (Pops levels) = Nothing
+removed_of_effect (Removing what) = what
 
 -- what a command removes
 abbrev pub removed_by : Command → Removes
-removed_by Reset = Everything
-removed_by ResetAssertions = AllButOptions
-removed_by _ = Nothing
+removed_by command = removed_of_effect (effect_of command)
 
 -- whether it removes all names, abbreviations and assertions
 abbrev pub is_reset : Command → Bool
@@ -212,32 +268,41 @@ pub record Stands (commands earlier : List Numbered) (c : Numbered) : Type 0 whe
   pub no_reset : list_any (λ d. is_reset d.command) later ≡ false
   pub levels : KeepLevels (depth_in_force (earlier ++ c ∷ [])) (earlier ++ c ∷ []) later
 
+abbrev pub is_set_by : Bool → Kind → Bool
+is_set_by set kinds.Logic = true
+is_set_by set kinds.Reset = false
+is_set_by set _ = set
+
 -- whether a logic is set after a command, by whether one was before
 abbrev pub is_set_after : Bool → Command → Bool
-is_set_after set (SetLogic name) = true
-is_set_after set Reset = false
-is_set_after set _ = set
+is_set_after set command = is_set_by set (kind_of command)
 
 -- whether a logic is set: since the start or the last reset
 abbrev pub is_logic_set : List Numbered → Bool
 is_logic_set commands = fold (λ set c. is_set_after set c.command) false commands
 
+abbrev pub fixes_logic : Kind → Bool
+fixes_logic kinds.Change = true
+fixes_logic kinds.Check = true
+fixes_logic kinds.Logic = false
+fixes_logic kinds.Reset = false
+fixes_logic (kinds.PrintSuccess on) = false
+fixes_logic kinds.Setting = false
+fixes_logic kinds.Exit = false
+fixes_logic kinds.Model = false
+fixes_logic kinds.Echo = false
+fixes_logic kinds.Query = false
+
 -- whether it is too late to set a logic behind the command: a declaration, definition, assertion, change of level or check
 abbrev pub makes_late : Command → Bool
-makes_late (DeclareConst x sort) = true
-makes_late (DeclareFun x parameters sort) = true
-makes_late (DefineFun x parameters sort body) = true
-makes_late (DefineSort x sort) = true
-makes_late (Assert term) = true
-makes_late (Push levels) = true
-makes_late (Pop levels) = true
-makes_late ResetAssertions = true
-makes_late CheckSat = true
-makes_late _ = false
+makes_late command = fixes_logic (kind_of command)
+
+abbrev pub is_late_by : Bool → Kind → Bool
+is_late_by late kinds.Reset = false
+is_late_by late kind = late || fixes_logic kind
 
 abbrev pub is_late_after : Bool → Command → Bool
-is_late_after late Reset = false
-is_late_after late command = late || makes_late command
+is_late_after late command = is_late_by late (kind_of command)
 
 -- whether it is too late to set a logic: one of these came since the start or the last reset
 abbrev pub is_too_late : List Numbered → Bool
@@ -258,17 +323,23 @@ fault_of_logic set late theories = if (set || late) || not (is_some theories) th
 abbrev pub limit : ℕ
 limit = 10000
 
+-- the fault of an item that command n brings to a signature
+abbrev pub fault_of_item : Signature → ℕ → Item → Option CommandFault
+fault_of_item s n (items.Declaration x parameters sort) = fault_of (declared_in s n x parameters sort)
+fault_of_item s n (items.Definition x parameters sort body) = fault_of (defined_in s x parameters sort body)
+fault_of_item s n (items.Abbreviation x sort) = fault_of (abbreviated_in (sort_names_of s) x sort)
+fault_of_item s n (items.Assertion term) = fault_of (asserted_in (names_of s) term)
+
+abbrev pub fault_by : List Numbered → ℕ → Effect → Option CommandFault
+fault_by before n (SetsLogic name) = fault_of_logic (is_logic_set before) (is_too_late before) (theories_named name)
+fault_by before n (Brings item) = fault_of_item (signature_in_force before) n item
+fault_by before n (Pushes levels) = if nat_lt limit (depth_in_force before + levels) then Some TooDeep else None
+fault_by before n (Pops levels) = if nat_lt (depth_in_force before) levels then Some NoLevel else None
+fault_by before n (Removing what) = None
+
 -- the fault of the effect of command n after the commands that took effect before it
 abbrev pub fault_of_effect : List Numbered → ℕ → Command → Option CommandFault
-fault_of_effect before n (SetLogic name) = fault_of_logic (is_logic_set before) (is_too_late before) (theories_named name)
-fault_of_effect before n (DeclareConst x sort) = fault_of (declared_in (signature_in_force before) n x Nil sort)
-fault_of_effect before n (DeclareFun x parameters sort) = fault_of (declared_in (signature_in_force before) n x parameters sort)
-fault_of_effect before n (DefineFun x parameters sort body) = fault_of (defined_in (signature_in_force before) x parameters sort body)
-fault_of_effect before n (DefineSort x sort) = fault_of (abbreviated_in (sort_names_of (signature_in_force before)) x sort)
-fault_of_effect before n (Assert term) = fault_of (asserted_in (names_of (signature_in_force before)) term)
-fault_of_effect before n (Push levels) = if nat_lt limit (depth_in_force before + levels) then Some TooDeep else None
-fault_of_effect before n (Pop levels) = if nat_lt (depth_in_force before) levels then Some NoLevel else None
-fault_of_effect before n _ = None
+fault_of_effect before n command = fault_by before n (effect_of command)
 
 -- no command's effect has a fault, behind those that come before
 abbrev pub HaveNoFault : List Numbered → List Numbered → Type 0

@@ -4,7 +4,9 @@ use Rattle.std.specs.List.{list_any}
 use Rattle.smt_theory.specs.Theories.{theories_named}
 use Rattle.smt_theory.specs.declared.sort.Sort.{Sort}
 use Rattle.smt_terms.specs.Signature.{Entry}
-use Rattle.smt_script.specs.Command.{Command, SetLogic, SetPrintSuccess, Push, Pop, Reset}
+use Rattle.smt_script.specs.Command.{Command, Effect, SetsLogic, Pushes, Pops, effect_of, kind_of}
+use Rattle.smt_script.specs.declared.command.Kind.{Kind}
+use Rattle.smt_script.specs.declared.command.Kind.TheVariants as kinds
 use Rattle.smt_script.specs.Stack.{Assertion, Numbered, Stands, abbreviations_by, assertions_by, entries_by, signature_in_force}
 
 abbrev pub numbered : ℕ → Command → Numbered
@@ -67,31 +69,49 @@ pub data AreSince (test : Command → Bool) (commands since : List Numbered) : T
   Behind : (earlier : List Numbered) → (c : Numbered) → (commands ≡ earlier ++ c ∷ since)
       → (test c.command ≡ true) → Never test since → AreSince test commands since
 
+abbrev pub is_reset_kind : Kind → Bool
+is_reset_kind kinds.Reset = true
+is_reset_kind _ = false
+
 abbrev pub is_whole_reset : Command → Bool
-is_whole_reset Reset = true
-is_whole_reset _ = false
+is_whole_reset command = is_reset_kind (kind_of command)
+
+abbrev pub is_logic_kind : Kind → Bool
+is_logic_kind kinds.Logic = true
+is_logic_kind _ = false
 
 abbrev pub sets_logic : Command → Bool
-sets_logic (SetLogic name) = true
-sets_logic _ = false
+sets_logic command = is_logic_kind (kind_of command)
+
+abbrev pub names_theories : Effect → Bool
+names_theories (SetsLogic name) = is_some (theories_named name)
+names_theories _ = false
 
 -- it sets a logic that is taken
 abbrev pub sets_theories : Command → Bool
-sets_theories (SetLogic name) = is_some (theories_named name)
-sets_theories _ = false
+sets_theories command = names_theories (effect_of command)
+
+abbrev pub is_print_success_kind : Kind → Bool
+is_print_success_kind (kinds.PrintSuccess on) = true
+is_print_success_kind _ = false
 
 abbrev pub sets_print_success : Command → Bool
-sets_print_success (SetPrintSuccess on) = true
-sets_print_success _ = false
+sets_print_success command = is_print_success_kind (kind_of command)
 
 -- how many levels a command adds, and how many it removes
+abbrev pub levels_pushed : Effect → ℕ
+levels_pushed (Pushes levels) = levels
+levels_pushed _ = 0
+
 abbrev pub pushed_by : Command → ℕ
-pushed_by (Push levels) = levels
-pushed_by _ = 0
+pushed_by command = levels_pushed (effect_of command)
+
+abbrev pub levels_popped : Effect → ℕ
+levels_popped (Pops levels) = levels
+levels_popped _ = 0
 
 abbrev pub popped_by : Command → ℕ
-popped_by (Pop levels) = levels
-popped_by _ = 0
+popped_by command = levels_popped (effect_of command)
 
 -- how many levels commands add, and how many they remove
 abbrev pub pushed : List Numbered → ℕ

@@ -88,29 +88,70 @@ pub enum Command {
 }
 
 impl Command {
+    /// Its kind.
+    pub fn kind(&self) -> Kind
+        ensures { result ≡ commands.kind_of (command_view self.now) }
+    {
+        match self {
+            Command::SetLogic { .. } => Kind::Logic,
+            Command::SetPrintSuccess { on } => Kind::PrintSuccess { on: *on },
+            Command::SetGlobalDeclarations { .. } => Kind::Setting,
+            Command::SetOption { .. } | Command::SetInfo { .. } => Kind::Setting,
+            Command::DeclareConst { .. } | Command::DeclareFun { .. } => Kind::Change,
+            Command::DefineFun { .. } | Command::DefineSort { .. } => Kind::Change,
+            Command::Assert { .. } | Command::ResetAssertions => Kind::Change,
+            Command::Push { .. } | Command::Pop { .. } => Kind::Change,
+            Command::Reset => Kind::Reset,
+            Command::Exit => Kind::Exit,
+            Command::CheckSat => Kind::Check,
+            Command::GetModel => Kind::Model,
+            Command::Echo { .. } => Kind::Echo,
+            Command::Get { .. } => Kind::Query,
+        }
+    }
+
     /// Whether it asks if the assertions in force are satisfiable (section 4.2.5).
     pub fn is_check(&self) -> bool
         ensures { result ≡ commands.is_check (command_view self.now) }
     {
-        matches!(self, Command::CheckSat)
+        matches!(self.kind(), Kind::Check)
     }
 
     /// Whether its effect changes what is in force, and so ends the window of an earlier check.
     pub fn closes_window(&self) -> bool
         ensures { result ≡ commands.closes_window (command_view self.now) }
     {
-        match self {
-            Command::SetLogic { .. } | Command::DeclareConst { .. } => true,
-            Command::DeclareFun { .. } | Command::DefineFun { .. } => true,
-            Command::DefineSort { .. } | Command::Assert { .. } => true,
-            Command::Push { .. } | Command::Pop { .. } => true,
-            Command::Reset | Command::ResetAssertions => true,
-            Command::SetPrintSuccess { .. } | Command::SetGlobalDeclarations { .. } => false,
-            Command::SetOption { .. } | Command::SetInfo { .. } => false,
-            Command::Exit | Command::CheckSat | Command::GetModel => false,
-            Command::Echo { .. } | Command::Get { .. } => false,
+        match self.kind() {
+            Kind::Logic | Kind::Change | Kind::Reset => true,
+            Kind::PrintSuccess { .. } | Kind::Setting | Kind::Exit => false,
+            Kind::Check | Kind::Model | Kind::Echo | Kind::Query => false,
         }
     }
+}
+
+/// What is asked of commands, but for what they do to the stack, is asked of their kinds.
+#[derive(Clone, Copy)]
+pub enum Kind {
+    /// It sets the logic.
+    Logic,
+    /// It sets whether `success` is printed.
+    PrintSuccess { on: bool },
+    /// It sets another option, or information.
+    Setting,
+    /// It declares, defines, asserts, changes levels or removes all assertions.
+    Change,
+    /// It removes all, the logic too.
+    Reset,
+    /// It ends the script.
+    Exit,
+    /// It asks whether the assertions in force are satisfiable.
+    Check,
+    /// It asks for a model.
+    Model,
+    /// It asks for a text that it has itself.
+    Echo,
+    /// It asks for something else.
+    Query,
 }
 
 /// What a solver is asked for, beside models (SMT-LIB 2.6, sections 4.1.7 and 4.2.6).

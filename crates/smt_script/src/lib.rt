@@ -14,7 +14,7 @@ mod forms;
 pub mod laws;
 mod stack;
 
-pub use command::{Command, Query};
+pub use command::{Command, Kind, Query};
 pub use forms::read_command;
 pub use smt_faults::CommandFault;
 pub use stack::{Assertion, Level, Stack, all_theories};

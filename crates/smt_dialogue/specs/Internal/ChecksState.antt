@@ -3,7 +3,9 @@ use Rattle.std.specs.Prelude.{◌≡◌, ℕ, ◌+◌, List, [], ◌∷◌, ◌+
 use Rattle.std.specs.List.{list_any}
 use Rattle.smt_trees.specs.Sexp.{Sexp, Items}
 use Rattle.smt_terms.specs.Signature.{Signature}
-use Rattle.smt_script.specs.Command.{Command, CheckSat, GetModel, closes_window}
+use Rattle.smt_script.specs.Command.{Command, kind_of}
+use Rattle.smt_script.specs.declared.command.Kind.{Kind}
+use Rattle.smt_script.specs.declared.command.Kind.TheVariants as kinds
 use Rattle.smt_dialogue.specs.Answers.{has_form}
 use Rattle.smt_dialogue.specs.Judgement.{Claimed, judgement_of}
 use Rattle.smt_dialogue.specs.Lines.{confirmed_line, is_empty, line_of_judgement, sat_lines, unchecked_answer, unconfirmed_line}
@@ -63,10 +65,20 @@ with_models s (Some c) names claims n true (Some (Items parts)) = with_line s c 
 with_models s pending names claims n effective answer = s
 
 -- what a command is for the window of a check
+abbrev pub role_of_kind : Kind → Role
+role_of_kind kinds.Check = role.Check
+role_of_kind kinds.Model = role.Model
+role_of_kind kinds.Logic = role.Change
+role_of_kind kinds.Change = role.Change
+role_of_kind kinds.Reset = role.Change
+role_of_kind (kinds.PrintSuccess on) = role.Other
+role_of_kind kinds.Setting = role.Other
+role_of_kind kinds.Exit = role.Other
+role_of_kind kinds.Echo = role.Other
+role_of_kind kinds.Query = role.Other
+
 abbrev pub role_of : Command → Role
-role_of CheckSat = role.Check
-role_of GetModel = role.Model
-role_of command = if closes_window command then role.Change else role.Other
+role_of command = role_of_kind (kind_of command)
 
 -- a check has one of the answers of checks
 abbrev pub IsAnswered : Role → Option Sexp → Type 0

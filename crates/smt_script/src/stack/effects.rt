@@ -12,7 +12,7 @@ ghost use Rattle.smt_script.specs.Stack as stack;
 ghost use Rattle.smt_script.specs.StackView.{last_of, start_of};
 ghost use Rattle.smt_script.specs.Internal.Effect.{ContentsAreKept, HasEffect, IsRefused, IsUnchanged, noted};
 
-use crate::command::Command;
+use crate::command::{Command, Kind};
 use crate::stack::{Assertion, LogicState, Stack, all_theories};
 use smt_faults::CommandFault;
 use smt_forms::params_of;
@@ -75,12 +75,13 @@ impl Stack {
     pub(super) fn note(&mut self, command: &Command)
         ensures { self.new ≡ noted (command_view command.now) self.old }
     {
+        let kind = command.kind();
         self.logic = LogicState {
-            set: is_set_after(self.logic.set, command),
-            late: is_late_after(self.logic.late, command),
+            set: is_set_after(self.logic.set, kind),
+            late: is_late_after(self.logic.late, kind),
         };
-        self.print_success = print_success_after(self.start, self.print_success, command);
-        self.exited |= is_exit(command);
+        self.print_success = print_success_after(self.start, self.print_success, kind);
+        self.exited |= matches!(kind, Kind::Exit);
     }
 
     // Notes the same of an assertion.
@@ -189,72 +190,38 @@ impl Stack {
     }
 }
 
-// Whether a logic is set after a command, by whether one was before.
-fn is_set_after(set: bool, command: &Command) -> bool
-    ensures { result ≡ stack.is_set_after set (command_view command.now) }
+// Whether a logic is set after a command of a kind, by whether one was before.
+fn is_set_after(set: bool, kind: Kind) -> bool
+    ensures { result ≡ stack.is_set_by set kind }
 {
-    match command {
-        Command::SetLogic { .. } => true,
-        Command::Reset => false,
-        Command::DeclareConst { .. } | Command::DeclareFun { .. } => set,
-        Command::DefineFun { .. } | Command::DefineSort { .. } | Command::Assert { .. } => set,
-        Command::Push { .. } | Command::Pop { .. } | Command::ResetAssertions => set,
-        Command::SetPrintSuccess { .. } | Command::SetGlobalDeclarations { .. } => set,
-        Command::SetOption { .. } | Command::SetInfo { .. } => set,
-        Command::Exit | Command::CheckSat | Command::GetModel => set,
-        Command::Echo { .. } | Command::Get { .. } => set,
+    match kind {
+        Kind::Logic => true,
+        Kind::Reset => false,
+        Kind::PrintSuccess { .. } | Kind::Setting | Kind::Change => set,
+        Kind::Exit | Kind::Check | Kind::Model | Kind::Echo | Kind::Query => set,
     }
 }
 
-// Whether it is too late to set a logic after a command, by whether it was before.
-fn is_late_after(late: bool, command: &Command) -> bool
-    ensures { result ≡ stack.is_late_after late (command_view command.now) }
+// Whether it is too late to set a logic after a command of a kind, by whether it was before.
+fn is_late_after(late: bool, kind: Kind) -> bool
+    ensures { result ≡ stack.is_late_by late kind }
 {
-    match command {
-        Command::Reset => false,
-        Command::DeclareConst { .. } | Command::DeclareFun { .. } => true,
-        Command::DefineFun { .. } | Command::DefineSort { .. } | Command::Assert { .. } => true,
-        Command::Push { .. } | Command::Pop { .. } => true,
-        Command::ResetAssertions | Command::CheckSat => true,
-        Command::SetLogic { .. } => late,
-        Command::SetPrintSuccess { .. } | Command::SetGlobalDeclarations { .. } => late,
-        Command::SetOption { .. } | Command::SetInfo { .. } => late,
-        Command::Exit | Command::GetModel => late,
-        Command::Echo { .. } | Command::Get { .. } => late,
+    match kind {
+        Kind::Reset => false,
+        Kind::Change | Kind::Check => true,
+        Kind::Logic | Kind::PrintSuccess { .. } | Kind::Setting => late,
+        Kind::Exit | Kind::Model | Kind::Echo | Kind::Query => late,
     }
 }
 
-// Whether `success` is printed after a command, by whether it was at the start and before.
-fn print_success_after(start: bool, before: bool, command: &Command) -> bool
-    ensures { result ≡ stack.print_success_after start before (command_view command.now) }
+// Whether `success` is printed after a command of a kind, by whether it was at the start and before.
+fn print_success_after(start: bool, before: bool, kind: Kind) -> bool
+    ensures { result ≡ stack.print_success_by start before kind }
 {
-    match command {
-        Command::SetPrintSuccess { on } => *on,
-        Command::Reset => start,
-        Command::SetGlobalDeclarations { .. } => before,
-        Command::SetLogic { .. } | Command::DeclareConst { .. } => before,
-        Command::DeclareFun { .. } | Command::DefineFun { .. } => before,
-        Command::DefineSort { .. } | Command::Assert { .. } => before,
-        Command::Push { .. } | Command::Pop { .. } => before,
-        Command::ResetAssertions | Command::CheckSat => before,
-        Command::SetOption { .. } | Command::SetInfo { .. } => before,
-        Command::Exit | Command::GetModel => before,
-        Command::Echo { .. } | Command::Get { .. } => before,
-    }
-}
-
-fn is_exit(command: &Command) -> bool
-    ensures { result ≡ stack.is_exit (command_view command.now) }
-{
-    match command {
-        Command::Exit => true,
-        Command::SetLogic { .. } | Command::DeclareConst { .. } => false,
-        Command::DeclareFun { .. } | Command::DefineFun { .. } => false,
-        Command::DefineSort { .. } | Command::Assert { .. } => false,
-        Command::Push { .. } | Command::Pop { .. } => false,
-        Command::Reset | Command::ResetAssertions | Command::CheckSat => false,
-        Command::SetPrintSuccess { .. } | Command::SetGlobalDeclarations { .. } => false,
-        Command::SetOption { .. } | Command::SetInfo { .. } | Command::GetModel => false,
-        Command::Echo { .. } | Command::Get { .. } => false,
+    match kind {
+        Kind::PrintSuccess { on } => on,
+        Kind::Reset => start,
+        Kind::Logic | Kind::Setting | Kind::Change => before,
+        Kind::Exit | Kind::Check | Kind::Model | Kind::Echo | Kind::Query => before,
     }
 }

@@ -10,8 +10,8 @@ use Rattle.smt_faults.specs.declared.command_fault.CommandFault.{CommandFault}
 use Rattle.smt_faults.specs.declared.command_fault.CommandFault.TheVariants.{Logic, Memory, NoLevel, Term, TooDeep}
 use Rattle.smt_faults.specs.declared.term_fault.TermFault.{TermFault}
 use Rattle.smt_faults.specs.declared.term_fault.TermFault.TheVariants as terms
-use Rattle.smt_script.specs.Command.{Command, SetLogic, SetPrintSuccess, SetGlobalDeclarations, SetOption, SetInfo, DeclareConst, DeclareFun, DefineFun, DefineSort, Assert, Push, Pop, Reset, ResetAssertions, Exit, CheckSat, GetModel, Echo, Get}
-use Rattle.smt_script.specs.Stack.{Numbered, depth_in_force, fault_of, fault_of_effect, is_logic_set, is_too_late, limit, signature_in_force}
+use Rattle.smt_script.specs.Command.{Effect, Item, Declaration, Definition, Abbreviation, Assertion, SetsLogic, Brings, Pushes, Pops, Removing, effect_of}
+use Rattle.smt_script.specs.Stack.{Numbered, depth_in_force, fault_by, fault_of, fault_of_item, is_logic_set, is_too_late, limit, signature_in_force}
 use Rattle.smt_script.proofs.laws.effects_have_no_want_of_memory.Goals as goal
 
 -- no want of memory
@@ -42,31 +42,29 @@ record NoneIsMemory : Type 0 where
   definitions : (s : Signature) (x : List ℕ) (parameters : List (List ℕ × Sexp)) (sort body : Sexp) → defined_in s x parameters sort body ≡ Err terms.Memory → ⊥
   assertions : (names : Names) (term : Sexp) → asserted_in names term ≡ Err terms.Memory → ⊥
 
-other : NoneIsMemory → (before : List Numbered) (n : ℕ) (command : Command) → IsOther (fault_of_effect before n command)
-other law before n (SetLogic x) =
-    if_any ((is_logic_set before || is_too_late before) || not (is_some (theories_named x))) Logic (record { own = λ h. absurd (cc); terms = λ h. absurd (cc) })
-other law before n (DeclareConst x sort) = of_term (declared_in (signature_in_force before) n x Nil sort) (law.declarations (signature_in_force before) n x Nil sort)
-other law before n (DeclareFun x ps sort) = of_term (declared_in (signature_in_force before) n x ps sort) (law.declarations (signature_in_force before) n x ps sort)
-other law before n (DefineFun x ps sort t) = of_term (defined_in (signature_in_force before) x ps sort t) (law.definitions (signature_in_force before) x ps sort t)
-other law before n (DefineSort x sort) =
-    of_term (abbreviated_in (sort_names_of (signature_in_force before)) x sort) (law.abbreviations (sort_names_of (signature_in_force before)) x sort)
-other law before n (Assert t) = of_term (asserted_in (names_of (signature_in_force before)) t) (law.assertions (names_of (signature_in_force before)) t)
-other law before n (Push m) = if_any (nat_lt limit (depth_in_force before + m)) TooDeep (record { own = λ h. absurd (cc); terms = λ h. absurd (cc) })
-other law before n (Pop m) = if_any (nat_lt (depth_in_force before) m) NoLevel (record { own = λ h. absurd (cc); terms = λ h. absurd (cc) })
-other law before n (SetPrintSuccess on) = none
-other law before n (SetGlobalDeclarations on) = none
-other law before n (SetOption k v) = none
-other law before n (SetInfo k v) = none
-other law before n Reset = none
-other law before n ResetAssertions = none
-other law before n Exit = none
-other law before n CheckSat = none
-other law before n GetModel = none
-other law before n (Echo t) = none
-other law before n (Get q) = none
+of_item : NoneIsMemory → (s : Signature) (n : ℕ) (item : Item) → IsOther (fault_of_item s n item)
+of_item law s n (Declaration x ps sort) = of_term (declared_in s n x ps sort) (law.declarations s n x ps sort)
+of_item law s n (Definition x ps sort t) = of_term (defined_in s x ps sort t) (law.definitions s x ps sort t)
+of_item law s n (Abbreviation x sort) =
+    of_term (abbreviated_in (sort_names_of s) x sort) (law.abbreviations (sort_names_of s) x sort)
+of_item law s n (Assertion t) = of_term (asserted_in (names_of s) t) (law.assertions (names_of s) t)
+
+other : NoneIsMemory → (before : List Numbered) (n : ℕ) (e : Effect) → IsOther (fault_by before n e)
+other law before n (SetsLogic x) =
+    if_any ((is_logic_set before || is_too_late before) || not (is_some (theories_named x))) Logic
+    (record { own = λ h. absurd (cc); terms = λ h. absurd (cc) })
+other law before n (Brings item) = of_item law (signature_in_force before) n item
+other law before n (Pushes m) =
+    if_any (nat_lt limit (depth_in_force before + m)) TooDeep (record { own = λ h. absurd (cc); terms = λ h. absurd (cc) })
+other law before n (Pops m) =
+    if_any (nat_lt (depth_in_force before) m) NoLevel (record { own = λ h. absurd (cc); terms = λ h. absurd (cc) })
+other law before n (Removing what) = none
 
 pub returns : goal.returns
 returns c =
     let known = c.faults_are_no_memory.ensures in
     let law : NoneIsMemory = record { abbreviations = known.abbreviations; declarations = known.declarations; definitions = known.definitions; assertions = known.assertions } in
-    record { own = λ before n command. (other law before n command).own; terms = λ before n command. (other law before n command).terms }
+    record {
+      own = λ before n command. (other law before n (effect_of command)).own;
+      terms = λ before n command. (other law before n (effect_of command)).terms;
+    }

@@ -2,12 +2,12 @@ use Rattle.std.proofs.Common.{◌≡◌, ℕ, List, Result, Ok, Err, IfErr, OnOk
 use Rattle.std.specs.Str.Parse.{digits_value}
 use Rattle.smt_trees.specs.Tree.{sexp_of, sexps_of}
 use Rattle.smt_forms.specs.Bindings.{named_trees}
-use Rattle.smt_script.specs.Command.{Command, DefineFun, DefineSort, Pop, Push, Reset, ResetAssertions, SetLogic}
+use Rattle.smt_script.specs.Command.{Command, DefineFun, DefineSort, Pop, Push, Reset, ResetAssertions, SetLogic, effect_of}
 use Rattle.smt_script.specs.CommandView.{command_view}
 use Rattle.smt_script.specs.Internal.Effect.{HasEffect, IsRefused}
 use Rattle.smt_faults.specs.declared.command_fault.CommandFault.{CommandFault}
 use Rattle.smt_script.specs.declared.stack.Stack.{Stack}
-use Rattle.smt_script.proofs.EffectLemmas.{check_idle, echo_idle, exit_idle, get_idle, global_idle, idle_effect, info_idle, model_idle, option_idle, print_idle}
+use Rattle.smt_script.proofs.EffectLemmas.{idle_effect, no_effect_is_idle}
 use Rattle.smt_script.proofs.stack.Stack.take_effect.Goals as goal
 
 refused_at : (r : Result (Unit {0}) CommandFault) (old : Stack) (given command : Command) (n : ℕ) → command ≡ given
@@ -95,28 +95,46 @@ returns-in-ResetAssertions-clause-refused c =
     (ap command_view c.in-ResetAssertions.is) c.reset_assertions.ensures.refused
 
 pub returns-in-Exit-clause-effect : goal.returns-in-Exit-clause-effect
-returns-in-Exit-clause-effect c = rw (ap command_view c.in-Exit.is) (idle_effect c.contents_are_kept.ensures c.args.self.now c.args.number _ exit_idle)
+returns-in-Exit-clause-effect c =
+    idle_effect c.contents_are_kept.ensures c.args.self.now c.args.number (command_view c.args.command.now)
+    (no_effect_is_idle (command_view c.args.command.now) (ap (λ d. effect_of (command_view d)) c.in-Exit.is))
 
 pub returns-in-CheckSat-clause-effect : goal.returns-in-CheckSat-clause-effect
-returns-in-CheckSat-clause-effect c = rw (ap command_view c.in-CheckSat.is) (idle_effect c.contents_are_kept.ensures c.args.self.now c.args.number _ check_idle)
+returns-in-CheckSat-clause-effect c =
+    idle_effect c.contents_are_kept.ensures c.args.self.now c.args.number (command_view c.args.command.now)
+    (no_effect_is_idle (command_view c.args.command.now) (ap (λ d. effect_of (command_view d)) c.in-CheckSat.is))
 
 pub returns-in-GetModel-clause-effect : goal.returns-in-GetModel-clause-effect
-returns-in-GetModel-clause-effect c = rw (ap command_view c.in-GetModel.is) (idle_effect c.contents_are_kept.ensures c.args.self.now c.args.number _ model_idle)
+returns-in-GetModel-clause-effect c =
+    idle_effect c.contents_are_kept.ensures c.args.self.now c.args.number (command_view c.args.command.now)
+    (no_effect_is_idle (command_view c.args.command.now) (ap (λ d. effect_of (command_view d)) c.in-GetModel.is))
 
 pub returns-in-SetPrintSuccess-clause-effect : goal.returns-in-SetPrintSuccess-clause-effect
-returns-in-SetPrintSuccess-clause-effect c = rw (ap command_view c.in-SetPrintSuccess.is) (idle_effect c.contents_are_kept.ensures c.args.self.now c.args.number _ (print_idle c.in-SetPrintSuccess.on))
+returns-in-SetPrintSuccess-clause-effect c =
+    idle_effect c.contents_are_kept.ensures c.args.self.now c.args.number (command_view c.args.command.now)
+    (no_effect_is_idle (command_view c.args.command.now) (ap (λ d. effect_of (command_view d)) c.in-SetPrintSuccess.is))
 
 pub returns-in-SetGlobalDeclarations-clause-effect : goal.returns-in-SetGlobalDeclarations-clause-effect
-returns-in-SetGlobalDeclarations-clause-effect c = rw (ap command_view c.in-SetGlobalDeclarations.is) (idle_effect c.contents_are_kept.ensures c.args.self.now c.args.number _ (global_idle c.in-SetGlobalDeclarations.on))
+returns-in-SetGlobalDeclarations-clause-effect c =
+    idle_effect c.contents_are_kept.ensures c.args.self.now c.args.number (command_view c.args.command.now)
+    (no_effect_is_idle (command_view c.args.command.now) (ap (λ d. effect_of (command_view d)) c.in-SetGlobalDeclarations.is))
 
 pub returns-in-SetOption-clause-effect : goal.returns-in-SetOption-clause-effect
-returns-in-SetOption-clause-effect c = rw (ap command_view c.in-SetOption.is) (idle_effect c.contents_are_kept.ensures c.args.self.now c.args.number _ (option_idle _ _))
+returns-in-SetOption-clause-effect c =
+    idle_effect c.contents_are_kept.ensures c.args.self.now c.args.number (command_view c.args.command.now)
+    (no_effect_is_idle (command_view c.args.command.now) (ap (λ d. effect_of (command_view d)) c.in-SetOption.is))
 
 pub returns-in-SetInfo-clause-effect : goal.returns-in-SetInfo-clause-effect
-returns-in-SetInfo-clause-effect c = rw (ap command_view c.in-SetInfo.is) (idle_effect c.contents_are_kept.ensures c.args.self.now c.args.number _ (info_idle _ _))
+returns-in-SetInfo-clause-effect c =
+    idle_effect c.contents_are_kept.ensures c.args.self.now c.args.number (command_view c.args.command.now)
+    (no_effect_is_idle (command_view c.args.command.now) (ap (λ d. effect_of (command_view d)) c.in-SetInfo.is))
 
 pub returns-in-Echo-clause-effect : goal.returns-in-Echo-clause-effect
-returns-in-Echo-clause-effect c = rw (ap command_view c.in-Echo.is) (idle_effect c.contents_are_kept.ensures c.args.self.now c.args.number _ (echo_idle _))
+returns-in-Echo-clause-effect c =
+    idle_effect c.contents_are_kept.ensures c.args.self.now c.args.number (command_view c.args.command.now)
+    (no_effect_is_idle (command_view c.args.command.now) (ap (λ d. effect_of (command_view d)) c.in-Echo.is))
 
 pub returns-in-Get-clause-effect : goal.returns-in-Get-clause-effect
-returns-in-Get-clause-effect c = rw (ap command_view c.in-Get.is) (idle_effect c.contents_are_kept.ensures c.args.self.now c.args.number _ (get_idle _))
+returns-in-Get-clause-effect c =
+    idle_effect c.contents_are_kept.ensures c.args.self.now c.args.number (command_view c.args.command.now)
+    (no_effect_is_idle (command_view c.args.command.now) (ap (λ d. effect_of (command_view d)) c.in-Get.is))
