@@ -3,6 +3,8 @@ mod BeginningLemmas
 pub mod ReservedLemmas
 pub mod ByteLemmas
 pub mod ReaderCompleteness
+pub mod LexerStepLemmas
+pub mod TreesSoFarLemmas
 pub mod ReaderSoundness
 pub mod PrefixLemmas
 pub mod WholeTreeLemmas

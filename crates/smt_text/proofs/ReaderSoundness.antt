@@ -1,20 +1,24 @@
 -- What a run has read is spelled by its trees.
-use Rattle.std.proofs.Common.{◌≡◌, ◌⊎◌, ◌≤◌, ◌+◌, ◌==◌, ℕ, suc, List, [], ◌∷◌, ◌++◌, length, Option, Some}
-use Rattle.std.proofs.Common.{None, Bool, true, false, ltb, cond, refl, sym, ap, ◌∙◌, inl, inr, arith, subst}
-use Rattle.std.proofs.Common.{max}
-use Rattle.std.proofs.lemmas.Bool.{ltb-true, eqb-true}
+use Rattle.std.proofs.Common.{◌≡◌, ◌⊎◌, ◌==◌, ℕ, List, [], ◌∷◌, ◌++◌, Option, Some}
+use Rattle.std.proofs.Common.{None, Bool, true, false, refl, sym, ap, ◌∙◌, inl, inr, arith, subst}
+use Rattle.std.proofs.lemmas.Bool.{eqb-true}
 use Rattle.std.proofs.lemmas.List.{append-nil, append_assoc}
 use Rattle.std.specs.Prelude.{if◌then◌else◌}
 use Rattle.smt_text.proofs.ByteLemmas.{MayBeEnded, ender_values, white_separates, FirstByte, ZeroFirst}
 use Rattle.smt_text.proofs.ByteLemmas.{DigitFirst, QuoteFirst, BarFirst, HashFirst, ColonFirst, LetterFirst}
 use Rattle.smt_text.proofs.ByteLemmas.{NoneFirst, first_byte, View, Kept, Skipped, Refused, Separates}
 use Rattle.smt_text.proofs.ByteLemmas.{BarEnds, LineEnds, view}
+use Rattle.smt_text.proofs.LexerStepLemmas.{separated_no_push, separated_no_skip, one_push, one_skip}
+use Rattle.smt_text.proofs.LexerStepLemmas.{needed_push, needed_skip, digits_push, digits_skip, hash_push}
+use Rattle.smt_text.proofs.LexerStepLemmas.{hash_skip, text_push, text_skip, bars_push, bars_skip}
+use Rattle.smt_text.proofs.LexerStepLemmas.{comment_push, comment_skip}
+use Rattle.smt_text.proofs.TreesSoFarLemmas.{spent-acts, shallow-acts}
 use Rattle.smt_text.proofs.ReservedLemmas.{find_word-some, word_named-none}
 use Rattle.smt_text.proofs.ReaderCompleteness.{IsName, act_next, acts}
 use Rattle.smt_text.specs.Grammar.{Token, OpenParenthesis, CloseParenthesis, AtomToken, WordToken, ZeroOrMore}
 use Rattle.smt_text.specs.Grammar.{OneOrMore, IsNumeral, IsDecimal, IsSimpleSymbol, IsSpelling, IsComment}
 use Rattle.smt_text.specs.Grammar.{IsSeparator, IsGap, IsTextThen, IsTextEnd, IsText, EndsToken, IsApart}
-use Rattle.smt_text.specs.Grammar.{doubled, barred, tokens_of, tokens_of_all, Forest}
+use Rattle.smt_text.specs.Grammar.{doubled, barred, tokens_of_all, Forest}
 use Rattle.smt_text.specs.Lexical.{quote, bar, point, zero_digit, is_white, is_line_end, is_digit}
 use Rattle.smt_text.specs.Lexical.{is_nonzero_digit, is_hexadecimal_digit, is_binary_digit, is_symbol_byte}
 use Rattle.smt_text.specs.Lexical.{is_text_byte, is_quoted_byte, is_comment_byte, ends_token}
@@ -325,111 +329,6 @@ sound_skipped : (limit : ℕ) (Last : List ℕ → Type 0) (token longer : AtomS
 sound_skipped limit Last token longer bytes written levels before b text end next k e h l later =
     sound_longer limit Last written before b text end (At longer bytes levels) next
     (to_next limit (Skip longer) (At token bytes levels) b next e k) (inl (h, l)) later
-
--- which step a byte makes
-no_push : (t₁ t₂ t₃ t₄ : Bool) (next : AtomState)
-    → (if t₁ then Open else if t₂ then Close else if t₃ then Finish InComment else if t₄ then Finish Nothing
-    else Stuck) ≡ Push next → ⊥
-no_push true t₂ t₃ t₄ next e = cc
-no_push false true t₃ t₄ next e = cc
-no_push false false true t₄ next e = cc
-no_push false false false true next e = cc
-no_push false false false false next e = cc
-
-no_skip : (t₁ t₂ t₃ t₄ : Bool) (next : AtomState)
-    → (if t₁ then Open else if t₂ then Close else if t₃ then Finish InComment else if t₄ then Finish Nothing
-    else Stuck) ≡ Skip next → ⊥
-no_skip true t₂ t₃ t₄ next e = cc
-no_skip false true t₃ t₄ next e = cc
-no_skip false false true t₄ next e = cc
-no_skip false false false true next e = cc
-no_skip false false false false next e = cc
-
-separated_no_push : (b : ℕ) (next : AtomState) → separated b ≡ Push next → ⊥
-separated_no_push b next e = no_push (b == 40) (b == 41) (b == 59) (is_white b) next e
-
-separated_no_skip : (b : ℕ) (next : AtomState) → separated b ≡ Skip next → ⊥
-separated_no_skip b next e = no_skip (b == 40) (b == 41) (b == 59) (is_white b) next e
-
-one_push : (t : Bool) (made next : AtomState) (b : ℕ) → (if t then Push made else separated b) ≡ Push next
-    → (t ≡ true) × (made ≡ next)
-one_push true made next b e = (refl, cc)
-one_push false made next b e = absurd (separated_no_push b next e)
-
-one_skip : (t : Bool) (made next : AtomState) (b : ℕ) → (if t then Push made else separated b) ≡ Skip next → ⊥
-one_skip true made next b e = cc
-one_skip false made next b e = separated_no_skip b next e
-
-needed_push : (t : Bool) (made next : AtomState) → (if t then Push made else Stuck) ≡ Push next
-    → (t ≡ true) × (made ≡ next)
-needed_push true made next e = (refl, cc)
-needed_push false made next e = absurd (cc)
-
-needed_skip : (t : Bool) (made next : AtomState) → (if t then Push made else Stuck) ≡ Skip next → ⊥
-needed_skip true made next e = cc
-needed_skip false made next e = cc
-
-digits_push : (s t : Bool) (next : AtomState) (b : ℕ)
-    → (if s then Push Digits else if t then Push Point else separated b) ≡ Push next
-    → ((s ≡ true) × (Digits ≡ next)) ⊎ (Point ≡ next) × (t ≡ true)
-digits_push true t next b e = inl (refl, cc)
-digits_push false true next b e = inr (cc, refl)
-digits_push false false next b e = absurd (separated_no_push b next e)
-
-digits_skip : (s t : Bool) (next : AtomState) (b : ℕ)
-    → (if s then Push Digits else if t then Push Point else separated b) ≡ Skip next → ⊥
-digits_skip true t next b e = cc
-digits_skip false true next b e = cc
-digits_skip false false next b e = separated_no_skip b next e
-
-hash_push : (s t : Bool) (next : AtomState)
-    → (if s then Skip HexMark else if t then Skip BinMark else Stuck) ≡ Push next → ⊥
-hash_push true t next e = cc
-hash_push false true next e = cc
-hash_push false false next e = cc
-
-hash_skip : (s t : Bool) (next : AtomState)
-    → (if s then Skip HexMark else if t then Skip BinMark else Stuck) ≡ Skip next
-    → ((s ≡ true) × (HexMark ≡ next)) ⊎ ((t ≡ true) × (BinMark ≡ next))
-hash_skip true t next e = inl (refl, cc)
-hash_skip false true next e = inr (refl, cc)
-hash_skip false false next e = absurd (cc)
-
-text_push : (s t : Bool) (next : AtomState)
-    → (if s then Skip TextQuote else if t then Push InText else Stuck) ≡ Push next
-    → (s ≡ false) × (t ≡ true) × (InText ≡ next)
-text_push true t next e = absurd (cc)
-text_push false true next e = (refl, refl, cc)
-text_push false false next e = absurd (cc)
-
-text_skip : (s t : Bool) (next : AtomState)
-    → (if s then Skip TextQuote else if t then Push InText else Stuck) ≡ Skip next
-    → (s ≡ true) × (TextQuote ≡ next)
-text_skip true t next e = (refl, cc)
-text_skip false true next e = absurd (cc)
-text_skip false false next e = absurd (cc)
-
-bars_push : (s t : Bool) (next : AtomState)
-    → (if s then Push InBars else if t then Finish AfterBar else Stuck) ≡ Push next
-    → (s ≡ true) × (InBars ≡ next)
-bars_push true t next e = (refl, cc)
-bars_push false true next e = absurd (cc)
-bars_push false false next e = absurd (cc)
-
-bars_skip : (s t : Bool) (next : AtomState)
-    → (if s then Push InBars else if t then Finish AfterBar else Stuck) ≡ Skip next → ⊥
-bars_skip true t next e = cc
-bars_skip false true next e = cc
-bars_skip false false next e = cc
-
-comment_push : (t : Bool) (next : AtomState) → (if t then Skip InComment else Finish Nothing) ≡ Push next → ⊥
-comment_push true next e = cc
-comment_push false next e = cc
-
-comment_skip : (t : Bool) (next : AtomState) → (if t then Skip InComment else Finish Nothing) ≡ Skip next
-    → (t ≡ true) × (InComment ≡ next)
-comment_skip true next e = (refl, cc)
-comment_skip false next e = absurd (cc)
 
 -- how a token is written with a byte that is kept
 abbrev Longer : AtomState → List ℕ → List ℕ → ℕ → Type 0
@@ -751,123 +650,6 @@ ends_text limit (At token bytes levels) e = λ written before h. by written befo
         (flush (At token bytes levels)) h m tt
         (only_last limit IsTextEnd (flush (At token bytes levels)) [] (inl refl))
     by written before h (inr k) = end_comment_text limit token bytes levels written before k h
-
--- the tokens that trees so far have come from, before later ones
-abbrev spent : List Sexps → Sexps → List Token → List Token
-spent [] top later = tokens_of_all top later
-spent (parts ∷ lists) top later = spent lists top (OpenParenthesis ∷ tokens_of_all parts later)
-
-abbrev spent_of : Levels → List Token → List Token
-spent_of (On lists top) later = spent lists top later
-
-tokens-append : (xs ys : Sexps) (later : List Token)
-    → tokens_of_all (append xs ys) later ≡ tokens_of_all xs (tokens_of_all ys later)
-tokens-append Nil ys later = refl
-tokens-append (Cons x xs) ys later = ap (tokens_of x) (tokens-append xs ys later)
-
-spent-add : (x : Sexp) (levels : Levels) (later : List Token)
-    → spent_of (add x levels) later ≡ spent_of levels (tokens_of x later)
-spent-add x (On [] top) later = tokens-append top (Cons x Nil) later
-spent-add x (On (parts ∷ lists) top) later =
-    ap (λ z. spent lists top (OpenParenthesis ∷ z)) (tokens-append parts (Cons x Nil) later)
-
-spent-is : (levels next : Levels) (later : List Token) → Some levels ≡ Some next
-    → spent_of next later ≡ spent_of levels later
-spent-is levels next later e = let same : next ≡ levels = cc in ap (λ x. spent_of x later) same
-
-spent-open : (t : Bool) (lists : List Sexps) (top : Sexps) (next : Levels) (later : List Token)
-    → cond t (Some (On (Nil ∷ lists) top)) None ≡ Some next
-    → spent_of next later ≡ spent lists top (OpenParenthesis ∷ later)
-spent-open true lists top next later e = spent-is (On (Nil ∷ lists) top) next later e
-spent-open false lists top next later e = absurd (cc)
-
-spent-act : (limit : ℕ) (token : Token) (levels next : Levels) (later : List Token)
-    → act limit token levels ≡ Some next → spent_of next later ≡ spent_of levels (token ∷ later)
-spent-act limit OpenParenthesis (On lists top) next later e =
-    spent-open (ltb (length lists) limit) lists top next later e
-spent-act limit CloseParenthesis (On [] top) next later e = absurd (cc)
-spent-act limit CloseParenthesis (On (parts ∷ lists) top) next later e =
-    spent-is (add (Items parts) (On lists top)) next later e ∙ spent-add (Items parts) (On lists top) later
-spent-act limit (AtomToken kind bytes) levels next later e =
-    spent-is (add (Atom kind bytes) levels) next later e ∙ spent-add (Atom kind bytes) levels later
-spent-act limit (WordToken word) levels next later e =
-    spent-is (add (Reserved word) levels) next later e ∙ spent-add (Reserved word) levels later
-
-spent-acts : (limit : ℕ) (tokens : List Token) (levels next : Levels) → acts limit tokens levels ≡ Some next
-    → spent_of next [] ≡ spent_of levels tokens
-spent-acts limit [] levels next e = spent-is levels next [] e
-spent-acts limit (token ∷ tokens) levels next e =
-    by_act (act limit token levels) refl e (λ nearer. spent-acts limit tokens nearer next)
-  where
-    by_act : (o : Option Levels) → act limit token levels ≡ o
-        → act_next o (λ x. acts limit tokens x) ≡ Some next
-        → ((nearer : Levels) → acts limit tokens nearer ≡ Some next
-        → spent_of next [] ≡ spent_of nearer tokens) → spent_of next [] ≡ spent_of levels (token ∷ tokens)
-    by_act None a h later = absurd (cc)
-    by_act (Some nearer) a h later = later nearer h ∙ spent-act limit token levels nearer tokens a
-
--- no list nests deeper than the limit
-abbrev pub IsShallowIn : ℕ → List Sexps → Type 0
-IsShallowIn limit [] = Unit {0}
-IsShallowIn limit (parts ∷ lists) = (length lists + suc (depth_all parts) ≤ limit) × IsShallowIn limit lists
-
-abbrev pub IsShallow : ℕ → Levels → Type 0
-IsShallow limit (On lists top) = (depth_all top ≤ limit) × IsShallowIn limit lists
-
-depth_all-push : (xs : Sexps) (x : Sexp) → depth_all (append xs (Cons x Nil)) ≡ max (depth_all xs) (depth x)
-depth_all-push Nil x = omega arith
-depth_all-push (Cons y xs) x = omega (arith, depth_all-push xs x)
-
-shallow-add : (limit : ℕ) (x : Sexp) (lists : List Sexps) (top : Sexps) → length lists + depth x ≤ limit
-    → IsShallow limit (On lists top) → IsShallow limit (add x (On lists top))
-shallow-add limit x [] top d h = let e = depth_all-push top x in (omega (arith, h.0), tt)
-shallow-add limit x (parts ∷ lists) top d h =
-    let e = depth_all-push parts x in (h.0, (omega (arith, h.1.0), h.1.1))
-
--- an atom has no depth
-shallow-atom : (limit : ℕ) (x : Sexp) (levels : Levels) → depth x ≡ 0 → IsShallow limit levels
-    → IsShallow limit (add x levels)
-shallow-atom limit x (On [] top) d h = let e = depth_all-push top x in (omega (arith, h.0), tt)
-shallow-atom limit x (On (parts ∷ lists) top) d h =
-    let e = depth_all-push parts x in (h.0, (omega (arith, h.1.0), h.1.1))
-
-shallow-is : (limit : ℕ) (levels next : Levels) → Some levels ≡ Some next → IsShallow limit levels
-    → IsShallow limit next
-shallow-is limit levels next e h = let same : levels ≡ next = cc in subst (IsShallow limit) same h
-
-shallow-open : (limit : ℕ) (t : Bool) (lists : List Sexps) (top : Sexps) (next : Levels)
-    → ltb (length lists) limit ≡ t → cond t (Some (On (Nil ∷ lists) top)) None ≡ Some next
-    → IsShallow limit (On lists top) → IsShallow limit next
-shallow-open limit true lists top next k e h =
-    let below = ltb-true (length lists) limit k in
-    shallow-is limit (On (Nil ∷ lists) top) next e (h.0, (omega arith, h.1))
-shallow-open limit false lists top next k e h = absurd (cc)
-
-shallow-act : (limit : ℕ) (token : Token) (levels next : Levels) → act limit token levels ≡ Some next
-    → IsShallow limit levels → IsShallow limit next
-shallow-act limit OpenParenthesis (On lists top) next e h =
-    shallow-open limit (ltb (length lists) limit) lists top next refl e h
-shallow-act limit CloseParenthesis (On [] top) next e h = absurd (cc)
-shallow-act limit CloseParenthesis (On (parts ∷ lists) top) next e h =
-    shallow-is limit (add (Items parts) (On lists top)) next e
-    (shallow-add limit (Items parts) lists top h.1.0 (h.0, h.1.1))
-shallow-act limit (AtomToken kind bytes) levels next e h = shallow-is limit
-    (add (Atom kind bytes) levels) next e (shallow-atom limit (Atom kind bytes) levels refl h)
-shallow-act limit (WordToken word) levels next e h =
-    shallow-is limit (add (Reserved word) levels) next e (shallow-atom limit (Reserved word) levels refl h)
-
-shallow-acts : (limit : ℕ) (tokens : List Token) (levels next : Levels) → acts limit tokens levels ≡ Some next
-    → IsShallow limit levels → IsShallow limit next
-shallow-acts limit [] levels next e h = shallow-is limit levels next e h
-shallow-acts limit (token ∷ tokens) levels next e h =
-    by_act (act limit token levels) refl e (λ nearer. shallow-acts limit tokens nearer next)
-  where
-    by_act : (o : Option Levels) → act limit token levels ≡ o
-        → act_next o (λ x. acts limit tokens x) ≡ Some next
-        → ((nearer : Levels) → acts limit tokens nearer ≡ Some next → IsShallow limit nearer
-        → IsShallow limit next) → IsShallow limit next
-    by_act None a k later = absurd (cc)
-    by_act (Some nearer) a k later = later nearer k (shallow-act limit token levels nearer a h)
 
 -- a text that runs to trees is theirs
 pub forest-read : (limit : ℕ) (text : List ℕ) (end : State) (xs : Sexps) → run limit start text ≡ Some end
