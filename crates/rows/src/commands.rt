@@ -1,5 +1,5 @@
-//! Rows of commands: each with what is answered to it, and then what is in force. This file reads no solver's
-//! answers, and evaluates nothing.
+//! Rows of commands: each with `done` or its flaw, and then what is in force. This file reads no answers of
+//! solvers, and evaluates nothing.
 
 ghost use Rattle.std.specs.Prelude.{◌<◌, ◌≤◌};
 ghost use Rattle.smt_script.specs.StackView.{last_of};
@@ -14,16 +14,16 @@ use std::alloc::Global;
 use std::io;
 use std::io::Write;
 
-/// Prints what is answered to commands, in order, and then what the stack holds. Each command has the number
-/// of its place behind `start`, from 1, also where an earlier one was refused.
+/// Prints of each command `done` or its flaw, in order, and then what the stack holds. Each command has the
+/// number of its place behind `start`, from 1, also where an earlier one was refused.
 pub(crate) fn print<W: Write>(alloc: Global, out: &mut W, fields: &[Field]) -> Result<()> {
     let (print_success, fields) = split_print_success(fields)?;
     let mut stack = Stack::new(alloc, print_success);
-    print_commands(alloc, out, &mut stack, fields)
+    print_from_start(alloc, out, &mut stack, fields)
 }
 
-// Prints what is answered to the first commands of a stack, and then what it holds.
-fn print_commands<W: Write>(
+// Prints what becomes of the commands of a row, of which the stack has had none yet, and then what it holds.
+fn print_from_start<W: Write>(
     alloc: Global,
     out: &mut W,
     stack: &mut Stack,
@@ -50,21 +50,27 @@ fn print_command<W: Write>(
 {
     want_key(field, "command")?;
     let tree = tree_of(alloc, field)?;
-    let answer = take(stack, number, tree);
-    print_answer(out, number, field, answer)?;
+    let outcome = take(stack, number, tree);
+    print_outcome(out, number, field, outcome)?;
     Ok(())
 }
 
-fn print_answer<W: Write>(
+fn print_outcome<W: Write>(
     out: &mut W,
     number: u64,
     field: &Field,
-    answer: Result<(), CommandFault>,
-) -> io::Result<()> {
-    match answer {
-        Ok(()) => writeln!(out, "{number} {} => done", field.text),
-        Err(fault) => writeln!(out, "{number} {} => {fault}", field.text),
+    outcome: Result<(), CommandFault>,
+) -> Result<()> {
+    match outcome {
+        Ok(()) => writeln!(out, "{number} {} => done", field.text)?,
+        Err(fault) => {
+            let Some(flaw) = fault.flaw() else {
+                bail!("out of memory")
+            };
+            writeln!(out, "{number} {} => {flaw}", field.text)?;
+        }
     }
+    Ok(())
 }
 
 // Whether the solver prints `success` before a command sets it, as the first field says, and the fields

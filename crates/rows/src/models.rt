@@ -8,7 +8,7 @@ ghost use Rattle.smt_terms.specs.Signature.{Signature};
 use crate::trees::{declare, parts_of, refuse};
 use anyhow::{Result, bail};
 use row_texts::Field;
-use smt_eval::{Interpretation, ModelFault};
+use smt_eval::{Interpretation, ModelFault, ModelFlaw};
 use smt_terms::Library;
 use smt_trees::Trees;
 use std::alloc::Global;
@@ -77,15 +77,17 @@ fn print_read<W: Write>(
             write!(out, "{text} => defines")?;
             print_names(out, declared, parts)?;
         }
-        Err(ModelFault::Item { number, fault }) => writeln!(
-            out,
-            "{text} => item {number} {fault}"
-        )?,
-        Err(ModelFault::Lacks { command }) => writeln!(
-            out,
-            "{text} => lacks the symbol of command {command}"
-        )?,
-        Err(ModelFault::Memory) => writeln!(out, "{text} => memory")?,
+        Err(fault) => match fault.flaw() {
+            Some(ModelFlaw::Item { number, flaw }) => writeln!(
+                out,
+                "{text} => item {number} {flaw}"
+            )?,
+            Some(ModelFlaw::Lacks { command }) => writeln!(
+                out,
+                "{text} => lacks the symbol of command {command}"
+            )?,
+            None => bail!("out of memory"),
+        },
     }
     Ok(())
 }
@@ -119,8 +121,8 @@ fn define(declared: &Library, definitions: &mut Library, model: &Trees) -> Resul
         if item.is_symbol(b"model") {
             continue;
         }
-        if let Err(fault) = definitions.define_item(declared, item) {
-            bail!("an item of a model without a fault is refused: {fault}");
+        if definitions.define_item(declared, item).is_err() {
+            bail!("an item of a model without a fault is refused");
         }
     }
     Ok(())

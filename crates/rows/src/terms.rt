@@ -2,7 +2,7 @@
 //! and names. This file evaluates nothing.
 
 use crate::names::{print_counts, print_name, write_sort};
-use crate::trees::{declare, print_answer, refuse, tree_of, trees_of};
+use crate::trees::{declare, flaw_of, print_answer, refuse, tree_of, trees_of};
 use anyhow::{Result, bail};
 use row_texts::Field;
 use smt_forms::{are_named, params_of};
@@ -62,7 +62,10 @@ fn write_checked<W: Write>(
     write!(out, "{} => ", field.text)?;
     match &library.check(term) {
         Ok((_, sort)) => write_sort(out, sort)?,
-        Err(fault) => write!(out, "{fault}")?,
+        Err(fault) => {
+            let flaw = flaw_of(*fault)?;
+            write!(out, "{flaw}")?;
+        }
     }
     writeln!(out)?;
     Ok(())

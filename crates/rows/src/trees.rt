@@ -6,8 +6,9 @@ ghost use Rattle.smt_terms.specs.Signature.{Signature};
 
 use anyhow::{Result, bail};
 use row_texts::Field;
+use smt_faults::{TermFault, TermFlaw};
 use smt_script::all_theories;
-use smt_terms::{Library, TermFault};
+use smt_terms::Library;
 use smt_text::read_trees;
 use smt_theory::{Theories, theories_of};
 use smt_trees::{Tree, Trees};
@@ -91,9 +92,20 @@ pub(crate) fn print_answer<W: Write>(
 ) -> Result<()> {
     match fault {
         None => writeln!(out, "{} => {done}", field.text)?,
-        Some(fault) => writeln!(out, "{} => {fault}", field.text)?,
+        Some(fault) => {
+            let flaw = flaw_of(fault)?;
+            writeln!(out, "{} => {flaw}", field.text)?;
+        }
     }
     Ok(())
+}
+
+/// What is wrong with a term, a sort or a definition, by its fault: want of memory ends the program.
+pub(crate) fn flaw_of(fault: TermFault) -> Result<TermFlaw> {
+    match fault.flaw() {
+        Some(flaw) => Ok(flaw),
+        None => bail!("out of memory"),
+    }
 }
 
 /// Refuses a field of another key than it is to have.

@@ -1,21 +1,27 @@
 -- How the checks of a dialogue go on with one more pair.
-use Rattle.std.proofs.Common.{◌≡◌, ◌+◌, ℕ, Bool, true, false, ◌||◌, List, [], ◌∷◌, ◌++◌, length, Option, Some, None, cond, codes, refl, ap, sym, ◌∙◌, arith, append_assoc, length-append}
+use Rattle.std.proofs.Common.{◌≡◌, ◌+◌, ℕ, Bool, true, false, not, ◌&&◌, ◌||◌, List, [], ◌∷◌, ◌++◌, length, Option, Some}
+use Rattle.std.proofs.Common.{None, cond, codes, refl, ap, sym, ◌∙◌, subst, arith, append_assoc, length-append}
 use Rattle.std.proofs.lemmas.List.{append-nil}
 use Rattle.std.specs.List.{list_any}
 use Rattle.std.specs.Option.{option_or}
 use Rattle.smt_trees.specs.Sexp.{Sexp, Sexps, Atom, Reserved, Items, is_symbol}
 use Rattle.smt_terms.specs.Signature.{Signature}
-use Rattle.smt_script.specs.Command.{Command, SetLogic, SetPrintSuccess, SetGlobalDeclarations, SetOption, SetInfo, DeclareConst, DeclareFun, DefineFun, DefineSort, Assert, Push, Pop, Reset, ResetAssertions, Exit, CheckSat, GetModel, Echo, Get}
-use Rattle.smt_dialogue.proofs.InForceLemmas.{IsQuiet, check_is_quiet, echo_is_quiet, exit_is_quiet, global_is_quiet, info_is_quiet, model_is_quiet, option_is_quiet, print_success_is_quiet, query_is_quiet}
+use Rattle.smt_script.specs.Command.{Command, asks_check, changes_force, closes_window, is_check, kind_of}
+use Rattle.smt_script.specs.declared.command.Kind.{Kind}
+use Rattle.smt_script.specs.declared.command.Kind.TheVariants as kinds
+use Rattle.smt_dialogue.proofs.InForceLemmas.{quiet}
 use Rattle.smt_dialogue.proofs.PairLemmas.{IsIdle, quiet_is_idle, refused_is_idle}
 use Rattle.smt_dialogue.specs.Answers.{has_form, is_effective_with, is_error}
 use Rattle.smt_dialogue.specs.InForce.{signature_after}
-use Rattle.smt_dialogue.specs.Internal.ChecksState.{ChecksState, IsAnswered, checks_after, closing_lines, pending_lines, role_of, with_answer_of, with_line, with_models, with_window_ended}
+use Rattle.smt_dialogue.specs.Internal.ChecksState.{ChecksState, IsAnswered, checks_after, closing_lines}
+use Rattle.smt_dialogue.specs.Internal.ChecksState.{pending_lines, role_of, role_of_kind, with_answer_of, with_check, with_line}
+use Rattle.smt_dialogue.specs.Internal.ChecksState.{with_models, with_window_ended}
 use Rattle.smt_dialogue.specs.Judgement.{Claimed, claims_of, judgement_of}
-use Rattle.smt_dialogue.specs.Lines.{claims_after, confirmed_line, line_of_judgement, lines_of_pair, lines_of_sat, sat_lines, unchecked_answer, unchecked_line_or, unconfirmed_line}
-use Rattle.smt_script.specs.Command.{is_check}
+use Rattle.smt_dialogue.specs.Lines.{claims_after, confirmed_line, is_empty, line_of_judgement, lines_of_answer, lines_of_pair}
+use Rattle.smt_dialogue.specs.Lines.{lines_of_sat, sat_lines, unchecked_answer, unchecked_line_or}
+use Rattle.smt_dialogue.specs.Lines.{unconfirmed_line}
 use Rattle.smt_dialogue.specs.Pairs.{Pair, checks_in, is_effective, pair_of}
-use Rattle.smt_dialogue.specs.Window.{Printed, closes, models_from, printed_by, window}
+use Rattle.smt_dialogue.specs.Window.{Printed, asks_model, closes, models_from, printed_by, printed_in, window}
 use Rattle.smt_dialogue.specs.declared.answer.AnswerForm.TheVariants.{Check}
 use Rattle.smt_report.specs.declared.line.CheckAnswer.{CheckAnswer}
 use Rattle.smt_report.specs.declared.line.CheckAnswer.TheVariants.{Unsat, Unknown, Unsupported, Error}
@@ -25,13 +31,16 @@ use Rattle.smt_dialogue.specs.declared.window.PendingCheck.{PendingCheck}
 
 -- ## The window that has not ended does, or goes on
 
-sat_lines-closing : (closed s more : Bool) (k n : ℕ) → sat_lines k n None (s || false) (closed || (true || more)) ≡ confirmed_line k n s ∷ []
+sat_lines-closing : (closed s more : Bool) (k n : ℕ)
+    → sat_lines k n None (s || false) (closed || (true || more)) ≡ confirmed_line k n s ∷ []
 sat_lines-closing true true more k n = refl
 sat_lines-closing true false more k n = refl
 sat_lines-closing false true more k n = refl
 sat_lines-closing false false more k n = refl
 
-pub pending-closing : (closed : Bool) (o : Option PendingCheck) (names : Signature) (claims : List Claimed) (m : ℕ) (p : Pair) (after : List Pair) → closes p ≡ true → pending_lines closed o names claims m (p ∷ after) ≡ closing_lines o
+pub pending-closing : (closed : Bool) (o : Option PendingCheck) (names : Signature) (claims : List Claimed)
+    (m : ℕ) (p : Pair) (after : List Pair) → closes p ≡ true
+    → pending_lines closed o names claims m (p ∷ after) ≡ closing_lines o
 pending-closing closed None names claims m p after h = refl
 pending-closing closed (Some c) names claims m p after h =
     rw h (sat_lines-closing closed c.some_model (list_any closes after) c.check c.command)
@@ -41,7 +50,8 @@ abbrev models_of : ℕ → Pair → List Printed
 models_of m p = cond (is_effective p) (printed_by m p.command p.answer) []
 
 -- a pair that neither ends the window nor prints a model leaves the lines as they are
-pending-past : (closed : Bool) (o : Option PendingCheck) (names : Signature) (claims : List Claimed) (m : ℕ) (p : Pair) (after : List Pair) → closes p ≡ false → models_of m p ≡ []
+pending-past : (closed : Bool) (o : Option PendingCheck) (names : Signature) (claims : List Claimed) (m : ℕ)
+    (p : Pair) (after : List Pair) → closes p ≡ false → models_of m p ≡ []
     → pending_lines closed o names claims m (p ∷ after) ≡ pending_lines closed o names claims (m + 1) after
 pending-past closed None names claims m p after h none = refl
 pending-past closed (Some c) names claims m p after h none = rw (h, none) refl
@@ -52,37 +62,51 @@ pending-past closed (Some c) names claims m p after h none = rw (h, none) refl
 pub record GoesOn (s : ChecksState) (pairs : List Pair) (p : Pair) (t : ChecksState) : Type 0 where
   pub count : t.count ≡ s.count + checks_in (p ∷ [])
   pub lines : (closed : Bool) (after : List Pair)
-      → s.lines ++ (pending_lines closed s.pending (signature_after pairs) (claims_after pairs) (length pairs + 1) (p ∷ after) ++ lines_of_pair closed pairs p after)
-      ≡ t.lines ++ pending_lines closed t.pending (signature_after (pairs ++ p ∷ [])) (claims_after (pairs ++ p ∷ [])) (length (pairs ++ p ∷ []) + 1) after
+      → s.lines ++ (pending_lines closed s.pending (signature_after pairs) (claims_after pairs)
+      (length pairs + 1) (p ∷ after) ++ lines_of_pair closed pairs p after)
+      ≡ t.lines ++ pending_lines closed t.pending (signature_after (pairs ++ p ∷ []))
+      (claims_after (pairs ++ p ∷ [])) (length (pairs ++ p ∷ []) + 1) after
 
 -- the lines where the window ends at a pair that has these lines itself
-closes_with : (s : ChecksState) (pairs : List Pair) (p : Pair) (closed : Bool) (after : List Pair) (own : List Line) → closes p ≡ true → lines_of_pair closed pairs p after ≡ own
-    → s.lines ++ (pending_lines closed s.pending (signature_after pairs) (claims_after pairs) (length pairs + 1) (p ∷ after) ++ lines_of_pair closed pairs p after) ≡ (s.lines ++ closing_lines s.pending) ++ own
+closes_with : (s : ChecksState) (pairs : List Pair) (p : Pair) (closed : Bool) (after : List Pair)
+    (own : List Line) → closes p ≡ true → lines_of_pair closed pairs p after ≡ own
+    → s.lines ++ (pending_lines closed s.pending (signature_after pairs) (claims_after pairs)
+    (length pairs + 1) (p ∷ after) ++ lines_of_pair closed pairs p after)
+    ≡ (s.lines ++ closing_lines s.pending) ++ own
 closes_with s pairs p closed after own h is =
-    ap (λ (ls : List Line). s.lines ++ (ls ++ lines_of_pair closed pairs p after)) (pending-closing closed s.pending (signature_after pairs) (claims_after pairs) (length pairs + 1) p after h)
+    ap (λ (ls : List Line). s.lines ++ (ls ++ lines_of_pair closed pairs p after))
+    (pending-closing closed s.pending (signature_after pairs) (claims_after pairs) (length pairs + 1)
+    p after h)
     ∙ ap (λ (ls : List Line). s.lines ++ (closing_lines s.pending ++ ls)) is
     ∙ sym (append_assoc s.lines (closing_lines s.pending) own)
 
 -- a pair that is no check and no model ends the window, and has no line
-ends_window : (s : ChecksState) (pairs : List Pair) (p : Pair) → closes p ≡ true → is_check p.command ≡ false → GoesOn s pairs p (with_window_ended s)
+ends_window : (s : ChecksState) (pairs : List Pair) (p : Pair) → closes p ≡ true → is_check p.command ≡ false
+    → GoesOn s pairs p (with_window_ended s)
 ends_window s pairs p ends other = record {
   count = rw other (omega arith);
   lines = λ closed after. closes_with s pairs p closed after [] ends (rw other refl);
 }
 
 -- the lines of a check whose window goes on behind a pair that changes nothing
-pending-idle : (closed : Bool) (o : Option PendingCheck) (pairs : List Pair) (p : Pair) (after : List Pair) → IsIdle pairs p
+pending-idle : (closed : Bool) (o : Option PendingCheck) (pairs : List Pair) (p : Pair) (after : List Pair)
+    → IsIdle pairs p
     → pending_lines closed o (signature_after pairs) (claims_after pairs) ((length pairs + 1) + 1) after
-    ≡ pending_lines closed o (signature_after (pairs ++ p ∷ [])) (claims_after (pairs ++ p ∷ [])) (length (pairs ++ p ∷ []) + 1) after
+    ≡ pending_lines closed o (signature_after (pairs ++ p ∷ [])) (claims_after (pairs ++ p ∷ []))
+    (length (pairs ++ p ∷ []) + 1) after
 pending-idle closed o pairs p after idle =
     let new = pairs ++ p ∷ [] in
     let len : length new ≡ length pairs + 1 = length-append pairs (p ∷ []) ∙ omega arith in
-    ap (λ (m : ℕ). pending_lines closed o (signature_after pairs) (claims_after pairs) (m + 1) after) (sym len)
-    ∙ ap (λ (es : Signature). pending_lines closed o es (claims_after pairs) (length new + 1) after) (sym idle.signature)
-    ∙ ap (λ (es : List Claimed). pending_lines closed o (signature_after new) es (length new + 1) after) (sym (ap claims_of idle.assertions))
+    ap (λ (m : ℕ). pending_lines closed o (signature_after pairs) (claims_after pairs) (m + 1) after)
+    (sym len)
+    ∙ ap (λ (es : Signature). pending_lines closed o es (claims_after pairs) (length new + 1) after)
+    (sym idle.signature)
+    ∙ ap (λ (es : List Claimed). pending_lines closed o (signature_after new) es (length new + 1) after)
+    (sym (ap claims_of idle.assertions))
 
 -- a pair that neither ends the window nor prints a model, and changes nothing, leaves all as it is
-stays : (s : ChecksState) (pairs : List Pair) (p : Pair) → closes p ≡ false → is_check p.command ≡ false → ((m : ℕ) → models_of m p ≡ []) → IsIdle pairs p → GoesOn s pairs p s
+stays : (s : ChecksState) (pairs : List Pair) (p : Pair) → closes p ≡ false → is_check p.command ≡ false
+    → ((m : ℕ) → models_of m p ≡ []) → IsIdle pairs p → GoesOn s pairs p s
 stays s pairs p open' other none idle = record {
   count = rw other (omega arith);
   lines = λ closed after.
@@ -91,7 +115,9 @@ stays s pairs p open' other none idle = record {
       let here = pending_lines closed s.pending names claims (length pairs + 1) (p ∷ after) in
       ap (λ (ls : List Line). s.lines ++ (here ++ ls)) (rw other refl)
       ∙ ap (λ (ls : List Line). s.lines ++ ls) (append-nil here)
-      ∙ ap (λ (ls : List Line). s.lines ++ ls) (pending-past closed s.pending names claims (length pairs + 1) p after open' (none (length pairs + 1)))
+      ∙ ap (λ (ls : List Line). s.lines ++ ls)
+      (pending-past closed s.pending names claims (length pairs + 1) p after open'
+      (none (length pairs + 1)))
       ∙ ap (λ (ls : List Line). s.lines ++ ls) (pending-idle closed s.pending pairs p after idle);
 }
 
@@ -103,40 +129,68 @@ no_models : {A : Type 0} (b : Bool) (xs : List A) → b ≡ false → cond b xs 
 no_models b xs h = rw h refl
 
 -- a command that ends the window where it took effect
-closes_if : (s : ChecksState) (pairs : List Pair) (p : Pair) (b : Bool) → is_effective p ≡ b → closes p ≡ is_effective p → is_check p.command ≡ false → GoesOn s pairs p (cond (is_effective p) (with_window_ended s) s)
+closes_if : (s : ChecksState) (pairs : List Pair) (p : Pair) (b : Bool) → is_effective p ≡ b
+    → closes p ≡ is_effective p → is_check p.command ≡ false
+    → GoesOn s pairs p (cond (is_effective p) (with_window_ended s) s)
 closes_if s pairs p true is ends other = rw is (ends_window s pairs p (ends ∙ is) other)
 closes_if s pairs p false is ends other =
-    rw is (stays s pairs p (ends ∙ is) other (λ m. no_models (is_effective p) (printed_by m p.command p.answer) is) (refused_is_idle pairs p is))
+    rw is (stays s pairs p (ends ∙ is) other
+    (λ m. no_models (is_effective p) (printed_by m p.command p.answer) is) (refused_is_idle pairs p is))
 
 -- ## Checks
 
+check_closes : (c : Command) (o : Option Sexp) → kind_of c ≡ kinds.Check → closes (pair_of c o) ≡ true
+check_closes c o is = ap (λ (k : Kind). asks_check k || changes_force k && is_effective_with o) is
+
 -- a check that was answered otherwise than sat, and has this line
-answered_goes : (s : ChecksState) (pairs : List Pair) (a : Sexp) (line : Line) → ((closed : Bool) (after : List Pair) → lines_of_pair closed pairs (pair_of CheckSat (Some a)) after ≡ line ∷ [])
-    → GoesOn s pairs (pair_of CheckSat (Some a)) (record (with_window_ended s) { count = s.count + 1; lines = (with_window_ended s).lines ++ line ∷ [] })
-answered_goes s pairs a line own = record {
-  count = omega arith;
-  lines = λ closed after. closes_with s pairs (pair_of CheckSat (Some a)) closed after (line ∷ []) refl (own closed after) ∙ sym (append-nil ((s.lines ++ closing_lines s.pending) ++ line ∷ []));
+answered_goes : (s : ChecksState) (pairs : List Pair) (c : Command) (a : Sexp) (line : Line)
+    → kind_of c ≡ kinds.Check
+    → ((closed : Bool) (after : List Pair)
+    → lines_of_answer closed pairs (checks_in pairs + 1) (Some a) after ≡ line ∷ [])
+    → GoesOn s pairs (pair_of c (Some a))
+    (record (with_window_ended s)
+    { count = s.count + 1; lines = (with_window_ended s).lines ++ line ∷ [] })
+answered_goes s pairs c a line is own = record {
+  count = rw is (omega arith);
+  lines = λ closed after. closes_with s pairs (pair_of c (Some a)) closed after (line ∷ [])
+      (check_closes c (Some a) is) (rw is (own closed after))
+      ∙ sym (append-nil ((s.lines ++ closing_lines s.pending) ++ line ∷ []));
 }
 
 -- a check that was answered sat
-begun_goes : (s : ChecksState) (pairs : List Pair) (a : Sexp) (k n : ℕ) → k ≡ checks_in pairs + 1 → n ≡ length pairs + 1
-    → ((closed : Bool) (after : List Pair) → lines_of_pair closed pairs (pair_of CheckSat (Some a)) after ≡ lines_of_sat closed (checks_in pairs + 1) (length pairs + 1) (signature_after pairs) (claims_after pairs) ((length pairs + 1) + 1) after)
-    → GoesOn s pairs (pair_of CheckSat (Some a)) (record (with_window_ended s) { count = s.count + 1; pending = Some (record { check = k; command = n; some_model = false }) })
-begun_goes s pairs a k n is_k is_n own =
-    let p = pair_of CheckSat (Some a) in
+begun_goes : (s : ChecksState) (pairs : List Pair) (c : Command) (a : Sexp) (k n : ℕ)
+    → kind_of c ≡ kinds.Check → k ≡ checks_in pairs + 1 → n ≡ length pairs + 1
+    → ((closed : Bool) (after : List Pair)
+    → lines_of_answer closed pairs (checks_in pairs + 1) (Some a) after
+    ≡ lines_of_sat closed (checks_in pairs + 1) (length pairs + 1) (signature_after pairs)
+    (claims_after pairs) ((length pairs + 1) + 1) after)
+    → GoesOn s pairs (pair_of c (Some a))
+    (record (with_window_ended s)
+    { count = s.count + 1; pending = Some (record { check = k; command = n; some_model = false }) })
+begun_goes s pairs c a k n is is_k is_n own =
+    let p = pair_of c (Some a) in
     let begun : Option PendingCheck = Some (record { check = k; command = n; some_model = false }) in
     record {
-      count = omega arith;
+      count = rw is (omega arith);
       lines = λ closed after.
-          closes_with s pairs p closed after _ refl (own closed after)
-          ∙ ap (λ (i : ℕ). (with_window_ended s).lines ++ lines_of_sat closed i (length pairs + 1) (signature_after pairs) (claims_after pairs) ((length pairs + 1) + 1) after) (sym is_k)
-          ∙ ap (λ (i : ℕ). (with_window_ended s).lines ++ lines_of_sat closed k i (signature_after pairs) (claims_after pairs) ((length pairs + 1) + 1) after) (sym is_n)
-          ∙ ap (λ (ls : List Line). (with_window_ended s).lines ++ ls) (pending-idle closed begun pairs p after (quiet_is_idle pairs p check_is_quiet));
+          closes_with s pairs p closed after _ (check_closes c (Some a) is) (rw is (own closed after))
+          ∙ ap (λ (i : ℕ). (with_window_ended s).lines
+          ++ lines_of_sat closed i (length pairs + 1) (signature_after pairs) (claims_after pairs)
+          ((length pairs + 1) + 1) after) (sym is_k)
+          ∙ ap (λ (i : ℕ). (with_window_ended s).lines
+          ++ lines_of_sat closed k i (signature_after pairs) (claims_after pairs)
+          ((length pairs + 1) + 1) after) (sym is_n)
+          ∙ ap (λ (ls : List Line). (with_window_ended s).lines ++ ls)
+          (pending-idle closed begun pairs p after
+          (quiet_is_idle pairs p (quiet c (ap changes_force is))));
     }
 
 -- where a check has an answer that is not one of the others, it is `sat`
-sat_left : (sat unsat unknown unsupported error' : Bool) → ((sat || unsat) || unknown) || (unsupported || error') ≡ true
-    → cond unsat (Some Unsat) (cond unknown (Some Unknown) (cond unsupported (Some Unsupported) (cond error' (Some Error) None))) ≡ None → sat ≡ true
+sat_left : (sat unsat unknown unsupported error' : Bool)
+    → ((sat || unsat) || unknown) || (unsupported || error') ≡ true
+    → cond unsat (Some Unsat)
+    (cond unknown (Some Unknown) (cond unsupported (Some Unsupported) (cond error' (Some Error) None)))
+    ≡ None → sat ≡ true
 sat_left true unsat unknown unsupported error' h none = refl
 sat_left false true unknown unsupported error' h none = absurd (cc)
 sat_left false false true unsupported error' h none = absurd (cc)
@@ -144,18 +198,28 @@ sat_left false false false true error' h none = absurd (cc)
 sat_left false false false false true h none = absurd (cc)
 sat_left false false false false false h none = cc
 
-check_by : (s : ChecksState) (pairs : List Pair) (a : Sexp) (u : Option CheckAnswer) → unchecked_answer a ≡ u → has_form Check a ≡ true → s.count ≡ checks_in pairs
-    → GoesOn s pairs (pair_of CheckSat (Some a)) (with_answer_of (with_window_ended s) (s.count + 1) (length pairs + 1) u)
-check_by s pairs a (Some other) is h count =
+check_by : (s : ChecksState) (pairs : List Pair) (c : Command) (a : Sexp) (u : Option CheckAnswer)
+    → kind_of c ≡ kinds.Check → unchecked_answer a ≡ u → has_form Check a ≡ true → s.count ≡ checks_in pairs
+    → GoesOn s pairs (pair_of c (Some a))
+    (with_answer_of (with_window_ended s) (s.count + 1) (length pairs + 1) u)
+check_by s pairs c a (Some other) is_check' is h count =
     let is_k : s.count + 1 ≡ checks_in pairs + 1 = ap (λ (i : ℕ). i + 1) count in
-    answered_goes s pairs a (lines.Unchecked (s.count + 1) (length pairs + 1) other)
-    (λ closed after. ap (λ (v : Option CheckAnswer). unchecked_line_or (checks_in pairs + 1) (length pairs + 1) v (cond (is_symbol (codes "sat") a) (lines_of_sat closed (checks_in pairs + 1) (length pairs + 1) (signature_after pairs) (claims_after pairs) ((length pairs + 1) + 1) after) [])) is ∙ ap (λ (i : ℕ). lines.Unchecked i (length pairs + 1) other ∷ []) (sym is_k))
-check_by s pairs a None is h count =
+    answered_goes s pairs c a (lines.Unchecked (s.count + 1) (length pairs + 1) other) is_check'
+    (λ closed after. ap (λ (v : Option CheckAnswer). unchecked_line_or (checks_in pairs + 1)
+    (length pairs + 1) v (cond (is_symbol (codes "sat") a)
+    (lines_of_sat closed (checks_in pairs + 1) (length pairs + 1) (signature_after pairs)
+    (claims_after pairs) ((length pairs + 1) + 1) after) [])) is
+    ∙ ap (λ (i : ℕ). lines.Unchecked i (length pairs + 1) other ∷ []) (sym is_k))
+check_by s pairs c a None is_check' is h count =
     let is_k : s.count + 1 ≡ checks_in pairs + 1 = ap (λ (i : ℕ). i + 1) count in
     let sat : is_symbol (codes "sat") a ≡ true =
-    sat_left (is_symbol (codes "sat") a) (is_symbol (codes "unsat") a) (is_symbol (codes "unknown") a) (is_symbol (codes "unsupported") a) (is_error a) h is in
-    begun_goes s pairs a (s.count + 1) (length pairs + 1) is_k refl
-    (λ closed after. ap (λ (v : Option CheckAnswer). unchecked_line_or (checks_in pairs + 1) (length pairs + 1) v (cond (is_symbol (codes "sat") a) (lines_of_sat closed (checks_in pairs + 1) (length pairs + 1) (signature_after pairs) (claims_after pairs) ((length pairs + 1) + 1) after) [])) is ∙ rw sat refl)
+    sat_left (is_symbol (codes "sat") a) (is_symbol (codes "unsat") a) (is_symbol (codes "unknown") a)
+    (is_symbol (codes "unsupported") a) (is_error a) h is in
+    begun_goes s pairs c a (s.count + 1) (length pairs + 1) is_check' is_k refl
+    (λ closed after. ap (λ (v : Option CheckAnswer). unchecked_line_or (checks_in pairs + 1)
+    (length pairs + 1) v (cond (is_symbol (codes "sat") a)
+    (lines_of_sat closed (checks_in pairs + 1) (length pairs + 1) (signature_after pairs)
+    (claims_after pairs) ((length pairs + 1) + 1) after) [])) is ∙ rw sat refl)
 
 -- ## Models
 
@@ -163,96 +227,184 @@ or_true : (b : Bool) → b || true ≡ true
 or_true true = refl
 or_true false = refl
 
+model_open : (d : Command) (o : Option Sexp) → kind_of d ≡ kinds.Model → closes (pair_of d o) ≡ false
+model_open d o is = ap (λ (k : Kind). asks_check k || changes_force k && is_effective_with o) is
+
+model_idle : (pairs : List Pair) (d : Command) (o : Option Sexp) → kind_of d ≡ kinds.Model
+    → IsIdle pairs (pair_of d o)
+model_idle pairs d o is = quiet_is_idle pairs (pair_of d o) (quiet d (ap changes_force is))
+
 -- the lines of a pending check at one more model
-pending-model : (closed : Bool) (c : PendingCheck) (names : Signature) (claims : List Claimed) (m : ℕ) (parts : Sexps) (after : List Pair) → is_effective_with (Some (Items parts)) ≡ true
-    → pending_lines closed (Some c) names claims m (pair_of GetModel (Some (Items parts)) ∷ after)
-    ≡ sat_lines c.check c.command (option_or (line_of_judgement c.check c.command m (judgement_of names claims parts)) (unconfirmed_line c.check c.command names claims (models_from (m + 1) (window after)))) true (closed || list_any closes after)
-pending-model closed c names claims m parts after h = rw (h, or_true) refl
+pending-model : (closed : Bool) (c : PendingCheck) (names : Signature) (claims : List Claimed) (m : ℕ)
+    (d : Command) (parts : Sexps) (after : List Pair) → kind_of d ≡ kinds.Model
+    → is_effective_with (Some (Items parts)) ≡ true
+    → pending_lines closed (Some c) names claims m (pair_of d (Some (Items parts)) ∷ after)
+    ≡ sat_lines c.check c.command
+    (option_or (line_of_judgement c.check c.command m (judgement_of names claims parts))
+    (unconfirmed_line c.check c.command names claims (models_from (m + 1) (window after)))) true
+    (closed || list_any closes after)
+pending-model closed c names claims m d parts after is h =
+    let p = pair_of d (Some (Items parts)) in
+    let further = models_from (m + 1) (window after) in
+    let printed : models_of m p ≡ record { command = m; parts = parts } ∷ [] =
+    ap (λ (e : Bool). cond e (printed_by m d (Some (Items parts))) []) h
+    ∙ ap (λ (k : Kind). cond (asks_model k) (printed_in m (Some (Items parts))) []) is in
+    ap (λ (b : Bool). sat_lines c.check c.command
+    (unconfirmed_line c.check c.command names claims (models_from m (cond b [] (p ∷ window after))))
+    (c.some_model || not (is_empty (models_from m (cond b [] (p ∷ window after)))))
+    (closed || (b || list_any closes after))) (model_open d (Some (Items parts)) is)
+    ∙ ap (λ (ms : List Printed). sat_lines c.check c.command
+    (unconfirmed_line c.check c.command names claims (ms ++ further))
+    (c.some_model || not (is_empty (ms ++ further))) (closed || list_any closes after)) printed
+    ∙ rw or_true refl
+
+-- the lines of a pair that is a model, where a check is pending, with the line of the model
+at_model : (s : ChecksState) (pairs : List Pair) (c : PendingCheck) (d : Command) (parts : Sexps)
+    (l : Option Line) (closed : Bool) (after : List Pair)
+    → s.pending ≡ Some c → kind_of d ≡ kinds.Model → is_effective_with (Some (Items parts)) ≡ true
+    → line_of_judgement c.check c.command (length pairs + 1)
+    (judgement_of (signature_after pairs) (claims_after pairs) parts) ≡ l
+    → s.lines ++ (pending_lines closed s.pending (signature_after pairs) (claims_after pairs)
+    (length pairs + 1) (pair_of d (Some (Items parts)) ∷ after)
+    ++ lines_of_pair closed pairs (pair_of d (Some (Items parts))) after)
+    ≡ s.lines ++ sat_lines c.check c.command
+    (option_or l (unconfirmed_line c.check c.command (signature_after pairs) (claims_after pairs)
+    (models_from ((length pairs + 1) + 1) (window after)))) true (closed || list_any closes after)
+at_model s pairs c d parts l closed after is_pending is_model h is =
+    let p = pair_of d (Some (Items parts)) in
+    let here = pending_lines closed s.pending (signature_after pairs) (claims_after pairs) (length pairs + 1)
+    (p ∷ after) in
+    ap (λ (k : Kind). s.lines ++ (here
+    ++ cond (asks_check k) (lines_of_answer closed pairs (checks_in pairs + 1) (Some (Items parts)) after) []))
+    is_model
+    ∙ ap (λ (ls : List Line). s.lines ++ ls) (append-nil here)
+    ∙ ap (λ (o : Option PendingCheck). s.lines ++ pending_lines closed o (signature_after pairs)
+    (claims_after pairs) (length pairs + 1) (p ∷ after)) is_pending
+    ∙ ap (λ (ls : List Line). s.lines ++ ls)
+    (pending-model closed c (signature_after pairs) (claims_after pairs) (length pairs + 1) d parts after
+    is_model h)
+    ∙ ap (λ (x : Option Line). s.lines ++ sat_lines c.check c.command
+    (option_or x (unconfirmed_line c.check c.command (signature_after pairs) (claims_after pairs)
+    (models_from ((length pairs + 1) + 1) (window after)))) true (closed || list_any closes after)) is
 
 -- what is added where the model has a line, and where it is confirmed
-model_line : (s : ChecksState) (pairs : List Pair) (c : PendingCheck) (parts : Sexps) (l : Option Line) → s.pending ≡ Some c → is_effective_with (Some (Items parts)) ≡ true
-    → line_of_judgement c.check c.command (length pairs + 1) (judgement_of (signature_after pairs) (claims_after pairs) parts) ≡ l → GoesOn s pairs (pair_of GetModel (Some (Items parts))) (with_line s c l)
-model_line s pairs c parts (Some line) is_pending h is = record {
-  count = omega arith;
-  lines = λ closed after.
-      ap (λ (o : Option PendingCheck). s.lines ++ (pending_lines closed o (signature_after pairs) (claims_after pairs) (length pairs + 1) (pair_of GetModel (Some (Items parts)) ∷ after) ++ [])) is_pending
-      ∙ ap (λ (ls : List Line). s.lines ++ (ls ++ [])) (pending-model closed c (signature_after pairs) (claims_after pairs) (length pairs + 1) parts after h)
-      ∙ ap (λ (l : Option Line). s.lines ++ (sat_lines c.check c.command (option_or l (unconfirmed_line c.check c.command (signature_after pairs) (claims_after pairs) (models_from ((length pairs + 1) + 1) (window after)))) true (closed || list_any closes after) ++ [])) is
+model_line : (s : ChecksState) (pairs : List Pair) (c : PendingCheck) (d : Command) (parts : Sexps)
+    (l : Option Line) → s.pending ≡ Some c → kind_of d ≡ kinds.Model
+    → is_effective_with (Some (Items parts)) ≡ true
+    → line_of_judgement c.check c.command (length pairs + 1)
+    (judgement_of (signature_after pairs) (claims_after pairs) parts) ≡ l
+    → GoesOn s pairs (pair_of d (Some (Items parts))) (with_line s c l)
+model_line s pairs c d parts (Some line) is_pending is_model h is = record {
+  count = rw is_model (omega arith);
+  lines = λ closed after. at_model s pairs c d parts (Some line) closed after is_pending is_model h is
       ∙ sym (append-nil (s.lines ++ line ∷ []));
 }
-model_line s pairs c parts None is_pending h is =
-    let p = pair_of GetModel (Some (Items parts)) in
+model_line s pairs c d parts None is_pending is_model h is =
+    let p = pair_of d (Some (Items parts)) in
     let noted : PendingCheck = record c { some_model = true } in
     record {
-      count = omega arith;
-      lines = λ closed after.
-          ap (λ (o : Option PendingCheck). s.lines ++ (pending_lines closed o (signature_after pairs) (claims_after pairs) (length pairs + 1) (p ∷ after) ++ [])) is_pending
-          ∙ ap (λ (ls : List Line). s.lines ++ (ls ++ [])) (pending-model closed c (signature_after pairs) (claims_after pairs) (length pairs + 1) parts after h)
-          ∙ ap (λ (l : Option Line). s.lines ++ (sat_lines c.check c.command (option_or l (unconfirmed_line c.check c.command (signature_after pairs) (claims_after pairs) (models_from ((length pairs + 1) + 1) (window after)))) true (closed || list_any closes after) ++ [])) is
-          ∙ ap (λ (ls : List Line). s.lines ++ ls) (append-nil (pending_lines closed (Some noted) (signature_after pairs) (claims_after pairs) ((length pairs + 1) + 1) after))
-          ∙ ap (λ (ls : List Line). s.lines ++ ls) (pending-idle closed (Some noted) pairs p after (quiet_is_idle pairs p model_is_quiet));
+      count = rw is_model (omega arith);
+      lines = λ closed after. at_model s pairs c d parts None closed after is_pending is_model h is
+          ∙ ap (λ (ls : List Line). s.lines ++ ls)
+          (pending-idle closed (Some noted) pairs p after (model_idle pairs d (Some (Items parts)) is_model));
     }
 
--- an answer to `get-model` that is no model leaves all as it is
-no_model : (s : ChecksState) (pairs : List Pair) (o : Option Sexp) → ((m : ℕ) → models_of m (pair_of GetModel o) ≡ []) → GoesOn s pairs (pair_of GetModel o) s
-no_model s pairs o none = stays s pairs (pair_of GetModel o) refl refl none (quiet_is_idle pairs (pair_of GetModel o) model_is_quiet)
+-- an answer that is no model leaves all as it is
+no_model : (s : ChecksState) (pairs : List Pair) (d : Command) (o : Option Sexp) → kind_of d ≡ kinds.Model
+    → ((m : ℕ) → cond (is_effective_with o) (printed_in m o) [] ≡ []) → GoesOn s pairs (pair_of d o) s
+no_model s pairs d o is none =
+    stays s pairs (pair_of d o) (model_open d o is) (ap asks_check is)
+    (λ m. ap (λ (k : Kind). cond (is_effective_with o) (cond (asks_model k) (printed_in m o) []) []) is
+    ∙ none m) (model_idle pairs d o is)
 
-model_goes : (s : ChecksState) (pairs : List Pair) (pending : Option PendingCheck) (e : Bool) (o : Option Sexp) → s.pending ≡ pending → is_effective_with o ≡ e
-    → GoesOn s pairs (pair_of GetModel o) (with_models s pending (signature_after pairs) (claims_after pairs) (length pairs + 1) e o)
-model_goes s pairs None e o is_pending is = record {
-  count = omega arith;
-  lines = λ closed after. rw is_pending refl;
+model_goes : (s : ChecksState) (pairs : List Pair) (pending : Option PendingCheck) (d : Command) (e : Bool)
+    (o : Option Sexp) → kind_of d ≡ kinds.Model → s.pending ≡ pending → is_effective_with o ≡ e
+    → GoesOn s pairs (pair_of d o)
+    (with_models s pending (signature_after pairs) (claims_after pairs) (length pairs + 1) e o)
+model_goes s pairs None d e o is_model is_pending is = record {
+  count = rw is_model (omega arith);
+  lines = λ closed after. rw (is_pending, is_model) refl;
 }
-model_goes s pairs (Some c) false o is_pending is = no_model s pairs o (λ m. no_models (is_effective_with o) (printed_by m GetModel o) is)
-model_goes s pairs (Some c) true None is_pending is = no_model s pairs None (λ m. refl)
-model_goes s pairs (Some c) true (Some (Atom kind x)) is_pending is = no_model s pairs (Some (Atom kind x)) (λ m. neither (is_effective_with (Some (Atom kind x))))
-model_goes s pairs (Some c) true (Some (Reserved w)) is_pending is = no_model s pairs (Some (Reserved w)) (λ m. neither (is_effective_with (Some (Reserved w))))
-model_goes s pairs (Some c) true (Some (Items parts)) is_pending is =
-    model_line s pairs c parts (line_of_judgement c.check c.command (length pairs + 1) (judgement_of (signature_after pairs) (claims_after pairs) parts)) is_pending is refl
+model_goes s pairs (Some c) d false o is_model is_pending is =
+    no_model s pairs d o is_model (λ m. no_models (is_effective_with o) (printed_in m o) is)
+model_goes s pairs (Some c) d true None is_model is_pending is = no_model s pairs d None is_model (λ m. refl)
+model_goes s pairs (Some c) d true (Some (Atom kind x)) is_model is_pending is =
+    no_model s pairs d (Some (Atom kind x)) is_model (λ m. neither (is_effective_with (Some (Atom kind x))))
+model_goes s pairs (Some c) d true (Some (Reserved w)) is_model is_pending is =
+    no_model s pairs d (Some (Reserved w)) is_model (λ m. neither (is_effective_with (Some (Reserved w))))
+model_goes s pairs (Some c) d true (Some (Items parts)) is_model is_pending is =
+    model_line s pairs c d parts
+    (line_of_judgement c.check c.command (length pairs + 1)
+    (judgement_of (signature_after pairs) (claims_after pairs) parts)) is_pending is_model is refl
 
 -- ## Every command
 
 -- what is in force behind a model is what was in force before it
-model_after : (s : ChecksState) (pairs : List Pair) (o : Option Sexp)
-    → with_models s s.pending (signature_after (pairs ++ pair_of GetModel o ∷ [])) (claims_after (pairs ++ pair_of GetModel o ∷ [])) (length pairs + 1) (is_effective_with o) o
-    ≡ with_models s s.pending (signature_after pairs) (claims_after pairs) (length pairs + 1) (is_effective_with o) o
-model_after s pairs o =
-    let new = pairs ++ pair_of GetModel o ∷ [] in
-    let idle = quiet_is_idle pairs (pair_of GetModel o) model_is_quiet in
-    ap (λ (es : Signature). with_models s s.pending es (claims_after new) (length pairs + 1) (is_effective_with o) o) idle.signature
-    ∙ ap (λ (es : List Claimed). with_models s s.pending (signature_after pairs) es (length pairs + 1) (is_effective_with o) o) (ap claims_of idle.assertions)
+model_after : (s : ChecksState) (pairs : List Pair) (d : Command) (o : Option Sexp)
+    → kind_of d ≡ kinds.Model
+    → with_models s s.pending (signature_after (pairs ++ pair_of d o ∷ []))
+    (claims_after (pairs ++ pair_of d o ∷ [])) (length pairs + 1) (is_effective_with o) o
+    ≡ with_models s s.pending (signature_after pairs) (claims_after pairs) (length pairs + 1)
+    (is_effective_with o) o
+model_after s pairs d o is =
+    let new = pairs ++ pair_of d o ∷ [] in
+    let idle = model_idle pairs d o is in
+    ap (λ (es : Signature). with_models s s.pending es (claims_after new) (length pairs + 1)
+    (is_effective_with o) o) idle.signature
+    ∙ ap (λ (es : List Claimed). with_models s s.pending (signature_after pairs) es (length pairs + 1)
+    (is_effective_with o) o) (ap claims_of idle.assertions)
 
 -- a command that never ends a window, prints no model and brings nothing
-passes : (s : ChecksState) (pairs : List Pair) (c : Command) (o : Option Sexp) → closes (pair_of c o) ≡ false → is_check c ≡ false → ((m : ℕ) → printed_by m c o ≡ []) → IsQuiet c → GoesOn s pairs (pair_of c o) s
-passes s pairs c o open' other none quiet =
-    stays s pairs (pair_of c o) open' other (λ m. ap (λ (ms : List Printed). cond (is_effective_with o) ms []) (none m) ∙ neither (is_effective_with o)) (quiet_is_idle pairs (pair_of c o) quiet)
+passes : (s : ChecksState) (pairs : List Pair) (c : Command) (o : Option Sexp) → is_check c ≡ false
+    → closes_window c ≡ false → asks_model (kind_of c) ≡ false → GoesOn s pairs (pair_of c o) s
+passes s pairs c o other open' no_model' =
+    stays s pairs (pair_of c o) (rw (other, open') refl) other
+    (λ m. ap (λ (b : Bool). cond (is_effective_with o) (cond b (printed_in m o) []) []) no_model'
+    ∙ neither (is_effective_with o)) (quiet_is_idle pairs (pair_of c o) (quiet c open'))
+
+-- a command of a kind that ends a window where it took effect
+changes : (s : ChecksState) (pairs : List Pair) (c : Command) (o : Option Sexp) → is_check c ≡ false
+    → closes_window c ≡ true
+    → GoesOn s pairs (pair_of c o) (cond (is_effective_with o) (with_window_ended s) s)
+changes s pairs c o other ends =
+    closes_if s pairs (pair_of c o) (is_effective_with o) refl (rw (other, ends) refl) other
 
 some_same : {a b : Sexp} → ◌≡◌ {A = Option Sexp} (Some a) (Some b) → a ≡ b
 some_same h = cc
 
-pub goes_on : (s : ChecksState) (pairs : List Pair) (c : Command) (o : Option Sexp) → IsAnswered (role_of c) o → s.count ≡ checks_in pairs
-    → GoesOn s pairs (pair_of c o) (checks_after (is_effective_with o) s (signature_after (pairs ++ pair_of c o ∷ [])) (claims_after (pairs ++ pair_of c o ∷ [])) (length pairs + 1) (role_of c) o)
-goes_on s pairs (SetLogic name) o h count = closes_if s pairs (pair_of (SetLogic name) o) (is_effective_with o) refl refl refl
-goes_on s pairs (SetPrintSuccess on) o h count = passes s pairs (SetPrintSuccess on) o refl refl (λ m. refl) (print_success_is_quiet on)
-goes_on s pairs (SetGlobalDeclarations on) o h count = passes s pairs (SetGlobalDeclarations on) o refl refl (λ m. refl) (global_is_quiet on)
-goes_on s pairs (SetOption keyword value) o h count = passes s pairs (SetOption keyword value) o refl refl (λ m. refl) (option_is_quiet keyword value)
-goes_on s pairs (SetInfo keyword value) o h count = passes s pairs (SetInfo keyword value) o refl refl (λ m. refl) (info_is_quiet keyword value)
-goes_on s pairs (DeclareConst x sort) o h count = closes_if s pairs (pair_of (DeclareConst x sort) o) (is_effective_with o) refl refl refl
-goes_on s pairs (DeclareFun x parameters sort) o h count = closes_if s pairs (pair_of (DeclareFun x parameters sort) o) (is_effective_with o) refl refl refl
-goes_on s pairs (DefineFun x parameters sort body) o h count = closes_if s pairs (pair_of (DefineFun x parameters sort body) o) (is_effective_with o) refl refl refl
-goes_on s pairs (DefineSort x sort) o h count = closes_if s pairs (pair_of (DefineSort x sort) o) (is_effective_with o) refl refl refl
-goes_on s pairs (Assert term) o h count = closes_if s pairs (pair_of (Assert term) o) (is_effective_with o) refl refl refl
-goes_on s pairs (Push levels) o h count = closes_if s pairs (pair_of (Push levels) o) (is_effective_with o) refl refl refl
-goes_on s pairs (Pop levels) o h count = closes_if s pairs (pair_of (Pop levels) o) (is_effective_with o) refl refl refl
-goes_on s pairs Reset o h count = closes_if s pairs (pair_of Reset o) (is_effective_with o) refl refl refl
-goes_on s pairs ResetAssertions o h count = closes_if s pairs (pair_of ResetAssertions o) (is_effective_with o) refl refl refl
-goes_on s pairs Exit o h count = passes s pairs Exit o refl refl (λ m. refl) exit_is_quiet
-goes_on s pairs (Echo text) o h count = passes s pairs (Echo text) o refl refl (λ m. refl) (echo_is_quiet text)
-goes_on s pairs (Get query) o h count = passes s pairs (Get query) o refl refl (λ m. refl) (query_is_quiet query)
-goes_on s pairs CheckSat None h count = absurd (cc)
-goes_on s pairs CheckSat (Some a) h count =
-    check_by s pairs a (unchecked_answer a) refl (ap (has_form Check) (some_same h.1) ∙ h.2) count
-goes_on s pairs GetModel o h count = rw (model_after s pairs o) (model_goes s pairs s.pending (is_effective_with o) o refl refl)
+pub goes_on : (s : ChecksState) (pairs : List Pair) (c : Command) (o : Option Sexp) → IsAnswered (role_of c) o
+    → s.count ≡ checks_in pairs
+    → GoesOn s pairs (pair_of c o)
+    (checks_after (is_effective_with o) s (signature_after (pairs ++ pair_of c o ∷ []))
+    (claims_after (pairs ++ pair_of c o ∷ [])) (length pairs + 1) (role_of c) o)
+goes_on s pairs c o h count = by (kind_of c) o refl refl h
+  where
+    pass : (k : Kind) → kind_of c ≡ k → asks_check k ≡ false → changes_force k ≡ false
+        → asks_model k ≡ false → GoesOn s pairs (pair_of c o) s
+    pass k is other open' no_model' =
+        passes s pairs c o (ap asks_check is ∙ other) (ap changes_force is ∙ open')
+        (ap asks_model is ∙ no_model')
+
+    by : (k : Kind) (given : Option Sexp) → kind_of c ≡ k → o ≡ given → IsAnswered (role_of_kind k) given
+        → GoesOn s pairs (pair_of c o)
+        (checks_after (is_effective_with o) s (signature_after (pairs ++ pair_of c o ∷ []))
+        (claims_after (pairs ++ pair_of c o ∷ [])) (length pairs + 1) (role_of_kind k) given)
+    by kinds.Check None is has answered = absurd (cc)
+    by kinds.Check (Some a) is has answered =
+        subst (λ (g : Option Sexp). GoesOn s pairs (pair_of c g)
+        (with_check s (length pairs + 1) a)) (sym has)
+        (check_by s pairs c a (unchecked_answer a) is refl
+        (ap (has_form Check) (some_same answered.1) ∙ answered.2) count)
+    by kinds.Model given is has answered = rw (sym has, model_after s pairs c o is)
+        (model_goes s pairs s.pending c (is_effective_with o) o is refl refl)
+    by kinds.Logic given is has answered = changes s pairs c o (ap asks_check is) (ap changes_force is)
+    by kinds.Change given is has answered = changes s pairs c o (ap asks_check is) (ap changes_force is)
+    by kinds.Reset given is has answered = changes s pairs c o (ap asks_check is) (ap changes_force is)
+    by (kinds.PrintSuccess on) given is has answered = pass (kinds.PrintSuccess on) is refl refl refl
+    by kinds.Setting given is has answered = pass kinds.Setting is refl refl refl
+    by kinds.Exit given is has answered = pass kinds.Exit is refl refl refl
+    by kinds.Echo given is has answered = pass kinds.Echo is refl refl refl
+    by kinds.Query given is has answered = pass kinds.Query is refl refl refl
 
 -- ## The end
 
@@ -261,6 +413,8 @@ or_false true = refl
 or_false false = refl
 
 -- at the end the window that has not ended does
-pub pending-end : (o : Option PendingCheck) (names : Signature) (claims : List Claimed) (m : ℕ) → pending_lines true o names claims m [] ≡ closing_lines o
+pub pending-end : (o : Option PendingCheck) (names : Signature) (claims : List Claimed) (m : ℕ)
+    → pending_lines true o names claims m [] ≡ closing_lines o
 pending-end None names claims m = refl
-pending-end (Some c) names claims m = ap (λ (b : Bool). confirmed_line c.check c.command b ∷ []) (or_false c.some_model)
+pending-end (Some c) names claims m =
+    ap (λ (b : Bool). confirmed_line c.check c.command b ∷ []) (or_false c.some_model)

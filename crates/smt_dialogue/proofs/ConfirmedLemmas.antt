@@ -1,5 +1,7 @@
 -- What the lines of a report say of each check: the bridge from known values to the standard's.
-use Rattle.std.proofs.Common.{◌≡◌, ◌+◌, ℕ, Bool, true, false, not, ◌||◌, List, [], ◌∷◌, ◌++◌, length, Option, Some, None, Result, Ok, Err, cond, codes, refl, ap, sym, ◌∙◌, subst, arith, append_assoc}
+use Rattle.std.proofs.Common.{◌≡◌, ◌+◌, ℕ, Bool, true, false, not, ◌||◌, List, [], ◌∷◌, ◌++◌, length, Option}
+use Rattle.std.proofs.Common.{Some, None, Result, Ok, Err, cond, codes, refl, ap, sym, ◌∙◌, subst, arith}
+use Rattle.std.proofs.Common.{append_assoc}
 use Rattle.std.proofs.lemmas.List.{append-nil}
 use Rattle.std.specs.List.{AllByRecursion, list_any}
 use Rattle.smt_trees.specs.Sexp as sexp
@@ -10,14 +12,16 @@ use Rattle.smt_dialogue.proofs.PairLemmas.{is_word, lines_in-append}
 use Rattle.smt_dialogue.proofs.AssertedLemmas.{AssertionsAreFound, AssertionsStand, asserted_stands}
 use Rattle.smt_script.specs.Command.{Assert}
 use Rattle.smt_dialogue.specs.Validity.{IsAsserted, IsClaimed, IsConfirmed, IsSatCheck, IsTrueModel}
-use Rattle.smt_dialogue.specs.InForce.{AreFaultless, assertions_after, fault_of_pair, signature_after}
+use Rattle.smt_dialogue.specs.InForce.{AreFaultless, flaw_of_pair, signature_after}
 use Rattle.smt_dialogue.specs.Pairs.{Pair, checks_in, effective_commands, is_effective}
-use Rattle.smt_script.specs.Stack.{Assertion, fault_of}
-use Rattle.smt_dialogue.specs.Lines.{claims_after, is_empty, line_of_judgement, lines_in, lines_of_answer, lines_of_pair, lines_of_sat, sat_lines, unconfirmed_line}
+use Rattle.smt_script.specs.Stack.{Assertion, flaw_of}
+use Rattle.smt_dialogue.specs.Lines.{claims_after, is_empty, line_of_judgement, lines_in, lines_of_answer}
+use Rattle.smt_dialogue.specs.Lines.{lines_of_pair, lines_of_sat, sat_lines, unconfirmed_line}
 use Rattle.smt_report.specs.Verdict.{is_refuted_line, is_undecided_line}
 use Rattle.std.specs.Option.{option_or}
 use Rattle.smt_dialogue.specs.Window.{Printed, models_from, structure_at, window}
-use Rattle.smt_dialogue.specs.Judgement.{Claimed, claims_of, first_claim, is_false_over, is_open_over, judged_in, judgement_of, refuted_or}
+use Rattle.smt_dialogue.specs.Judgement.{Claimed, claims_of, first_claim, is_false_over, is_open_over}
+use Rattle.smt_dialogue.specs.Judgement.{judged_in, judgement_of, refuted_or}
 use Rattle.smt_values.specs.Element.{Agrees, Element, Truth, Integer, Vector}
 use Rattle.smt_values.specs.Operations.{DivisionByZero}
 use Rattle.smt_values.specs.KnownOperations.{is_known}
@@ -33,13 +37,13 @@ use Rattle.smt_forms.specs.Labels.{labels_in}
 use Rattle.smt_terms.specs.Signature.{Entry, Signature, in_assertion, names_of}
 use Rattle.smt_dialogue.specs.declared.judgement.Judgement.{Judgement}
 use Rattle.smt_dialogue.specs.declared.judgement.Judgement.TheVariants as judgements
-use Rattle.smt_eval.specs.declared.interpretation.ModelFault.{ModelFault}
-use Rattle.smt_eval.specs.declared.interpretation.ModelFault.TheVariants as faults
+use Rattle.smt_eval.specs.declared.model_fault.ModelFlaw.{ModelFlaw}
+use Rattle.smt_eval.specs.declared.model_fault.ModelFlaw.TheVariants as faults
 use Rattle.smt_report.specs.declared.claim.Claim.{Claim}
 use Rattle.smt_report.specs.declared.claim.Claim.TheVariants as claims
 use Rattle.smt_report.specs.declared.line.Line.{Line}
-use Rattle.smt_faults.specs.declared.term_fault.TermFault.{TermFault}
-use Rattle.smt_faults.specs.declared.term_fault.TermFault.TheVariants.{IllSorted}
+use Rattle.smt_faults.specs.declared.term_flaw.TermFlaw.{TermFlaw}
+use Rattle.smt_faults.specs.declared.term_flaw.TermFlaw.TheVariants.{IllSorted}
 use Rattle.smt_theory.specs.Sort.{is_same_sort}
 use Rattle.smt_theory.specs.Words.{result_and_then}
 use Rattle.smt_theory.specs.declared.sort.Sort.{Sort}
@@ -48,37 +52,52 @@ use Rattle.smt_theory.specs.declared.sort.Sort.TheVariants.{Bool as BooleanSort,
 -- ## What stands behind what
 
 -- a pair among faultless ones has no fault
-pub faultless_at : (before xs : List Pair) (p : Pair) (ys : List Pair) → AreFaultless before (xs ++ p ∷ ys) → fault_of_pair (before ++ xs) p ≡ None
-faultless_at before [] p ys h = ap (λ (b : List Pair). fault_of_pair b p) (append-nil before) ∙ h.1
+pub faultless_at : (before xs : List Pair) (p : Pair) (ys : List Pair) → AreFaultless before (xs ++ p ∷ ys)
+    → flaw_of_pair (before ++ xs) p ≡ None
+faultless_at before [] p ys h = ap (λ (b : List Pair). flaw_of_pair b p) (append-nil before) ∙ h.1
 faultless_at before (x ∷ xs) p ys h =
-    ap (λ (b : List Pair). fault_of_pair b p) (sym (append_assoc before (x ∷ []) xs)) ∙ faultless_at (before ++ x ∷ []) xs p ys h.2
+    ap (λ (b : List Pair). flaw_of_pair b p) (sym (append_assoc before (x ∷ []) xs))
+    ∙ faultless_at (before ++ x ∷ []) xs p ys h.2
 
 -- what is asserted without a fault is a formula, whatever labels it brings
-formula_sort : (r : Result Sort TermFault) (labels : List Entry) → fault_of (result_and_then {B = List Entry} r (λ sort. cond (is_same_sort sort BooleanSort) (Ok labels) (Err IllSorted))) ≡ None → r ≡ Ok BooleanSort
+formula_sort : (r : Result Sort TermFlaw) (labels : List Entry)
+    → flaw_of (result_and_then {B = List Entry} r
+    (λ sort. cond (is_same_sort sort BooleanSort) (Ok labels) (Err IllSorted))) ≡ None → r ≡ Ok BooleanSort
 formula_sort (Ok BooleanSort) labels h = refl
 formula_sort (Ok IntSort) labels h = absurd (cc)
 formula_sort (Ok (Bits w)) labels h = absurd (cc)
 formula_sort (Err f) labels h = absurd (cc)
 
 -- an assertion that took effect, without a fault, is a formula
-pub asserted_formula : (earlier : List Pair) (p : Pair) (term : Sexp) → p.command ≡ Assert term → is_effective p ≡ true → fault_of_pair earlier p ≡ None → sort_in (in_assertion (names_of (signature_after earlier))) [] term ≡ Ok BooleanSort
+pub asserted_formula : (earlier : List Pair) (p : Pair) (term : Sexp) → p.command ≡ Assert term
+    → is_effective p ≡ true → flaw_of_pair earlier p ≡ None
+    → sort_in (in_assertion (names_of (signature_after earlier))) [] term ≡ Ok BooleanSort
 asserted_formula earlier p term is effective h =
     let names = names_of (signature_after earlier) in
-    formula_sort (sort_in (in_assertion names) [] term) (label_entries names (labels_in term)) (rw (effective, is) at h)
+    formula_sort (sort_in (in_assertion names) [] term) (label_entries names (labels_in term))
+    (rw (effective, is) at h)
 
 -- the lines of a pair are among those of all pairs
-pub lines_at : (before : List Pair) (p : Pair) (after : List Pair) → lines_in true [] (before ++ p ∷ after) [] ≡ lines_in true [] before ((p ∷ after) ++ []) ++ (lines_of_pair true before p after ++ lines_in true (before ++ p ∷ []) after [])
+pub lines_at : (before : List Pair) (p : Pair) (after : List Pair)
+    → lines_in true [] (before ++ p ∷ after) []
+    ≡ lines_in true [] before ((p ∷ after) ++ [])
+    ++ (lines_of_pair true before p after ++ lines_in true (before ++ p ∷ []) after [])
 lines_at before p after =
     lines_in-append true [] before (p ∷ after) []
-    ∙ ap (λ (a : List Pair). lines_in true [] before ((p ∷ after) ++ []) ++ (lines_of_pair true before p a ++ lines_in true (before ++ p ∷ []) after [])) (append-nil after)
+    ∙ ap (λ (a : List Pair). lines_in true [] before ((p ∷ after) ++ [])
+    ++ (lines_of_pair true before p a ++ lines_in true (before ++ p ∷ []) after [])) (append-nil after)
 
 -- the lines of a check that was answered sat
-pub lines_of_sat_at : (before after : List Pair) (p : Pair) → IsSatCheck p → lines_of_pair true before p after ≡ lines_of_sat true (checks_in before + 1) (length before + 1) (signature_after before) (claims_after before) ((length before + 1) + 1) after
+pub lines_of_sat_at : (before after : List Pair) (p : Pair) → IsSatCheck p
+    → lines_of_pair true before p after
+    ≡ lines_of_sat true (checks_in before + 1) (length before + 1) (signature_after before)
+    (claims_after before) ((length before + 1) + 1) after
 lines_of_sat_at before after p s =
     let w = is_word (codes "sat") s.answer s.sat in
     let e : s.answer ≡ Atom sexp.Symbol (codes "sat") = w.1 ∙ ap (λ (x : List ℕ). Atom sexp.Symbol x) w.2 in
     ap (λ (b : Bool). cond b (lines_of_answer true before (checks_in before + 1) p.answer after) []) s.check
-    ∙ ap (λ (o : Option Sexp). lines_of_answer true before (checks_in before + 1) o after) (s.answered ∙ ap (λ (a : Sexp). Some a) e)
+    ∙ ap (λ (o : Option Sexp). lines_of_answer true before (checks_in before + 1) o after)
+    (s.answered ∙ ap (λ (a : Sexp). Some a) e)
 
 -- ## Judgements
 
@@ -98,26 +117,36 @@ is_false_value (Some (Vector v)) h = absurd (cc)
 
 -- the laws of models, of what is known over them, of structures, and of the assertions in force
 pub record Laws : Type 0 where
-  pub complete : (script : Signature) (parts : Sexps) (definitions : Signature) → model_in script parts ≡ Ok definitions → IsModelOf script parts definitions
-  pub known : (z : DivisionByZero) (definitions : Signature) (known : List (List ℕ × Option Element)) (r : List (List ℕ × Element)) (term : Sexp)
-      → AgreesWith known r → Agrees (known_of (known_in definitions) known term) (value_over z definitions r term)
+  pub complete : (script : Signature) (parts : Sexps) (definitions : Signature)
+      → model_in script parts ≡ Ok definitions → IsModelOf script parts definitions
+  pub known : (z : DivisionByZero) (definitions : Signature) (known : List (List ℕ × Option Element))
+      (r : List (List ℕ × Element)) (term : Sexp)
+      → AgreesWith known r → Agrees (known_of (known_in definitions) known term)
+      (value_over z definitions r term)
   pub introduced : NamesAreIntroduced
   pub structures : ModelsGiveStructures
   pub stand : AssertionsStand
   pub found : AssertionsAreFound
 
 -- what is known of a closed term is its value
-pub closed_value : Laws → (z : DivisionByZero) (definitions : Signature) (term : Sexp) (e : Element) → known_over definitions term ≡ Some e → value_over z definitions [] term ≡ e
-closed_value laws z definitions term e h = subst (λ (o : Option Element). Agrees o (value_over z definitions [] term)) h (laws.known z definitions [] [] term (λ x. tt))
+pub closed_value : Laws → (z : DivisionByZero) (definitions : Signature) (term : Sexp) (e : Element)
+    → known_over definitions term ≡ Some e → value_over z definitions [] term ≡ e
+closed_value laws z definitions term e h =
+    subst (λ (o : Option Element). Agrees o (value_over z definitions [] term)) h
+    (laws.known z definitions [] [] term (λ x. tt))
 
 chosen_none : (b : Bool) (n : Claim) (r : Option Claim) → cond b (Some n) r ≡ None → (b ≡ false) × (r ≡ None)
 chosen_none true n r h = absurd (cc)
 chosen_none false n r h = (refl, h)
 
 -- where no assertion passes a test, one among them doesn't
-first_none : (test : Sexp → Bool) (xs : List Assertion) (a : Assertion) (ys : List Assertion) → first_claim test (claims_of (xs ++ a ∷ ys)) ≡ None → test a.term ≡ false
-first_none test [] a ys h = (chosen_none (test a.term) (claims.Assertion a.command) (first_claim test (claims_of ys)) h).0
-first_none test (x ∷ xs) a ys h = first_none test xs a ys (chosen_none (test x.term) (claims.Assertion x.command) (first_claim test (claims_of (xs ++ a ∷ ys))) h).1
+first_none : (test : Sexp → Bool) (xs : List Assertion) (a : Assertion) (ys : List Assertion)
+    → first_claim test (claims_of (xs ++ a ∷ ys)) ≡ None → test a.term ≡ false
+first_none test [] a ys h =
+    (chosen_none (test a.term) (claims.Assertion a.command) (first_claim test (claims_of ys)) h).0
+first_none test (x ∷ xs) a ys h =
+    first_none test xs a ys (chosen_none (test x.term) (claims.Assertion x.command)
+    (first_claim test (claims_of (xs ++ a ∷ ys))) h).1
 
 refuted_none : (f o : Option Claim) → refuted_or f o ≡ judgements.Confirmed → (f ≡ None) × (o ≡ None)
 refuted_none (Some n) o h = absurd (cc)
@@ -125,42 +154,58 @@ refuted_none None (Some n) h = absurd (cc)
 refuted_none None None h = (refl, refl)
 
 -- a model that is confirmed has definitions over which no assertion is false or open
-confirmed_over : (script : Signature) (as' : List Claimed) (r : Result Signature ModelFault) → judged_in script as' r ≡ judgements.Confirmed
-    → (d : Signature) × (r ≡ Ok d) × (first_claim (is_false_over (structure_of script d)) as' ≡ None) × (first_claim (is_open_over (structure_of script d)) as' ≡ None)
+confirmed_over : (script : Signature) (as' : List Claimed) (r : Result Signature ModelFlaw)
+    → judged_in script as' r ≡ judgements.Confirmed
+    → (d : Signature) × (r ≡ Ok d) × (first_claim (is_false_over (structure_of script d)) as' ≡ None)
+    × (first_claim (is_open_over (structure_of script d)) as' ≡ None)
 confirmed_over script as' (Ok d) h =
     let s = structure_of script d in
     let none = refuted_none (first_claim (is_false_over s) as') (first_claim (is_open_over s) as') h in
     (d, refl, none.0, none.1)
 confirmed_over script as' (Err (faults.Item n f)) h = absurd (cc)
 confirmed_over script as' (Err (faults.Lacks n)) h = absurd (cc)
-confirmed_over script as' (Err faults.Memory) h = absurd (cc)
 
 -- what is claimed is asserted
-pub asserted_by : (before : List Pair) (check : Pair) (claim : Claim) (earlier : List Pair) (term : Sexp) → IsClaimed before check claim earlier term → IsAsserted before earlier term
+pub asserted_by : (before : List Pair) (check : Pair) (claim : Claim) (earlier : List Pair) (term : Sexp)
+    → IsClaimed before check claim earlier term → IsAsserted before earlier term
 asserted_by before check (claims.Assertion command) earlier term h = h.0
 
 -- ## Models that are confirmed are true
 
 -- a model that is confirmed under what is in force is a true one
-pub true_model : Laws → (pairs before after : List Pair) (p : Pair) (parts : Sexps) → pairs ≡ before ++ p ∷ after → AreFaultless [] pairs → judgement_of (signature_after before) (claims_after before) parts ≡ judgements.Confirmed → IsTrueModel before p parts
+pub true_model : Laws → (pairs before after : List Pair) (p : Pair) (parts : Sexps)
+    → pairs ≡ before ++ p ∷ after → AreFaultless [] pairs
+    → judgement_of (signature_after before) (claims_after before) parts ≡ judgements.Confirmed
+    → IsTrueModel before p parts
 true_model laws pairs before after p parts place faultless h =
-    let confirmed = confirmed_over (signature_after before) (claims_after before) (model_in (signature_after before) parts) h in
+    let confirmed = confirmed_over (signature_after before) (claims_after before)
+    (model_in (signature_after before) parts) h in
     record {
       definitions = confirmed.0;
       model = laws.complete (signature_after before) parts confirmed.0 confirmed.1;
-      structure = structure_behind laws.introduced laws.structures before (p ∷ after) parts confirmed.0 (subst (AreFaultless []) place faultless) confirmed.1;
+      structure = structure_behind laws.introduced laws.structures before (p ∷ after) parts confirmed.0
+          (subst (AreFaultless []) place faultless) confirmed.1;
       sorted = λ claim earlier term claimed.
           let asserted = asserted_by before p claim earlier term claimed in
           let q = asserted.pair in
-          let far : pairs ≡ earlier ++ q ∷ (asserted.between ++ p ∷ after) = place ∙ ap (λ (b : List Pair). b ++ p ∷ after) asserted.place ∙ append_assoc earlier (q ∷ asserted.between) (p ∷ after) in
-          asserted_formula earlier q term asserted.command asserted.effective (faultless_at [] earlier q (asserted.between ++ p ∷ after) (subst (AreFaultless []) far faultless));
+          let far : pairs ≡ earlier ++ q ∷ (asserted.between ++ p ∷ after) =
+          place ∙ ap (λ (b : List Pair). b ++ p ∷ after) asserted.place
+          ∙ append_assoc earlier (q ∷ asserted.between) (p ∷ after) in
+          asserted_formula earlier q term asserted.command asserted.effective
+          (faultless_at [] earlier q (asserted.between ++ p ∷ after)
+          (subst (AreFaultless []) far faultless));
       true_in = λ z claim earlier term claimed.
           let asserted = asserted_by before p claim earlier term claimed in
           let here : Assertion = record { command = length earlier + 1; term = term } in
-          let among = laws.stand (effective_commands before) (effective_commands earlier) (record { number = length earlier + 1; command = Assert term }) term (asserted_stands before earlier term asserted) refl in
+          let among = laws.stand (effective_commands before) (effective_commands earlier)
+          (record { number = length earlier + 1; command = Assert term }) term
+          (asserted_stands before earlier term asserted) refl in
           let structure = structure_at confirmed.0 before in
-          let not_open = first_none (is_open_over structure) among.0 here among.1 (ap (λ (xs : List Assertion). first_claim (is_open_over structure) (claims_of xs)) (sym among.2) ∙ confirmed.3) in
-          closed_value laws z structure term (Truth true) (is_true_value (known_over structure term) not_open);
+          let not_open = first_none (is_open_over structure) among.0 here among.1
+          (ap (λ (xs : List Assertion). first_claim (is_open_over structure) (claims_of xs)) (sym among.2)
+          ∙ confirmed.3) in
+          closed_value laws z structure term (Truth true)
+          (is_true_value (known_over structure term) not_open);
     }
 
 -- ## The line of a check
@@ -177,13 +222,19 @@ judged_confirmed k n g (judgements.NotDecided a) h = absurd (cc)
 judged_confirmed k n g judgements.Confirmed h = refl
 
 -- where no model has a line, each is confirmed
-all_confirmed : (k n : ℕ) (names : Signature) (as' : List Claimed) (ms : List Printed) → unconfirmed_line k n names as' ms ≡ None → AllByRecursion (λ (m : Printed). judgement_of names as' m.parts ≡ judgements.Confirmed) ms
+all_confirmed : (k n : ℕ) (names : Signature) (as' : List Claimed) (ms : List Printed)
+    → unconfirmed_line k n names as' ms ≡ None
+    → AllByRecursion (λ (m : Printed). judgement_of names as' m.parts ≡ judgements.Confirmed) ms
 all_confirmed k n names as' [] h = tt
 all_confirmed k n names as' (m ∷ ms) h =
-    let none = or_none (line_of_judgement k n m.command (judgement_of names as' m.parts)) (unconfirmed_line k n names as' ms) h in
-    (judged_confirmed k n m.command (judgement_of names as' m.parts) none.0, all_confirmed k n names as' ms none.1)
+    let none = or_none (line_of_judgement k n m.command (judgement_of names as' m.parts))
+    (unconfirmed_line k n names as' ms) h in (
+      judged_confirmed k n m.command (judgement_of names as' m.parts) none.0,
+      all_confirmed k n names as' ms none.1,
+    )
 
-all_weaker : {A : Type 0} (P Q : A → Type 0) (xs : List A) → ((x : A) → P x → Q x) → AllByRecursion P xs → AllByRecursion Q xs
+all_weaker : {A : Type 0} (P Q : A → Type 0) (xs : List A) → ((x : A) → P x → Q x) → AllByRecursion P xs
+    → AllByRecursion Q xs
 all_weaker P Q [] f h = tt
 all_weaker P Q (x ∷ xs) f h = (f x h.0, all_weaker P Q xs f h.1)
 
@@ -191,21 +242,31 @@ some_same : {a b : Line} → ◌≡◌ {A = Option Line} (Some a) (Some b) → a
 some_same h = cc
 
 -- a line of a judgement is that of a refuted or an undecided model
-shown : (k n g : ℕ) (j : Judgement) (line : Line) → line_of_judgement k n g j ≡ Some line → is_refuted_line line || is_undecided_line line ≡ true
-shown k n g (judgements.ItemFault i f) line h = ap (λ (l : Line). is_refuted_line l || is_undecided_line l) (sym (some_same h))
-shown k n g (judgements.Lacks d) line h = ap (λ (l : Line). is_refuted_line l || is_undecided_line l) (sym (some_same h))
-shown k n g (judgements.Refuted a) line h = ap (λ (l : Line). is_refuted_line l || is_undecided_line l) (sym (some_same h))
-shown k n g (judgements.NotDecided a) line h = ap (λ (l : Line). is_refuted_line l || is_undecided_line l) (sym (some_same h))
+shown : (k n g : ℕ) (j : Judgement) (line : Line) → line_of_judgement k n g j ≡ Some line
+    → is_refuted_line line || is_undecided_line line ≡ true
+shown k n g (judgements.ItemFault i f) line h =
+    ap (λ (l : Line). is_refuted_line l || is_undecided_line l) (sym (some_same h))
+shown k n g (judgements.Lacks d) line h =
+    ap (λ (l : Line). is_refuted_line l || is_undecided_line l) (sym (some_same h))
+shown k n g (judgements.Refuted a) line h =
+    ap (λ (l : Line). is_refuted_line l || is_undecided_line l) (sym (some_same h))
+shown k n g (judgements.NotDecided a) line h =
+    ap (λ (l : Line). is_refuted_line l || is_undecided_line l) (sym (some_same h))
 shown k n g judgements.Confirmed line h = absurd (cc)
 
-first_shown : (k n g : ℕ) (j : Judgement) (l r : Option Line) (line : Line) → line_of_judgement k n g j ≡ l → (r ≡ Some line → is_refuted_line line || is_undecided_line line ≡ true) → option_or l r ≡ Some line → is_refuted_line line || is_undecided_line line ≡ true
+first_shown : (k n g : ℕ) (j : Judgement) (l r : Option Line) (line : Line) → line_of_judgement k n g j ≡ l
+    → (r ≡ Some line → is_refuted_line line || is_undecided_line line ≡ true) → option_or l r ≡ Some line
+    → is_refuted_line line || is_undecided_line line ≡ true
 first_shown k n g j None r line is later h = later h
 first_shown k n g j (Some other) r line is later h = shown k n g j line (is ∙ h)
 
-unconfirmed_shown : (k n : ℕ) (names : Signature) (as' : List Claimed) (ms : List Printed) (line : Line) → unconfirmed_line k n names as' ms ≡ Some line → is_refuted_line line || is_undecided_line line ≡ true
+unconfirmed_shown : (k n : ℕ) (names : Signature) (as' : List Claimed) (ms : List Printed) (line : Line)
+    → unconfirmed_line k n names as' ms ≡ Some line → is_refuted_line line || is_undecided_line line ≡ true
 unconfirmed_shown k n names as' [] line h = absurd (cc)
 unconfirmed_shown k n names as' (m ∷ ms) line h =
-    first_shown k n m.command (judgement_of names as' m.parts) (line_of_judgement k n m.command (judgement_of names as' m.parts)) (unconfirmed_line k n names as' ms) line refl (unconfirmed_shown k n names as' ms line) h
+    first_shown k n m.command (judgement_of names as' m.parts)
+    (line_of_judgement k n m.command (judgement_of names as' m.parts))
+    (unconfirmed_line k n names as' ms) line refl (unconfirmed_shown k n names as' ms line) h
 
 both_false : {P : Type 0} (r u : Bool) → r || u ≡ true → r || false ≡ false → u || false ≡ false → P
 both_false true u h a b = absurd (cc)
@@ -213,28 +274,51 @@ both_false false true h a b = absurd (cc)
 both_false false false h a b = absurd (cc)
 
 -- a check without the line of a refuted or an undecided one has a model, and no model of it has a line
-sat_confirmed : (k n : ℕ) (names : Signature) (as' : List Claimed) (ms : List Printed) (l : Option Line) → unconfirmed_line k n names as' ms ≡ l → list_any is_refuted_line (sat_lines k n l (not (is_empty ms)) true) ≡ false → list_any is_undecided_line (sat_lines k n l (not (is_empty ms)) true) ≡ false → (first : Printed) × (others : List Printed) × (ms ≡ first ∷ others) × (unconfirmed_line k n names as' ms ≡ None)
+sat_confirmed : (k n : ℕ) (names : Signature) (as' : List Claimed) (ms : List Printed) (l : Option Line)
+    → unconfirmed_line k n names as' ms ≡ l
+    → list_any is_refuted_line (sat_lines k n l (not (is_empty ms)) true) ≡ false
+    → list_any is_undecided_line (sat_lines k n l (not (is_empty ms)) true) ≡ false
+    → (first : Printed) × (others : List Printed) × (ms ≡ first ∷ others)
+    × (unconfirmed_line k n names as' ms ≡ None)
 sat_confirmed k n names as' ms (Some line) is r u =
-    both_false (is_refuted_line line) (is_undecided_line line) (unconfirmed_shown k n names as' ms line is) r u
+    both_false (is_refuted_line line) (is_undecided_line line) (unconfirmed_shown k n names as' ms line is)
+    r u
 sat_confirmed k n names as' [] None is r u = absurd (cc)
 sat_confirmed k n names as' (m ∷ ms) None is r u = (m, ms, refl, is)
 
 -- where the lines of all pairs have neither, each check that was answered sat is confirmed
-pub confirmed_at : Laws → (pairs before after : List Pair) (p : Pair) → pairs ≡ before ++ p ∷ after → AreFaultless [] pairs → list_any is_refuted_line (lines_in true [] pairs []) ≡ false → list_any is_undecided_line (lines_in true [] pairs []) ≡ false → IsSatCheck p → IsConfirmed before p after
+pub confirmed_at : Laws → (pairs before after : List Pair) (p : Pair) → pairs ≡ before ++ p ∷ after
+    → AreFaultless [] pairs → list_any is_refuted_line (lines_in true [] pairs []) ≡ false
+    → list_any is_undecided_line (lines_in true [] pairs []) ≡ false → IsSatCheck p
+    → IsConfirmed before p after
 confirmed_at laws pairs before after p place faultless refuted undecided sat =
     let k = checks_in before + 1 in
     let n = length before + 1 in
     let names = signature_after before in
     let claimed = claims_after before in
     let ms = models_from (n + 1) (window after) in
-    let parts : lines_in true [] pairs [] ≡ lines_in true [] before ((p ∷ after) ++ []) ++ (lines_of_pair true before p after ++ lines_in true (before ++ p ∷ []) after []) = ap (λ (ps : List Pair). lines_in true [] ps []) place ∙ lines_at before p after in
-    let here : (test : Line → Bool) → list_any test (lines_in true [] pairs []) ≡ false → list_any test (lines_of_sat true k n names claimed (n + 1) after) ≡ false =
-    λ test h. ap (list_any test) (sym (lines_of_sat_at before after p sat)) ∙ (none_of test (lines_of_pair true before p after) (lines_in true (before ++ p ∷ []) after []) (none_of test (lines_in true [] before ((p ∷ after) ++ [])) (lines_of_pair true before p after ++ lines_in true (before ++ p ∷ []) after []) (ap (list_any test) (sym parts) ∙ h)).1).0 in
-    let found = sat_confirmed k n names claimed ms (unconfirmed_line k n names claimed ms) refl (here is_refuted_line refuted) (here is_undecided_line undecided) in
-    let all : AllByRecursion (λ (m : Printed). judgement_of names claimed m.parts ≡ judgements.Confirmed) (found.0 ∷ found.1) = subst (AllByRecursion (λ (m : Printed). judgement_of names claimed m.parts ≡ judgements.Confirmed)) found.2 (all_confirmed k n names claimed ms found.3) in
+    let parts : lines_in true [] pairs []
+    ≡ lines_in true [] before ((p ∷ after) ++ [])
+    ++ (lines_of_pair true before p after ++ lines_in true (before ++ p ∷ []) after []) =
+    ap (λ (ps : List Pair). lines_in true [] ps []) place ∙ lines_at before p after in
+    let here : (test : Line → Bool) → list_any test (lines_in true [] pairs []) ≡ false
+    → list_any test (lines_of_sat true k n names claimed (n + 1) after) ≡ false =
+    λ test h. ap (list_any test) (sym (lines_of_sat_at before after p sat))
+    ∙ (none_of test (lines_of_pair true before p after) (lines_in true (before ++ p ∷ []) after [])
+    (none_of test (lines_in true [] before ((p ∷ after) ++ []))
+    (lines_of_pair true before p after ++ lines_in true (before ++ p ∷ []) after [])
+    (ap (list_any test) (sym parts) ∙ h)).1).0 in
+    let found = sat_confirmed k n names claimed ms (unconfirmed_line k n names claimed ms) refl
+    (here is_refuted_line refuted) (here is_undecided_line undecided) in
+    let all : AllByRecursion (λ (m : Printed). judgement_of names claimed m.parts ≡ judgements.Confirmed)
+    (found.0 ∷ found.1) = subst
+    (AllByRecursion (λ (m : Printed). judgement_of names claimed m.parts ≡ judgements.Confirmed)) found.2
+    (all_confirmed k n names claimed ms found.3) in
     record {
       first = found.0;
       others = found.1;
       models = ap (λ (i : ℕ). models_from i (window after)) (omega arith) ∙ found.2;
-      true_models = all_weaker (λ (m : Printed). judgement_of names claimed m.parts ≡ judgements.Confirmed) (λ (m : Printed). IsTrueModel before p m.parts) (found.0 ∷ found.1) (λ m h. true_model laws pairs before after p m.parts place faultless h) all;
+      true_models = all_weaker (λ (m : Printed). judgement_of names claimed m.parts ≡ judgements.Confirmed)
+          (λ (m : Printed). IsTrueModel before p m.parts) (found.0 ∷ found.1)
+          (λ m h. true_model laws pairs before after p m.parts place faultless h) all;
     }

@@ -1,5 +1,6 @@
 -- What is in force behind a command that brings nothing.
-use Rattle.std.proofs.Common.{◌≡◌, ◌≤◌, ℕ, Bool, true, false, cond, not, ◌&&◌, List, [], ◌∷◌, ◌++◌, Option, refl, ap, sym, ◌∙◌, subst, arith, append_assoc}
+use Rattle.std.proofs.Common.{◌≡◌, ◌≤◌, ℕ, Bool, true, false, cond, not, ◌&&◌, List, [], ◌∷◌, ◌++◌}
+use Rattle.std.proofs.Common.{refl, ap, sym, ◌∙◌, subst, arith, append_assoc}
 use Rattle.std.specs.Prelude.{nat_le}
 use Rattle.std.specs.List.{flat_map, list_all}
 use Rattle.std.proofs.lemmas.List.{append-nil}
@@ -8,9 +9,14 @@ use Rattle.std.proofs.lemmas.List.Sums.{fold-append}
 use Rattle.smt_theory.specs.declared.sort.Sort.{Sort}
 use Rattle.smt_theory.specs.declared.theories.Theories.{Theories}
 use Rattle.smt_terms.specs.Signature.{Entry, Signature}
-use Rattle.smt_trees.specs.Sexp.{Sexp}
-use Rattle.smt_script.specs.Command.{Command, Query, SetPrintSuccess, SetGlobalDeclarations, SetOption, SetInfo, Exit, CheckSat, GetModel, Echo, Get}
-use Rattle.smt_script.specs.Stack.{Brought, Numbered, abbreviations_by, abbreviations_of, all_theories, assertions_by, assertions_in_force, assertions_of, brought_by, brought_from, depth_after, depth_in_force, entries_by, entries_of, history, in_force, names_stand, assertions_stand, resets, is_reset, signature_in_force, signature_of, stands_after, theories_after, theories_in_force}
+use Rattle.smt_script.specs.Command.{Command, Effect, Nothing, Removing, closes_window, effect_of}
+use Rattle.smt_script.specs.Stack.{Brought, Numbered, abbreviations_by, abbreviations_of, all_theories}
+use Rattle.smt_script.specs.Stack.{abbreviations_of_effect, assertions_by, assertions_in_force, assertions_of}
+use Rattle.smt_script.specs.Stack.{assertions_of_effect, brought_by, brought_from}
+use Rattle.smt_script.specs.Stack.{depth_after, depth_by, depth_in_force, entries_by, entries_of}
+use Rattle.smt_script.specs.Stack.{entries_of_effect, history, in_force, is_reset, names_stand}
+use Rattle.smt_script.specs.Stack.{removed_of_effect, resets, signature_in_force, signature_of, stands_after}
+use Rattle.smt_script.specs.Stack.{theories_after, theories_by, theories_in_force}
 
 -- a command that changes no level and no theories, and brings nothing
 pub record IsQuiet (c : Command) : Type 0 where
@@ -21,43 +27,32 @@ pub record IsQuiet (c : Command) : Type 0 where
   pub abbreviations : (s : Signature) → abbreviations_by s c ≡ []
   pub assertions : (n : ℕ) → assertions_by n c ≡ []
 
--- so is each that computes to that
-quiet : {c : Command} → ((d : ℕ) → depth_after d c ≡ d) → is_reset c ≡ false → ((t : Theories) → theories_after t c ≡ t) → ((s : Signature) (n : ℕ) → entries_by s n c ≡ []) → ((s : Signature) → abbreviations_by s c ≡ []) → ((n : ℕ) → assertions_by n c ≡ []) → IsQuiet c
-quiet level resets theories entries abbreviations assertions = record { level = level; resets = resets; theories = theories; entries = entries; abbreviations = abbreviations; assertions = assertions }
+-- a command that changes nothing that is in force is one of this effect
+removes_nothing : (c : Command) → closes_window c ≡ false → effect_of c ≡ Removing Nothing
+removes_nothing c h = grind (arith)
 
-pub check_is_quiet : IsQuiet CheckSat
-check_is_quiet = quiet (λ d. refl) refl (λ t. refl) (λ s n. refl) (λ s. refl) (λ n. refl)
+-- and each of this effect is quiet
+quiet_by : (c : Command) → effect_of c ≡ Removing Nothing → IsQuiet c
+quiet_by c is = record {
+  level = λ d. ap (depth_by d) is;
+  resets = ap (λ (e : Effect). resets (removed_of_effect e)) is;
+  theories = λ t. ap (theories_by t) is;
+  entries = λ s n. ap (entries_of_effect s n) is;
+  abbreviations = λ s. ap (abbreviations_of_effect s) is;
+  assertions = λ n. ap (assertions_of_effect n) is;
+}
 
-pub model_is_quiet : IsQuiet GetModel
-model_is_quiet = quiet (λ d. refl) refl (λ t. refl) (λ s n. refl) (λ s. refl) (λ n. refl)
-
-pub exit_is_quiet : IsQuiet Exit
-exit_is_quiet = quiet (λ d. refl) refl (λ t. refl) (λ s n. refl) (λ s. refl) (λ n. refl)
-
-pub echo_is_quiet : (text : List ℕ) → IsQuiet (Echo text)
-echo_is_quiet text = quiet (λ d. refl) refl (λ t. refl) (λ s n. refl) (λ s. refl) (λ n. refl)
-
-pub query_is_quiet : (query : Query) → IsQuiet (Get query)
-query_is_quiet query = quiet (λ d. refl) refl (λ t. refl) (λ s n. refl) (λ s. refl) (λ n. refl)
-
-pub print_success_is_quiet : (on : Bool) → IsQuiet (SetPrintSuccess on)
-print_success_is_quiet on = quiet (λ d. refl) refl (λ t. refl) (λ s n. refl) (λ s. refl) (λ n. refl)
-
-pub global_is_quiet : (on : Bool) → IsQuiet (SetGlobalDeclarations on)
-global_is_quiet on = quiet (λ d. refl) refl (λ t. refl) (λ s n. refl) (λ s. refl) (λ n. refl)
-
-pub option_is_quiet : (keyword : List ℕ) (value : Option Sexp) → IsQuiet (SetOption keyword value)
-option_is_quiet keyword value = quiet (λ d. refl) refl (λ t. refl) (λ s n. refl) (λ s. refl) (λ n. refl)
-
-pub info_is_quiet : (keyword : List ℕ) (value : Option Sexp) → IsQuiet (SetInfo keyword value)
-info_is_quiet keyword value = quiet (λ d. refl) refl (λ t. refl) (λ s n. refl) (λ s. refl) (λ n. refl)
+-- so a command is quiet that changes nothing that is in force
+pub quiet : (c : Command) → closes_window c ≡ false → IsQuiet c
+quiet c h = quiet_by c (removes_nothing c h)
 
 -- ## What stands at the end is within the last level
 
 -- all that stands was brought at a level that there still is
 abbrev pub IsWithin : ℕ → List Brought → Type 0
 IsWithin depth [] = Unit {0}
-IsWithin depth (b ∷ later) = (list_all (stands_after b.level) later ≡ true → b.level ≤ depth) × IsWithin depth later
+IsWithin depth (b ∷ later) =
+    (list_all (stands_after b.level) later ≡ true → b.level ≤ depth) × IsWithin depth later
 
 and_true : (a b : Bool) → a && b ≡ true → (a ≡ true) × (b ≡ true)
 and_true true b h = (refl, h)
@@ -69,13 +64,15 @@ le_of m n h = grind (arith)
 le_true : (m n : ℕ) → m ≤ n → nat_le m n ≡ true
 le_true m n h = grind (arith)
 
-all-append : (p : Brought → Bool) (xs : List Brought) (b : Brought) → list_all p (xs ++ b ∷ []) ≡ list_all p xs && p b
+all-append : (p : Brought → Bool) (xs : List Brought) (b : Brought)
+    → list_all p (xs ++ b ∷ []) ≡ list_all p xs && p b
 all-append p [] b = and_last (p b)
   where
     and_last : (t : Bool) → t && true ≡ t
     and_last true = refl
     and_last false = refl
-all-append p (x ∷ xs) b = ap (λ (t : Bool). p x && t) (all-append p xs b) ∙ and_assoc (p x) (list_all p xs) (p b)
+all-append p (x ∷ xs) b =
+    ap (λ (t : Bool). p x && t) (all-append p xs b) ∙ and_assoc (p x) (list_all p xs) (p b)
   where
     and_assoc : (r s t : Bool) → r && (s && t) ≡ (r && s) && t
     and_assoc true s t = refl
@@ -85,29 +82,41 @@ within_last : (xs : List Brought) (b : Brought) → IsWithin b.level (xs ++ b �
 within_last [] b = (λ h. omega arith, tt)
 within_last (x ∷ xs) b = (
   λ h.
-      let last = and_true (list_all (stands_after x.level) xs) (stands_after x.level b) (sym (all-append (stands_after x.level) xs b) ∙ h) in
+      let last = and_true (list_all (stands_after x.level) xs) (stands_after x.level b)
+      (sym (all-append (stands_after x.level) xs b) ∙ h) in
       le_of x.level b.level (and_true (not (resets b.removes)) (nat_le x.level b.level) last.1).1,
   within_last xs b,
 )
 
-depth-push : (cs : List Numbered) (c : Numbered) → depth_in_force (cs ++ c ∷ []) ≡ depth_after (depth_in_force cs) c.command
+depth-push : (cs : List Numbered) (c : Numbered)
+    → depth_in_force (cs ++ c ∷ []) ≡ depth_after (depth_in_force cs) c.command
 depth-push cs c = fold-append (λ (d : ℕ) (x : Numbered). depth_after d x.command) 0 cs (c ∷ [])
 
-within_from : (before : List Numbered) (brought : List Brought) (cs : List Numbered) → IsWithin (depth_in_force before) brought → IsWithin (depth_in_force (before ++ cs)) (brought_from before brought cs)
-within_from before brought [] h = subst (λ (b : List Numbered). IsWithin (depth_in_force b) brought) (sym (append-nil before)) h
+within_from : (before : List Numbered) (brought : List Brought) (cs : List Numbered)
+    → IsWithin (depth_in_force before) brought
+    → IsWithin (depth_in_force (before ++ cs)) (brought_from before brought cs)
+within_from before brought [] h =
+    subst (λ (b : List Numbered). IsWithin (depth_in_force b) brought) (sym (append-nil before)) h
 within_from before brought (c ∷ cs) h =
     let b = brought_by before brought c in
-    let here : IsWithin (depth_in_force (before ++ c ∷ [])) (brought ++ b ∷ []) = subst (λ (d : ℕ). IsWithin d (brought ++ b ∷ [])) (sym (depth-push before c)) (within_last brought b) in
-    subst (λ (l : List Numbered). IsWithin (depth_in_force l) (brought_from (before ++ c ∷ []) (brought ++ b ∷ []) cs)) (append_assoc before (c ∷ []) cs) (within_from (before ++ c ∷ []) (brought ++ b ∷ []) cs here)
+    let here : IsWithin (depth_in_force (before ++ c ∷ [])) (brought ++ b ∷ []) =
+    subst (λ (d : ℕ). IsWithin d (brought ++ b ∷ [])) (sym (depth-push before c)) (within_last brought b)
+    in
+    subst (λ (l : List Numbered). IsWithin (depth_in_force l)
+    (brought_from (before ++ c ∷ []) (brought ++ b ∷ []) cs)) (append_assoc before (c ∷ []) cs)
+    (within_from (before ++ c ∷ []) (brought ++ b ∷ []) cs here)
 
 -- ## One more command
 
-brought-append : (before : List Numbered) (brought : List Brought) (xs ys : List Numbered) → brought_from before brought (xs ++ ys) ≡ brought_from (before ++ xs) (brought_from before brought xs) ys
-brought-append before brought [] ys = ap (λ (b : List Numbered). brought_from b brought ys) (sym (append-nil before))
+brought-append : (before : List Numbered) (brought : List Brought) (xs ys : List Numbered)
+    → brought_from before brought (xs ++ ys) ≡ brought_from (before ++ xs) (brought_from before brought xs) ys
+brought-append before brought [] ys =
+    ap (λ (b : List Numbered). brought_from b brought ys) (sym (append-nil before))
 brought-append before brought (x ∷ xs) ys =
     let b = brought_by before brought x in
     let all = brought_from (before ++ x ∷ []) (brought ++ b ∷ []) xs in
-    brought-append (before ++ x ∷ []) (brought ++ b ∷ []) xs ys ∙ ap (λ (l : List Numbered). brought_from l all ys) (append_assoc before (x ∷ []) xs)
+    brought-append (before ++ x ∷ []) (brought ++ b ∷ []) xs ys
+    ∙ ap (λ (l : List Numbered). brought_from l all ys) (append_assoc before (x ∷ []) xs)
 
 absorbs : (t s : Bool) → (t ≡ true → s ≡ true) → t && s ≡ t
 absorbs true s f = f refl
@@ -117,41 +126,67 @@ both : (a b : Bool) → a ≡ false → b ≡ true → not a && b ≡ true
 both a b h k = rw (h, k) refl
 
 -- all that stands does so behind what resets nothing and leaves as many levels
-stands-push : (xs : List Brought) (b : Brought) → resets b.removes ≡ false → IsWithin b.level xs → (in_force names_stand) (xs ++ b ∷ []) ≡ (in_force names_stand) xs ++ b ∷ []
+stands-push : (xs : List Brought) (b : Brought) → resets b.removes ≡ false → IsWithin b.level xs
+    → (in_force names_stand) (xs ++ b ∷ []) ≡ (in_force names_stand) xs ++ b ∷ []
 stands-push [] b keeps within = refl
 stands-push (x ∷ xs) b keeps within =
     let all = list_all (stands_after x.level) xs in
     let same : list_all (stands_after x.level) (xs ++ b ∷ []) ≡ all =
-    all-append (stands_after x.level) xs b ∙ absorbs all (stands_after x.level b) (λ h. both (resets b.removes) (nat_le x.level b.level) keeps (le_true x.level b.level (within.0 h))) in
+    all-append (stands_after x.level) xs b
+    ∙ absorbs all (stands_after x.level b)
+    (λ h. both (resets b.removes) (nat_le x.level b.level) keeps (le_true x.level b.level (within.0 h)))
+    in
     ap (λ (t : Bool). cond t (x ∷ []) [] ++ (in_force names_stand) (xs ++ b ∷ [])) same
     ∙ ap (λ (l : List Brought). cond all (x ∷ []) [] ++ l) (stands-push xs b keeps within.1)
     ∙ sym (append_assoc (cond all (x ∷ []) []) ((in_force names_stand) xs) (b ∷ []))
 
-in_force-push : (cs : List Numbered) (c : Numbered) → IsQuiet c.command → (in_force names_stand) (history (cs ++ c ∷ [])) ≡ (in_force names_stand) (history cs) ++ brought_by cs (history cs) c ∷ []
+in_force-push : (cs : List Numbered) (c : Numbered) → IsQuiet c.command
+    → (in_force names_stand) (history (cs ++ c ∷ []))
+    ≡ (in_force names_stand) (history cs) ++ brought_by cs (history cs) c ∷ []
 in_force-push cs c quiet =
     let b = brought_by cs (history cs) c in
-    let within : IsWithin b.level (history cs) = subst (λ (d : ℕ). IsWithin d (history cs)) (sym (quiet.level (depth_in_force cs))) (within_from [] [] cs tt) in
-    ap (in_force names_stand) (brought-append [] [] cs (c ∷ [])) ∙ stands-push (history cs) b quiet.resets within
+    let within : IsWithin b.level (history cs) =
+    subst (λ (d : ℕ). IsWithin d (history cs)) (sym (quiet.level (depth_in_force cs)))
+    (within_from [] [] cs tt) in
+    ap (in_force names_stand) (brought-append [] [] cs (c ∷ []))
+    ∙ stands-push (history cs) b quiet.resets within
 
 -- what brings nothing adds nothing
-brings_none : {A : Type 0} (f : Brought → List A) (xs : List Brought) (b : Brought) → f b ≡ [] → flat_map f (xs ++ b ∷ []) ≡ flat_map f xs
+brings_none : {A : Type 0} (f : Brought → List A) (xs : List Brought) (b : Brought) → f b ≡ []
+    → flat_map f (xs ++ b ∷ []) ≡ flat_map f xs
 brings_none {A} f xs b none =
-    flat_map-append f xs (b ∷ []) ∙ ap (λ (l : List A). flat_map f xs ++ (l ++ [])) none ∙ append-nil (flat_map f xs)
+    flat_map-append f xs (b ∷ []) ∙ ap (λ (l : List A). flat_map f xs ++ (l ++ [])) none
+    ∙ append-nil (flat_map f xs)
 
-pub assertions-quiet : (cs : List Numbered) (c : Numbered) → IsQuiet c.command → assertions_in_force (cs ++ c ∷ []) ≡ assertions_in_force cs
+pub assertions-quiet : (cs : List Numbered) (c : Numbered) → IsQuiet c.command
+    → assertions_in_force (cs ++ c ∷ []) ≡ assertions_in_force cs
 assertions-quiet cs c quiet =
-    ap assertions_of (in_force-push cs c quiet) ∙ brings_none (λ (b : Brought). b.assertions) ((in_force names_stand) (history cs)) (brought_by cs (history cs) c) (quiet.assertions c.number)
+    ap assertions_of (in_force-push cs c quiet)
+    ∙ brings_none (λ (b : Brought). b.assertions) ((in_force names_stand) (history cs))
+    (brought_by cs (history cs) c) (quiet.assertions c.number)
 
-pub signature-quiet : (cs : List Numbered) (c : Numbered) → IsQuiet c.command → signature_in_force (cs ++ c ∷ []) ≡ signature_in_force cs
+pub signature-quiet : (cs : List Numbered) (c : Numbered) → IsQuiet c.command
+    → signature_in_force (cs ++ c ∷ []) ≡ signature_in_force cs
 signature-quiet cs c quiet =
     let old = (in_force names_stand) (history cs) in
     let b = brought_by cs (history cs) c in
     let s = signature_of (theories_in_force cs) old in
     let theories : theories_in_force (cs ++ c ∷ []) ≡ theories_in_force cs =
-    fold-append (λ (t : Theories) (x : Numbered). theories_after t x.command) all_theories cs (c ∷ []) ∙ quiet.theories (theories_in_force cs) in
-    let entries : entries_of (old ++ b ∷ []) ≡ entries_of old = brings_none (λ (x : Brought). x.entries) old b (quiet.entries s c.number) in
-    let abbreviations : abbreviations_of (old ++ b ∷ []) ≡ abbreviations_of old = brings_none (λ (x : Brought). x.abbreviations) old b (quiet.abbreviations s) in
+    fold-append (λ (t : Theories) (x : Numbered). theories_after t x.command) all_theories cs (c ∷ [])
+    ∙ quiet.theories (theories_in_force cs) in
+    let entries : entries_of (old ++ b ∷ []) ≡ entries_of old =
+    brings_none (λ (x : Brought). x.entries) old b (quiet.entries s c.number) in
+    let abbreviations : abbreviations_of (old ++ b ∷ []) ≡ abbreviations_of old =
+    brings_none (λ (x : Brought). x.abbreviations) old b (quiet.abbreviations s) in
     ap (λ (t : Theories). signature_of t ((in_force names_stand) (history (cs ++ c ∷ [])))) theories
     ∙ ap (λ (l : List Brought). signature_of (theories_in_force cs) l) (in_force-push cs c quiet)
-    ∙ ap (λ (es : List Entry). record { theories = theories_in_force cs; abbreviations = abbreviations_of (old ++ b ∷ []); entries = es }) entries
-    ∙ ap (λ (as' : List (List ℕ × Sort)). record { theories = theories_in_force cs; abbreviations = as'; entries = entries_of old }) abbreviations
+    ∙ ap (λ (es : List Entry).
+    record {
+      theories = theories_in_force cs;
+      abbreviations = abbreviations_of (old ++ b ∷ []);
+      entries =
+          es;
+    }) entries
+    ∙ ap (λ (as' : List (List ℕ × Sort)).
+    record { theories = theories_in_force cs; abbreviations = as'; entries = entries_of old })
+    abbreviations

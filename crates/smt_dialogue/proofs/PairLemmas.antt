@@ -1,19 +1,24 @@
 -- Laws of pairs side by side: what they bring, take and print.
-use Rattle.std.proofs.Common.{◌≡◌, ◌≤◌, ◌+◌, ℕ, suc, Bool, true, false, List, [], ◌∷◌, ◌++◌, length, Option, Some, None, cond, refl, ap, sym, ◌∙◌, arith, append_assoc}
+use Rattle.std.proofs.Common.{◌≡◌, ◌≤◌, ◌+◌, ℕ, suc, Bool, true, false, List, [], ◌∷◌, ◌++◌, length, Option}
+use Rattle.std.proofs.Common.{Some, None, cond, refl, ap, sym, ◌∙◌, arith, append_assoc}
 use Rattle.std.proofs.lemmas.List.{append-nil}
 use Rattle.smt_trees.specs.Sexp.{Sexp, Sexps, Atom, Reserved, Items, is_symbol}
 use Rattle.smt_trees.specs.Sexp as sexp
 use Rattle.std.specs.Cmp.Lexicographic.{same_text}
-use Rattle.smt_script.specs.Command.{Command, SetLogic, SetPrintSuccess, SetGlobalDeclarations, SetOption, SetInfo, DeclareConst, DeclareFun, DefineFun, DefineSort, Assert, Push, Pop, Reset, ResetAssertions, Exit, CheckSat, GetModel, Echo, Get}
+use Rattle.smt_script.specs.Command.{Command, is_check, kind_of}
+use Rattle.smt_script.specs.declared.command.Kind.{Kind}
+use Rattle.smt_script.specs.declared.command.Kind.TheVariants as kinds
 use Rattle.smt_script.specs.Stack.{Numbered, assertions_in_force, signature_in_force}
 use Rattle.smt_dialogue.proofs.InForceLemmas.{IsQuiet, assertions-quiet, signature-quiet}
-use Rattle.smt_dialogue.specs.Answers.{Takes, Unfit, has_form, need_of, taken}
-use Rattle.smt_dialogue.specs.InForce.{AreFaultless, assertions_after, fault_of_pair, has_exited_after, need_after, signature_after}
-use Rattle.smt_dialogue.specs.Internal.ChecksState.{IsAnswered, role_of}
+use Rattle.smt_dialogue.specs.Answers.{Takes, Unexpected, has_form, need_of, need_of_kind, taken}
+use Rattle.smt_dialogue.specs.InForce.{AreFaultless, assertions_after, flaw_of_pair, has_exited_after}
+use Rattle.smt_dialogue.specs.InForce.{need_after, signature_after}
+use Rattle.smt_dialogue.specs.Internal.ChecksState.{IsAnswered, role_of, role_of_kind}
 use Rattle.smt_dialogue.specs.Lines.{lines_in, lines_of_pair}
-use Rattle.smt_script.specs.Command.{is_check}
 use Rattle.smt_dialogue.specs.Pairing.{AllTake}
-use Rattle.smt_dialogue.specs.Pairs.{Pair, answer_count, answers_taken, answers_then, checks_in, effective_commands, effective_from, is_effective, next_of, numbered_if, with_answer}
+use Rattle.smt_dialogue.specs.Pairs.{Pair, answer_count, answers_taken, answers_then, checks_in}
+use Rattle.smt_dialogue.specs.Pairs.{effective_commands, effective_from, is_effective, next_of, numbered_if}
+use Rattle.smt_dialogue.specs.Pairs.{with_answer}
 use Rattle.smt_dialogue.specs.declared.answer.AnswerForm.{AnswerForm}
 use Rattle.smt_dialogue.specs.declared.answer.AnswerForm.TheVariants.{Check}
 use Rattle.smt_dialogue.specs.declared.answer.Need.TheVariants.{Needed}
@@ -21,7 +26,8 @@ use Rattle.smt_report.specs.declared.line.Line.{Line}
 
 -- ## What answers are
 
-pub is_word : (word : List ℕ) (a : Sexp) → is_symbol word a ≡ true → (x : List ℕ) × (a ≡ Atom sexp.Symbol x) × (x ≡ word)
+pub is_word : (word : List ℕ) (a : Sexp) → is_symbol word a ≡ true
+    → (x : List ℕ) × (a ≡ Atom sexp.Symbol x) × (x ≡ word)
 is_word word (Atom sexp.Symbol x) h = (x, refl, same_text x word (sym h))
 is_word word (Atom sexp.Numeral x) h = cc
 is_word word (Atom sexp.Decimal x) h = cc
@@ -33,59 +39,65 @@ is_word word (Reserved w) h = cc
 is_word word (Items parts) h = cc
 
 -- what is taken where an answer is needed is one of its form
-pub needed_takes : (told : Bool) (form : AnswerForm) (next answer : Option Sexp) → taken told (Needed form) next ≡ Takes answer → (a : Sexp) × (answer ≡ Some a) × (has_form form a ≡ true)
+pub needed_takes : (told : Bool) (form : AnswerForm) (next answer : Option Sexp)
+    → taken told (Needed form) next ≡ Takes answer → (a : Sexp) × (answer ≡ Some a) × (has_form form a ≡ true)
 needed_takes true form None answer h = absurd (cc)
 needed_takes false form None answer h = absurd (cc)
 needed_takes told form (Some a) answer h = by (has_form form a) refl h
   where
-    by : (b : Bool) → has_form form a ≡ b → cond b (Takes (Some a)) Unfit ≡ Takes answer → (x : Sexp) × (answer ≡ Some x) × (has_form form x ≡ true)
+    by : (b : Bool) → has_form form a ≡ b → cond b (Takes (Some a)) Unexpected ≡ Takes answer
+        → (x : Sexp) × (answer ≡ Some x) × (has_form form x ≡ true)
     by true is e = (a, cc, is)
     by false is e = absurd (cc)
 
--- so a check has one of the answers of checks
-pub check_answered : (told on : Bool) (c : Command) (next answer : Option Sexp) → taken told (need_of on c) next ≡ Takes answer → IsAnswered (role_of c) answer
-check_answered told on (SetLogic name) next answer h = tt
-check_answered told on (SetPrintSuccess value) next answer h = tt
-check_answered told on (SetGlobalDeclarations value) next answer h = tt
-check_answered told on (SetOption keyword value) next answer h = tt
-check_answered told on (SetInfo keyword value) next answer h = tt
-check_answered told on (DeclareConst x sort) next answer h = tt
-check_answered told on (DeclareFun x parameters sort) next answer h = tt
-check_answered told on (DefineFun x parameters sort body) next answer h = tt
-check_answered told on (DefineSort x sort) next answer h = tt
-check_answered told on (Assert term) next answer h = tt
-check_answered told on (Push levels) next answer h = tt
-check_answered told on (Pop levels) next answer h = tt
-check_answered told on Reset next answer h = tt
-check_answered told on ResetAssertions next answer h = tt
-check_answered told on Exit next answer h = tt
-check_answered told on (Echo text) next answer h = tt
-check_answered told on (Get query) next answer h = tt
-check_answered told on GetModel next answer h = tt
-check_answered told on CheckSat next answer h = needed_takes told Check next answer h
+-- so a check has one of the answers of checks, by the kind of the command
+answered_by : (told on : Bool) (k : Kind) (next answer : Option Sexp)
+    → taken told (need_of_kind on k) next ≡ Takes answer → IsAnswered (role_of_kind k) answer
+answered_by told on kinds.Check next answer h = needed_takes told Check next answer h
+answered_by told on kinds.Model next answer h = tt
+answered_by told on kinds.Logic next answer h = tt
+answered_by told on kinds.Change next answer h = tt
+answered_by told on kinds.Reset next answer h = tt
+answered_by told on (kinds.PrintSuccess value) next answer h = tt
+answered_by told on kinds.Setting next answer h = tt
+answered_by told on kinds.Exit next answer h = tt
+answered_by told on kinds.Echo next answer h = tt
+answered_by told on kinds.Query next answer h = tt
+
+pub check_answered : (told on : Bool) (c : Command) (next answer : Option Sexp)
+    → taken told (need_of on c) next ≡ Takes answer → IsAnswered (role_of c) answer
+check_answered told on c next answer h = answered_by told on (kind_of c) next answer h
 
 -- ## Pairs side by side
 
-pub effective_from-append : (n : ℕ) (xs ys : List Pair) → effective_from n (xs ++ ys) ≡ effective_from n xs ++ effective_from (n + length xs) ys
+pub effective_from-append : (n : ℕ) (xs ys : List Pair)
+    → effective_from n (xs ++ ys) ≡ effective_from n xs ++ effective_from (n + length xs) ys
 effective_from-append n [] ys = ap (λ (k : ℕ). effective_from k ys) (omega arith)
 effective_from-append n (x ∷ xs) ys =
     let here = numbered_if (is_effective x) n x.command in
-    ap (λ (cs : List Numbered). here ++ cs) (effective_from-append (n + 1) xs ys ∙ ap (λ (k : ℕ). effective_from (n + 1) xs ++ effective_from k ys) (omega arith))
+    ap (λ (cs : List Numbered). here ++ cs)
+    (effective_from-append (n + 1) xs ys
+    ∙ ap (λ (k : ℕ). effective_from (n + 1) xs ++ effective_from k ys) (omega arith))
     ∙ sym (append_assoc here (effective_from (n + 1) xs) (effective_from (n + suc (length xs)) ys))
 
 -- one more pair brings its command, where it took effect
-pub effective_commands-push : (pairs : List Pair) (p : Pair) → effective_commands (pairs ++ p ∷ []) ≡ effective_commands pairs ++ numbered_if (is_effective p) (length pairs + 1) p.command
+pub effective_commands-push : (pairs : List Pair) (p : Pair)
+    → effective_commands (pairs ++ p ∷ [])
+    ≡ effective_commands pairs ++ numbered_if (is_effective p) (length pairs + 1) p.command
 effective_commands-push pairs p =
     effective_from-append 1 pairs (p ∷ [])
-    ∙ ap (λ (cs : List Numbered). effective_commands pairs ++ cs) (append-nil (numbered_if (is_effective p) (1 + length pairs) p.command))
+    ∙ ap (λ (cs : List Numbered). effective_commands pairs ++ cs)
+    (append-nil (numbered_if (is_effective p) (1 + length pairs) p.command))
     ∙ ap (λ (n : ℕ). effective_commands pairs ++ numbered_if (is_effective p) n p.command) (omega arith)
 
 -- a pair whose command brings nothing, or took no effect, changes nothing that is in force
-quiet_if : {A : Type 0} (f : List Numbered → A) (b : Bool) (n : ℕ) (c : Command) (cs : List Numbered) → f (cs ++ record { number = n; command = c } ∷ []) ≡ f cs → f (cs ++ numbered_if b n c) ≡ f cs
+quiet_if : {A : Type 0} (f : List Numbered → A) (b : Bool) (n : ℕ) (c : Command) (cs : List Numbered)
+    → f (cs ++ record { number = n; command = c } ∷ []) ≡ f cs → f (cs ++ numbered_if b n c) ≡ f cs
 quiet_if f true n c cs quiet = quiet
 quiet_if f false n c cs quiet = ap f (append-nil cs)
 
-none_if : {A : Type 0} (f : List Numbered → A) (b : Bool) (n : ℕ) (c : Command) (cs : List Numbered) → b ≡ false → f (cs ++ numbered_if b n c) ≡ f cs
+none_if : {A : Type 0} (f : List Numbered → A) (b : Bool) (n : ℕ) (c : Command) (cs : List Numbered)
+    → b ≡ false → f (cs ++ numbered_if b n c) ≡ f cs
 none_if f b n c cs h = rw h (ap f (append-nil cs))
 
 -- a pair that changes nothing that is in force
@@ -99,8 +111,10 @@ quiet_is_idle pairs p quiet =
     let n = length pairs + 1 in
     let c : Numbered = record { number = n; command = p.command } in
     record {
-      signature = ap signature_in_force (effective_commands-push pairs p) ∙ quiet_if signature_in_force (is_effective p) n p.command cs (signature-quiet cs c quiet);
-      assertions = ap assertions_in_force (effective_commands-push pairs p) ∙ quiet_if assertions_in_force (is_effective p) n p.command cs (assertions-quiet cs c quiet);
+      signature = ap signature_in_force (effective_commands-push pairs p)
+          ∙ quiet_if signature_in_force (is_effective p) n p.command cs (signature-quiet cs c quiet);
+      assertions = ap assertions_in_force (effective_commands-push pairs p)
+          ∙ quiet_if assertions_in_force (is_effective p) n p.command cs (assertions-quiet cs c quiet);
     }
 
 pub refused_is_idle : (pairs : List Pair) (p : Pair) → is_effective p ≡ false → IsIdle pairs p
@@ -108,15 +122,18 @@ refused_is_idle pairs p h =
     let cs = effective_commands pairs in
     let n = length pairs + 1 in
     record {
-      signature = ap signature_in_force (effective_commands-push pairs p) ∙ none_if signature_in_force (is_effective p) n p.command cs h;
-      assertions = ap assertions_in_force (effective_commands-push pairs p) ∙ none_if assertions_in_force (is_effective p) n p.command cs h;
+      signature = ap signature_in_force (effective_commands-push pairs p)
+          ∙ none_if signature_in_force (is_effective p) n p.command cs h;
+      assertions = ap assertions_in_force (effective_commands-push pairs p)
+          ∙ none_if assertions_in_force (is_effective p) n p.command cs h;
     }
 
 pub checks_in-append : (xs ys : List Pair) → checks_in (xs ++ ys) ≡ checks_in xs + checks_in ys
 checks_in-append [] ys = omega arith
 checks_in-append (x ∷ xs) ys = omega (arith, checks_in-append xs ys)
 
-pub answers_taken-append : (xs ys : List Pair) → answers_taken (xs ++ ys) ≡ answers_taken xs + answers_taken ys
+pub answers_taken-append : (xs ys : List Pair)
+    → answers_taken (xs ++ ys) ≡ answers_taken xs + answers_taken ys
 answers_taken-append [] ys = omega arith
 answers_taken-append (x ∷ xs) ys = omega (arith, answers_taken-append xs ys)
 
@@ -137,32 +154,51 @@ pub answers_taken-le : (xs : List Pair) → answers_taken xs ≤ length xs
 answers_taken-le [] = omega arith
 answers_taken-le (x ∷ xs) = omega (arith, answers_taken-le xs, answer_count-le x.answer)
 
-pub lines_in-append : (closed : Bool) (before xs ys after : List Pair) → lines_in closed before (xs ++ ys) after ≡ lines_in closed before xs (ys ++ after) ++ lines_in closed (before ++ xs) ys after
-lines_in-append closed before [] ys after = ap (λ (b : List Pair). lines_in closed b ys after) (sym (append-nil before))
+pub lines_in-append : (closed : Bool) (before xs ys after : List Pair)
+    → lines_in closed before (xs ++ ys) after
+    ≡ lines_in closed before xs (ys ++ after) ++ lines_in closed (before ++ xs) ys after
+lines_in-append closed before [] ys after =
+    ap (λ (b : List Pair). lines_in closed b ys after) (sym (append-nil before))
 lines_in-append closed before (x ∷ xs) ys after =
     let rest = lines_in closed (before ++ x ∷ []) xs (ys ++ after) in
     let far = lines_in closed (before ++ x ∷ xs) ys after in
-    ap (λ (b : List Line). lines_of_pair closed before x ((xs ++ ys) ++ after) ++ b) (lines_in-append closed (before ++ x ∷ []) xs ys after ∙ ap (λ (b : List Pair). rest ++ lines_in closed b ys after) (append_assoc before (x ∷ []) xs))
+    ap (λ (b : List Line). lines_of_pair closed before x ((xs ++ ys) ++ after) ++ b)
+    (lines_in-append closed (before ++ x ∷ []) xs ys after
+    ∙ ap (λ (b : List Pair). rest ++ lines_in closed b ys after) (append_assoc before (x ∷ []) xs))
     ∙ ap (λ (a : List Pair). lines_of_pair closed before x a ++ (rest ++ far)) (append_assoc xs ys after)
     ∙ sym (append_assoc (lines_of_pair closed before x (xs ++ (ys ++ after))) rest far)
 
-pub answers_then-append : (xs ys : List Pair) (rest : Sexps) → answers_then (xs ++ ys) rest ≡ answers_then xs (answers_then ys rest)
+pub answers_then-append : (xs ys : List Pair) (rest : Sexps)
+    → answers_then (xs ++ ys) rest ≡ answers_then xs (answers_then ys rest)
 answers_then-append [] ys rest = refl
 answers_then-append (x ∷ xs) ys rest = ap (with_answer x.answer) (answers_then-append xs ys rest)
 
 -- the pairs and one more take what they have, where the one takes it of what they leave
-pub AllTake-append : (told start : Bool) (before xs : List Pair) (y : Pair) (rest left : Sexps) → AllTake told start before xs rest → rest ≡ with_answer y.answer left
-    → taken told (need_after start (before ++ xs) y.command) (next_of rest) ≡ Takes y.answer → AllTake told start before (xs ++ y ∷ []) left
-AllTake-append told start before [] y rest left all next one =
-    (ap (λ (r : Sexps). taken told (need_after start before y.command) (next_of r)) (sym next) ∙ rw (append-nil before) at one, tt)
+pub AllTake-append : (told start : Bool) (before xs : List Pair) (y : Pair) (rest left : Sexps)
+    → AllTake told start before xs rest → rest ≡ with_answer y.answer left
+    → taken told (need_after start (before ++ xs) y.command) (next_of rest) ≡ Takes y.answer
+    → AllTake told start before (xs ++ y ∷ []) left
+AllTake-append told start before [] y rest left all next one = (
+  ap (λ (r : Sexps). taken told (need_after start before y.command) (next_of r)) (sym next)
+      ∙ rw (append-nil before) at one,
+  tt,
+)
 AllTake-append told start before (x ∷ xs) y rest left all next one =
     let same : answers_then (x ∷ (xs ++ y ∷ [])) left ≡ answers_then (x ∷ xs) rest =
     ap (with_answer x.answer) (answers_then-append xs (y ∷ []) left ∙ ap (answers_then xs) (sym next)) in (
       ap (λ (r : Sexps). taken told (need_after start before x.command) (next_of r)) same ∙ all.0,
-      AllTake-append told start (before ++ x ∷ []) xs y rest left all.1 next (rw (append_assoc before (x ∷ []) xs) one),
+      AllTake-append told start (before ++ x ∷ []) xs y rest left all.1 next
+          (rw (append_assoc before (x ∷ []) xs) one),
     )
 
-pub AreFaultless-append : (before xs : List Pair) (y : Pair) → AreFaultless before xs → has_exited_after (before ++ xs) ≡ false → fault_of_pair (before ++ xs) y ≡ None → AreFaultless before (xs ++ y ∷ [])
-AreFaultless-append before [] y all goes_on one = (rw (append-nil before) at goes_on, rw (append-nil before) at one, tt)
-AreFaultless-append before (x ∷ xs) y all goes_on one =
-    (all.0, all.1, AreFaultless-append (before ++ x ∷ []) xs y all.2 (rw (append_assoc before (x ∷ []) xs) goes_on) (rw (append_assoc before (x ∷ []) xs) one))
+pub AreFaultless-append : (before xs : List Pair) (y : Pair) → AreFaultless before xs
+    → has_exited_after (before ++ xs) ≡ false → flaw_of_pair (before ++ xs) y ≡ None
+    → AreFaultless before (xs ++ y ∷ [])
+AreFaultless-append before [] y all goes_on one =
+    (rw (append-nil before) at goes_on, rw (append-nil before) at one, tt)
+AreFaultless-append before (x ∷ xs) y all goes_on one = (
+  all.0,
+  all.1,
+  AreFaultless-append (before ++ x ∷ []) xs y all.2
+      (rw (append_assoc before (x ∷ []) xs) goes_on) (rw (append_assoc before (x ∷ []) xs) one),
+)

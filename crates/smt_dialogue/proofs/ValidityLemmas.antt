@@ -1,7 +1,9 @@
 -- What the verdicts mean.
-use Rattle.std.proofs.Common.{◌≡◌, ◌+◌, ℕ, Bool, true, false, not, ◌||◌, List, [], ◌∷◌, ◌++◌, length, Option, Some, None, is_some, Result, Ok, Err, cond, codes, refl, ap, sym, ◌∙◌, subst, arith, append_assoc}
+use Rattle.std.proofs.Common.{◌≡◌, ◌+◌, ℕ, Bool, true, false, not, ◌||◌, List, [], ◌∷◌, ◌++◌, length, Option}
+use Rattle.std.proofs.Common.{Some, None, is_some, Result, Ok, Err, cond, codes, refl, ap, sym, ◌∙◌, subst}
+use Rattle.std.proofs.Common.{arith, append_assoc}
 use Rattle.std.proofs.lemmas.List.{append-nil}
-use Rattle.std.specs.List.{AllByRecursion, list_any}
+use Rattle.std.specs.List.{list_any}
 use Rattle.std.specs.Result.{IfOk}
 use Rattle.smt_text.specs.Grammar.{Forest, limit}
 use Rattle.smt_text.specs.Reading.{Reads}
@@ -11,34 +13,37 @@ use Rattle.smt_dialogue.proofs.FirstFaultLemmas.{any-append, ends_clean, invalid
 use Rattle.smt_dialogue.proofs.AssertedLemmas.{comes_from}
 use Rattle.smt_dialogue.proofs.StructureLemmas.{structure_behind}
 use Rattle.smt_dialogue.proofs.PairingUnique.{all_commands, one_pairing}
-use Rattle.smt_dialogue.proofs.ConfirmedLemmas.{Laws, asserted_formula, closed_value, confirmed_at, faultless_at, is_false_value, lines_at, lines_of_sat_at}
-use Rattle.smt_script.specs.Command.{Command, SetLogic, SetPrintSuccess, SetGlobalDeclarations, SetOption, SetInfo, DeclareConst, DeclareFun, DefineFun, DefineSort, Assert, Push, Pop, Reset, ResetAssertions, Exit, CheckSat, GetModel, Echo, Get}
+use Rattle.smt_dialogue.proofs.ConfirmedLemmas.{Laws, asserted_formula, closed_value, confirmed_at}
+use Rattle.smt_dialogue.proofs.ConfirmedLemmas.{faultless_at, is_false_value, lines_at, lines_of_sat_at}
+use Rattle.smt_script.specs.Command.{is_check}
 use Rattle.smt_dialogue.specs.FirstFault.{TextSoFar, is_over}
 use Rattle.smt_dialogue.specs.Report.{AreLinesOf, IsRead, IsReport, lines_of_end}
 use Rattle.smt_dialogue.specs.declared.options.Options.{Options}
-use Rattle.smt_dialogue.specs.Validity.{IsAsserted, IsFullyPaired, IsInvalid, IsSatCheck, IsTrueModel, IsValid}
+use Rattle.smt_dialogue.specs.Validity.{IsFullyPaired, IsInvalid, IsSatCheck}
+use Rattle.smt_dialogue.specs.Validity.{IsValid}
 use Rattle.smt_dialogue.specs.InForce.{AreFaultless, assertions_after, signature_after}
 use Rattle.smt_dialogue.specs.Pairing.{IsPairing, IsPairingSoFar}
 use Rattle.smt_dialogue.specs.Pairs.{Pair, checks_in, effective_commands}
 use Rattle.smt_script.specs.Stack.{Assertion}
-use Rattle.smt_dialogue.specs.Lines.{claims_after, is_empty, line_of_judgement, lines_in, lines_of_pair, lines_of_sat, sat_lines, unchecked_answer, unchecked_line_or, unconfirmed_line}
-use Rattle.smt_report.specs.Verdict.{IsVerdictOf, is_fault_line, is_refuted_line, is_undecided_line, tally_of, verdict_of, with_verdict}
+use Rattle.smt_dialogue.specs.Lines.{claims_after, is_empty, line_of_judgement, lines_in}
+use Rattle.smt_dialogue.specs.Lines.{lines_of_answer, lines_of_pair, lines_of_sat, sat_lines, unchecked_answer, unchecked_line_or}
+use Rattle.smt_dialogue.specs.Lines.{unconfirmed_line}
+use Rattle.smt_report.specs.Verdict.{IsVerdictOf, is_fault_line, is_refuted_line, is_undecided_line, tally_of}
+use Rattle.smt_report.specs.Verdict.{verdict_of, with_verdict}
 use Rattle.std.specs.Option.{option_or}
 use Rattle.smt_dialogue.specs.Internal.Steps.{IsJudged}
 use Rattle.smt_dialogue.specs.Window.{Printed, models_from, structure_at, window}
-use Rattle.smt_dialogue.specs.Judgement.{Claimed, claims_of, first_claim, is_false_over, is_open_over, judged_in, judgement_of, open_or_confirmed, refuted_or}
-use Rattle.smt_values.specs.Element.{Element, Truth}
-use Rattle.smt_values.specs.Operations.{DivisionByZero}
-use Rattle.smt_eval.specs.CompleteModel.{IsModelOf}
-use Rattle.smt_eval.specs.Meaning.{value_over}
+use Rattle.smt_dialogue.specs.Judgement.{Claimed, claims_of, first_claim, is_false_over, is_open_over}
+use Rattle.smt_dialogue.specs.Judgement.{judged_in, judgement_of, open_or_confirmed, refuted_or}
+use Rattle.smt_values.specs.Element.{Truth}
 use Rattle.smt_eval.specs.Known.{known_over}
 use Rattle.smt_eval.specs.Model.{model_in}
 use Rattle.smt_eval.specs.Structure.{structure_of}
 use Rattle.smt_terms.specs.Signature.{Signature}
 use Rattle.smt_dialogue.specs.declared.judgement.Judgement.{Judgement}
 use Rattle.smt_dialogue.specs.declared.judgement.Judgement.TheVariants as judgements
-use Rattle.smt_eval.specs.declared.interpretation.ModelFault.{ModelFault}
-use Rattle.smt_eval.specs.declared.interpretation.ModelFault.TheVariants as faults
+use Rattle.smt_eval.specs.declared.model_fault.ModelFlaw.{ModelFlaw}
+use Rattle.smt_eval.specs.declared.model_fault.ModelFlaw.TheVariants as faults
 use Rattle.smt_report.specs.declared.claim.Claim.{Claim}
 use Rattle.smt_report.specs.declared.claim.Claim.TheVariants as claims
 use Rattle.smt_report.specs.declared.line.CheckAnswer.{CheckAnswer}
@@ -52,18 +57,27 @@ use Rattle.smt_report.specs.declared.verdict.Verdict.TheVariants.{Valid, Invalid
 
 -- ## A dialogue without the line of a fault is paired whole
 
-pub fully_paired : (options : Options) (script answers : List ℕ) (st at' : TextSoFar) (ls : List Line) → IsRead true script st → IsRead true answers at' → (j : AreLinesOf options.print_success st at' ls) → list_any is_fault_line (lines_in true [] j.pairs [] ++ lines_of_end j.fault) ≡ false → IsFullyPaired options script answers j.pairs × (j.fault ≡ None)
+pub fully_paired : (options : Options) (script answers : List ℕ) (st at' : TextSoFar) (ls : List Line)
+    → IsRead true script st → IsRead true answers at' → (j : AreLinesOf options.print_success st at' ls)
+    → list_any is_fault_line (lines_in true [] j.pairs [] ++ lines_of_end j.fault) ≡ false
+    → IsFullyPaired options script answers j.pairs × (j.fault ≡ None)
 fully_paired options script answers st at' ls rs ra j h =
     let start = options.print_success in
-    let clean = ends_clean start j.pairs st.told at'.told j.ends.later st.fault j.ends.rest at'.fault j.fault j.ends.turn_is (none_of is_fault_line (lines_in true [] j.pairs []) (lines_of_end j.fault) h).1 in
+    let clean = ends_clean start j.pairs st.told at'.told j.ends.later st.fault j.ends.rest at'.fault j.fault
+    j.ends.turn_is (none_of is_fault_line (lines_in true [] j.pairs []) (lines_of_end j.fault) h).1 in
     let over : is_over at' ≡ true = ap (λ (b : Bool). b || is_some at'.fault) ra.told_so in
-    let told : IsPairingSoFar true start j.pairs st.trees j.ends.later at'.trees j.ends.rest = subst (λ (b : Bool). IsPairingSoFar b start j.pairs st.trees j.ends.later at'.trees j.ends.rest) over j.ends.paired.pairing in
-    let one : IsPairing start j.pairs st.trees Nil at'.trees j.ends.rest = subst (λ (t : Sexps). IsPairing start j.pairs st.trees t at'.trees j.ends.rest) clean.trees told in (
+    let told : IsPairingSoFar true start j.pairs st.trees j.ends.later at'.trees j.ends.rest =
+    subst (λ (b : Bool). IsPairingSoFar b start j.pairs st.trees j.ends.later at'.trees j.ends.rest)
+    over j.ends.paired.pairing in
+    let one : IsPairing start j.pairs st.trees Nil at'.trees j.ends.rest =
+    subst (λ (t : Sexps). IsPairing start j.pairs st.trees t at'.trees j.ends.rest) clean.trees told in (
       record {
         script_trees = st.trees;
-        script_forest = subst (λ (f : Option TextFlaw). Reads limit true script st.trees f) clean.script rs.reads;
+        script_forest = subst (λ (f : Option TextFlaw). Reads limit true script st.trees f)
+            clean.script rs.reads;
         answer_trees = at'.trees;
-        answers_forest = subst (λ (f : Option TextFlaw). Reads limit true answers at'.trees f) clean.answers ra.reads;
+        answers_forest = subst (λ (f : Option TextFlaw). Reads limit true answers at'.trees f)
+            clean.answers ra.reads;
         pairing = subst (λ (t : Sexps). IsPairing start j.pairs st.trees Nil at'.trees t) clean.left one;
       },
       clean.none,
@@ -83,37 +97,58 @@ verdict_same : (v w : Verdict) (t u : Tally) → lines.Verdict v t ≡ lines.Ver
 verdict_same v w t u h = cc
 
 -- the verdict of lines that end with theirs
-pub verdict_of_lines : (v : Verdict) (ls ms : List Line) → IsVerdictOf v ls → ls ≡ with_verdict ms → v ≡ verdict_of ms
-verdict_of_lines v ls ms h is = verdict_same v (verdict_of ms) h.1 (tally_of ms) (last_same h.0 ms (lines.Verdict v h.1) (lines.Verdict (verdict_of ms) (tally_of ms)) (sym h.2 ∙ is))
+pub verdict_of_lines : (v : Verdict) (ls ms : List Line) → IsVerdictOf v ls → ls ≡ with_verdict ms
+    → v ≡ verdict_of ms
+verdict_of_lines v ls ms h is =
+    verdict_same v (verdict_of ms) h.1 (tally_of ms)
+    (last_same h.0 ms (lines.Verdict v h.1) (lines.Verdict (verdict_of ms) (tally_of ms)) (sym h.2 ∙ is))
 
 -- a text has at most one forest: a law of the reader's crate
 abbrev pub OneForest : Type 0
-OneForest = (bound other : ℕ) (text : List ℕ) (xs ys : Sexps) → Forest bound text xs → Forest other text ys → xs ≡ ys
+OneForest = (bound other : ℕ) (text : List ℕ) (xs ys : Sexps) → Forest bound text xs → Forest other text ys
+    → xs ≡ ys
 
 -- there is one such pairing, and none that leaves answers
-pub only_pairing : OneForest → (options : Options) (script answers : List ℕ) (pairs others : List Pair) (trees answered rest : Sexps) → IsFullyPaired options script answers pairs → Forest limit script trees → Forest limit answers answered → IsPairing options.print_success others trees Nil answered rest → (others ≡ pairs) × (rest ≡ Nil)
+pub only_pairing : OneForest
+    → (options : Options) (script answers : List ℕ) (pairs others : List Pair) (trees answered rest : Sexps)
+    → IsFullyPaired options script answers pairs → Forest limit script trees → Forest limit answers answered
+    → IsPairing options.print_success others trees Nil answered rest → (others ≡ pairs) × (rest ≡ Nil)
 only_pairing one options script answers pairs others trees answered rest whole f g p =
     let start = options.print_success in
-    let same_script : whole.script_trees ≡ trees = one limit limit script whole.script_trees trees whole.script_forest f in
-    let same_answers : whole.answer_trees ≡ answered = one limit limit answers whole.answer_trees answered whole.answers_forest g in
-    let once : IsPairing start pairs trees Nil whole.answer_trees Nil = subst (λ (t : Sexps). IsPairing start pairs t Nil whole.answer_trees Nil) same_script whole.pairing in
-    let mine : IsPairing start pairs trees Nil answered Nil = subst (λ (t : Sexps). IsPairing start pairs trees Nil t Nil) same_answers once in
-    let same = one_pairing true start [] others pairs trees Nil Nil answered rest Nil (all_commands others trees p.commands ∙ sym (all_commands pairs trees mine.commands)) p.commands mine.commands p.answered mine.answered p.taken_so mine.taken_so in
+    let same_script : whole.script_trees ≡ trees =
+    one limit limit script whole.script_trees trees whole.script_forest f in
+    let same_answers : whole.answer_trees ≡ answered =
+    one limit limit answers whole.answer_trees answered whole.answers_forest g in
+    let once : IsPairing start pairs trees Nil whole.answer_trees Nil =
+    subst (λ (t : Sexps). IsPairing start pairs t Nil whole.answer_trees Nil) same_script whole.pairing in
+    let mine : IsPairing start pairs trees Nil answered Nil =
+    subst (λ (t : Sexps). IsPairing start pairs trees Nil t Nil) same_answers once in
+    let same = one_pairing true start [] others pairs trees Nil Nil answered rest Nil
+    (all_commands others trees p.commands ∙ sym (all_commands pairs trees mine.commands))
+    p.commands mine.commands p.answered mine.answered p.taken_so mine.taken_so in
     (same.0, same.2)
 
 -- ## Valid means valid
 
-pub valid_means : Laws → OneForest → (options : Options) (script answers : List ℕ) (st at' : TextSoFar) (ls : List Line) (v : Verdict) → IsRead true script st → IsRead true answers at' → IsJudged options.print_success st at' ls v → v ≡ Valid → IsValid options script answers
+pub valid_means : Laws → OneForest
+    → (options : Options) (script answers : List ℕ) (st at' : TextSoFar) (ls : List Line) (v : Verdict)
+    → IsRead true script st → IsRead true answers at' → IsJudged options.print_success st at' ls v → v ≡ Valid
+    → IsValid options script answers
 valid_means laws one options script answers st at' ls v rs ra j h =
     let l = j.lines_are in
     let mine = lines_in true [] l.pairs [] in
-    let tests = valid_lines (mine ++ lines_of_end l.fault) (sym (verdict_of_lines v ls (mine ++ lines_of_end l.fault) j.verdict_is l.lines_are) ∙ h) in
+    let tests = valid_lines (mine ++ lines_of_end l.fault)
+    (sym (verdict_of_lines v ls (mine ++ lines_of_end l.fault) j.verdict_is l.lines_are) ∙ h) in
     let whole = (fully_paired options script answers st at' ls rs ra l tests.0).0 in
     record {
       pairs = l.pairs;
       paired = whole;
-      only = λ others trees answered rest f g p. only_pairing one options script answers l.pairs others trees answered rest whole f g p;
-      confirmed = λ before after p place sat. confirmed_at laws l.pairs before after p place l.ends.paired.faultless (none_of is_refuted_line mine (lines_of_end l.fault) tests.1).0 (none_of is_undecided_line mine (lines_of_end l.fault) tests.2).0 sat;
+      only = λ others trees answered rest f g p.
+          only_pairing one options script answers l.pairs others trees answered rest whole f g p;
+      confirmed = λ before after p place sat.
+          confirmed_at laws l.pairs before after p place l.ends.paired.faultless
+          (none_of is_refuted_line mine (lines_of_end l.fault) tests.1).0
+          (none_of is_undecided_line mine (lines_of_end l.fault) tests.2).0 sat;
     }
 
 -- ## Invalid means invalid
@@ -130,27 +165,36 @@ pub record HasLine (test : Line → Bool) (before pairs : List Pair) : Type 0 wh
   pub place : pairs ≡ first ++ pair ∷ last
   pub line : list_any test (lines_of_pair true (before ++ first) pair last) ≡ true
 
-some_line : (test : Line → Bool) (before pairs : List Pair) → list_any test (lines_in true before pairs []) ≡ true → HasLine test before pairs
+some_line : (test : Line → Bool) (before pairs : List Pair)
+    → list_any test (lines_in true before pairs []) ≡ true → HasLine test before pairs
 some_line test before [] h = absurd (cc)
 some_line test before (p ∷ ps) h =
-    by_or (list_any test (lines_of_pair true before p (ps ++ []))) (list_any test (lines_in true (before ++ p ∷ []) ps [])) (sym (any-append test (lines_of_pair true before p (ps ++ [])) (lines_in true (before ++ p ∷ []) ps [])) ∙ h)
+    by_or (list_any test (lines_of_pair true before p (ps ++ [])))
+    (list_any test (lines_in true (before ++ p ∷ []) ps []))
+    (sym (any-append test (lines_of_pair true before p (ps ++ []))
+    (lines_in true (before ++ p ∷ []) ps [])) ∙ h)
     (λ here. record {
       first = [];
       pair = p;
       last = ps;
       place = refl;
-      line = ap (λ (b : List Pair). list_any test (lines_of_pair true b p ps)) (append-nil before) ∙ ap (λ (a : List Pair). list_any test (lines_of_pair true before p a)) (sym (append-nil ps)) ∙ here;
+      line = ap (λ (b : List Pair). list_any test (lines_of_pair true b p ps)) (append-nil before)
+          ∙ ap (λ (a : List Pair). list_any test (lines_of_pair true before p a)) (sym (append-nil ps))
+          ∙ here;
     })
     (λ there. let g = some_line test (before ++ p ∷ []) ps there in record {
       first = p ∷ g.first;
       pair = g.pair;
       last = g.last;
       place = ap (λ (xs : List Pair). p ∷ xs) g.place;
-      line = ap (λ (b : List Pair). list_any test (lines_of_pair true b g.pair g.last)) (sym (append_assoc before (p ∷ []) g.first)) ∙ g.line;
+      line = ap (λ (b : List Pair). list_any test (lines_of_pair true b g.pair g.last))
+          (sym (append_assoc before (p ∷ []) g.first)) ∙ g.line;
     })
 
 -- the line of a refuted model is not that of a check answered otherwise
-answer_cases : (u : Option CheckAnswer) (sat : Bool) (k n : ℕ) (ls : List Line) → list_any is_refuted_line (unchecked_line_or k n u (cond sat ls [])) ≡ true → (sat ≡ true) × (list_any is_refuted_line ls ≡ true)
+answer_cases : (u : Option CheckAnswer) (sat : Bool) (k n : ℕ) (ls : List Line)
+    → list_any is_refuted_line (unchecked_line_or k n u (cond sat ls [])) ≡ true
+    → (sat ≡ true) × (list_any is_refuted_line ls ≡ true)
 answer_cases (Some a) sat k n ls h = absurd (cc)
 answer_cases None true k n ls h = (refl, h)
 answer_cases None false k n ls h = absurd (cc)
@@ -158,34 +202,28 @@ answer_cases None false k n ls h = absurd (cc)
 -- a pair that has the line of a refuted model is a check that was answered sat
 pub record IsRefutedCheck (before : List Pair) (p : Pair) (after : List Pair) : Type 0 where
   pub sat : IsSatCheck p
-  pub line : list_any is_refuted_line (lines_of_sat true (checks_in before + 1) (length before + 1) (signature_after before) (claims_after before) ((length before + 1) + 1) after) ≡ true
+  pub line : list_any is_refuted_line
+      (lines_of_sat true (checks_in before + 1) (length before + 1) (signature_after before)
+      (claims_after before) ((length before + 1) + 1) after) ≡ true
 
-refuted_check : (before : List Pair) (c : Command) (o : Option Sexp) (after : List Pair) → list_any is_refuted_line (lines_of_pair true before (record { command = c; answer = o }) after) ≡ true → IsRefutedCheck before (record { command = c; answer = o }) after
-refuted_check before (SetLogic name) o after h = absurd (cc)
-refuted_check before (SetPrintSuccess on) o after h = absurd (cc)
-refuted_check before (SetGlobalDeclarations on) o after h = absurd (cc)
-refuted_check before (SetOption keyword value) o after h = absurd (cc)
-refuted_check before (SetInfo keyword value) o after h = absurd (cc)
-refuted_check before (DeclareConst x sort) o after h = absurd (cc)
-refuted_check before (DeclareFun x parameters sort) o after h = absurd (cc)
-refuted_check before (DefineFun x parameters sort body) o after h = absurd (cc)
-refuted_check before (DefineSort x sort) o after h = absurd (cc)
-refuted_check before (Assert term) o after h = absurd (cc)
-refuted_check before (Push levels) o after h = absurd (cc)
-refuted_check before (Pop levels) o after h = absurd (cc)
-refuted_check before Reset o after h = absurd (cc)
-refuted_check before ResetAssertions o after h = absurd (cc)
-refuted_check before Exit o after h = absurd (cc)
-refuted_check before (Echo text) o after h = absurd (cc)
-refuted_check before (Get query) o after h = absurd (cc)
-refuted_check before GetModel o after h = absurd (cc)
-refuted_check before CheckSat None after h = absurd (cc)
-refuted_check before CheckSat (Some a) after h =
-    let cases = answer_cases (unchecked_answer a) (is_symbol (codes "sat") a) (checks_in before + 1) (length before + 1) (lines_of_sat true (checks_in before + 1) (length before + 1) (signature_after before) (claims_after before) ((length before + 1) + 1) after) h in
-    record {
-      sat = record { check = refl; answer = a; answered = refl; sat = cases.0 };
-      line = cases.1;
-    }
+refuted_check : (before : List Pair) (p : Pair) (after : List Pair)
+    → list_any is_refuted_line (lines_of_pair true before p after) ≡ true → IsRefutedCheck before p after
+refuted_check before p after h = by (is_check p.command) p.answer refl refl h
+  where
+    by : (b : Bool) (o : Option Sexp) → is_check p.command ≡ b → p.answer ≡ o
+        → list_any is_refuted_line (cond b (lines_of_answer true before (checks_in before + 1) o after) [])
+        ≡ true
+        → IsRefutedCheck before p after
+    by false o is has refuted = absurd (cc)
+    by true None is has refuted = absurd (cc)
+    by true (Some a) is has refuted =
+        let cases = answer_cases (unchecked_answer a) (is_symbol (codes "sat") a) (checks_in before + 1)
+        (length before + 1) (lines_of_sat true (checks_in before + 1) (length before + 1)
+        (signature_after before) (claims_after before) ((length before + 1) + 1) after) refuted in
+        record {
+          sat = record { check = is; answer = a; answered = has; sat = cases.0 };
+          line = cases.1;
+        }
 
 -- the line of a refuted model
 pub record IsRefutedLine (k n g : ℕ) (j : Judgement) (line : Line) : Type 0 where
@@ -196,22 +234,32 @@ pub record IsRefutedLine (k n g : ℕ) (j : Judgement) (line : Line) : Type 0 wh
 some_line_same : {a b : Line} → ◌≡◌ {A = Option Line} (Some a) (Some b) → a ≡ b
 some_line_same h = cc
 
-refuted_judgement : (k n g : ℕ) (j : Judgement) (line : Line) → line_of_judgement k n g j ≡ Some line → is_refuted_line line ≡ true → IsRefutedLine k n g j line
-refuted_judgement k n g (judgements.Refuted a) line h r = record { claim = a; found = refl; line_is = sym (some_line_same h) }
-refuted_judgement k n g (judgements.ItemFault i f) line h r = let e = ap is_refuted_line (some_line_same h) ∙ r in absurd (cc)
-refuted_judgement k n g (judgements.Lacks d) line h r = let e = ap is_refuted_line (some_line_same h) ∙ r in absurd (cc)
-refuted_judgement k n g (judgements.NotDecided a) line h r = let e = ap is_refuted_line (some_line_same h) ∙ r in absurd (cc)
+refuted_judgement : (k n g : ℕ) (j : Judgement) (line : Line) → line_of_judgement k n g j ≡ Some line
+    → is_refuted_line line ≡ true → IsRefutedLine k n g j line
+refuted_judgement k n g (judgements.Refuted a) line h r =
+    record { claim = a; found = refl; line_is = sym (some_line_same h) }
+refuted_judgement k n g (judgements.ItemFault i f) line h r = let e =
+    ap is_refuted_line (some_line_same h) ∙ r in absurd (cc)
+refuted_judgement k n g (judgements.Lacks d) line h r = let e =
+    ap is_refuted_line (some_line_same h) ∙ r in absurd (cc)
+refuted_judgement k n g (judgements.NotDecided a) line h r = let e =
+    ap is_refuted_line (some_line_same h) ∙ r in absurd (cc)
 refuted_judgement k n g judgements.Confirmed line h r = absurd (cc)
 
 -- the model that has the line
-pub record HasModel (k n : ℕ) (names : Signature) (as' : List Claimed) (ms : List Printed) (line : Line) : Type 0 where
+pub record HasModel (k n : ℕ) (names : Signature) (as' : List Claimed) (ms : List Printed) (line : Line)
+    : Type 0 where
   pub first : List Printed
   pub model : Printed
   pub last : List Printed
   pub place : ms ≡ first ++ model ∷ last
   pub refuted : IsRefutedLine k n model.command (judgement_of names as' model.parts) line
 
-first_model : (k n : ℕ) (names : Signature) (as' : List Claimed) (m : Printed) (ms : List Printed) (line : Line) (l : Option Line) → line_of_judgement k n m.command (judgement_of names as' m.parts) ≡ l → is_refuted_line line ≡ true → (unconfirmed_line k n names as' ms ≡ Some line → HasModel k n names as' ms line) → option_or l (unconfirmed_line k n names as' ms) ≡ Some line → HasModel k n names as' (m ∷ ms) line
+first_model : (k n : ℕ) (names : Signature) (as' : List Claimed) (m : Printed) (ms : List Printed)
+    (line : Line) (l : Option Line) → line_of_judgement k n m.command (judgement_of names as' m.parts) ≡ l
+    → is_refuted_line line ≡ true
+    → (unconfirmed_line k n names as' ms ≡ Some line → HasModel k n names as' ms line)
+    → option_or l (unconfirmed_line k n names as' ms) ≡ Some line → HasModel k n names as' (m ∷ ms) line
 first_model k n names as' m ms line None is r later h = let g = later h in record {
   first = m ∷ g.first;
   model = g.model;
@@ -227,22 +275,29 @@ first_model k n names as' m ms line (Some other) is r later h = record {
   refuted = refuted_judgement k n m.command (judgement_of names as' m.parts) line (is ∙ h) r;
 }
 
-refuted_model : (k n : ℕ) (names : Signature) (as' : List Claimed) (ms : List Printed) (line : Line) → is_refuted_line line ≡ true → unconfirmed_line k n names as' ms ≡ Some line → HasModel k n names as' ms line
+refuted_model : (k n : ℕ) (names : Signature) (as' : List Claimed) (ms : List Printed) (line : Line)
+    → is_refuted_line line ≡ true → unconfirmed_line k n names as' ms ≡ Some line
+    → HasModel k n names as' ms line
 refuted_model k n names as' [] line r h = absurd (cc)
 refuted_model k n names as' (m ∷ ms) line r h =
-    first_model k n names as' m ms line (line_of_judgement k n m.command (judgement_of names as' m.parts)) refl r (refuted_model k n names as' ms line r) h
+    first_model k n names as' m ms line (line_of_judgement k n m.command (judgement_of names as' m.parts))
+    refl r (refuted_model k n names as' ms line r) h
 
 or_false_true : (b : Bool) → b || false ≡ true → b ≡ true
 or_false_true true h = refl
 or_false_true false h = cc
 
 -- a check with the line of a refuted model
-pub record HasRefuted (k n : ℕ) (names : Signature) (as' : List Claimed) (ms : List Printed) (ls : List Line) : Type 0 where
+pub record HasRefuted (k n : ℕ) (names : Signature) (as' : List Claimed) (ms : List Printed) (ls : List Line)
+    : Type 0 where
   pub line : Line
   pub model : HasModel k n names as' ms line
   pub lines_are : ls ≡ line ∷ []
 
-sat_refuted : (k n : ℕ) (names : Signature) (as' : List Claimed) (ms : List Printed) (some : Bool) (l : Option Line) → unconfirmed_line k n names as' ms ≡ l → list_any is_refuted_line (sat_lines k n l some true) ≡ true → HasRefuted k n names as' ms (sat_lines k n l some true)
+sat_refuted : (k n : ℕ) (names : Signature) (as' : List Claimed) (ms : List Printed) (some : Bool)
+    (l : Option Line) → unconfirmed_line k n names as' ms ≡ l
+    → list_any is_refuted_line (sat_lines k n l some true) ≡ true
+    → HasRefuted k n names as' ms (sat_lines k n l some true)
 sat_refuted k n names as' ms some (Some line) is h = record {
   line = line;
   model = refuted_model k n names as' ms line (or_false_true (is_refuted_line line) h) is;
@@ -261,8 +316,12 @@ pub record HasFirst (test : Sexp → Bool) (as' : List Assertion) (claim : Claim
   pub claim_is : claims.Assertion assertion.command ≡ claim
   pub passes : test assertion.term ≡ true
 
-pick : (test : Sexp → Bool) (a : Assertion) (as' : List Assertion) (claim : Claim) (b : Bool) → test a.term ≡ b → (first_claim test (claims_of as') ≡ Some claim → HasFirst test as' claim) → cond b (Some (claims.Assertion a.command)) (first_claim test (claims_of as')) ≡ Some claim → HasFirst test (a ∷ as') claim
-pick test a as' claim true is later h = record { first = []; assertion = a; last = as'; place = refl; claim_is = cc; passes = is }
+pick : (test : Sexp → Bool) (a : Assertion) (as' : List Assertion) (claim : Claim) (b : Bool)
+    → test a.term ≡ b → (first_claim test (claims_of as') ≡ Some claim → HasFirst test as' claim)
+    → cond b (Some (claims.Assertion a.command)) (first_claim test (claims_of as')) ≡ Some claim
+    → HasFirst test (a ∷ as') claim
+pick test a as' claim true is later h =
+    record { first = []; assertion = a; last = as'; place = refl; claim_is = cc; passes = is }
 pick test a as' claim false is later h = let g = later h in record {
   first = a ∷ g.first;
   assertion = g.assertion;
@@ -272,54 +331,73 @@ pick test a as' claim false is later h = let g = later h in record {
   passes = g.passes;
 }
 
-first_some : (test : Sexp → Bool) (as' : List Assertion) (claim : Claim) → first_claim test (claims_of as') ≡ Some claim → HasFirst test as' claim
+first_some : (test : Sexp → Bool) (as' : List Assertion) (claim : Claim)
+    → first_claim test (claims_of as') ≡ Some claim → HasFirst test as' claim
 first_some test [] claim h = absurd (cc)
 first_some test (a ∷ as') claim h = pick test a as' claim (test a.term) refl (first_some test as' claim) h
 
-open_not_refuted : {P : Type 0} (o : Option Claim) (claim : Claim) → open_or_confirmed o ≡ judgements.Refuted claim → P
+open_not_refuted : {P : Type 0} (o : Option Claim) (claim : Claim)
+    → open_or_confirmed o ≡ judgements.Refuted claim → P
 open_not_refuted None claim h = absurd (cc)
 open_not_refuted (Some m) claim h = absurd (cc)
 
-refuted_first : (f o : Option Claim) (claim : Claim) → refuted_or f o ≡ judgements.Refuted claim → f ≡ Some claim
+refuted_first : (f o : Option Claim) (claim : Claim) → refuted_or f o ≡ judgements.Refuted claim
+    → f ≡ Some claim
 refuted_first (Some m) o claim h = cc
 refuted_first None o claim h = open_not_refuted o claim h
 
 -- a model that is refuted has definitions over which the assertion is false
-refuted_over : (script : Signature) (as' : List Assertion) (r : Result Signature ModelFault) (claim : Claim) → judged_in script (claims_of as') r ≡ judgements.Refuted claim
+refuted_over : (script : Signature) (as' : List Assertion) (r : Result Signature ModelFlaw) (claim : Claim)
+    → judged_in script (claims_of as') r ≡ judgements.Refuted claim
     → (d : Signature) × (r ≡ Ok d) × HasFirst (is_false_over (structure_of script d)) as' claim
 refuted_over script as' (Ok d) claim h =
-    let s = structure_of script d in
-    (d, refl, first_some (is_false_over s) as' claim (refuted_first (first_claim (is_false_over s) (claims_of as')) (first_claim (is_open_over s) (claims_of as')) claim h))
+    let s = structure_of script d in (
+      d,
+      refl,
+      first_some (is_false_over s) as' claim
+          (refuted_first (first_claim (is_false_over s) (claims_of as'))
+          (first_claim (is_open_over s) (claims_of as')) claim h),
+    )
 refuted_over script as' (Err (faults.Item i f)) claim h = absurd (cc)
 refuted_over script as' (Err (faults.Lacks m)) claim h = absurd (cc)
-refuted_over script as' (Err faults.Memory) claim h = absurd (cc)
 
 -- ## The meaning of an invalid verdict
 
 -- where the line stands in the report
-line_place : (l1 l2 end : List Line) (line : Line) → (l1 ++ (line ∷ [] ++ l2)) ++ end ≡ l1 ++ line ∷ (l2 ++ end)
+line_place : (l1 l2 end : List Line) (line : Line)
+    → (l1 ++ (line ∷ [] ++ l2)) ++ end ≡ l1 ++ line ∷ (l2 ++ end)
 line_place l1 l2 end line = append_assoc l1 (line ∷ l2) end
 
-pub invalid_means : Laws → (options : Options) (script answers : List ℕ) (st at' : TextSoFar) (ls : List Line) (v : Verdict) → IsRead true script st → IsRead true answers at' → IsJudged options.print_success st at' ls v → v ≡ Invalid → IsInvalid options script answers ls
+pub invalid_means : Laws
+    → (options : Options) (script answers : List ℕ) (st at' : TextSoFar) (ls : List Line) (v : Verdict)
+    → IsRead true script st → IsRead true answers at' → IsJudged options.print_success st at' ls v
+    → v ≡ Invalid → IsInvalid options script answers ls
 invalid_means laws options script answers st at' ls v rs ra judged h =
     let j = judged.lines_are in
     let mine = lines_in true [] j.pairs [] in
-    let tests = invalid_lines (mine ++ lines_of_end j.fault) (sym (verdict_of_lines v ls (mine ++ lines_of_end j.fault) judged.verdict_is j.lines_are) ∙ h) in
+    let tests = invalid_lines (mine ++ lines_of_end j.fault)
+    (sym (verdict_of_lines v ls (mine ++ lines_of_end j.fault) judged.verdict_is j.lines_are) ∙ h) in
     let whole = fully_paired options script answers st at' ls rs ra j tests.0 in
-    let no_fault : mine ++ lines_of_end j.fault ≡ mine = ap (λ (f : Option Line). mine ++ lines_of_end f) whole.1 ∙ append-nil mine in
-    let at_pair = some_line is_refuted_line [] j.pairs (ap (list_any is_refuted_line) (sym no_fault) ∙ tests.1) in
+    let no_fault : mine ++ lines_of_end j.fault ≡ mine =
+    ap (λ (f : Option Line). mine ++ lines_of_end f) whole.1 ∙ append-nil mine in
+    let at_pair = some_line is_refuted_line [] j.pairs
+    (ap (list_any is_refuted_line) (sym no_fault) ∙ tests.1) in
     let before = at_pair.first in
     let p = at_pair.pair in
-    let check : IsRefutedCheck before p at_pair.last = refuted_check before p.command p.answer at_pair.last at_pair.line in
+    let check : IsRefutedCheck before p at_pair.last =
+    refuted_check before p at_pair.last at_pair.line in
     let k = checks_in before + 1 in
     let n = length before + 1 in
     let names = signature_after before in
     let assertions = assertions_after before in
     let claimed = claims_after before in
     let ms = models_from (n + 1) (window at_pair.last) in
-    let found = sat_refuted k n names claimed ms (not (is_empty ms)) (unconfirmed_line k n names claimed ms) refl check.line in
-    let over = refuted_over names assertions (model_in names found.model.model.parts) found.model.refuted.claim found.model.refuted.found in
-    let standing = laws.found (effective_commands before) over.2.first over.2.last over.2.assertion over.2.place in
+    let found = sat_refuted k n names claimed ms (not (is_empty ms)) (unconfirmed_line k n names claimed ms)
+    refl check.line in
+    let over = refuted_over names assertions (model_in names found.model.model.parts)
+    found.model.refuted.claim found.model.refuted.found in
+    let standing = laws.found (effective_commands before)
+    over.2.first over.2.last over.2.assertion over.2.place in
     let source = comes_from before standing.0 standing.1 over.2.assertion standing.2 standing.3 standing.4 in
     let asserted = source.asserted in
     let q = asserted.pair in
@@ -328,9 +406,15 @@ invalid_means laws options script answers st at' ls v rs ra judged h =
     let claim = claims.Assertion (length source.earlier + 1) in
     let line = lines.Refuted k n found.model.model.command claim in
     let same : found.model.refuted.claim ≡ claim = sym over.2.claim_is ∙ ap claims.Assertion source.number in
-    let far : j.pairs ≡ source.earlier ++ q ∷ (asserted.between ++ p ∷ at_pair.last) = at_pair.place ∙ ap (λ (b : List Pair). b ++ p ∷ at_pair.last) asserted.place ∙ append_assoc source.earlier (q ∷ asserted.between) (p ∷ at_pair.last) in
-    let here : lines_of_pair true before p at_pair.last ≡ line ∷ [] = lines_of_sat_at before at_pair.last p check.sat ∙ found.lines_are ∙ ap (λ (l : Line). l ∷ []) found.model.refuted.line_is ∙ ap (λ (c : Claim). lines.Refuted k n found.model.model.command c ∷ []) same in
-    let end : List Line = lines.Verdict (verdict_of (mine ++ lines_of_end j.fault)) (tally_of (mine ++ lines_of_end j.fault)) ∷ [] in
+    let far : j.pairs ≡ source.earlier ++ q ∷ (asserted.between ++ p ∷ at_pair.last) =
+    at_pair.place ∙ ap (λ (b : List Pair). b ++ p ∷ at_pair.last) asserted.place
+    ∙ append_assoc source.earlier (q ∷ asserted.between) (p ∷ at_pair.last) in
+    let here : lines_of_pair true before p at_pair.last ≡ line ∷ [] =
+    lines_of_sat_at before at_pair.last p check.sat ∙ found.lines_are
+    ∙ ap (λ (l : Line). l ∷ []) found.model.refuted.line_is
+    ∙ ap (λ (c : Claim). lines.Refuted k n found.model.model.command c ∷ []) same in
+    let end : List Line = lines.Verdict (verdict_of (mine ++ lines_of_end j.fault))
+    (tally_of (mine ++ lines_of_end j.fault)) ∷ [] in
     record {
       pairs = j.pairs;
       paired = whole.0;
@@ -345,32 +429,52 @@ invalid_means laws options script answers st at' ls v rs ra judged h =
       models = ap (λ (i : ℕ). models_from i (window at_pair.last)) (omega arith) ∙ found.model.place;
       definitions = over.0;
       model_of = laws.complete names found.model.model.parts over.0 over.1;
-      structure = structure_behind laws.introduced laws.structures before (p ∷ at_pair.last) found.model.model.parts over.0 (subst (AreFaultless []) at_pair.place j.ends.paired.faultless) over.1;
+      structure = structure_behind laws.introduced laws.structures before (p ∷ at_pair.last)
+          found.model.model.parts over.0 (subst (AreFaultless []) at_pair.place j.ends.paired.faultless)
+          over.1;
       claim = claim;
       earlier = source.earlier;
       term = over.2.assertion.term;
       claimed = (asserted, refl);
-      sorted = asserted_formula source.earlier q over.2.assertion.term asserted.command asserted.effective (faultless_at [] source.earlier q (asserted.between ++ p ∷ at_pair.last) (subst (AreFaultless []) far j.ends.paired.faultless));
-      false_in = λ z. closed_value laws z (structure_at over.0 before) over.2.assertion.term (Truth false) (is_false_value (known_over (structure_at over.0 before) over.2.assertion.term) over.2.passes);
+      sorted = asserted_formula source.earlier q over.2.assertion.term asserted.command asserted.effective
+          (faultless_at [] source.earlier q (asserted.between ++ p ∷ at_pair.last)
+          (subst (AreFaultless []) far j.ends.paired.faultless));
+      false_in = λ z. closed_value laws z (structure_at over.0 before) over.2.assertion.term (Truth false)
+          (is_false_value (known_over (structure_at over.0 before) over.2.assertion.term) over.2.passes);
       lines_before = l1;
       lines_after = l2 ++ end;
       line = j.lines_are
-          ∙ ap (λ (x : List Line). x ++ end) (no_fault ∙ ap (λ (ps : List Pair). lines_in true [] ps []) at_pair.place ∙ lines_at before p at_pair.last ∙ ap (λ (x : List Line). l1 ++ (x ++ l2)) here)
+          ∙ ap (λ (x : List Line). x ++ end)
+          (no_fault ∙ ap (λ (ps : List Pair). lines_in true [] ps []) at_pair.place
+          ∙ lines_at before p at_pair.last ∙ ap (λ (x : List Line). l1 ++ (x ++ l2)) here)
           ∙ line_place l1 l2 end line;
     }
 
 -- ## What a call answered
 
-pub valid_answer : Laws → OneForest → (r : Result Report Memory) (options : Options) (script answers : List ℕ) (st at' : TextSoFar) → IsRead true script st → IsRead true answers at' → IfOk r (λ x. IsJudged options.print_success st at' x.lines.items x.verdict) → IfOk r (λ x. x.verdict ≡ Valid → IsValid options script answers)
-valid_answer laws one (Ok x) options script answers st at' rs ra j = valid_means laws one options script answers st at' x.lines.items x.verdict rs ra j
+pub valid_answer : Laws → OneForest
+    → (r : Result Report Memory) (options : Options) (script answers : List ℕ) (st at' : TextSoFar)
+    → IsRead true script st → IsRead true answers at'
+    → IfOk r (λ x. IsJudged options.print_success st at' x.lines.items x.verdict)
+    → IfOk r (λ x. x.verdict ≡ Valid → IsValid options script answers)
+valid_answer laws one (Ok x) options script answers st at' rs ra j =
+    valid_means laws one options script answers st at' x.lines.items x.verdict rs ra j
 valid_answer laws one (Err e) options script answers st at' rs ra j = tt
 
-pub invalid_answer : Laws → (r : Result Report Memory) (options : Options) (script answers : List ℕ) (st at' : TextSoFar) → IsRead true script st → IsRead true answers at' → IfOk r (λ x. IsJudged options.print_success st at' x.lines.items x.verdict) → IfOk r (λ x. x.verdict ≡ Invalid → IsInvalid options script answers x.lines.items)
-invalid_answer laws (Ok x) options script answers st at' rs ra j = invalid_means laws options script answers st at' x.lines.items x.verdict rs ra j
+pub invalid_answer : Laws
+    → (r : Result Report Memory) (options : Options) (script answers : List ℕ) (st at' : TextSoFar)
+    → IsRead true script st → IsRead true answers at'
+    → IfOk r (λ x. IsJudged options.print_success st at' x.lines.items x.verdict)
+    → IfOk r (λ x. x.verdict ≡ Invalid → IsInvalid options script answers x.lines.items)
+invalid_answer laws (Ok x) options script answers st at' rs ra j =
+    invalid_means laws options script answers st at' x.lines.items x.verdict rs ra j
 invalid_answer laws (Err e) options script answers st at' rs ra j = tt
 
 -- a report that was judged is one of the texts
-pub report_answer : (r : Result Report Memory) (options : Options) (script answers : List ℕ) (st at' : TextSoFar) → IsRead true script st → IsRead true answers at' → IfOk r (λ x. IsJudged options.print_success st at' x.lines.items x.verdict) → IfOk r (λ x. IsReport options script answers x.lines.items)
+pub report_answer : (r : Result Report Memory) (options : Options) (script answers : List ℕ)
+    (st at' : TextSoFar) → IsRead true script st → IsRead true answers at'
+    → IfOk r (λ x. IsJudged options.print_success st at' x.lines.items x.verdict)
+    → IfOk r (λ x. IsReport options script answers x.lines.items)
 report_answer (Ok x) options script answers st at' rs ra j = record {
   script_text = st;
   script_read = rs;
@@ -381,6 +485,8 @@ report_answer (Ok x) options script answers st at' rs ra j = record {
 report_answer (Err e) options script answers st at' rs ra j = tt
 
 -- and its verdict is that of its lines
-pub verdict_answer : (r : Result Report Memory) (start : Bool) (st at' : TextSoFar) → IfOk r (λ x. IsJudged start st at' x.lines.items x.verdict) → IfOk r (λ x. IsVerdictOf x.verdict x.lines.items)
+pub verdict_answer : (r : Result Report Memory) (start : Bool) (st at' : TextSoFar)
+    → IfOk r (λ x. IsJudged start st at' x.lines.items x.verdict)
+    → IfOk r (λ x. IsVerdictOf x.verdict x.lines.items)
 verdict_answer (Ok x) start st at' j = j.verdict_is
 verdict_answer (Err e) start st at' j = tt

@@ -1,24 +1,23 @@
 -- What the verdicts may not be.
-use Rattle.std.proofs.Common.{◌≡◌, ◌+◌, ℕ, Bool, true, false, List, [], ◌∷◌, ◌++◌, length, Result, Ok, Err, refl, ap, sym, ◌∙◌, subst}
+use Rattle.std.proofs.Common.{◌≡◌, ◌+◌, ℕ, true, false, List, [], ◌∷◌, ◌++◌, length, Result, Ok, Err}
+use Rattle.std.proofs.Common.{refl, ap, sym, ◌∙◌, subst}
 use Rattle.std.specs.List.{AllByRecursion}
-use Rattle.smt_text.specs.Grammar.{Forest, limit}
 use Rattle.smt_trees.specs.Sexp.{Sexp, Sexps, Nil}
-use Rattle.smt_theory.specs.declared.sort.Sort.{Sort}
 use Rattle.smt_theory.specs.declared.sort.Sort.TheVariants.{Bool as Boolean}
 use Rattle.smt_values.specs.Element.{Element, Truth}
 use Rattle.smt_values.specs.Operations.{DivisionByZero}
 use Rattle.smt_terms.specs.Checking.{sort_in}
 use Rattle.smt_terms.specs.Signature.{Signature, in_assertion, names_of}
-use Rattle.smt_faults.specs.declared.term_fault.TermFault.{TermFault}
 use Rattle.smt_eval.specs.CompleteModel.{IsModelOf}
 use Rattle.smt_eval.specs.Meaning.{value_over}
 use Rattle.smt_eval.specs.Model.{model_in}
 use Rattle.smt_eval.specs.Structure.{IsStructure}
-use Rattle.smt_eval.specs.declared.interpretation.ModelFault.{ModelFault}
+use Rattle.smt_eval.specs.declared.model_fault.ModelFlaw.{ModelFlaw}
 use Rattle.smt_dialogue.proofs.ConfirmedLemmas.{asserted_by}
 use Rattle.smt_dialogue.specs.InForce.{signature_after}
 use Rattle.smt_dialogue.specs.Pairs.{Pair, checks_in}
-use Rattle.smt_dialogue.specs.Validity.{IsAsserted, IsClaimed, IsConfirmed, IsFullyPaired, IsInvalid, IsSatCheck, IsTrueModel, IsValid}
+use Rattle.smt_dialogue.specs.Validity.{IsAsserted, IsClaimed, IsConfirmed, IsFullyPaired, IsInvalid}
+use Rattle.smt_dialogue.specs.Validity.{IsTrueModel, IsValid}
 use Rattle.smt_dialogue.specs.VerdictLaws.{IsModelIn, IsSatOf}
 use Rattle.smt_dialogue.specs.Window.{Printed, models_from, structure_at, window}
 use Rattle.smt_dialogue.specs.declared.options.Options.{Options}
@@ -30,66 +29,101 @@ use Rattle.smt_report.specs.declared.line.Line.TheVariants.{Refuted}
 -- ## Valid
 
 -- the pairs of a valid dialogue are all its pairs
-valid_pairs : (options : Options) (script answers : List ℕ) (pairs : List Pair) → (v : IsValid options script answers) → IsFullyPaired options script answers pairs → v.pairs ≡ pairs
-valid_pairs options script answers pairs v w = sym (v.only pairs w.script_trees w.answer_trees Nil w.script_forest w.answers_forest w.pairing).0
+valid_pairs : (options : Options) (script answers : List ℕ) (pairs : List Pair)
+    → (v : IsValid options script answers) → IsFullyPaired options script answers pairs → v.pairs ≡ pairs
+valid_pairs options script answers pairs v w =
+    sym (v.only pairs w.script_trees w.answer_trees Nil w.script_forest w.answers_forest w.pairing).0
 
 -- so a check among them is confirmed
-confirmed : (options : Options) (script answers : List ℕ) (before : List Pair) (check : Pair) (after : List Pair) → IsSatOf options script answers before check after → IsValid options script answers → IsConfirmed before check after
+confirmed : (options : Options) (script answers : List ℕ) (before : List Pair) (check : Pair)
+    (after : List Pair) → IsSatOf options script answers before check after → IsValid options script answers
+    → IsConfirmed before check after
 confirmed options script answers before check after c v =
-    v.confirmed before after check (valid_pairs options script answers (before ++ check ∷ after) v c.paired) c.sat
+    v.confirmed before after check (valid_pairs options script answers (before ++ check ∷ after) v c.paired)
+    c.sat
 
-all_at : {A : Type 0} (P : A → Type 0) (xs : List A) (x : A) (ys : List A) → AllByRecursion P (xs ++ x ∷ ys) → P x
+all_at : {A : Type 0} (P : A → Type 0) (xs : List A) (x : A) (ys : List A) → AllByRecursion P (xs ++ x ∷ ys)
+    → P x
 all_at P [] x ys h = h.0
 all_at P (y ∷ xs) x ys h = all_at P xs x ys h.1
 
 -- each of its models is a true one
-true_model : (options : Options) (script answers : List ℕ) (before : List Pair) (check : Pair) (after : List Pair) (m : Printed) → IsSatOf options script answers before check after → IsModelIn before after m → IsValid options script answers → IsTrueModel before check m.parts
+true_model : (options : Options) (script answers : List ℕ) (before : List Pair) (check : Pair)
+    (after : List Pair) (m : Printed) → IsSatOf options script answers before check after
+    → IsModelIn before after m → IsValid options script answers → IsTrueModel before check m.parts
 true_model options script answers before check after m c i v =
     let g = confirmed options script answers before check after c v in
-    all_at (λ (n : Printed). IsTrueModel before check n.parts) i.first m i.last (subst (AllByRecursion (λ (n : Printed). IsTrueModel before check n.parts)) (sym g.models ∙ i.models) g.true_models)
+    all_at (λ (n : Printed). IsTrueModel before check n.parts) i.first m i.last
+    (subst (AllByRecursion (λ (n : Printed). IsTrueModel before check n.parts)) (sym g.models ∙ i.models)
+    g.true_models)
 
-pub without_model : (options : Options) (script answers : List ℕ) (before : List Pair) (check : Pair) (after : List Pair) → IsSatOf options script answers before check after → models_from (length before + 2) (window after) ≡ [] → IsValid options script answers → ⊥
+pub without_model : (options : Options) (script answers : List ℕ) (before : List Pair) (check : Pair)
+    (after : List Pair) → IsSatOf options script answers before check after
+    → models_from (length before + 2) (window after) ≡ [] → IsValid options script answers → ⊥
 without_model options script answers before check after c none v =
     let g = confirmed options script answers before check after c v in
     let bad : [] ≡ g.first ∷ g.others = sym none ∙ g.models in
     cc
 
-pub with_faulty : (options : Options) (script answers : List ℕ) (before : List Pair) (check : Pair) (after : List Pair) (m : Printed) (fault : ModelFault) → IsSatOf options script answers before check after → IsModelIn before after m
+pub with_faulty : (options : Options) (script answers : List ℕ) (before : List Pair) (check : Pair)
+    (after : List Pair) (m : Printed) (fault : ModelFlaw) → IsSatOf options script answers before check after
+    → IsModelIn before after m
     → model_in (signature_after before) m.parts ≡ Err fault → IsValid options script answers → ⊥
 with_faulty options script answers before check after m fault c i faulty v =
     let one = true_model options script answers before check after m c i v in
-    let bad : ◌≡◌ {A = Result Signature ModelFault} (Ok one.definitions) (Err fault) = sym one.model.read ∙ faulty in
+    let bad : ◌≡◌ {A = Result Signature ModelFlaw} (Ok one.definitions) (Err fault) =
+    sym one.model.read ∙ faulty in
     cc
 
 -- an assertion in force, as what the check claims
-claimed : (before earlier : List Pair) (check : Pair) (term : Sexp) → IsAsserted before earlier term → IsClaimed before check (Assertion (length earlier + 1)) earlier term
+claimed : (before earlier : List Pair) (check : Pair) (term : Sexp) → IsAsserted before earlier term
+    → IsClaimed before check (Assertion (length earlier + 1)) earlier term
 claimed before earlier check term asserted = (asserted, refl)
 
-pub with_ill_sorted : (options : Options) (script answers : List ℕ) (before : List Pair) (check : Pair) (after earlier : List Pair) (term : Sexp) → IsSatOf options script answers before check after → IsAsserted before earlier term
-    → (sort_in (in_assertion (names_of (signature_after earlier))) [] term ≡ Ok Boolean → ⊥) → IsValid options script answers → ⊥
+pub with_ill_sorted : (options : Options) (script answers : List ℕ) (before : List Pair) (check : Pair)
+    (after earlier : List Pair) (term : Sexp) → IsSatOf options script answers before check after
+    → IsAsserted before earlier term
+    → (sort_in (in_assertion (names_of (signature_after earlier))) [] term ≡ Ok Boolean → ⊥)
+    → IsValid options script answers → ⊥
 with_ill_sorted options script answers before check after earlier term c asserted ill v =
     let g = confirmed options script answers before check after c v in
-    ill (g.true_models.0.sorted (Assertion (length earlier + 1)) earlier term (claimed before earlier check term asserted))
+    ill (g.true_models.0.sorted (Assertion (length earlier + 1)) earlier term
+    (claimed before earlier check term asserted))
 
 -- the definitions of a model are those that it has
-same_definitions : (script : Signature) (parts : Sexps) (d e : Signature) → model_in script parts ≡ Ok d → model_in script parts ≡ Ok e → d ≡ e
-same_definitions script parts d e f g = let both : ◌≡◌ {A = Result Signature ModelFault} (Ok d) (Ok e) = sym f ∙ g in cc
+same_definitions : (script : Signature) (parts : Sexps) (d e : Signature) → model_in script parts ≡ Ok d
+    → model_in script parts ≡ Ok e → d ≡ e
+same_definitions script parts d e f g = let both : ◌≡◌ {A = Result Signature ModelFlaw} (Ok d) (Ok e) =
+    sym f ∙ g in cc
 
-pub structures_of : (options : Options) (script answers : List ℕ) (before : List Pair) (check : Pair) (after : List Pair) (m : Printed) (definitions : Signature) → IsSatOf options script answers before check after → IsModelIn before after m
-    → model_in (signature_after before) m.parts ≡ Ok definitions → IsValid options script answers → IsModelOf (signature_after before) m.parts definitions × IsStructure (structure_at definitions before)
+pub structures_of : (options : Options) (script answers : List ℕ) (before : List Pair) (check : Pair)
+    (after : List Pair) (m : Printed) (definitions : Signature)
+    → IsSatOf options script answers before check after → IsModelIn before after m
+    → model_in (signature_after before) m.parts ≡ Ok definitions → IsValid options script answers
+    → IsModelOf (signature_after before) m.parts definitions
+    × IsStructure (structure_at definitions before)
 structures_of options script answers before check after m definitions c i read v =
     let one = true_model options script answers before check after m c i v in
-    let same = same_definitions (signature_after before) m.parts one.definitions definitions one.model.read read in (
+    let same = same_definitions (signature_after before)
+    m.parts one.definitions definitions one.model.read read in (
       subst (IsModelOf (signature_after before) m.parts) same one.model,
       subst (λ (d : Signature). IsStructure (structure_at d before)) same one.structure,
     )
 
-pub with_untrue : (options : Options) (script answers : List ℕ) (before : List Pair) (check : Pair) (after : List Pair) (m : Printed) (definitions : Signature) (earlier : List Pair) (term : Sexp) (z : DivisionByZero) → IsSatOf options script answers before check after → IsModelIn before after m
-    → model_in (signature_after before) m.parts ≡ Ok definitions → IsAsserted before earlier term → (value_over z (structure_at definitions before) [] term ≡ Truth true → ⊥) → IsValid options script answers → ⊥
-with_untrue options script answers before check after m definitions earlier term z c i read asserted untrue v =
+pub with_untrue : (options : Options) (script answers : List ℕ) (before : List Pair) (check : Pair)
+    (after : List Pair) (m : Printed) (definitions : Signature) (earlier : List Pair) (term : Sexp)
+    (z : DivisionByZero) → IsSatOf options script answers before check after → IsModelIn before after m
+    → model_in (signature_after before) m.parts ≡ Ok definitions → IsAsserted before earlier term
+    → (value_over z (structure_at definitions before) [] term ≡ Truth true → ⊥)
+    → IsValid options script answers → ⊥
+with_untrue options script answers before check after m definitions earlier term z c i read asserted untrue v
+    =
     let one = true_model options script answers before check after m c i v in
-    let same = same_definitions (signature_after before) m.parts one.definitions definitions one.model.read read in
-    untrue (ap (λ (d : Signature). value_over z (structure_at d before) [] term) (sym same) ∙ one.true_in z (Assertion (length earlier + 1)) earlier term (claimed before earlier check term asserted))
+    let same = same_definitions (signature_after before)
+    m.parts one.definitions definitions one.model.read read in
+    untrue (ap (λ (d : Signature). value_over z (structure_at d before) [] term) (sym same)
+    ∙ one.true_in z (Assertion (length earlier + 1)) earlier term
+    (claimed before earlier check term asserted))
 
 -- ## Invalid
 
@@ -97,27 +131,42 @@ not_true : (t : Element) → t ≡ Truth false → t ≡ Truth true → ⊥
 not_true t a b = let bad : Truth true ≡ Truth false = sym b ∙ a in let worse : true ≡ false = cc in cc
 
 -- the check that an invalid dialogue has
-refuted_sat : (options : Options) (script answers : List ℕ) (ls : List Line) → (i : IsInvalid options script answers ls) → IsSatOf options script answers i.before i.check i.after
-refuted_sat options script answers ls i = record { paired = subst (IsFullyPaired options script answers) i.place i.paired; sat = i.sat }
+refuted_sat : (options : Options) (script answers : List ℕ) (ls : List Line)
+    → (i : IsInvalid options script answers ls) → IsSatOf options script answers i.before i.check i.after
+refuted_sat options script answers ls i =
+    record { paired = subst (IsFullyPaired options script answers) i.place i.paired; sat = i.sat }
 
-refuted_model : (options : Options) (script answers : List ℕ) (ls : List Line) → (i : IsInvalid options script answers ls) → IsModelIn i.before i.after i.model
-refuted_model options script answers ls i = record { first = i.models_before; last = i.models_after; models = i.models }
+refuted_model : (options : Options) (script answers : List ℕ) (ls : List Line)
+    → (i : IsInvalid options script answers ls) → IsModelIn i.before i.after i.model
+refuted_model options script answers ls i =
+    record { first = i.models_before; last = i.models_after; models = i.models }
 
-pub not_both : (options : Options) (script answers : List ℕ) (ls : List Line) → IsValid options script answers → IsInvalid options script answers ls → ⊥
+pub not_both : (options : Options) (script answers : List ℕ) (ls : List Line) → IsValid options script answers
+    → IsInvalid options script answers ls → ⊥
 not_both options script answers ls v i =
     let z : DivisionByZero = record { quotients = []; remainders = [] } in
-    with_untrue options script answers i.before i.check i.after i.model i.definitions i.earlier i.term z (refuted_sat options script answers ls i) (refuted_model options script answers ls i)
-    i.model_of.read (asserted_by i.before i.check i.claim i.earlier i.term i.claimed) (not_true (value_over z (structure_at i.definitions i.before) [] i.term) (i.false_in z)) v
+    with_untrue options script answers i.before i.check i.after i.model i.definitions i.earlier i.term z
+    (refuted_sat options script answers ls i) (refuted_model options script answers ls i)
+    i.model_of.read (asserted_by i.before i.check i.claim i.earlier i.term i.claimed)
+    (not_true (value_over z (structure_at i.definitions i.before) [] i.term) (i.false_in z)) v
 
 -- the claim of an assertion is that of its command
-claim_is : (before : List Pair) (check : Pair) (claim : Claim) (earlier : List Pair) (term : Sexp) → IsClaimed before check claim earlier term → claim ≡ Assertion (length earlier + 1)
+claim_is : (before : List Pair) (check : Pair) (claim : Claim) (earlier : List Pair) (term : Sexp)
+    → IsClaimed before check claim earlier term → claim ≡ Assertion (length earlier + 1)
 claim_is before check (Assertion command) earlier term h = ap Assertion h.1
 
-pub what_is_false : (options : Options) (script answers : List ℕ) (ls : List Line) → IsInvalid options script answers ls
-    → (before : List Pair) × (check : Pair) × (after : List Pair) × (model : Printed) × (definitions : Signature) × (earlier : List Pair) × (term : Sexp) × IsSatOf options script answers before check after × IsModelIn before after model
-    × IsModelOf (signature_after before) model.parts definitions × IsStructure (structure_at definitions before) × IsAsserted before earlier term × (sort_in (in_assertion (names_of (signature_after earlier))) [] term ≡ Ok Boolean)
+pub what_is_false : (options : Options) (script answers : List ℕ) (ls : List Line)
+    → IsInvalid options script answers ls
+    → (before : List Pair) × (check : Pair) × (after : List Pair) × (model : Printed)
+    × (definitions : Signature) × (earlier : List Pair) × (term : Sexp)
+    × IsSatOf options script answers before check after × IsModelIn before after model
+    × IsModelOf (signature_after before) model.parts definitions
+    × IsStructure (structure_at definitions before) × IsAsserted before earlier term
+    × (sort_in (in_assertion (names_of (signature_after earlier))) [] term ≡ Ok Boolean)
     × ((z : DivisionByZero) → value_over z (structure_at definitions before) [] term ≡ Truth false)
-    × (first : List Line) × (last : List Line) × (ls ≡ first ++ Refuted (checks_in before + 1) (length before + 1) model.command (Assertion (length earlier + 1)) ∷ last)
+    × (first : List Line) × (last : List Line)
+    × (ls ≡ first ++ Refuted (checks_in before + 1) (length before + 1) model.command
+    (Assertion (length earlier + 1)) ∷ last)
 what_is_false options script answers ls i = (
   i.before,
   i.check,
@@ -135,5 +184,7 @@ what_is_false options script answers ls i = (
   i.false_in,
   i.lines_before,
   i.lines_after,
-  i.line ∙ ap (λ (c : Claim). i.lines_before ++ Refuted (checks_in i.before + 1) (length i.before + 1) i.model.command c ∷ i.lines_after) (claim_is i.before i.check i.claim i.earlier i.term i.claimed),
+  i.line ∙ ap (λ (c : Claim). i.lines_before
+      ++ Refuted (checks_in i.before + 1) (length i.before + 1) i.model.command c ∷ i.lines_after)
+      (claim_is i.before i.check i.claim i.earlier i.term i.claimed),
 )

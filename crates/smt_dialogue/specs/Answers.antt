@@ -1,5 +1,6 @@
--- SMT-LIB 2.6, sections 3.9.1, 4.1.7 and 4.2: which answers a command takes, and which answers say that a command took no effect. Which
--- commands take an answer only where it fits is this project's rule, for what solvers print.
+-- SMT-LIB 2.6, sections 3.9.1, 4.1.7 and 4.2: which answers a command takes, and which answers say that a
+-- command took no effect. Which commands take an answer only where it fits is this project's rule, for what
+-- solvers print.
 use Rattle.std.specs.Prelude.{Bool, true, false, not, ◌||◌, Option, Some, None, codes, if◌then◌else◌}
 use Rattle.smt_trees.specs.Sexp.{Sexp, Atom, Items, Nil, Cons, Text, is_symbol}
 use Rattle.smt_script.specs.Command.{Command, kind_of}
@@ -39,7 +40,9 @@ abbrev pub has_form : AnswerForm → Sexp → Bool
 has_form forms.General answer = is_symbol (codes "success") answer || is_refusal answer
 has_form forms.Success answer = is_symbol (codes "success") answer
 has_form forms.Unsupported answer = is_symbol (codes "unsupported") answer
-has_form forms.Check answer = is_symbol (codes "sat") answer || is_symbol (codes "unsat") answer || is_symbol (codes "unknown") answer || is_refusal answer
+has_form forms.Check answer =
+    is_symbol (codes "sat") answer || is_symbol (codes "unsat") answer || is_symbol (codes "unknown") answer
+    || is_refusal answer
 has_form forms.Model answer = is_list answer || is_symbol (codes "unsupported") answer
 has_form forms.Echo answer = is_text answer || is_refusal answer
 has_form forms.Other answer = not (is_symbol (codes "success") answer)
@@ -50,8 +53,8 @@ has_form forms.Other answer = not (is_symbol (codes "success") answer)
 abbrev pub general_need : Need
 general_need = Needed forms.General
 
--- what a command needs of the answers, where `success` is printed for a command that has no answer of its own, or is not. A command that
--- sets whether it is printed goes by the value that it sets
+-- what a command needs of the answers, where `success` is printed for a command that has no answer of its
+-- own, or is not. A command that sets whether it is printed goes by the value that it sets
 abbrev pub need_of_kind : Bool → Kind → Need
 need_of_kind on kinds.Check = Needed forms.Check
 need_of_kind on kinds.Model = Needed forms.Model
@@ -67,17 +70,19 @@ need_of_kind on kinds.Reset = if on then general_need else Nothing
 abbrev pub need_of : Bool → Command → Need
 need_of on command = need_of_kind on (kind_of command)
 
--- what is taken for a command: an answer or none; or it waits for one; or one is missing; or the next one is unfit
+-- what is taken for a command: an answer or none; or it waits for one; or one is missing; or the next one is
+-- unfit
 pub data Taken : Type 0 where
   Takes : (answer : Option Sexp) → Taken
   Waits : Taken
   Missing : Taken
-  Unfit : Taken
+  Unexpected : Taken
 
--- what a command that needs this takes, the next answer being this one, or there being none; `told` says that no further one comes
+-- what a command that needs this takes, the next answer being this one, or there being none; `told` says that
+-- no further one comes
 abbrev pub taken : Bool → Need → Option Sexp → Taken
 taken told Nothing next = Takes None
 taken told (Optional form) None = if told then Takes None else Waits
 taken told (Optional form) (Some answer) = if has_form form answer then Takes (Some answer) else Takes None
 taken told (Needed form) None = if told then Missing else Waits
-taken told (Needed form) (Some answer) = if has_form form answer then Takes (Some answer) else Unfit
+taken told (Needed form) (Some answer) = if has_form form answer then Takes (Some answer) else Unexpected

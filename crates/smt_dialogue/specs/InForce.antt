@@ -1,10 +1,12 @@
--- SMT-LIB 2.6, sections 4.1 and 4.2: what is in force after pairs of commands and answers, and the faults of pairs. A command that was
--- answered by `unsupported` or an error took no effect.
-use Rattle.std.specs.Prelude.{◌≡◌, ◌≤◌, ℕ, ◌+◌, List, [], ◌∷◌, ◌++◌, length, Bool, false, ◌&&◌, Option, None, if◌then◌else◌}
+-- SMT-LIB 2.6, sections 4.1 and 4.2: what is in force after pairs of commands and answers, and the faults of
+-- pairs. A command that was answered by `unsupported` or an error took no effect.
+use Rattle.std.specs.Prelude.{◌≡◌, ℕ, ◌+◌, List, [], ◌∷◌, ◌++◌, length, Bool, false, Option, None}
+use Rattle.std.specs.Prelude.{if◌then◌else◌}
 use Rattle.smt_terms.specs.Signature.{Signature}
 use Rattle.smt_script.specs.Command.{Command}
-use Rattle.smt_script.specs.Stack.{Assertion, assertions_in_force, depth_in_force, fault_of_effect, has_exited, is_reset, print_success_in_force, signature_in_force}
-use Rattle.smt_faults.specs.declared.command_fault.CommandFault.{CommandFault}
+use Rattle.smt_script.specs.Stack.{Assertion, assertions_in_force, depth_in_force, flaw_of_effect}
+use Rattle.smt_script.specs.Stack.{has_exited, print_success_in_force, signature_in_force}
+use Rattle.smt_faults.specs.declared.command_flaw.CommandFlaw.{CommandFlaw}
 use Rattle.smt_dialogue.specs.Answers.{need_of}
 use Rattle.smt_dialogue.specs.Pairs.{Pair, effective_commands, is_effective}
 use Rattle.smt_dialogue.specs.declared.answer.Need.{Need}
@@ -17,12 +19,13 @@ signature_after pairs = signature_in_force (effective_commands pairs)
 abbrev pub assertions_after : List Pair → List Assertion
 assertions_after pairs = assertions_in_force (effective_commands pairs)
 
--- whether `success` is printed after pairs, and what a command then needs of the answers. `start` says whether it is at the start
+-- whether `success` is printed after pairs, and what a command then needs of the answers. `initial` says
+-- whether it is at the start
 abbrev pub print_success_after : Bool → List Pair → Bool
-print_success_after start pairs = print_success_in_force start (effective_commands pairs)
+print_success_after initial pairs = print_success_in_force initial (effective_commands pairs)
 
 abbrev pub need_after : Bool → List Pair → Command → Need
-need_after start pairs command = need_of (print_success_after start pairs) command
+need_after initial pairs command = need_of (print_success_after initial pairs) command
 
 -- whether an `exit` is among pairs
 abbrev pub has_exited_after : List Pair → Bool
@@ -32,22 +35,15 @@ has_exited_after pairs = has_exited (effective_commands pairs)
 abbrev pub levels_after : List Pair → ℕ
 levels_after pairs = depth_in_force (effective_commands pairs)
 
--- pairs behind others leave so many levels, each of them
-abbrev pub KeepLevels : ℕ → List Pair → List Pair → Type 0
-KeepLevels level before [] = Unit {0}
-KeepLevels level before (pair ∷ pairs) = (level ≤ levels_after (before ++ pair ∷ [])) × KeepLevels level (before ++ pair ∷ []) pairs
-
--- whether a pair removed all that was in force
-abbrev pub removes_all : Pair → Bool
-removes_all pair = is_effective pair && is_reset pair.command
-
 -- the fault of a pair's effect behind others: a command that took no effect has none
-abbrev pub fault_of_pair : List Pair → Pair → Option CommandFault
-fault_of_pair before pair =
-    if is_effective pair then fault_of_effect (effective_commands before) (length before + 1) pair.command else None
+abbrev pub flaw_of_pair : List Pair → Pair → Option CommandFlaw
+flaw_of_pair before pair =
+    if is_effective pair then flaw_of_effect (effective_commands before) (length before + 1) pair.command
+    else None
 
 -- no pair has a fault, behind those that come before: none stands behind an `exit`, and no effect has a fault
 abbrev pub AreFaultless : List Pair → List Pair → Type 0
 AreFaultless before [] = Unit {0}
 AreFaultless before (pair ∷ pairs) =
-    (has_exited_after before ≡ false) × (fault_of_pair before pair ≡ None) × AreFaultless (before ++ pair ∷ []) pairs
+    (has_exited_after before ≡ false) × (flaw_of_pair before pair ≡ None)
+    × AreFaultless (before ++ pair ∷ []) pairs

@@ -1,19 +1,20 @@
 -- What is found of a model. These are this project's rules.
-use Rattle.std.specs.Prelude.{ℕ, List, [], ◌∷◌, Bool, true, false, not, Option, Some, None, Result, Ok, Err, map, if◌then◌else◌}
+use Rattle.std.specs.Prelude.{List, [], ◌∷◌, Bool, true, false, not, Option, Some, None, Result, Ok, Err}
+use Rattle.std.specs.Prelude.{map, if◌then◌else◌}
 use Rattle.smt_trees.specs.Sexp.{Sexp, Sexps}
 use Rattle.smt_values.specs.KnownOperations.{is_known}
 use Rattle.smt_terms.specs.Signature.{Signature}
-use Rattle.smt_faults.specs.declared.term_fault.TermFault.TheVariants as terms
 use Rattle.smt_eval.specs.Known.{known_over}
 use Rattle.smt_eval.specs.Model.{model_in}
 use Rattle.smt_eval.specs.Structure.{structure_of}
-use Rattle.smt_eval.specs.declared.interpretation.ModelFault.{ModelFault}
-use Rattle.smt_eval.specs.declared.interpretation.ModelFault.TheVariants as faults
+use Rattle.smt_eval.specs.declared.model_fault.ModelFlaw.{ModelFlaw}
+use Rattle.smt_eval.specs.declared.model_fault.ModelFlaw.TheVariants.{Item, Lacks as LacksName}
 use Rattle.smt_script.specs.Stack.{Assertion}
 use Rattle.smt_report.specs.declared.claim.Claim.{Claim}
 use Rattle.smt_report.specs.declared.claim.Claim.TheVariants as claiming
 use Rattle.smt_dialogue.specs.declared.judgement.Judgement.{Judgement}
-use Rattle.smt_dialogue.specs.declared.judgement.Judgement.TheVariants.{ItemFault, Lacks, Refuted, NotDecided, Confirmed}
+use Rattle.smt_dialogue.specs.declared.judgement.Judgement.TheVariants.{ItemFault, Lacks, Refuted, NotDecided}
+use Rattle.smt_dialogue.specs.declared.judgement.Judgement.TheVariants.{Confirmed}
 
 -- what a check claims of each of its models: a formula, and its term
 pub record Claimed : Type 0 where
@@ -29,7 +30,8 @@ abbrev pub first_claim : (Sexp → Bool) → List Claimed → Option Claim
 first_claim test [] = None
 first_claim test (c ∷ claims) = if test c.term then Some c.claim else first_claim test claims
 
--- whether a formula is known to be false over definitions, or not known to be true: then it is open where it is not false
+-- whether a formula is known to be false over definitions, or not known to be true: then it is open where it
+-- is not false
 abbrev pub is_false_over : Signature → Sexp → Bool
 is_false_over definitions term = is_known false (known_over definitions term)
 
@@ -44,17 +46,20 @@ abbrev pub refuted_or : Option Claim → Option Claim → Judgement
 refuted_or (Some claim) open' = Refuted claim
 refuted_or None open' = open_or_confirmed open'
 
--- what is found over the definitions of a structure: the first claim that is false, else the first that is open
+-- what is found over the definitions of a structure: the first claim that is false, else the first that is
+-- open
 abbrev pub judged_over : List Claimed → Signature → Judgement
 judged_over claims structure =
     refuted_or (first_claim (is_false_over structure) claims) (first_claim (is_open_over structure) claims)
 
--- what is found of a model of the script's names, from its definitions or its fault
-abbrev pub judged_in : Signature → List Claimed → Result Signature ModelFault → Judgement
+abbrev pub judgement_of_flaw : ModelFlaw → Judgement
+judgement_of_flaw (Item number flaw) = ItemFault number flaw
+judgement_of_flaw (LacksName command) = Lacks command
+
+-- what is found of a model of the script's names, from its definitions or its flaw
+abbrev pub judged_in : Signature → List Claimed → Result Signature ModelFlaw → Judgement
 judged_in script claims (Ok definitions) = judged_over claims (structure_of script definitions)
-judged_in script claims (Err (faults.Item number fault)) = ItemFault number fault
-judged_in script claims (Err (faults.Lacks command)) = Lacks command
-judged_in script claims (Err faults.Memory) = ItemFault 0 terms.Memory
+judged_in script claims (Err flaw) = judgement_of_flaw flaw
 
 -- what is found of a model under a signature, of which these are claimed
 abbrev pub judgement_of : Signature → List Claimed → Sexps → Judgement

@@ -1,5 +1,6 @@
 -- The lines of a report on pairs of commands and answers. These are this project's rules.
-use Rattle.std.specs.Prelude.{ℕ, ◌+◌, List, [], ◌∷◌, ◌++◌, length, Bool, true, false, not, ◌||◌, Option, Some, None, codes, if◌then◌else◌}
+use Rattle.std.specs.Prelude.{ℕ, ◌+◌, List, [], ◌∷◌, ◌++◌, length, Bool, true, false, not, ◌||◌, Option, Some}
+use Rattle.std.specs.Prelude.{None, codes, if◌then◌else◌}
 use Rattle.std.specs.List.{list_any}
 use Rattle.std.specs.Option.{option_or}
 use Rattle.smt_trees.specs.Sexp.{Sexp, is_symbol}
@@ -19,7 +20,7 @@ use Rattle.smt_report.specs.declared.line.Line.TheVariants as lines
 
 -- the line on check k at command n for a model of command g, if it isn't confirmed
 abbrev pub line_of_judgement : ℕ → ℕ → ℕ → Judgement → Option Line
-line_of_judgement k n g (judgements.ItemFault item fault) = Some (lines.ItemFault k n g item fault)
+line_of_judgement k n g (judgements.ItemFault item flaw) = Some (lines.ItemFault k n g item flaw)
 line_of_judgement k n g (judgements.Lacks declaration) = Some (lines.Lacks k n g declaration)
 line_of_judgement k n g (judgements.Refuted claim) = Some (lines.Refuted k n g claim)
 line_of_judgement k n g (judgements.NotDecided claim) = Some (lines.NotDecided k n g claim)
@@ -29,7 +30,8 @@ line_of_judgement k n g judgements.Confirmed = None
 abbrev pub unconfirmed_line : ℕ → ℕ → Signature → List Claimed → List Printed → Option Line
 unconfirmed_line k n names claims [] = None
 unconfirmed_line k n names claims (m ∷ ms) =
-    option_or (line_of_judgement k n m.command (judgement_of names claims m.parts)) (unconfirmed_line k n names claims ms)
+    option_or (line_of_judgement k n m.command (judgement_of names claims m.parts))
+    (unconfirmed_line k n names claims ms)
 
 abbrev pub is_empty : {A : Type 0} → List A → Bool
 is_empty [] = true
@@ -39,18 +41,19 @@ is_empty (x ∷ xs) = false
 abbrev pub confirmed_line : ℕ → ℕ → Bool → Line
 confirmed_line k n some_model = if some_model then lines.Confirmed k n else lines.NoModel k n
 
--- the line on a check that was answered `sat`: that of a model that isn't confirmed; else, once the window has closed, that
--- all models are confirmed, or that there is none
+-- the line on a check that was answered `sat`: that of a model that isn't confirmed; else, once the window
+-- has closed, that all models are confirmed, or that there is none
 abbrev pub sat_lines : ℕ → ℕ → Option Line → Bool → Bool → List Line
 sat_lines k n (Some line) some_model closed = line ∷ []
 sat_lines k n None some_model closed = if closed then confirmed_line k n some_model ∷ [] else []
 
--- the lines of a check that was answered `sat`, the pairs `after` it beginning with command m. `closed` says that its window is closed
--- behind these, whatever they are
+-- the lines of a check that was answered `sat`, the pairs `after` it beginning with command m. `closed` says
+-- that its window is closed behind these, whatever they are
 abbrev pub lines_of_sat : Bool → ℕ → ℕ → Signature → List Claimed → ℕ → List Pair → List Line
 lines_of_sat closed k n names claims m after =
     let models = models_from m (window after) in
-    sat_lines k n (unconfirmed_line k n names claims models) (not (is_empty models)) (closed || list_any closes after)
+    sat_lines k n (unconfirmed_line k n names claims models) (not (is_empty models))
+    (closed || list_any closes after)
 
 -- what a check was answered otherwise than `sat`
 abbrev pub unchecked_answer : Sexp → Option CheckAnswer
@@ -76,14 +79,17 @@ lines_of_answer closed before k None after = []
 lines_of_answer closed before k (Some answer) after =
     let n = length before + 1 in
     unchecked_line_or k n (unchecked_answer answer)
-    (if is_symbol (codes "sat") answer then lines_of_sat closed k n (signature_after before) (claims_after before) (n + 1) after else [])
+    (if is_symbol (codes "sat") answer
+    then lines_of_sat closed k n (signature_after before) (claims_after before) (n + 1) after else [])
 
 -- the lines that a pair has, for what stands before and after it: a check has one, once it is decided
 abbrev pub lines_of_pair : Bool → List Pair → Pair → List Pair → List Line
 lines_of_pair closed before pair after =
-    if is_check pair.command then lines_of_answer closed before (checks_in before + 1) pair.answer after else []
+    if is_check pair.command then lines_of_answer closed before (checks_in before + 1) pair.answer after
+    else []
 
--- the lines that pairs have, for what stands before and after them; `closed` says that every window is closed behind these
+-- the lines that pairs have, for what stands before and after them; `closed` says that every window is closed
+-- behind these
 abbrev pub lines_in : Bool → List Pair → List Pair → List Pair → List Line
 lines_in closed before [] after = []
 lines_in closed before (pair ∷ pairs) after =

@@ -1,5 +1,6 @@
--- SMT-LIB 2.6, section 4.1: which pairs are a pairing of a script's commands with the answers. That each answer is taken once and in order,
--- and that a command which may go without an answer takes the next one exactly where it fits, is this project's rule.
+-- SMT-LIB 2.6, section 4.1: which pairs are a pairing of a script's commands with the answers. That each
+-- answer is taken once and in order, and that a command which may go without an answer takes the next one
+-- exactly where it fits, is this project's rule.
 use Rattle.std.specs.Prelude.{◌≡◌, List, [], ◌∷◌, ◌++◌, Bool, true, Ok}
 use Rattle.smt_trees.specs.Sexp.{Sexps, Nil, Cons}
 use Rattle.smt_script.specs.Command.{command_of}
@@ -11,23 +12,27 @@ use Rattle.smt_dialogue.specs.Pairs.{Pair, answers_then, next_of}
 abbrev pub AreCommands : List Pair → Sexps → Sexps → Type 0
 AreCommands [] trees later = trees ≡ later
 AreCommands (pair ∷ pairs) Nil later = ⊥
-AreCommands (pair ∷ pairs) (Cons tree trees) later = (command_of tree ≡ Ok pair.command) × AreCommands pairs trees later
+AreCommands (pair ∷ pairs) (Cons tree trees) later =
+    (command_of tree ≡ Ok pair.command) × AreCommands pairs trees later
 
--- each command, behind the pairs before it, takes what it has of the next answer: the first that no earlier pair took; `told` says that
--- no answer comes behind the rest
+-- each command, behind the pairs before it, takes what it has of the next answer: the first that no earlier
+-- pair took; `told` says that no answer comes behind the rest
 abbrev pub AllTake : Bool → Bool → List Pair → List Pair → Sexps → Type 0
-AllTake told start before [] rest = Unit {0}
-AllTake told start before (pair ∷ pairs) rest =
-    (taken told (need_after start before pair.command) (next_of (answers_then (pair ∷ pairs) rest)) ≡ Takes pair.answer)
-    × AllTake told start (before ++ pair ∷ []) pairs rest
+AllTake told initial before [] rest = Unit {0}
+AllTake told initial before (pair ∷ pairs) rest =
+    (taken told (need_after initial before pair.command) (next_of (answers_then (pair ∷ pairs) rest))
+    ≡ Takes pair.answer)
+    × AllTake told initial (before ++ pair ∷ []) pairs rest
 
--- the pairs are a pairing of the first commands with the first answers, of which more may come where that was not told: later trees, and
--- the rest of the answers, are left. `start` says whether `success` is printed at the start
-pub record IsPairingSoFar (told start : Bool) (pairs : List Pair) (trees later answers rest : Sexps) : Type 0 where
+-- the pairs are a pairing of the first commands with the first answers, of which more may come where that was
+-- not told: later trees, and the rest of the answers, are left. `initial` says whether `success` is printed
+-- at the start
+pub record IsPairingSoFar (told initial : Bool) (pairs : List Pair) (trees later answers rest : Sexps)
+    : Type 0 where
   pub commands : AreCommands pairs trees later
   pub answered : answers ≡ answers_then pairs rest
-  pub taken_so : AllTake told start [] pairs rest
+  pub taken_so : AllTake told initial [] pairs rest
 
 -- the same of all answers
 abbrev pub IsPairing : Bool → List Pair → (trees later answers rest : Sexps) → Type 0
-IsPairing start pairs trees later answers rest = IsPairingSoFar true start pairs trees later answers rest
+IsPairing initial pairs trees later answers rest = IsPairingSoFar true initial pairs trees later answers rest

@@ -24,7 +24,8 @@ numbered_if effective n command = if effective then record { number = n; command
 -- the commands that took effect among pairs, the first of which is command n
 abbrev pub effective_from : ℕ → List Pair → List Numbered
 effective_from n [] = []
-effective_from n (pair ∷ pairs) = numbered_if (is_effective pair) n pair.command ++ effective_from (n + 1) pairs
+effective_from n (pair ∷ pairs) =
+    numbered_if (is_effective pair) n pair.command ++ effective_from (n + 1) pairs
 
 abbrev pub effective_commands : List Pair → List Numbered
 effective_commands pairs = effective_from 1 pairs

@@ -20,24 +20,27 @@ lines_of_end (Some line) = line ∷ []
 abbrev pub lines_at_end : List Pair → Option Line → List Line
 lines_at_end pairs fault = with_verdict (lines_in true [] pairs [] ++ lines_of_end fault)
 
--- the pairs are a pairing of the first commands with answers, and none has a fault: these trees and answers are left. `start` says
--- whether `success` is printed at the start
-pub record ArePaired (start : Bool) (script answers : TextSoFar) (pairs : List Pair) (later rest : Sexps) : Type 0 where
-  pub pairing : IsPairingSoFar (is_over answers) start pairs script.trees later answers.trees rest
+-- the pairs are a pairing of the first commands with answers, and none has a fault: these trees and answers
+-- are left. `initial` says whether `success` is printed at the start
+pub record ArePaired (initial : Bool) (script answers : TextSoFar) (pairs : List Pair) (later rest : Sexps)
+    : Type 0 where
+  pub pairing : IsPairingSoFar (is_over answers) initial pairs script.trees later answers.trees rest
   pub faultless : AreFaultless [] pairs
 
 -- behind the pairs it is this turn
-pub record IsTurn (start : Bool) (script answers : TextSoFar) (pairs : List Pair) (turn : Turn) : Type 0 where
+pub record IsTurn (initial : Bool) (script answers : TextSoFar) (pairs : List Pair) (turn : Turn)
+    : Type 0 where
   pub later : Sexps
   pub rest : Sexps
-  pub paired : ArePaired start script answers pairs later rest
-  pub turn_is : turn_after start pairs (record script { trees = later }) (record answers { trees = rest }) ≡ turn
+  pub paired : ArePaired initial script answers pairs later rest
+  pub turn_is : turn_after initial pairs (record script { trees = later }) (record answers { trees = rest })
+      ≡ turn
 
 -- the lines where a dialogue of these texts ends
-pub record AreLinesOf (start : Bool) (script answers : TextSoFar) (ls : List Line) : Type 0 where
+pub record AreLinesOf (initial : Bool) (script answers : TextSoFar) (ls : List Line) : Type 0 where
   pub pairs : List Pair
   pub fault : Option Line
-  pub ends : IsTurn start script answers pairs (Ends fault)
+  pub ends : IsTurn initial script answers pairs (Ends fault)
   pub lines_are : ls ≡ lines_at_end pairs fault
 
 -- this is read of the bytes of a text so far, whose end was told or not

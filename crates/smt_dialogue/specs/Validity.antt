@@ -1,6 +1,6 @@
 -- What a valid and an invalid verdict mean, in the words of the standard and beside the report.
-use Rattle.std.specs.Prelude.{◌≡◌, ℕ, ◌+◌, List, [], ◌∷◌, ◌++◌, length, Bool, true, false, Some, Ok, codes}
-use Rattle.std.specs.List.{AllByRecursion, list_any}
+use Rattle.std.specs.Prelude.{◌≡◌, ℕ, ◌+◌, List, [], ◌∷◌, ◌++◌, length, true, false, Some, Ok, codes}
+use Rattle.std.specs.List.{AllByRecursion}
 use Rattle.smt_text.specs.Grammar.{Forest, limit}
 use Rattle.smt_trees.specs.Sexp.{Sexp, Sexps, Nil, is_symbol}
 use Rattle.smt_theory.specs.declared.sort.Sort.TheVariants.{Bool as Boolean}
@@ -12,10 +12,11 @@ use Rattle.smt_eval.specs.CompleteModel.{IsModelOf}
 use Rattle.smt_eval.specs.Meaning.{value_over}
 use Rattle.smt_eval.specs.Structure.{IsStructure}
 use Rattle.smt_script.specs.Command.{Assert}
-use Rattle.smt_dialogue.specs.InForce.{KeepLevels, levels_after, removes_all, signature_after}
+use Rattle.smt_script.specs.Stack.{Stands}
+use Rattle.smt_dialogue.specs.InForce.{signature_after}
 use Rattle.smt_script.specs.Command.{is_check}
 use Rattle.smt_dialogue.specs.Pairing.{IsPairing}
-use Rattle.smt_dialogue.specs.Pairs.{Pair, checks_in, is_effective}
+use Rattle.smt_dialogue.specs.Pairs.{Pair, checks_in, effective_commands, is_effective}
 use Rattle.smt_dialogue.specs.declared.options.Options.{Options}
 use Rattle.smt_dialogue.specs.Window.{Printed, models_from, structure_at, window}
 use Rattle.smt_report.specs.declared.claim.Claim.{Claim}
@@ -38,35 +39,39 @@ pub record IsSatCheck (pair : Pair) : Type 0 where
   pub answered : pair.answer ≡ Some answer
   pub sat : is_symbol (codes "sat") answer ≡ true
 
--- an assertion of this term that took effect stands behind the earlier pairs, and is in force: no pair between removed all, and none left
--- fewer levels than there were behind the assertion
+-- an assertion of this term that took effect stands behind the earlier pairs, and is in force among the
+-- commands that took effect: no later one removed all, and none left fewer levels than there were behind it
 pub record IsAsserted (before : List Pair) (earlier : List Pair) (term : Sexp) : Type 0 where
   pub pair : Pair
   pub between : List Pair
   pub place : before ≡ earlier ++ pair ∷ between
   pub command : pair.command ≡ Assert term
   pub effective : is_effective pair ≡ true
-  pub no_reset : list_any removes_all between ≡ false
-  pub levels : KeepLevels (levels_after (earlier ++ pair ∷ [])) (earlier ++ pair ∷ []) between
+  pub stands : Stands (effective_commands before) (effective_commands earlier)
+      (record { number = length earlier + 1; command = pair.command })
 
--- a check behind pairs claims the term of each of its models, the term having been read behind the earlier pairs: it is an assertion in
--- force
-abbrev pub IsClaimed : (before : List Pair) (check : Pair) → Claim → (earlier : List Pair) (term : Sexp) → Type 0
-IsClaimed before check (Assertion command) earlier term = IsAsserted before earlier term × (command ≡ length earlier + 1)
+-- a check behind pairs claims the term of each of its models, the term having been read behind the earlier
+-- pairs: it is an assertion in force
+abbrev pub IsClaimed : (before : List Pair) (check : Pair) → Claim → (earlier : List Pair) (term : Sexp)
+    → Type 0
+IsClaimed before check (Assertion command) earlier term =
+    IsAsserted before earlier term × (command ≡ length earlier + 1)
 
--- the parts are those of a model of the names in force, whose definitions and the script's behind them give a structure. And all that
--- the check claims, every assertion in force, is well sorted under the names in force before its command, and true in that structure,
--- whatever division by zero gives
+-- the parts are those of a model of the names in force, whose definitions and the script's behind them give a
+-- structure. And all that the check claims, every assertion in force, is well sorted under the names in force
+-- before its command, and true in that structure, whatever division by zero gives
 pub record IsTrueModel (before : List Pair) (check : Pair) (parts : Sexps) : Type 0 where
   pub definitions : Signature
   pub model : IsModelOf (signature_after before) parts definitions
   pub structure : IsStructure (structure_at definitions before)
   pub sorted : (claim : Claim) (earlier : List Pair) (term : Sexp) → IsClaimed before check claim earlier term
       → sort_in (in_assertion (names_of (signature_after earlier))) [] term ≡ Ok Boolean
-  pub true_in : (z : DivisionByZero) (claim : Claim) (earlier : List Pair) (term : Sexp) → IsClaimed before check claim earlier term
+  pub true_in : (z : DivisionByZero) (claim : Claim) (earlier : List Pair) (term : Sexp)
+      → IsClaimed before check claim earlier term
       → value_over z (structure_at definitions before) [] term ≡ Truth true
 
--- a check that was answered `sat`, behind the pairs before it, has a model in its window, and each model there is a true one
+-- a check that was answered `sat`, behind the pairs before it, has a model in its window, and each model
+-- there is a true one
 pub record IsConfirmed (before : List Pair) (check : Pair) (after : List Pair) : Type 0 where
   pub first : Printed
   pub others : List Printed
@@ -77,14 +82,18 @@ pub record IsConfirmed (before : List Pair) (check : Pair) (after : List Pair) :
 pub record IsValid (options : Options) (script answers : List ℕ) : Type 0 where
   pub pairs : List Pair
   pub paired : IsFullyPaired options script answers pairs
-  pub only : (others : List Pair) (script_trees answer_trees rest : Sexps) → Forest limit script script_trees → Forest limit answers answer_trees
-      → IsPairing options.print_success others script_trees Nil answer_trees rest → (others ≡ pairs) × (rest ≡ Nil)
-  pub confirmed : (before after : List Pair) (check : Pair) → pairs ≡ before ++ check ∷ after → IsSatCheck check
+  pub only : (others : List Pair) (script_trees answer_trees rest : Sexps) → Forest limit script script_trees
+      → Forest limit answers answer_trees
+      → IsPairing options.print_success others script_trees Nil answer_trees rest
+      → (others ≡ pairs) × (rest ≡ Nil)
+  pub confirmed : (before after : List Pair) (check : Pair) → pairs ≡ before ++ check ∷ after
+      → IsSatCheck check
       → IsConfirmed before check after
 
--- what an invalid verdict means: in the window of a check that was answered `sat` stands a model of the names in force, which with the
--- script's definitions gives a structure that makes a claim of the check, a well-sorted assertion in force, false, whatever division by
--- zero gives, and the report has the line that says so
+-- what an invalid verdict means: in the window of a check that was answered `sat` stands a model of the names
+-- in force, which with the script's definitions gives a structure that makes a claim of the check, a
+-- well-sorted assertion in force, false, whatever division by zero gives, and the report has the line that
+-- says so
 pub record IsInvalid (options : Options) (script answers : List ℕ) (ls : List Line) : Type 0 where
   pub pairs : List Pair
   pub paired : IsFullyPaired options script answers pairs
@@ -108,4 +117,5 @@ pub record IsInvalid (options : Options) (script answers : List ℕ) (ls : List 
   pub false_in : (z : DivisionByZero) → value_over z (structure_at definitions before) [] term ≡ Truth false
   pub lines_before : List Line
   pub lines_after : List Line
-  pub line : ls ≡ lines_before ++ Refuted (checks_in before + 1) (length before + 1) model.command claim ∷ lines_after
+  pub line : ls ≡ lines_before ++ Refuted (checks_in before + 1) (length before + 1) model.command claim
+      ∷ lines_after

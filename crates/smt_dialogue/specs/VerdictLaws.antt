@@ -6,7 +6,8 @@ use Rattle.smt_dialogue.specs.Window.{Printed, models_from, window}
 use Rattle.smt_dialogue.specs.declared.options.Options.{Options}
 
 -- a check that was answered `sat` stands among the pairs of a dialogue that is fully paired
-pub record IsSatOf (options : Options) (script answers : List ℕ) (before : List Pair) (check : Pair) (after : List Pair) : Type 0 where
+pub record IsSatOf (options : Options) (script answers : List ℕ) (before : List Pair) (check : Pair)
+    (after : List Pair) : Type 0 where
   pub paired : IsFullyPaired options script answers (before ++ check ∷ after)
   pub sat : IsSatCheck check
 

@@ -1,5 +1,6 @@
 -- The window of a check, and the models printed in it. These are this project's rules.
-use Rattle.std.specs.Prelude.{ℕ, ◌+◌, List, [], ◌∷◌, ◌++◌, Bool, true, false, ◌&&◌, ◌||◌, Option, Some, if◌then◌else◌}
+use Rattle.std.specs.Prelude.{ℕ, ◌+◌, List, [], ◌∷◌, ◌++◌, Bool, true, false, ◌&&◌, ◌||◌, Option, Some}
+use Rattle.std.specs.Prelude.{if◌then◌else◌}
 use Rattle.smt_trees.specs.Sexp.{Sexp, Sexps, Items}
 use Rattle.smt_terms.specs.Signature.{Signature}
 use Rattle.smt_eval.specs.Structure.{structure_of}
@@ -9,11 +10,13 @@ use Rattle.smt_script.specs.declared.command.Kind.TheVariants as kinds
 use Rattle.smt_dialogue.specs.InForce.{signature_after}
 use Rattle.smt_dialogue.specs.Pairs.{Pair, is_effective}
 
--- whether a pair ends the window of an earlier check: a check does, and what changes something where it took effect
+-- whether a pair ends the window of an earlier check: a check does, and what changes something where it took
+-- effect
 abbrev pub closes : Pair → Bool
 closes pair = is_check pair.command || closes_window pair.command && is_effective pair
 
--- the structure of a check behind these pairs, over the definitions of a model: those, and then the script's definitions in force
+-- the structure of a check behind these pairs, over the definitions of a model: those, and then the script's
+-- definitions in force
 abbrev pub structure_at : Signature → List Pair → Signature
 structure_at definitions before = structure_of (signature_after before) definitions
 

@@ -1,4 +1,5 @@
-//! Which answers a command takes.
+//! Which answers a command takes, and which say that it took no effect. This file knows no pairs, and nothing
+//! that is in force.
 
 ghost use Rattle.std.specs.Prelude.{◌≡◌, if◌then◌else◌, option_map};
 ghost use Rattle.smt_trees.specs.Tree.{sexp_of};
@@ -46,7 +47,7 @@ pub enum Taken {
     /// It needs an answer, and there is none.
     Missing,
     /// It needs an answer, and the next one is none of its own.
-    Unfit,
+    Unexpected,
 }
 
 /// Whether an answer says that its command took no effect (section 3.9.1).
@@ -102,8 +103,8 @@ pub(crate) fn has_form(form: AnswerForm, answer: &Tree) -> bool
     }
 }
 
-/// What a command needs of the answers, where `success` is printed for a command that has no answer of its own, or is not (SMT-LIB 2.6,
-/// section 4.1.7).
+/// What a command needs of the answers, where `success` is printed for a command that has no answer of its
+/// own, or is not (SMT-LIB 2.6, section 4.1.7).
 pub(crate) fn need_of(print_success: bool, command: &Command) -> Need
     ensures { result ≡ answers.need_of print_success (command_view command.now) }
 {

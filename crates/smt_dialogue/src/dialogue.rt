@@ -1,19 +1,22 @@
 //! The dialogue so far: what is in force, the checks, and the lines of the report.
 
-ghost use Rattle.std.specs.Prelude.{◌≡◌, ◌≤◌, ◌<◌, ◌+◌, ◌^◌, ◌++◌, ◌∷◌, ◌⊎◌, List, [], None, Some, true, IfOk, IfErr, OnErr, OnOk, option_map};
+ghost use Rattle.std.specs.Prelude.{◌≡◌, ◌≤◌, ◌<◌, ◌+◌, ◌^◌, ◌++◌, ◌∷◌, ◌⊎◌, List, [], None, Some, true};
+ghost use Rattle.std.specs.Prelude.{IfOk, IfErr, OnErr, OnOk, option_map};
 ghost use Rattle.smt_trees.specs.Tree.{sexp_of};
 ghost use Rattle.smt_script.specs.CommandView.{command_view};
 ghost use Rattle.smt_script.specs.Stack.{Numbered};
 ghost use Rattle.smt_script.specs.StackView as stacks;
-ghost use Rattle.smt_script.specs.StackView.{last_of, start_of};
-ghost use Rattle.smt_faults.specs.declared.command_fault.CommandFault.TheVariants.{Memory as OutOfMemory};
-ghost use Rattle.smt_dialogue.specs.InForce.{fault_of_pair};
+ghost use Rattle.smt_script.specs.StackView.{last_of, initial_print_success_of};
+ghost use Rattle.smt_faults.specs.Faults.{flaw_of_command_fault};
+ghost use Rattle.smt_faults.specs.Outcome.{TellsCommand};
+ghost use Rattle.smt_faults.specs.declared.command_flaw.CommandFlaw.{CommandFlaw};
+ghost use Rattle.smt_dialogue.specs.InForce.{flaw_of_pair};
 ghost use Rattle.smt_dialogue.specs.Lines.{lines_in};
 ghost use Rattle.smt_dialogue.specs.Pairs.{Pair, answer_count, numbered_if, pair_of};
 ghost use Rattle.smt_dialogue.specs.Report.{lines_at_end, lines_of_end};
 ghost use Rattle.smt_report.specs.Verdict.{verdict_of};
 ghost use Rattle.smt_dialogue.specs.Internal.ChecksState.{IsAnswered, role_of};
-ghost use Rattle.smt_dialogue.specs.Internal.DialogueState.{StandsFor, fault_if, state_of};
+ghost use Rattle.smt_dialogue.specs.Internal.DialogueState.{StandsFor, answered, flaw_if, state_of};
 
 use crate::answer::is_effective;
 use crate::window::{Checks, role_of};
@@ -34,20 +37,22 @@ pub struct Dialogue {
 }
 
 impl Dialogue {
-    /// A dialogue without pairs. `start` says whether `success` is printed.
-    pub(crate) fn new(alloc: Global, start: bool) -> Self
+    /// A dialogue without pairs. `initial_print_success` says whether
+    /// `success` is printed at the start.
+    pub(crate) fn new(alloc: Global, initial_print_success: bool) -> Self
         ensures stands { StandsFor (state_of result) [] }
-        ensures start { start_of result.stack ≡ start }
+        ensures start { initial_print_success_of result.stack ≡ initial_print_success }
     {
         Dialogue {
-            stack: Stack::new(alloc, start),
+            stack: Stack::new(alloc, initial_print_success),
             checks: Checks::new(alloc),
             commands: 0,
             answers: 0,
         }
     }
 
-    /// Accepts one more command with what it takes of the answers. At a fault of its effect the dialogue stays as it is.
+    /// Accepts one more command with what it takes of the answers. At a fault of its effect the dialogue
+    /// stays as it is.
     pub(crate) fn accept(
         &mut self,
         command: Command,
@@ -60,12 +65,16 @@ impl Dialogue {
         requires stands { (pairs : List Pair) × StandsFor (state_of self.old) pairs }
         requires answered { IsAnswered (role_of (command_view command)) (option_map sexp_of answer.now) }
         ensures accepted { OnOk result ((pairs : List Pair) → StandsFor (state_of self.old) pairs
-            → (fault_of_pair pairs (pair_of (command_view command) (option_map sexp_of answer.now)) ≡ None)
-            × StandsFor (state_of self.new) (pairs ++ pair_of (command_view command) (option_map sexp_of answer.now) ∷ [])) }
-        ensures refused { IfErr result (λ fault. (pairs : List Pair) → StandsFor (state_of self.old) pairs
-            → (fault ≡ OutOfMemory) ⊎ ((fault_of_pair pairs (pair_of (command_view command) (option_map sexp_of answer.now)) ≡ Some fault)
-            × StandsFor (state_of self.new) pairs)) }
-        ensures start { start_of self.new.stack ≡ start_of self.old.stack }
+            → (flaw_of_pair pairs (answered command answer.now) ≡ None)
+            × StandsFor (state_of self.new)
+            (pairs ++ answered command answer.now ∷ [])) }
+        ensures refused { IfErr result
+            (λ fault. (flaw : CommandFlaw) → flaw_of_command_fault fault ≡ Some flaw
+            → (pairs : List Pair) → StandsFor (state_of self.old) pairs
+            → (flaw_of_pair pairs (answered command answer.now)
+            ≡ Some flaw)
+            × StandsFor (state_of self.new) pairs) }
+        ensures start { initial_print_success_of self.new.stack ≡ initial_print_success_of self.old.stack }
     {
         let number = self.commands + 1;
         let effective = is_effective(answer);
@@ -86,8 +95,12 @@ impl Dialogue {
 
     /// Ends the dialogue, with the line of a fault or without one.
     pub(crate) fn finish(self, fault: Option<Line>) -> Result<Report, Memory>
-        ensures lines { IfOk result (λ r. (pairs : List Pair) → StandsFor (state_of self) pairs → r.lines.items ≡ lines_at_end pairs fault) }
-        ensures verdict { IfOk result (λ r. (pairs : List Pair) → StandsFor (state_of self) pairs → r.verdict ≡ verdict_of (lines_in true [] pairs [] ++ lines_of_end fault)) }
+        ensures lines { IfOk result
+            (λ r. (pairs : List Pair) → StandsFor (state_of self) pairs
+            → r.lines.items ≡ lines_at_end pairs fault) }
+        ensures verdict { IfOk result
+            (λ r. (pairs : List Pair) → StandsFor (state_of self) pairs
+            → r.verdict ≡ verdict_of (lines_in true [] pairs [] ++ lines_of_end fault)) }
     {
         let Dialogue { stack, checks, .. } = self;
         // dropped by name: the prover takes long over a stack that goes on more than one path
@@ -105,12 +118,15 @@ fn apply_if(
 ) -> Result<(), CommandFault>
     requires { last_of stack.old < number }
     ensures applied { OnOk result ((commands : List Numbered) → stacks.StandsFor stack.old commands
-        → (fault_if effective commands number (command_view command) ≡ None) × stacks.StandsFor stack.new (commands ++ numbered_if effective number (command_view command))) }
+        → (flaw_if effective commands number (command_view command) ≡ None)
+        × stacks.StandsFor stack.new (commands ++ numbered_if effective number (command_view command))) }
     ensures last { OnOk result (last_of stack.new ≤ number) }
     ensures refused { IfErr result (λ fault. (commands : List Numbered) → stacks.StandsFor stack.old commands
-        → (fault ≡ OutOfMemory) ⊎ (fault_if effective commands number (command_view command) ≡ Some fault)) }
-    ensures unchanged { OnErr result (((commands : List Numbered) → stacks.StandsFor stack.old commands → stacks.StandsFor stack.new commands) × (last_of stack.new ≡ last_of stack.old)) }
-    ensures start { start_of stack.new ≡ start_of stack.old }
+        → TellsCommand (flaw_if effective commands number (command_view command)) fault) }
+    ensures unchanged { OnErr result
+        (((commands : List Numbered) → stacks.StandsFor stack.old commands
+        → stacks.StandsFor stack.new commands) × (last_of stack.new ≡ last_of stack.old)) }
+    ensures start { initial_print_success_of stack.new ≡ initial_print_success_of stack.old }
 {
     if effective {
         return stack.take(number, command);

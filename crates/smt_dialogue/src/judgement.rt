@@ -1,4 +1,4 @@
-//! What is found of a model.
+//! What is found of a model under what is in force. This file knows no windows, and no lines of a report.
 
 ghost use Rattle.std.specs.Prelude.{◌≡◌, List, Some, true, false, IfOk, MatchOption};
 ghost use Rattle.smt_values.specs.Element.{Truth, known_element};
@@ -11,20 +11,22 @@ ghost use Rattle.smt_eval.specs.Structure.{structure_of};
 ghost use Rattle.smt_script.specs.Stack as stacks;
 ghost use Rattle.smt_script.specs.Stack.{Numbered, assertions_in_force, signature_in_force};
 ghost use Rattle.smt_script.specs.StackView.{AreAssertions, StandsFor};
+ghost use Rattle.smt_dialogue.specs.Judgement as spec;
 ghost use Rattle.smt_dialogue.specs.Judgement.{claims_of, judged_over, judgement_of};
 
-use smt_eval::{Interpretation, Memory, ModelFault, eval};
+use smt_eval::{Interpretation, Memory, ModelFlaw, eval};
+use smt_faults::TermFlaw;
 use smt_report::Claim;
 use smt_script::{Assertion, Stack};
-use smt_terms::{Library, TermFault};
+use smt_terms::Library;
 use smt_trees::Trees;
 use smt_values::Value;
 
 /// What is found of a model. Commands, and items of a model, count from 1.
 #[derive(Clone, Copy)]
 pub enum Judgement {
-    /// The first item with a fault.
-    ItemFault { item: u64, fault: TermFault },
+    /// The first item with a flaw.
+    ItemFault { item: u64, flaw: TermFlaw },
     /// The declaration of the first name that no item defines.
     Lacks { declaration: u64 },
     /// The first claim that is known to be false.
@@ -38,7 +40,9 @@ pub enum Judgement {
 /// Judges a model under what is in force.
 pub(crate) fn judge(stack: &Stack, model: &Trees) -> Result<Judgement, Memory>
     requires { (commands : List Numbered) × StandsFor stack.now commands }
-    ensures { (commands : List Numbered) → StandsFor stack.now commands → IfOk result (λ j. j ≡ judgement_of (signature_in_force commands) (claims_of (assertions_in_force commands)) model.now) }
+    ensures { (commands : List Numbered) → StandsFor stack.now commands
+        → IfOk result (λ j. j ≡ judgement_of (signature_in_force commands)
+        (claims_of (assertions_in_force commands)) model.now) }
 {
     let library = stack.library();
     match Interpretation::read(library, model) {
@@ -47,27 +51,38 @@ pub(crate) fn judge(stack: &Stack, model: &Trees) -> Result<Judgement, Memory>
             drop(interpretation);
             judgement
         }
-        Err(ModelFault::Item { number, fault }) => Ok(Judgement::ItemFault {
-            item: number,
-            fault,
-        }),
-        Err(ModelFault::Lacks { command }) => Ok(Judgement::Lacks {
-            declaration: command,
-        }),
-        Err(ModelFault::Memory) => Err(Memory),
+        Err(fault) => match fault.flaw() {
+            Some(flaw) => Ok(judgement_of_flaw(flaw)),
+            None => Err(Memory),
+        },
     }
 }
 
-// The first assertion that is false over the definitions of a model and the script's own, else the first that is open, as a claim.
+fn judgement_of_flaw(flaw: ModelFlaw) -> Judgement
+    ensures { result ≡ spec.judgement_of_flaw flaw }
+{
+    match flaw {
+        ModelFlaw::Item { number, flaw } => Judgement::ItemFault { item: number, flaw },
+        ModelFlaw::Lacks { command } => Judgement::Lacks {
+            declaration: command,
+        },
+    }
+}
+
+// The first assertion that is false over the definitions of a model and the script's own, else the first that
+// is open, as a claim.
 fn judge_assertions(
     library: &Library,
     interpretation: &Interpretation,
     assertions: &[Assertion],
 ) -> Result<Judgement, Memory>
-    requires terms { (all : List stacks.Assertion) × AreAssertions (contents_of library.now) assertions.now all }
+    requires terms { (all : List stacks.Assertion)
+        × AreAssertions (contents_of library.now) assertions.now all }
     requires fits { Fits interpretation.now library.now }
-    ensures { (script definitions : Signature) (all : List stacks.Assertion) → libraries.StandsFor library.now script → IsInterpretation interpretation.now script definitions
-        → AreAssertions (contents_of library.now) assertions.now all → IfOk result (λ j. j ≡ judged_over (claims_of all) (structure_of script definitions)) }
+    ensures { (script definitions : Signature) (all : List stacks.Assertion)
+        → libraries.StandsFor library.now script → IsInterpretation interpretation.now script definitions
+        → AreAssertions (contents_of library.now) assertions.now all
+        → IfOk result (λ j. j ≡ judged_over (claims_of all) (structure_of script definitions)) }
 {
     let mut first_open = None;
     let mut left = assertions;
@@ -94,7 +109,8 @@ fn judge_assertions(
 
 // Which truth value a formula is known to have; `None` says that it is open.
 fn truth_of(value: Option<Value>) -> Option<bool>
-    ensures { MatchOption result ((is_known false (known_element value) ≡ false) × (is_known true (known_element value) ≡ false))
+    ensures { MatchOption result
+        ((is_known false (known_element value) ≡ false) × (is_known true (known_element value) ≡ false))
         (λ truth. known_element value ≡ Some (Truth truth)) }
 {
     match value {

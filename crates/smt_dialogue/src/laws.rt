@@ -1,6 +1,8 @@
-//! What holds of the definitions of a dialogue. Nothing here does anything: each contract is a law, and each call is of a law that it rests on.
+//! What holds of the definitions of a dialogue. Nothing here does anything: each contract is a law, and each
+//! call is of a law that it rests on.
 
-ghost use Rattle.std.specs.Prelude.{◌≡◌, ◌≤◌, ℕ, ◌+◌, List, [], ◌∷◌, ◌++◌, length, Bool, true, false, Option, Ok, Err};
+ghost use Rattle.std.specs.Prelude.{◌≡◌, ◌≤◌, ℕ, ◌+◌, List, [], ◌∷◌, ◌++◌, length, Bool, true, false, ◌&&◌};
+ghost use Rattle.std.specs.Prelude.{Option, Ok, Err};
 ghost use Rattle.smt_text.specs.Grammar.{Forest, limit};
 ghost use Rattle.smt_trees.specs.Sexp.{Sexp, Sexps, Nil};
 ghost use Rattle.smt_theory.specs.declared.sort.Sort.TheVariants.{Bool as Boolean};
@@ -12,10 +14,10 @@ ghost use Rattle.smt_eval.specs.CompleteModel.{IsModelOf};
 ghost use Rattle.smt_eval.specs.Meaning.{value_over};
 ghost use Rattle.smt_eval.specs.Model.{model_in};
 ghost use Rattle.smt_eval.specs.Structure.{IsStructure};
-ghost use Rattle.smt_eval.specs.declared.interpretation.ModelFault.{ModelFault};
+ghost use Rattle.smt_eval.specs.declared.model_fault.ModelFlaw.{ModelFlaw};
 ghost use Rattle.smt_script.specs.Command.{Assert};
-ghost use Rattle.smt_script.specs.Stack.{Assertion as Asserted};
-ghost use Rattle.smt_dialogue.specs.InForce.{assertions_after, levels_after, removes_all, signature_after};
+ghost use Rattle.smt_script.specs.Stack.{Assertion as Asserted, is_reset};
+ghost use Rattle.smt_dialogue.specs.InForce.{assertions_after, levels_after, signature_after};
 ghost use Rattle.smt_script.specs.Command.{is_check};
 ghost use Rattle.smt_dialogue.specs.Pairing.{IsPairing};
 ghost use Rattle.smt_dialogue.specs.Pairs.{Pair, checks_in, is_effective};
@@ -34,44 +36,54 @@ use smt_text::laws::{every_text_reads, one_forest, one_reading};
 
 /// So many commands have at most one pairing with the answers, and it leaves the same.
 pub fn one_pairing()
-    ensures { (start : Bool) (xs ys : List Pair) (trees answers later later' rest rest' : Sexps) → length xs ≡ length ys → IsPairing start xs trees later answers rest → IsPairing start ys trees later' answers rest' → (xs ≡ ys) × (later ≡ later') × (rest ≡ rest') }
+    ensures { (start : Bool) (xs ys : List Pair) (trees answers later later' rest rest' : Sexps)
+        → length xs ≡ length ys → IsPairing start xs trees later answers rest
+        → IsPairing start ys trees later' answers rest' → (xs ≡ ys) × (later ≡ later') × (rest ≡ rest') }
 {}
 
-/// A dialogue so far, with the ends of its texts told or not, is at rest behind some pairs, and behind no others: it waits there, or has
-/// ended. Where both ends were told it has ended.
+/// A dialogue so far, with the ends of its texts told or not, is at rest behind some pairs, and behind no
+/// others: it waits there, or has ended. Where both ends were told it has ended.
 pub fn one_rest()
     ensures some { (start : Bool) (script answers : TextSoFar)
         → (pairs : List Pair) × (turn : Turn) × IsRest turn × IsTurn start script answers pairs turn }
-    ensures one { (start : Bool) (script answers : TextSoFar) (xs ys : List Pair) (f g : Turn) → IsRest f → IsRest g
+    ensures one { (start : Bool) (script answers : TextSoFar) (xs ys : List Pair) (f g : Turn) → IsRest f
+        → IsRest g
         → IsTurn start script answers xs f → IsTurn start script answers ys g → (xs ≡ ys) × (f ≡ g) }
-    ensures ended { (start : Bool) (script answers : TextSoFar) (pairs : List Pair) (turn : Turn) → script.told ≡ true → answers.told ≡ true
+    ensures ended { (start : Bool) (script answers : TextSoFar) (pairs : List Pair) (turn : Turn)
+        → script.told ≡ true → answers.told ≡ true
         → IsRest turn → IsTurn start script answers pairs turn → (fault : Option Line) × (turn ≡ Ends fault) }
 {}
 
 /// A dialogue has at most one report.
 pub fn one_report()
-    ensures { (options : Options) (script answers : List ℕ) (ls ms : List Line) → IsReport options script answers ls → IsReport options script answers ms → ls ≡ ms }
+    ensures { (options : Options) (script answers : List ℕ) (ls ms : List Line)
+        → IsReport options script answers ls → IsReport options script answers ms → ls ≡ ms }
 {
     one_reading();
 }
 
 /// Every script and answers have a report.
 pub fn every_dialogue_has_a_report()
-    ensures { (options : Options) (script answers : List ℕ) → (ls : List Line) × IsReport options script answers ls }
+    ensures { (options : Options) (script answers : List ℕ)
+        → (ls : List Line) × IsReport options script answers ls }
 {
     every_text_reads();
 }
 
-/// A dialogue that is valid is fully paired: both texts are trees, every command has its answer or needs none, and no answer is left over.
+/// A dialogue that is valid is fully paired: both texts are trees, every command has its answer or needs
+/// none, and no answer is left over.
 pub fn valid_is_paired()
     ensures { (options : Options) (script answers : List ℕ) → IsValid options script answers
         → (pairs : List Pair) × IsFullyPaired options script answers pairs }
 {}
 
-/// A dialogue that is fully paired has no other pairing of all its commands, whatever answers that might leave.
+/// A dialogue that is fully paired has no other pairing of all its commands, whatever answers that might
+/// leave.
 pub fn no_second_pairing()
-    ensures { (options : Options) (script answers : List ℕ) (pairs others : List Pair) (trees answered rest : Sexps)
-        → IsFullyPaired options script answers pairs → Forest limit script trees → Forest limit answers answered
+    ensures { (options : Options) (script answers : List ℕ) (pairs others : List Pair)
+        (trees answered rest : Sexps)
+        → IsFullyPaired options script answers pairs → Forest limit script trees
+        → Forest limit answers answered
         → IsPairing options.print_success others trees Nil answered rest → (others ≡ pairs) × (rest ≡ Nil) }
 {
     one_forest();
@@ -86,76 +98,101 @@ pub fn valid_is_not_invalid()
 /// A dialogue with a check that was answered `sat` and has no model in its window is not valid.
 pub fn sat_without_model_is_not_valid()
     ensures { (options : Options) (script answers : List ℕ) (before after : List Pair) (check : Pair)
-        → IsSatOf options script answers before check after → models_from (length before + 2) (window after) ≡ []
+        → IsSatOf options script answers before check after
+        → models_from (length before + 2) (window after) ≡ []
         → IsValid options script answers → ⊥ }
 {}
 
-/// A dialogue in which a model of a check that was answered `sat` has a fault, in an item or by lacking a name, is not valid.
+/// A dialogue in which a model of a check that was answered `sat` has a fault, in an item or by lacking a
+/// name, is not valid.
 pub fn faulty_model_is_not_valid()
-    ensures { (options : Options) (script answers : List ℕ) (before after : List Pair) (check : Pair) (model : Printed) (fault : ModelFault)
+    ensures { (options : Options) (script answers : List ℕ) (before after : List Pair) (check : Pair)
+        (model : Printed) (flaw : ModelFlaw)
         → IsSatOf options script answers before check after → IsModelIn before after model
-        → model_in (signature_after before) model.parts ≡ Err fault → IsValid options script answers → ⊥ }
+        → model_in (signature_after before) model.parts ≡ Err flaw → IsValid options script answers → ⊥ }
 {}
 
-/// A dialogue with an assertion that is in force at a check that was answered `sat`, and is no formula, is not valid.
+/// A dialogue with an assertion that is in force at a check that was answered `sat`, and is no formula, is
+/// not valid.
 pub fn ill_sorted_assertion_is_not_valid()
-    ensures { (options : Options) (script answers : List ℕ) (before after earlier : List Pair) (check : Pair) (term : Sexp)
+    ensures { (options : Options) (script answers : List ℕ) (before after earlier : List Pair) (check : Pair)
+        (term : Sexp)
         → IsSatOf options script answers before check after → IsAsserted before earlier term
-        → (sort_in (in_assertion (names_of (signature_after earlier))) [] term ≡ Ok Boolean → ⊥) → IsValid options script answers → ⊥ }
+        → (sort_in (in_assertion (names_of (signature_after earlier))) [] term ≡ Ok Boolean → ⊥)
+        → IsValid options script answers → ⊥ }
 {}
 
-/// In a valid dialogue the definitions of a model of a `sat` are those of a model of the names in force, and with the script's own behind
-/// them they are a structure: each well sorted over the earlier ones, and none twice.
+/// In a valid dialogue the definitions of a model of a `sat` are those of a model of the names in force, and
+/// with the script's own behind them they are a structure: each well sorted over the earlier ones, and none
+/// twice.
 pub fn definitions_of_valid_are_well_sorted()
-    ensures { (options : Options) (script answers : List ℕ) (before after : List Pair) (check : Pair) (model : Printed) (definitions : Signature)
+    ensures { (options : Options) (script answers : List ℕ) (before after : List Pair) (check : Pair)
+        (model : Printed) (definitions : Signature)
         → IsSatOf options script answers before check after → IsModelIn before after model
         → model_in (signature_after before) model.parts ≡ Ok definitions → IsValid options script answers
-        → IsModelOf (signature_after before) model.parts definitions × IsStructure (structure_at definitions before) }
+        → IsModelOf (signature_after before) model.parts definitions
+        × IsStructure (structure_at definitions before) }
 {}
 
-/// A dialogue in which a model of a check that was answered `sat` makes an assertion in force other than true, for one choice at least of
-/// what division by zero gives, is not valid.
+/// A dialogue in which a model of a check that was answered `sat` makes an assertion in force other than
+/// true, for one choice at least of what division by zero gives, is not valid.
 pub fn untrue_assertion_is_not_valid()
-    ensures { (options : Options) (script answers : List ℕ) (before after earlier : List Pair) (check : Pair) (model : Printed)
+    ensures { (options : Options) (script answers : List ℕ) (before after earlier : List Pair) (check : Pair)
+        (model : Printed)
         (definitions : Signature) (term : Sexp) (z : DivisionByZero)
         → IsSatOf options script answers before check after → IsModelIn before after model
         → model_in (signature_after before) model.parts ≡ Ok definitions → IsAsserted before earlier term
-        → (value_over z (structure_at definitions before) [] term ≡ Truth true → ⊥) → IsValid options script answers → ⊥ }
+        → (value_over z (structure_at definitions before) [] term ≡ Truth true → ⊥)
+        → IsValid options script answers → ⊥ }
 {}
 
-/// An invalid dialogue has a check that was answered `sat`, with a complete model in its window that makes an assertion in force, which is
-/// a formula, false in the structure that it gives, whatever division by zero gives; and the line that names the three.
+/// An invalid dialogue has a check that was answered `sat`, with a complete model in its window that makes an
+/// assertion in force, which is a formula, false in the structure that it gives, whatever division by zero
+/// gives; and the line that names the three.
 pub fn invalid_names_what_is_false()
-    ensures { (options : Options) (script answers : List ℕ) (ls : List Line) → IsInvalid options script answers ls
-        → (before : List Pair) × (check : Pair) × (after : List Pair) × (model : Printed) × (definitions : Signature)
-        × (earlier : List Pair) × (term : Sexp) × IsSatOf options script answers before check after × IsModelIn before after model
-        × IsModelOf (signature_after before) model.parts definitions × IsStructure (structure_at definitions before)
-        × IsAsserted before earlier term × (sort_in (in_assertion (names_of (signature_after earlier))) [] term ≡ Ok Boolean)
+    ensures { (options : Options) (script answers : List ℕ) (ls : List Line)
+        → IsInvalid options script answers ls
+        → (before : List Pair) × (check : Pair) × (after : List Pair) × (model : Printed)
+        × (definitions : Signature)
+        × (earlier : List Pair) × (term : Sexp) × IsSatOf options script answers before check after
+        × IsModelIn before after model
+        × IsModelOf (signature_after before) model.parts definitions
+        × IsStructure (structure_at definitions before)
+        × IsAsserted before earlier term
+        × (sort_in (in_assertion (names_of (signature_after earlier))) [] term ≡ Ok Boolean)
         × ((z : DivisionByZero) → value_over z (structure_at definitions before) [] term ≡ Truth false)
         × (first : List Line) × (last : List Line)
-        × (ls ≡ first ++ Refuted (checks_in before + 1) (length before + 1) model.command (Assertion (length earlier + 1)) ∷ last) }
+        × (ls ≡ first ++ Refuted (checks_in before + 1) (length before + 1) model.command
+        (Assertion (length earlier + 1)) ∷ last) }
 {}
 
-/// In the window of a check nothing that is in force changes, and it goes on to the first command that ends it.
+/// In the window of a check nothing that is in force changes, and it goes on to the first command that ends
+/// it.
 pub fn nothing_changes_in_a_window()
-    ensures unchanged { (before after first last : List Pair) (check : Pair) → is_check check.command ≡ true → window after ≡ first ++ last
+    ensures unchanged { (before after first last : List Pair) (check : Pair) → is_check check.command ≡ true
+        → window after ≡ first ++ last
         → (signature_after (before ++ check ∷ first) ≡ signature_after before)
         × (assertions_after (before ++ check ∷ first) ≡ assertions_after before) }
     ensures ends { (pairs : List Pair) → (rest : List Pair) × (pairs ≡ window pairs ++ rest)
         × ((next : Pair) (later : List Pair) → rest ≡ next ∷ later → closes next ≡ true) }
 {}
 
-/// The assertions in force behind pairs are those of pairs that took effect and stand: an assertion does behind itself, and stays behind
-/// a pair that removes nothing of its level (SMT-LIB 2.6, section 4.1.4).
+/// The assertions in force behind pairs are those of pairs that took effect and stand: an assertion does
+/// behind itself, and stays behind a pair that removes nothing of its level (SMT-LIB 2.6, section 4.1.4).
 pub fn assertions_in_force_are_asserted()
-    ensures found { (before : List Pair) (first last : List Asserted) (a : Asserted) → assertions_after before ≡ first ++ a ∷ last
+    ensures found { (before : List Pair) (first last : List Asserted) (a : Asserted)
+        → assertions_after before ≡ first ++ a ∷ last
         → (earlier : List Pair) × IsAsserted before earlier a.term × (a.command ≡ length earlier + 1) }
     ensures stand { (before earlier : List Pair) (term : Sexp) → IsAsserted before earlier term
-        → (first : List Asserted) × (last : List Asserted) × (assertions_after before ≡ first ++ record { command = length earlier + 1; term = term } ∷ last) }
-    ensures here { (before : List Pair) (pair : Pair) (term : Sexp) → pair.command ≡ Assert term → is_effective pair ≡ true
+        → (first : List Asserted) × (last : List Asserted)
+        × (assertions_after before ≡ first ++ record { command = length earlier + 1; term = term } ∷ last) }
+    ensures here { (before : List Pair) (pair : Pair) (term : Sexp) → pair.command ≡ Assert term
+        → is_effective pair ≡ true
         → IsAsserted (before ++ pair ∷ []) before term }
-    ensures stays { (before earlier : List Pair) (pair : Pair) (term : Sexp) → (asserted : IsAsserted before earlier term)
-        → removes_all pair ≡ false → levels_after (earlier ++ asserted.pair ∷ []) ≤ levels_after (before ++ pair ∷ [])
+    ensures stays { (before earlier : List Pair) (pair : Pair) (term : Sexp)
+        → (asserted : IsAsserted before earlier term)
+        → is_effective pair && is_reset pair.command ≡ false
+        → levels_after (earlier ++ asserted.pair ∷ []) ≤ levels_after (before ++ pair ∷ [])
         → IsAsserted (before ++ pair ∷ []) earlier term }
 {
     assertions_in_force_stand();

@@ -1,7 +1,9 @@
-//! The dialogue of a script and its answers: which answer belongs to which command, what each `sat` comes to, and the report.
+//! The dialogue of a script and its answers: which answer belongs to which command, what each `sat` comes to,
+//! and the report.
 //!
-//! The layer above uses one contract: `validate` answers the report of the two texts, and its verdict means what it says. So of the
-//! script `(check-sat)` and the answer `unsat` the lines are `check 1 at command 1: unsat` and that of the verdict, which is valid.
+//! The layer above uses one contract: `validate` answers the report of the two texts, and its verdict means
+//! what it says. So of the script `(check-sat)` and the answer `unsat` the lines are `check 1 at command 1:
+//! unsat` and that of the verdict, which is valid.
 #![tactic(auto)]
 
 mod answer;

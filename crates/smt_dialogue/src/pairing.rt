@@ -1,20 +1,23 @@
-//! The commands of a dialogue, each with its answer.
+//! The commands of a dialogue, each with its answer, up to the fault that ends it or to its end. What a
+//! command does is not known here.
 
-ghost use Rattle.std.specs.Prelude.{◌≡◌, ◌<◌, ◌≤◌, ◌+◌, ◌^◌, Bool, true, List, Option, [], Ok, Err, Some, None, IfOk, option_map};
+ghost use Rattle.std.specs.Prelude.{◌≡◌, ◌<◌, ◌≤◌, ◌+◌, ◌^◌, Bool, true, List, Option, [], Ok, Err, Some};
+ghost use Rattle.std.specs.Prelude.{None, IfOk, option_map};
 ghost use Rattle.smt_trees.specs.Sexp.{Sexps, Nil};
 ghost use Rattle.smt_trees.specs.Tree.{sexp_of, sexps_of};
 ghost use Rattle.smt_faults.specs.declared.text_flaw.TextFlaw.{TextFlaw};
 ghost use Rattle.smt_script.specs.CommandView.{command_view};
-ghost use Rattle.smt_script.specs.StackView.{last_of, start_of};
+ghost use Rattle.smt_script.specs.StackView.{last_of, initial_print_success_of};
 ghost use Rattle.smt_dialogue.specs.Answers as answering;
 ghost use Rattle.smt_dialogue.specs.FirstFault as first_fault;
 ghost use Rattle.smt_dialogue.specs.FirstFault.{Ends, TextSoFar, turn_after, turn_of_rest, whole_text};
 ghost use Rattle.smt_dialogue.specs.Pairs.{Pair, next_of, pair_of};
 ghost use Rattle.smt_dialogue.specs.Internal.ChecksState.{IsAnswered, role_of};
-ghost use Rattle.smt_dialogue.specs.Internal.DialogueState.{StandsFor, state_of};
+ghost use Rattle.smt_dialogue.specs.Internal.DialogueState.{StandsFor, answered, state_of};
 ghost use Rattle.smt_dialogue.specs.Internal.UnreadText.{HasLeft, IsSound};
 ghost use Rattle.smt_dialogue.specs.Internal.ReadText.{text_view};
-ghost use Rattle.smt_dialogue.specs.Internal.Steps.{HasEnded, IsAccepted, IsJudged, IsLeft, IsStep, taken_view};
+ghost use Rattle.smt_dialogue.specs.Internal.Steps.{HasEnded, IsAccepted, IsJudged, IsLeft, IsStep};
+ghost use Rattle.smt_dialogue.specs.Internal.Steps.{taken_view};
 
 use crate::answer::{Need, Taken, need_of};
 use crate::dialogue::Dialogue;
@@ -23,7 +26,7 @@ use crate::unread_text::{Further, UnreadText};
 use smt_eval::Memory;
 use smt_faults::TextFlaw;
 use smt_report::{Line, Report, Side};
-use smt_script::{Command, CommandFault, read_command};
+use smt_script::{Command, CommandFlaw, read_command};
 use smt_text::laws::trees_are_no_more_than_bytes;
 use smt_trees::Tree;
 
@@ -37,9 +40,12 @@ pub(crate) fn judge_all(
     requires sound { IsSound script }
     requires left { (trees : Sexps) × (fault : Option TextFlaw) × HasLeft script trees fault }
     ensures { (trees : Sexps) (fault : Option TextFlaw) → HasLeft script.entry trees fault
-        → IfOk result (λ r. IsJudged (start_of dialogue.stack) (whole_text trees fault) (text_view answers) r.lines.items r.verdict) }
+        → IfOk result (λ r. IsJudged (initial_print_success_of dialogue.stack) (whole_text trees fault)
+        (text_view answers)
+        r.lines.items r.verdict) }
 {
-    // What leaves on several paths owns nothing here, or the dialogue alone: the prover takes long over what is owned on each.
+    // What leaves on several paths owns nothing here, or the dialogue alone: the prover takes long over what
+    // is owned on each.
     let line = last_line(&mut dialogue, &mut script, &mut answers);
     report_of(dialogue, line)
 }
@@ -59,7 +65,8 @@ fn report_of(dialogue: Dialogue, line: Result<Option<Line>, Memory>) -> Result<R
     }
 }
 
-// Judges the commands of a script with their answers, and answers the line that the dialogue ends with, if it ends with one.
+// Judges the commands of a script with their answers, and answers the line that the dialogue ends with, if it
+// ends with one.
 fn last_line(
     dialogue: &mut Dialogue,
     script: &mut UnreadText<'_>,
@@ -69,7 +76,8 @@ fn last_line(
     requires sound { IsSound script.old }
     requires left { (trees : Sexps) × (fault : Option TextFlaw) × HasLeft script.old trees fault }
     ensures { (trees : Sexps) (fault : Option TextFlaw) → HasLeft script.old trees fault
-        → IfOk result (λ line. HasEnded (start_of dialogue.old.stack) (state_of dialogue.new) (whole_text trees fault) (text_view answers.old) line) }
+        → IfOk result (λ line. HasEnded (initial_print_success_of dialogue.old.stack) (state_of dialogue.new)
+        (whole_text trees fault) (text_view answers.old) line) }
 {
     // A law: no count passes the number of the script's bytes.
     trees_are_no_more_than_bytes();
@@ -111,28 +119,32 @@ fn take_step(
     requires last { last_of dialogue.old.stack ≤ dialogue.old.commands }
     requires stands { (pairs : List Pair) × StandsFor (state_of dialogue.old) pairs }
     ensures step { IfOk result (λ line. (pairs : List Pair) → StandsFor (state_of dialogue.old) pairs
-        → IsStep (start_of dialogue.old.stack) line pairs (sexp_of tree) (sexps_of answers.old.trees.items) answers.old.fault (sexps_of answers.new.trees.items) (state_of dialogue.new)) }
-    ensures start { IfOk result (λ _. start_of dialogue.new.stack ≡ start_of dialogue.old.stack) }
+        → IsStep (initial_print_success_of dialogue.old.stack) line pairs (sexp_of tree)
+        (sexps_of answers.old.trees.items)
+        answers.old.fault (sexps_of answers.new.trees.items) (state_of dialogue.new)) }
+    ensures start { IfOk result
+        (λ _. initial_print_success_of dialogue.new.stack ≡ initial_print_success_of dialogue.old.stack) }
     ensures fault { answers.new.fault ≡ answers.old.fault }
 {
     let number = dialogue.commands + 1;
     if dialogue.stack.exited() {
         drop(tree);
-        return Ok(Some(refused(number, CommandFault::AfterExit)));
+        return Ok(Some(refused(number, CommandFlaw::AfterExit)));
     }
     let command = match read_command(tree) {
         Ok(command) => command,
-        Err(fault) => return Ok(Some(refused(number, fault))),
+        Err(flaw) => return Ok(Some(refused(number, flaw))),
     };
     let need = need_of(dialogue.stack.print_success(), &command);
-    // (each arm lets the command go: the proof of the borrow checker's part does not end where one arm alone does)
+    // (each arm lets the command go: the proof of the borrow checker's part does not end where one arm alone
+    // does)
     match take_answer(need, answers) {
         Taken::Takes(answer) => accept(dialogue, command, &answer),
         Taken::Missing => {
             drop(command);
             Ok(Some(want_of_answer(number, answers.fault)))
         }
-        Taken::Unfit => {
+        Taken::Unexpected => {
             let answer = dialogue.answers + 1;
             drop(command);
             Ok(Some(Line::UnexpectedAnswer {
@@ -144,15 +156,16 @@ fn take_step(
 }
 
 // The line on a command that is refused.
-fn refused(command: u64, fault: CommandFault) -> Line
-    ensures { result ≡ Line.CommandFault command fault }
+fn refused(command: u64, flaw: CommandFlaw) -> Line
+    ensures { result ≡ Line.CommandFault command flaw }
 {
-    Line::CommandFault { command, fault }
+    Line::CommandFault { command, flaw }
 }
 
 // What a command that needs this takes of the answers that are left.
 fn take_answer(need: Need, answers: &mut ReadText) -> Taken
-    ensures taken { taken_view result ≡ answering.taken true need (next_of (sexps_of answers.old.trees.items)) }
+    ensures taken { taken_view result
+        ≡ answering.taken true need (next_of (sexps_of answers.old.trees.items)) }
     ensures left { IsLeft result (sexps_of answers.old.trees.items) (sexps_of answers.new.trees.items) }
     ensures fault { answers.new.fault ≡ answers.old.fault }
 {
@@ -165,7 +178,7 @@ fn take_answer(need: Need, answers: &mut ReadText) -> Taken
             }
             match answers.take_first(form) {
                 Some(answer) => Taken::Takes(Some(answer)),
-                None => Taken::Unfit,
+                None => Taken::Unexpected,
             }
         }
     }
@@ -184,14 +197,18 @@ fn accept(
     requires stands { (pairs : List Pair) × StandsFor (state_of dialogue.old) pairs }
     requires answered { IsAnswered (role_of (command_view command)) (option_map sexp_of answer.now) }
     ensures accepted { IfOk result (λ line. (pairs : List Pair) → StandsFor (state_of dialogue.old) pairs
-        → IsAccepted line pairs (pair_of (command_view command) (option_map sexp_of answer.now)) (state_of dialogue.new)) }
-    ensures start { IfOk result (λ _. start_of dialogue.new.stack ≡ start_of dialogue.old.stack) }
+        → IsAccepted line pairs (answered command answer.now)
+        (state_of dialogue.new)) }
+    ensures start { IfOk result
+        (λ _. initial_print_success_of dialogue.new.stack ≡ initial_print_success_of dialogue.old.stack) }
 {
     let number = dialogue.commands + 1;
     match dialogue.accept(command, answer) {
         Ok(()) => Ok(None),
-        Err(CommandFault::Memory) => Err(Memory),
-        Err(fault) => Ok(Some(refused(number, fault))),
+        Err(fault) => match fault.flaw() {
+            Some(flaw) => Ok(Some(refused(number, flaw))),
+            None => Err(Memory),
+        },
     }
 }
 
@@ -211,7 +228,8 @@ fn want_of_answer(command: u64, fault: Option<TextFlaw>) -> Line
 // After the last command: an answer that is left over, or else the fault of the answers.
 fn end_without_fault(dialogue: &Dialogue, answers: &ReadText) -> Option<Line>
     requires { dialogue.now.answers + 1 < 2 ^ 64 }
-    ensures { (pairs : List Pair) → StandsFor (state_of dialogue.now) pairs → turn_of_rest pairs true answers.now.fault (sexps_of answers.now.trees.items) ≡ Ends result }
+    ensures { (pairs : List Pair) → StandsFor (state_of dialogue.now) pairs
+        → turn_of_rest pairs true answers.now.fault (sexps_of answers.now.trees.items) ≡ Ends result }
 {
     if !answers.trees.is_empty() {
         let answer = dialogue.answers + 1;

@@ -1,4 +1,4 @@
-//! Texts, read to their end.
+//! Texts, read to their end: the answers are. This file knows no commands.
 
 ghost use Rattle.std.specs.Prelude.{◌≡◌, true, false, Some, None, IfOk, MatchOption};
 ghost use Rattle.smt_text.specs.Reading.{Reads};
@@ -6,7 +6,7 @@ ghost use Rattle.smt_trees.specs.Sexp.{Cons};
 ghost use Rattle.smt_trees.specs.Tree.{sexp_of, sexps_of};
 ghost use Rattle.smt_text.specs.Grammar.{limit};
 ghost use Rattle.smt_dialogue.specs.Answers as answers;
-ghost use Rattle.smt_dialogue.specs.Internal.Steps.{IsUnfit};
+ghost use Rattle.smt_dialogue.specs.Internal.Steps.{IsUnexpected};
 
 use crate::answer::{AnswerForm, has_form};
 use smt_eval::Memory;
@@ -26,8 +26,11 @@ pub struct ReadText {
 impl ReadText {
     /// Takes the first tree that is left, where it has the form of an answer.
     pub(crate) fn take_first(&mut self, form: AnswerForm) -> Option<Tree>
-        ensures taken { MatchOption result (IsUnfit form (sexps_of self.old.trees.items) × (self.new.trees.items ≡ self.old.trees.items))
-            (λ tree. (answers.has_form form (sexp_of tree) ≡ true) × (sexps_of self.old.trees.items ≡ Cons (sexp_of tree) (sexps_of self.new.trees.items))) }
+        ensures taken { MatchOption result
+            (IsUnexpected form (sexps_of self.old.trees.items)
+            × (self.new.trees.items ≡ self.old.trees.items))
+            (λ tree. (answers.has_form form (sexp_of tree) ≡ true)
+            × (sexps_of self.old.trees.items ≡ Cons (sexp_of tree) (sexps_of self.new.trees.items))) }
         ensures fault { self.new.fault ≡ self.old.fault }
     {
         match self.trees.front() {

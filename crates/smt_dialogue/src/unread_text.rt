@@ -1,4 +1,4 @@
-//! Texts that are read as their trees are taken.
+//! Texts that are read as their trees are taken: the script is. This file knows no commands.
 
 ghost use Rattle.std.specs.Prelude.{◌≡◌, ◌<◌, true, false, Option, IfOk};
 ghost use Rattle.smt_text.specs.Grammar.{limit};
@@ -39,7 +39,8 @@ impl<'a> UnreadText<'a> {
     /// A text of which nothing was read.
     pub(crate) fn new(alloc: Global, text: &'a [u8]) -> Self
         ensures sound { IsSound result }
-        ensures left { (trees : Sexps) (fault : Option TextFlaw) → Reads limit true text.now trees fault → HasLeft result trees fault }
+        ensures left { (trees : Sexps) (fault : Option TextFlaw) → Reads limit true text.now trees fault
+            → HasLeft result trees fault }
     {
         UnreadText {
             reader: Reader::new(alloc),
@@ -53,7 +54,9 @@ impl<'a> UnreadText<'a> {
         requires sound { IsSound self.old }
         requires left { (trees : Sexps) × (fault : Option TextFlaw) × HasLeft self.old trees fault }
         ensures sound { IsSound self.new }
-        ensures next { IfOk result (λ further. (trees : Sexps) (fault : Option TextFlaw) → HasLeft self.old trees fault → ComesNext further self.new trees fault) }
+        ensures next { IfOk result
+            (λ further. (trees : Sexps) (fault : Option TextFlaw) → HasLeft self.old trees fault
+            → ComesNext further self.new trees fault) }
     {
         // Laws: what is read of a text is one answer, and what is read of its beginning stays.
         one_reading();
@@ -79,7 +82,8 @@ impl<'a> UnreadText<'a> {
         requires sound { IsSound self.old }
         requires goes_on { self.old.ended ≡ false }
         ensures sound { IsSound self.new }
-        ensures left { (trees : Sexps) (fault : Option TextFlaw) → HasLeft self.old trees fault → HasLeft self.new trees fault }
+        ensures left { (trees : Sexps) (fault : Option TextFlaw) → HasLeft self.old trees fault
+            → HasLeft self.new trees fault }
         ensures smaller { size_of self.new < size_of self.old }
     {
         if self.left.is_empty() {

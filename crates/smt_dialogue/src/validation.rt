@@ -1,4 +1,5 @@
-//! The report on a whole script and whole answers.
+//! The report on a whole script and whole answers: the one call that users of the crate make. This file
+//! decides nothing.
 
 ghost use Rattle.std.specs.Prelude.{◌≡◌, IfOk};
 ghost use Rattle.smt_dialogue.specs.Report.{IsReport};
@@ -29,10 +30,12 @@ pub fn validate(
     ensures report { IfOk result (λ r. IsReport options script.now answers.now r.lines.items) }
     ensures verdict { IfOk result (λ r. IsVerdictOf r.verdict r.lines.items) }
     ensures valid { IfOk result (λ r. r.verdict ≡ Verdict.Valid → IsValid options script.now answers.now) }
-    ensures invalid { IfOk result (λ r. r.verdict ≡ Verdict.Invalid → IsInvalid options script.now answers.now r.lines.items) }
+    ensures invalid { IfOk result
+        (λ r. r.verdict ≡ Verdict.Invalid → IsInvalid options script.now answers.now r.lines.items) }
 {
-    // Laws: of each text something is read, the texts have no other trees, models that are read are complete and give structures, the assertions in force are those of
-    // the commands that stand, and what is known of a term is its value.
+    // Laws: of each text something is read, the texts have no other trees, models that are read are complete
+    // and give structures, the assertions in force are those of the commands that stand, and what is known of
+    // a term is its value.
     one_forest();
     models_are_complete();
     names_in_force_are_introduced();

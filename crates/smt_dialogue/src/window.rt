@@ -1,13 +1,16 @@
-//! The window of a check: the models printed behind it, and its line.
+//! The window of a check: the models printed behind it, and its line. This file knows no text, and not what
+//! makes a model true.
 
-ghost use Rattle.std.specs.Prelude.{◌≡◌, ◌<◌, ◌+◌, ◌^◌, ◌++◌, List, [], None, IfOk, OnOk, if◌then◌else◌, option_map};
+ghost use Rattle.std.specs.Prelude.{◌≡◌, ◌<◌, ◌+◌, ◌^◌, ◌++◌, List, [], None, IfOk, OnOk, if◌then◌else◌};
+ghost use Rattle.std.specs.Prelude.{option_map};
 ghost use Rattle.smt_trees.specs.Tree.{sexp_of};
 ghost use Rattle.smt_script.specs.CommandView.{command_view};
 ghost use Rattle.smt_script.specs.Stack.{Numbered, assertions_in_force, signature_in_force};
 ghost use Rattle.smt_script.specs.StackView.{StandsFor};
 ghost use Rattle.smt_dialogue.specs.Lines as check_lines;
 ghost use Rattle.smt_dialogue.specs.Internal.ChecksState as state;
-ghost use Rattle.smt_dialogue.specs.Internal.ChecksState.{IsAnswered, checks_after, checks_state, with_check, with_line, with_models, with_window_ended};
+ghost use Rattle.smt_dialogue.specs.Internal.ChecksState.{IsAnswered, checks_after, checks_state, with_check};
+ghost use Rattle.smt_dialogue.specs.Internal.ChecksState.{with_line, with_models, with_window_ended};
 ghost use Rattle.smt_dialogue.specs.Judgement.{claims_of, judgement_of};
 ghost use Rattle.smt_dialogue.specs.Report.{lines_of_end};
 ghost use Rattle.smt_report.specs.Verdict.{verdict_of, with_verdict};
@@ -44,7 +47,8 @@ pub struct PendingCheck {
     pub some_model: bool,
 }
 
-/// The checks so far: how many there were, the one whose window has not ended, and the lines that are decided.
+/// The checks so far: how many there were, the one whose window has not ended, and the lines that are
+/// decided.
 #[derive(Drop)]
 pub struct Checks {
     pub count: u64,
@@ -64,8 +68,8 @@ impl Checks {
         }
     }
 
-    /// Takes the command of this number, by what it is for the window, with its answer, which says whether it took effect, and what is
-    /// in force after it.
+    /// Takes the command of this number, by what it is for the window, with its answer, which says whether it
+    /// took effect, and what is in force after it.
     pub(crate) fn take(
         &mut self,
         effective: bool,
@@ -77,12 +81,14 @@ impl Checks {
         requires count { self.old.count + 1 < 2 ^ 64 }
         requires stands { (commands : List Numbered) × StandsFor stack.now commands }
         requires answered { IsAnswered role (option_map sexp_of answer.now) }
-        ensures { OnOk result ((commands : List Numbered) → StandsFor stack.now commands → checks_state self.new
-            ≡ checks_after effective (checks_state self.old) (signature_in_force commands) (claims_of (assertions_in_force commands)) number role (option_map sexp_of answer.now)) }
+        ensures { OnOk result ((commands : List Numbered) → StandsFor stack.now commands
+            → checks_state self.new
+            ≡ checks_after effective (checks_state self.old) (signature_in_force commands)
+            (claims_of (assertions_in_force commands)) number role (option_map sexp_of answer.now)) }
     {
         match role {
             Role::Check => match answer {
-                Some(answer) => self.begin_window(number, answer),
+                Some(answer) => self.note_check(number, answer),
                 None => unreachable!(),
             },
             Role::Model => self.judge_model_if(effective, number, answer, stack),
@@ -91,10 +97,11 @@ impl Checks {
         }
     }
 
-    // A check ends the window of the one before it.
-    fn begin_window(&mut self, number: u64, answer: &Tree) -> Result<(), Memory>
-        requires { self.old.count + 1 < 2 ^ 64 }
-        ensures { OnOk result (checks_state self.new ≡ with_check (checks_state self.old) number (sexp_of answer.now)) }
+    // Notes a check: it ends the window of the one before it, and begins one if its answer is `sat`.
+    fn note_check(&mut self, number: u64, answer: &Tree) -> Result<(), Memory>
+        requires count { self.old.count + 1 < 2 ^ 64 }
+        ensures { OnOk result (checks_state self.new
+            ≡ with_check (checks_state self.old) number (sexp_of answer.now)) }
     {
         self.end_window()?;
         let check = self.count + 1;
@@ -124,7 +131,9 @@ impl Checks {
     ) -> Result<(), Memory>
         requires { (commands : List Numbered) × StandsFor stack.now commands }
         ensures { OnOk result ((commands : List Numbered) → StandsFor stack.now commands
-            → checks_state self.new ≡ with_models (checks_state self.old) self.old.pending (signature_in_force commands) (claims_of (assertions_in_force commands)) number effective (option_map sexp_of answer.now)) }
+            → checks_state self.new ≡ with_models (checks_state self.old) self.old.pending
+            (signature_in_force commands) (claims_of (assertions_in_force commands)) number effective
+            (option_map sexp_of answer.now)) }
     {
         match (self.pending, answer) {
             (Some(pending), Some(Tree::List(model))) if effective => {
@@ -143,8 +152,12 @@ impl Checks {
         stack: &Stack,
     ) -> Result<(), Memory>
         requires { (commands : List Numbered) × StandsFor stack.now commands }
-        ensures { OnOk result ((commands : List Numbered) → StandsFor stack.now commands → checks_state self.new
-            ≡ with_line (checks_state self.old) pending (check_lines.line_of_judgement pending.check pending.command number (judgement_of (signature_in_force commands) (claims_of (assertions_in_force commands)) model.now))) }
+        ensures { OnOk result ((commands : List Numbered) → StandsFor stack.now commands
+            → checks_state self.new
+            ≡ with_line (checks_state self.old) pending
+            (check_lines.line_of_judgement pending.check pending.command number
+            (judgement_of (signature_in_force commands) (claims_of (assertions_in_force commands))
+            model.now))) }
     {
         let judgement = judge(stack, model)?;
         match line_of_judgement(pending, number, judgement) {
@@ -162,7 +175,8 @@ impl Checks {
 
     // Ends the window where a command took effect.
     fn end_window_if(&mut self, effective: bool) -> Result<(), Memory>
-        ensures { OnOk result (checks_state self.new ≡ (if effective then with_window_ended (checks_state self.old) else checks_state self.old)) }
+        ensures { OnOk result (checks_state self.new
+            ≡ (if effective then with_window_ended (checks_state self.old) else checks_state self.old)) }
     {
         if effective { self.end_window() } else { Ok(()) }
     }
@@ -180,8 +194,12 @@ impl Checks {
 
     /// The report, once the window of the last check has ended, with the line of a fault or without one.
     pub(crate) fn report(mut self, fault: Option<Line>) -> Result<Report, Memory>
-        ensures lines { IfOk result (λ r. r.lines.items ≡ with_verdict ((with_window_ended (checks_state self)).lines ++ lines_of_end fault)) }
-        ensures verdict { IfOk result (λ r. r.verdict ≡ verdict_of ((with_window_ended (checks_state self)).lines ++ lines_of_end fault)) }
+        ensures lines { IfOk result
+            (λ r. r.lines.items ≡ with_verdict
+            ((with_window_ended (checks_state self)).lines ++ lines_of_end fault)) }
+        ensures verdict { IfOk result
+            (λ r. r.verdict ≡ verdict_of
+            ((with_window_ended (checks_state self)).lines ++ lines_of_end fault)) }
     {
         self.end_window()?;
         if let Some(line) = fault {
@@ -224,12 +242,12 @@ fn line_of_judgement(pending: PendingCheck, model: u64, judgement: Judgement) ->
     let check = pending.check;
     let command = pending.command;
     match judgement {
-        Judgement::ItemFault { item, fault } => Some(Line::ItemFault {
+        Judgement::ItemFault { item, flaw } => Some(Line::ItemFault {
             check,
             command,
             model,
             item,
-            fault,
+            flaw,
         }),
         Judgement::Lacks { declaration } => Some(Line::Lacks {
             check,

@@ -7,17 +7,18 @@ use Rattle.std.specs.Option.{option_or}
 use Rattle.smt_trees.specs.Sexp.{Sexp, Sexps, Nil, Cons}
 use Rattle.smt_theory.specs.Words.{result_and_then}
 use Rattle.smt_theory.specs.declared.theories.Theories.{Theories}
-use Rattle.smt_terms.specs.Items.{declared_named, if_declared, item_in, items_before}
+use Rattle.smt_terms.specs.Items.{item_in, items_before}
 use Rattle.smt_terms.specs.Signature.{AreDistinct, Entry, Origin, Declared, Defined, IsDeclared, KeepsRank}
-use Rattle.smt_terms.specs.Signature.{Signature, entry_named, is_taken, names_of}
+use Rattle.smt_terms.specs.Signature.{Signature, declared_named, entry_named, if_declared, names_of}
+use Rattle.smt_terms.specs.Freshness.{is_taken}
 use Rattle.smt_terms.specs.WellSorted.{AreWellSorted, IsWellSorted}
-use Rattle.smt_faults.specs.declared.term_fault.TermFault.{TermFault}
+use Rattle.smt_faults.specs.declared.term_flaw.TermFlaw.{TermFlaw}
 use Rattle.smt_eval.proofs.EntryLemmas.{entry_named-skip}
 use Rattle.smt_eval.proofs.NameLemmas.{same_name, same_flip, none_step}
 use Rattle.smt_eval.specs.CompleteModel.{IsModelOf}
 use Rattle.smt_eval.specs.Model.{AreDefined, AreItems, command_of_origin, complete_or, first_lacking}
 use Rattle.smt_eval.specs.Model.{items_from, items_of, lacking_at, model_in, or_item}
-use Rattle.smt_eval.specs.declared.interpretation.ModelFault.{ModelFault}
+use Rattle.smt_eval.specs.declared.model_fault.ModelFlaw.{ModelFlaw}
 
 -- what is defined keeps the rank of a declaration of its name
 abbrev pub IsRanked : Signature → Entry → Type 0
@@ -105,7 +106,7 @@ AreSound-from law script earlier number Nil items so_far h =
 AreSound-from law script earlier number (Cons x xs) items so_far h = by (item_in script earlier x) refl h
     (λ e more rest. AreSound-from law script (earlier ++ e ∷ []) (number + 1) xs items more rest)
   where
-    by : (r : Result Entry TermFault) → item_in script earlier x ≡ r
+    by : (r : Result Entry TermFlaw) → item_in script earlier x ≡ r
         → or_item number r (λ e. items_from script (earlier ++ e ∷ []) (number + 1) xs) ≡ Ok items
         → ((e : Entry) → AreSound script (earlier ++ e ∷ [])
         → items_from script (earlier ++ e ∷ []) (number + 1) xs ≡ Ok items → AreSound script items)
@@ -210,7 +211,7 @@ sound law script parts definitions whole = by (items_from script [] 1 (items_of 
         (AreSound-from law script [] 1 (items_of parts) found
         (record { sorted = tt; distinct = tt; ranked = tt; free = tt }) read)
 
-    by : (r : Result (List Entry) ModelFault) → items_from script [] 1 (items_of parts) ≡ r
+    by : (r : Result (List Entry) ModelFlaw) → items_from script [] 1 (items_of parts) ≡ r
         → result_and_then r (λ items. complete_or (first_lacking script.entries items)
         (items_before script items)) ≡ Ok definitions → AreSound script definitions.entries
     by (Err f) read h = cc
@@ -242,7 +243,7 @@ complete law script parts definitions whole = by (items_from script [] 1 (items_
               p.1 is_declared);
         })
 
-    by : (r : Result (List Entry) ModelFault) → items_from script [] 1 (items_of parts) ≡ r
+    by : (r : Result (List Entry) ModelFlaw) → items_from script [] 1 (items_of parts) ≡ r
         → result_and_then r (λ items. complete_or (first_lacking script.entries items)
         (items_before script items)) ≡ Ok definitions → IsModelOf script parts definitions
     by (Err f) read h = cc
@@ -259,7 +260,7 @@ items_read script earlier number Nil items h =
 items_read script earlier number (Cons x xs) items h = by (item_in script earlier x) refl h
     (λ e g. items_read script (earlier ++ e ∷ []) (number + 1) xs items g)
   where
-    by : (r : Result Entry TermFault) → item_in script earlier x ≡ r
+    by : (r : Result Entry TermFlaw) → item_in script earlier x ≡ r
         → or_item number r (λ e. items_from script (earlier ++ e ∷ []) (number + 1) xs) ≡ Ok items
         → ((e : Entry) → items_from script (earlier ++ e ∷ []) (number + 1) xs ≡ Ok items
         → (es : List Entry) × AreItems script (earlier ++ e ∷ []) xs es
@@ -299,7 +300,7 @@ model_is_items script parts es = (λ h. by (items_from script [] 1 (items_of par
               (AreDefined script.entries) same (none_lacking script.entries found none),
         )
 
-    by : (r : Result (List Entry) ModelFault) → items_from script [] 1 (items_of parts) ≡ r
+    by : (r : Result (List Entry) ModelFlaw) → items_from script [] 1 (items_of parts) ≡ r
         → result_and_then r (λ items. complete_or (first_lacking script.entries items)
         (items_before script items)) ≡ Ok (items_before script es)
         → AreItems script [] (items_of parts) es × AreDefined script.entries es

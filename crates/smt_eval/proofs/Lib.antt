@@ -4,7 +4,6 @@ pub mod MeaningLemmas
 pub mod SortedValueLemmas
 pub mod CompleteModelLemmas
 pub mod StructureLemmas
-pub mod NoMemoryLemmas
 pub mod EvaluatorLemmas
 pub mod PlaceLemmas
 pub mod ScopeLemmas

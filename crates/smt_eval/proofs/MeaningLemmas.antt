@@ -17,10 +17,10 @@ use Rattle.smt_values.specs.Element.{Element, Integer, Vector, Agrees, AllAgree}
 use Rattle.smt_values.specs.KnownOperations.{known_step}
 use Rattle.smt_values.specs.Literals.{numeral_element}
 use Rattle.smt_values.specs.Operations.{DivisionByZero, operate}
-use Rattle.smt_forms.specs.Heads.{is_underscore_tree}
+use Rattle.smt_forms.specs.Heads.{begins_indexed}
 use Rattle.smt_forms.specs.Identifier.{Identifier, Plain, Indexed, applied, indexed, operator_of}
 use Rattle.smt_terms.specs.Signature.{Entry, Origin, Declared, Defined, Signature}
-use Rattle.smt_faults.specs.declared.term_fault.TermFault.{TermFault}
+use Rattle.smt_faults.specs.declared.term_flaw.TermFlaw.{TermFlaw}
 use Rattle.smt_eval.specs.Agreement.{AgreeBoth, AgreesWith}
 use Rattle.smt_eval.specs.Known.{KnownMeaning, known_by, known_of, knowns_bound, knowns_of, known_of_op}
 use Rattle.smt_eval.specs.Known.{known_operators, known_defined, with_known, known_after, known_in}
@@ -60,7 +60,7 @@ is_plain_list _ _ = true
 
 -- such a list with another head than `_`
 pub known-other : (k : KnownMeaning) (r : List (List ℕ × Option Element)) (head : Sexp) (args : Sexps)
-    → is_plain_list head args ≡ true → is_underscore_tree head ≡ false
+    → is_plain_list head args ≡ true → begins_indexed head ≡ false
     → known_of k r (Items (Cons head args)) ≡ known_by (applied head args) (λ f. k f (knowns_of k r args))
 known-other k r (Reserved Underscore) args p h = cc
 known-other k r (Reserved Let) (Cons (Items bindings) (Cons body Nil)) p h = cc
@@ -68,7 +68,7 @@ known-other k r (Reserved Bang) (Cons term attributes) p h = cc
 known-other k r _ _ p h = refl
 
 pub value-other : (m : Meaning) (r : List (List ℕ × Element)) (head : Sexp) (args : Sexps)
-    → is_plain_list head args ≡ true → is_underscore_tree head ≡ false
+    → is_plain_list head args ≡ true → begins_indexed head ≡ false
     → value_of m r (Items (Cons head args)) ≡ element_by (applied head args) (λ f. m f (values_of m r args))
 value-other m r (Reserved Underscore) args p h = cc
 value-other m r (Reserved Let) (Cons (Items bindings) (Cons body Nil)) p h = cc
@@ -84,7 +84,7 @@ unwrap_or_true (Some l) None k e h i = absurd h
 unwrap_or_true (Some l) (Some f) k e h i = h
 
 -- what an identifier gives, if the tree is one
-by_true : (o : Result Identifier TermFault) (k : Identifier → Option Element) (m : Identifier → Element)
+by_true : (o : Result Identifier TermFlaw) (k : Identifier → Option Element) (m : Identifier → Element)
     → ((f : Identifier) → Agrees (k f) (m f)) → Agrees (known_by o k) (element_by o m)
 by_true (Ok f) k m h = h f
 by_true (Err fault) k m h = tt
@@ -112,7 +112,7 @@ constant_true base bits digits = by (is_some (width_of (bits * length digits)))
 module _ (k : KnownMeaning) (m : Meaning) (means : Means k m) where
   list_true : (known : List (List ℕ × Option Element)) (r : List (List ℕ × Element)) (head : Sexp)
       (args : Sexps) → AllAgree (knowns_of k known args) (values_of m r args)
-      → is_plain_list head args ≡ true → (b : Bool) → is_underscore_tree head ≡ b
+      → is_plain_list head args ≡ true → (b : Bool) → begins_indexed head ≡ b
       → Agrees (known_of k known (Items (Cons head args))) (value_of m r (Items (Cons head args)))
   list_true known r head args all plain false other =
       subst (λ o. Agrees o (value_of m r (Items (Cons head args))))
@@ -144,7 +144,7 @@ module _ (k : KnownMeaning) (m : Meaning) (means : Means k m) where
     term_true known r agrees (Items (Cons (Reserved Bang) (Cons term attributes))) =
         term_true known r agrees term
     term_true known r agrees (Items (Cons head args)) =
-        list_true known r head args (terms_true known r agrees args) refl (is_underscore_tree head) refl
+        list_true known r head args (terms_true known r agrees args) refl (begins_indexed head) refl
 
     pub terms_true : (known : List (List ℕ × Option Element)) (r : List (List ℕ × Element))
         → AgreesWith known r → (ts : Sexps) → AllAgree (knowns_of k known ts) (values_of m r ts)

@@ -7,38 +7,38 @@ use Rattle.smt_trees.specs.Sexp.{Sexps, Nil, Cons}
 use Rattle.smt_theory.specs.Words.{result_and_then}
 use Rattle.smt_terms.specs.Items.{item_in, items_before}
 use Rattle.smt_terms.specs.Signature.{Entry, Origin, Declared, Defined, IsDeclared, Signature, entry_named}
-use Rattle.smt_faults.specs.declared.term_fault.TermFault.{TermFault}
-use Rattle.smt_eval.specs.Model.{AreDefined, AreItems, HasFirstFault, IsFirstLacking, command_of_origin}
+use Rattle.smt_faults.specs.declared.term_flaw.TermFlaw.{TermFlaw}
+use Rattle.smt_eval.specs.Model.{AreDefined, AreItems, HasFirstFlaw, IsFirstLacking, command_of_origin}
 use Rattle.smt_eval.specs.Model.{complete_or, first_lacking, items_from, items_of, lacking_at, model_in}
 use Rattle.smt_eval.specs.Model.{or_item}
-use Rattle.smt_eval.specs.declared.interpretation.ModelFault.{ModelFault}
-use Rattle.smt_eval.specs.declared.interpretation.ModelFault.TheVariants.{Item, Lacks}
+use Rattle.smt_eval.specs.declared.model_fault.ModelFlaw.{ModelFlaw}
+use Rattle.smt_eval.specs.declared.model_fault.ModelFlaw.TheVariants.{Item, Lacks}
 use Rattle.smt_eval.proofs.CompleteModelLemmas.{items_back, items_read, not_lacking}
 
 -- ---- items
 
 fault_read : (script : Signature) (earlier : List Entry) (number : ℕ) (trees : Sexps) (m : ℕ)
-    (fault : TermFault) → items_from script earlier number trees ≡ Err (Item m fault)
-    → (n : ℕ) × (m ≡ number + n) × HasFirstFault script earlier trees n fault
+    (fault : TermFlaw) → items_from script earlier number trees ≡ Err (Item m fault)
+    → (n : ℕ) × (m ≡ number + n) × HasFirstFlaw script earlier trees n fault
 fault_read script earlier number Nil m fault h = cc
 fault_read script earlier number (Cons x xs) m fault h = by (item_in script earlier x) refl h
     (λ e g. fault_read script (earlier ++ e ∷ []) (number + 1) xs m fault g)
   where
-    here : (f : TermFault) → item_in script earlier x ≡ Err f → Item number f ≡ Item m fault
-        → (n : ℕ) × (m ≡ number + n) × HasFirstFault script earlier (Cons x xs) n fault
+    here : (f : TermFlaw) → item_in script earlier x ≡ Err f → Item number f ≡ Item m fault
+        → (n : ℕ) × (m ≡ number + n) × HasFirstFlaw script earlier (Cons x xs) n fault
     here f is same = let number_is : number ≡ m = cc in let fault_is : f ≡ fault = cc
-        in (zero, omega (arith, number_is), is ∙ ap (λ (g : TermFault). Err g) fault_is)
+        in (zero, omega (arith, number_is), is ∙ ap (λ (g : TermFlaw). Err g) fault_is)
 
-    by : (r : Result Entry TermFault) → item_in script earlier x ≡ r
+    by : (r : Result Entry TermFlaw) → item_in script earlier x ≡ r
         → or_item number r (λ e. items_from script (earlier ++ e ∷ []) (number + 1) xs) ≡ Err (Item m fault)
         → ((e : Entry) → items_from script (earlier ++ e ∷ []) (number + 1) xs ≡ Err (Item m fault)
-        → (n : ℕ) × (m ≡ (number + 1) + n) × HasFirstFault script (earlier ++ e ∷ []) xs n fault)
-        → (n : ℕ) × (m ≡ number + n) × HasFirstFault script earlier (Cons x xs) n fault
+        → (n : ℕ) × (m ≡ (number + 1) + n) × HasFirstFlaw script (earlier ++ e ∷ []) xs n fault)
+        → (n : ℕ) × (m ≡ number + n) × HasFirstFlaw script earlier (Cons x xs) n fault
     by (Err f) is h next = here f is (let same : Item number f ≡ Item m fault = cc in same)
     by (Ok e) is h next = let p = next e h in (suc p.0, p.1 ∙ omega arith, (e, is, p.2))
 
 fault_back : (script : Signature) (earlier : List Entry) (number : ℕ) (trees : Sexps) (n : ℕ)
-    (fault : TermFault) → HasFirstFault script earlier trees n fault
+    (fault : TermFlaw) → HasFirstFlaw script earlier trees n fault
     → items_from script earlier number trees ≡ Err (Item (number + n) fault)
 fault_back script earlier number Nil n fault h = absurd h
 fault_back script earlier number (Cons x xs) zero fault h =
@@ -49,34 +49,34 @@ fault_back script earlier number (Cons x xs) (suc n) fault h =
     ∙ fault_back script (earlier ++ h.0 ∷ []) (number + 1) xs n fault h.2 ∙ ap (λ (k : ℕ). Err (Item k fault))
     (omega arith)
 
-pub fault_is_first : (script : Signature) (parts : Sexps) (n : ℕ) (fault : TermFault)
-    → (model_in script parts ≡ Err (Item (n + 1) fault)) ↔ HasFirstFault script [] (items_of parts) n fault
+pub fault_is_first : (script : Signature) (parts : Sexps) (n : ℕ) (fault : TermFlaw)
+    → (model_in script parts ≡ Err (Item (n + 1) fault)) ↔ HasFirstFlaw script [] (items_of parts) n fault
 fault_is_first script parts n fault = (λ h. by (items_from script [] 1 (items_of parts)) refl h, back)
   where
-    same_place : (m : ℕ) → n + 1 ≡ 1 + m → HasFirstFault script [] (items_of parts) m fault
-        → HasFirstFault script [] (items_of parts) n fault
+    same_place : (m : ℕ) → n + 1 ≡ 1 + m → HasFirstFlaw script [] (items_of parts) m fault
+        → HasFirstFlaw script [] (items_of parts) n fault
     same_place m is h = let place : m ≡ n = omega (arith, is)
-        in subst (λ (k : ℕ). HasFirstFault script [] (items_of parts) k fault) place h
+        in subst (λ (k : ℕ). HasFirstFlaw script [] (items_of parts) k fault) place h
 
     lacks : (o : Option ℕ) (items : List Entry)
         → complete_or o (items_before script items) ≡ Err (Item (n + 1) fault)
-        → HasFirstFault script [] (items_of parts) n fault
+        → HasFirstFlaw script [] (items_of parts) n fault
     lacks (Some command) items h = cc
     lacks None items h = cc
 
-    by : (r : Result (List Entry) ModelFault) → items_from script [] 1 (items_of parts) ≡ r
+    by : (r : Result (List Entry) ModelFlaw) → items_from script [] 1 (items_of parts) ≡ r
         → result_and_then r (λ items. complete_or (first_lacking script.entries items)
         (items_before script items)) ≡ Err (Item (n + 1) fault)
-        → HasFirstFault script [] (items_of parts) n fault
+        → HasFirstFlaw script [] (items_of parts) n fault
     by (Ok items) read h = lacks (first_lacking script.entries items) items h
     by (Err f) read h =
         let is : f ≡ Item (n + 1) fault = cc in
         let p =
-        fault_read script [] 1 (items_of parts) (n + 1) fault (read ∙ ap (λ (g : ModelFault). Err g) is)
+        fault_read script [] 1 (items_of parts) (n + 1) fault (read ∙ ap (λ (g : ModelFlaw). Err g) is)
         in
         same_place p.0 p.1 p.2
 
-    back : HasFirstFault script [] (items_of parts) n fault → model_in script parts ≡ Err (Item (n + 1) fault)
+    back : HasFirstFlaw script [] (items_of parts) n fault → model_in script parts ≡ Err (Item (n + 1) fault)
     back h =
         ap (λ r. result_and_then r
         (λ items. complete_or (first_lacking script.entries items) (items_before script items)))
@@ -157,7 +157,7 @@ no_lacking_item script earlier number Nil command h = cc
 no_lacking_item script earlier number (Cons x xs) command h = by (item_in script earlier x) h
     (λ e g. no_lacking_item script (earlier ++ e ∷ []) (number + 1) xs command g)
   where
-    by : (r : Result Entry TermFault)
+    by : (r : Result Entry TermFlaw)
         → or_item number r (λ e. items_from script (earlier ++ e ∷ []) (number + 1) xs) ≡ Err (Lacks command)
         → ((e : Entry) → items_from script (earlier ++ e ∷ []) (number + 1) xs ≡ Err (Lacks command) → ⊥) → ⊥
     by (Err f) h next = cc
@@ -184,14 +184,14 @@ lacking_is_first script parts command = (λ h. by (items_from script [] 1 (items
           lacking_read script.entries found command (some ∙ ap (λ (n : ℕ). Some n) same),
         )
 
-    by : (r : Result (List Entry) ModelFault) → items_from script [] 1 (items_of parts) ≡ r
+    by : (r : Result (List Entry) ModelFlaw) → items_from script [] 1 (items_of parts) ≡ r
         → result_and_then r (λ items. complete_or (first_lacking script.entries items)
         (items_before script items)) ≡ Err (Lacks command)
         → (items : List Entry) × AreItems script [] (items_of parts) items
         × IsFirstLacking script.entries items command
     by (Err f) read h = let is : f ≡ Lacks command = cc
         in absurd (no_lacking_item script [] 1 (items_of parts) command
-        (read ∙ ap (λ (g : ModelFault). Err g) is))
+        (read ∙ ap (λ (g : ModelFlaw). Err g) is))
     by (Ok found) read h = lacks found (first_lacking script.entries found) refl read h
 
     back : (items : List Entry) × AreItems script [] (items_of parts) items

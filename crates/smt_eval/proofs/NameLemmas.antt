@@ -1,4 +1,5 @@
--- Names that pass the test are the same.
+-- Names that pass the test are the same. A crate cites no lemma of another, so `smt_terms` proves some of
+-- these for itself.
 use Rattle.std.proofs.Common.{◌≡◌, ℕ, Bool, true, false, cond, List, Option, Some, None, refl, ap, sym, ◌∙◌}
 use Rattle.std.specs.Str.{bytes_eq}
 use Rattle.std.specs.Cmp.Lexicographic.{same_text}

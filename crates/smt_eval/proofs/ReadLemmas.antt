@@ -1,5 +1,5 @@
 -- Models, one item at a time, and as a whole.
-use Rattle.std.proofs.Common.{◌≡◌, ◌⊎◌, inl, inr, ◌<◌, ◌≤◌, ℕ, zero, suc, ◌+◌, List, [], ◌∷◌, ◌++◌, drop}
+use Rattle.std.proofs.Common.{◌≡◌, inl, inr, ◌<◌, ◌≤◌, ℕ, zero, suc, ◌+◌, List, [], ◌∷◌, ◌++◌, drop}
 use Rattle.std.proofs.Common.{length, slice_index_or, Option, Result, Ok, Err, refl, ap, sym, ◌∙◌, arith}
 use Rattle.std.proofs.Common.{add-one}
 use Rattle.std.proofs.Math.Seq.{drop-cons}
@@ -11,14 +11,18 @@ use Rattle.smt_values.specs.Element.{Element, known_elements}
 use Rattle.smt_values.specs.declared.value.Value.{Value}
 use Rattle.smt_terms.specs.Items.{item_in, items_before}
 use Rattle.smt_terms.specs.Signature.{Entry, Signature}
+use Rattle.smt_faults.specs.declared.term_flaw.TermFlaw.{TermFlaw}
+use Rattle.smt_faults.specs.Outcome.{Tells, flaw_told}
 use Rattle.smt_faults.specs.declared.term_fault.TermFault.{TermFault}
-use Rattle.smt_faults.specs.declared.term_fault.TermFault.TheVariants.{Memory}
+use Rattle.smt_faults.specs.declared.term_fault.TermFault.TheVariants as terms
 use Rattle.smt_eval.specs.Internal.DefinitionValues.{definition_values, values_after}
-use Rattle.smt_eval.specs.Internal.ItemFault.{fault_of_item}
+use Rattle.smt_eval.specs.Internal.ItemFault.{model_fault_of_item}
 use Rattle.smt_eval.specs.Known.{KnownMeaning, with_known}
 use Rattle.smt_eval.specs.Model.{complete_or, first_lacking, items_from, items_of, model_in, or_item}
-use Rattle.smt_eval.specs.declared.interpretation.ModelFault.{ModelFault}
-use Rattle.smt_eval.specs.declared.interpretation.ModelFault.TheVariants.{Item, Memory as OutOfMemory}
+use Rattle.smt_eval.specs.ModelFaults.{TellsModel}
+use Rattle.smt_eval.specs.declared.model_fault.ModelFault.{ModelFault}
+use Rattle.smt_eval.specs.declared.model_fault.ModelFlaw.{ModelFlaw}
+use Rattle.smt_eval.specs.declared.model_fault.ModelFlaw.TheVariants.{Item}
 
 -- the item at a place comes first of those from there on
 pub items_at : (items : List Tree) (i : ℕ) (x : Tree) → i < length items → x ≡ slice_index_or items i x
@@ -32,22 +36,28 @@ pub item_taken : (s : Signature) (es : List Entry) (n : ℕ) (t : Sexp) (rest al
     → all ≡ Cons t rest → item_in s es t ≡ Ok e
     → items_from s es n all ≡ items_from s (es ++ e ∷ []) (n + 1) rest
 item_taken s es n t rest all e split is = ap (items_from s es n) split ∙ ap
-    (λ (r : Result Entry TermFault). or_item n r (λ x. items_from s (es ++ x ∷ []) (n + 1) rest)) is
+    (λ (r : Result Entry TermFlaw). or_item n r (λ x. items_from s (es ++ x ∷ []) (n + 1) rest)) is
 
 -- and one that is refused
-other_fault : (n : ℕ) (f : TermFault) → (f ≡ Memory → ⊥) → fault_of_item n f ≡ Item n f
-other_fault n Memory h = absurd (h refl)
-other_fault n _ h = refl
+told_of_item : (n : ℕ) (f : TermFault) (r : Result (List Entry) ModelFlaw) → r ≡ Err (Item n (flaw_told f))
+    → TellsModel r (model_fault_of_item n f)
+told_of_item n terms.Memory r h = inl refl
+told_of_item n terms.Form r h = inr (refl, h)
+told_of_item n terms.Unsupported r h = inr (refl, h)
+told_of_item n terms.Unknown r h = inr (refl, h)
+told_of_item n terms.IllSorted r h = inr (refl, h)
+told_of_item n terms.Index r h = inr (refl, h)
+told_of_item n terms.BoundTwice r h = inr (refl, h)
+told_of_item n terms.NotFresh r h = inr (refl, h)
+told_of_item n terms.Label r h = inr (refl, h)
 
 pub item_refused : (s : Signature) (es : List Entry) (n : ℕ) (t : Sexp) (rest all : Sexps) (f : TermFault)
-    → all ≡ Cons t rest → (item_in s es t ≡ Err Memory → ⊥) → (f ≡ Memory) ⊎ (item_in s es t ≡ Err f)
-    → (fault_of_item n f ≡ OutOfMemory) ⊎ (items_from s es n all ≡ Err (fault_of_item n f))
-item_refused s es n t rest all f split other (inl m) = inl (ap (fault_of_item n) m)
-item_refused s es n t rest all f split other (inr is) =
-    inr (ap (items_from s es n) split ∙ ap
-    (λ (r : Result Entry TermFault). or_item n r (λ x. items_from s (es ++ x ∷ []) (n + 1) rest)) is ∙ ap
-    (λ (g : ModelFault). Err g)
-    (sym (other_fault n f (λ m. other (is ∙ ap (λ (g : TermFault). Err g) m)))))
+    → all ≡ Cons t rest → Tells (item_in s es t) f → TellsModel (items_from s es n all) (model_fault_of_item n f)
+item_refused s es n t rest all f split (inl m) = inl (ap (model_fault_of_item n) m)
+item_refused s es n t rest all f split (inr is) =
+    told_of_item n f (items_from s es n all)
+    (ap (items_from s es n) split ∙ ap
+    (λ (r : Result Entry TermFlaw). or_item n r (λ x. items_from s (es ++ x ∷ []) (n + 1) rest)) is)
 
 pub all_dropped : (items : List Tree) (i : ℕ) → length items ≤ i → sexps_of (drop i items) ≡ Nil
 all_dropped [] zero h = refl
@@ -61,17 +71,20 @@ pub model_whole : (s : Signature) (parts items : Sexps) (es : List Entry) → it
     → items_from s [] 1 items ≡ Ok es
     → model_in s parts ≡ complete_or (first_lacking s.entries es) (items_before s es)
 model_whole s parts items es same is =
-    ap (λ (r : Result (List Entry) ModelFault). result_and_then r
+    ap (λ (r : Result (List Entry) ModelFlaw). result_and_then r
     (λ found. complete_or (first_lacking s.entries found) (items_before s found)))
     (ap (items_from s [] 1) (sym same) ∙ is)
 
 pub model_faulty : (s : Signature) (parts items : Sexps) (f : ModelFault) → items ≡ items_of parts
-    → (f ≡ OutOfMemory) ⊎ (items_from s [] 1 items ≡ Err f) → (f ≡ OutOfMemory) ⊎ (model_in s parts ≡ Err f)
+    → TellsModel (items_from s [] 1 items) f → TellsModel (model_in s parts) f
 model_faulty s parts items f same (inl m) = inl m
-model_faulty s parts items f same (inr is) =
-    inr (ap (λ (r : Result (List Entry) ModelFault). result_and_then r
-    (λ found. complete_or (first_lacking s.entries found) (items_before s found)))
-    (ap (items_from s [] 1) (sym same) ∙ is))
+model_faulty s parts items f same (inr (tells, is)) =
+    inr (
+      tells,
+      ap (λ (r : Result (List Entry) ModelFlaw). result_and_then r
+          (λ found. complete_or (first_lacking s.entries found) (items_before s found)))
+          (ap (items_from s [] 1) (sym same) ∙ is),
+    )
 
 -- there are as many known values as definitions
 values-length : (m : KnownMeaning) (es : List Entry) → length (values_after m es) ≡ length es

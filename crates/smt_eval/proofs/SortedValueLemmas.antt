@@ -26,18 +26,18 @@ use Rattle.smt_values.specs.Element.{Element, Vector, IsOfSort, AreOfSorts}
 use Rattle.smt_values.specs.Operations.{DivisionByZero, operate}
 use Rattle.smt_forms.specs.Bindings.{are_attributes, are_bindings}
 use Rattle.smt_forms.specs.Labels.{labels_among}
-use Rattle.smt_terms.specs.Checking.{bound_in, fault_of_labels, sort_applied, sort_in, sorts_in, sort_of_call}
+use Rattle.smt_terms.specs.Checking.{bound_in, flaw_of_labels, sort_applied, sort_in, sorts_in, sort_of_call}
 use Rattle.smt_terms.specs.Checking.{sort_of_name, sort_of_operator, sort_of_plain, sort_of_rank}
 use Rattle.smt_terms.specs.Checking.{sort_of_symbol, sort_unless_variable, unless}
-use Rattle.smt_forms.specs.Heads.{is_underscore_tree}
+use Rattle.smt_forms.specs.Heads.{begins_indexed}
 use Rattle.smt_forms.specs.Identifier.{Identifier, Plain, Indexed, applied, indexed, operator_of}
 use Rattle.smt_terms.specs.Signature.{AreDistinct, Entry, Origin, Declared, Defined, Names, Rank, Signature}
 use Rattle.smt_terms.specs.Signature.{entry_named, names_of, rank_of_entry, ranks_of, unlabelled}
 use Rattle.smt_terms.specs.Signature.{unlabelled_over}
 use Rattle.smt_terms.specs.WellSorted.{AreWellSorted, IsWellSorted, IsWellSortedFrom}
-use Rattle.smt_faults.specs.declared.term_fault.TermFault.{TermFault}
-use Rattle.smt_faults.specs.declared.term_fault.TermFault.TheVariants.{BoundTwice, Form, IllSorted, Unknown}
-use Rattle.smt_faults.specs.declared.term_fault.TermFault.TheVariants.{Index}
+use Rattle.smt_faults.specs.declared.term_flaw.TermFlaw.{TermFlaw}
+use Rattle.smt_faults.specs.declared.term_flaw.TermFlaw.TheVariants.{BoundTwice, Form, IllSorted, Unknown}
+use Rattle.smt_faults.specs.declared.term_flaw.TermFlaw.TheVariants.{Index}
 use Rattle.smt_eval.proofs.NameLemmas.{same_name, same_self, none_step}
 use Rattle.smt_eval.specs.Agreement.{FitsScope, IsOfSorts}
 use Rattle.smt_eval.specs.Meaning.{Meaning, element_by, value_of, values_bound, values_of, meaning_of_op}
@@ -76,7 +76,7 @@ Fits-operators law z theories (Indexed f indexes) sorts sort es is h =
     operator-fits law z (operator_of theories (Indexed f indexes)) sorts sort es is h
 
 -- a first answer, where the whole is one
-first_ok : {A B : Type 0} (r : Result A TermFault) (next : A → Result B TermFault) (b : B)
+first_ok : {A B : Type 0} (r : Result A TermFlaw) (next : A → Result B TermFlaw) (b : B)
     → result_and_then r next ≡ Ok b → (a : A) × (r ≡ Ok a) × (next a ≡ Ok b)
 first_ok (Ok a) next b h = (a, refl, h)
 first_ok (Err f) next b h = cc
@@ -132,7 +132,7 @@ constant-fits true base bits n digits sort e h = by (nat_le 1 n) (nat_le n 128) 
 
 -- a list that is no `let` and no annotated term, with another head than `_`
 sort-other : (names : Names) (scope : List (List ℕ × Sort)) (head : Sexp) (args : Sexps)
-    → is_plain_list head args ≡ true → is_underscore_tree head ≡ false
+    → is_plain_list head args ≡ true → begins_indexed head ≡ false
     → sort_in names scope (Items (Cons head args))
     ≡ result_and_then (applied head args)
     (λ f. result_and_then (sorts_in names scope args) (λ ss. sort_of_call names scope f ss))
@@ -148,18 +148,18 @@ by_name true s e o p here rest = here
 by_name false s e o p here rest = rest
 
 -- where there is a sort, a test was passed
-passed : (b : Bool) (r : Result Sort TermFault) (sort : Sort) → cond b r (Err Form) ≡ Ok sort → r ≡ Ok sort
+passed : (b : Bool) (r : Result Sort TermFlaw) (sort : Sort) → cond b r (Err Form) ≡ Ok sort → r ≡ Ok sort
 passed true r sort is = is
 passed false r sort is = cc
 
 -- and no name was bound before
-new_name : {A : Type 0} (b : Bool) (r : Result A TermFault) (a : A) → cond b (Err BoundTwice) r ≡ Ok a
+new_name : {A : Type 0} (b : Bool) (r : Result A TermFlaw) (a : A) → cond b (Err BoundTwice) r ≡ Ok a
     → r ≡ Ok a
 new_name true r a is = cc
 new_name false r a is = is
 
 -- an annotated term has the sort of the term
-annotated : (o : Option TermFault) (s sort : Sort) → unless o (Ok s) ≡ Ok sort → s ≡ sort
+annotated : (o : Option TermFlaw) (s sort : Sort) → unless o (Ok s) ≡ Ok sort → s ≡ sort
 annotated (Some fault) s sort is = cc
 annotated None s sort is = cc
 
@@ -193,7 +193,7 @@ module _ (N : Names) (m : Meaning) (fits : Fits (unlabelled N) m) where
   list-fits : (scope : List (List ℕ × Sort)) (r : List (List ℕ × Element)) (head : Sexp) (args : Sexps)
       (sort : Sort) → ((ss : List Sort) → sorts_in (unlabelled N) scope args ≡ Ok ss
       → AreOfSorts ss (values_of m r args))
-      → is_plain_list head args ≡ true → (b : Bool) → is_underscore_tree head ≡ b
+      → is_plain_list head args ≡ true → (b : Bool) → begins_indexed head ≡ b
       → sort_in (unlabelled N) scope (Items (Cons head args)) ≡ Ok sort
       → IsOfSort sort (value_of m r (Items (Cons head args)))
   list-fits scope r head args sort all plain false other is =
@@ -232,16 +232,16 @@ module _ (N : Names) (m : Meaning) (fits : Fits (unlabelled N) m) where
         (ap (λ (b : List (List ℕ × Sort)). sort_in (unlabelled N) (b ++ scope) body) (sym q.1) ∙ p.2)
     term-fits scope r fit (Items (Cons (Reserved Bang) (Cons term attributes))) sort is =
         let p = first_ok (sort_in (unlabelled N) scope term)
-        (λ s. unless (fault_of_labels (unlabelled N) scope term (labels_among attributes)) (Ok s)) sort
+        (λ s. unless (flaw_of_labels (unlabelled N) scope term (labels_among attributes)) (Ok s)) sort
         (passed (are_attributes attributes)
         (result_and_then (sort_in (unlabelled N) scope term)
-        (λ s. unless (fault_of_labels (unlabelled N) scope term (labels_among attributes)) (Ok s))) sort
+        (λ s. unless (flaw_of_labels (unlabelled N) scope term (labels_among attributes)) (Ok s))) sort
         is) in
         subst (λ s. IsOfSort s (value_of m r term))
-        (annotated (fault_of_labels (unlabelled N) scope term (labels_among attributes)) p.0 sort p.2)
+        (annotated (flaw_of_labels (unlabelled N) scope term (labels_among attributes)) p.0 sort p.2)
         (term-fits scope r fit term p.0 p.1)
     term-fits scope r fit (Items (Cons head args)) sort is = list-fits scope r head args sort
-        (λ ss h. terms-fit scope r fit args ss h) refl (is_underscore_tree head) refl is
+        (λ ss h. terms-fit scope r fit args ss h) refl (begins_indexed head) refl is
 
     terms-fit : (scope : List (List ℕ × Sort)) (r : List (List ℕ × Element)) → FitsScope scope r
         → (ts : Sexps) (sorts : List Sort) → sorts_in (unlabelled N) scope ts ≡ Ok sorts
@@ -262,7 +262,7 @@ module _ (N : Names) (m : Meaning) (fits : Fits (unlabelled N) m) where
     bound-fits scope r fit before Nil bound is =
         let same : before ≡ bound = cc in ([], sym same ∙ sym (append-nil before), fit)
     bound-fits scope r fit before (Cons (Items (Cons (Atom Symbol x) (Cons t Nil))) rest) bound is =
-        let go : Sort → Result (List (List ℕ × Sort)) TermFault =
+        let go : Sort → Result (List (List ℕ × Sort)) TermFlaw =
         λ s. bound_in (unlabelled N) scope (before ++ (x, s) ∷ []) rest in
         let p =
         first_ok (sort_in (unlabelled N) scope t) go bound
@@ -387,7 +387,7 @@ Fits-with same theories earlier m e fits sorted fresh (Indexed f indexes) sorts 
 Fits-with same theories earlier m e fits sorted fresh (Plain f) sorts sort es is h =
     by (bytes_eq f e.name) refl
   where
-    sort_by : Option Rank → Result Sort TermFault
+    sort_by : Option Rank → Result Sort TermFlaw
     sort_by o = sort_of_plain (names_over theories (earlier ++ e ∷ [])) f o sorts
 
     by : (b : Bool) → bytes_eq f e.name ≡ b

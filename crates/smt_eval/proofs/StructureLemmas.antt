@@ -5,11 +5,11 @@ use Rattle.std.specs.Prelude.{bytes_eq, option_and_then, option_map}
 use Rattle.smt_theory.specs.Operators.{is_plain_operator}
 use Rattle.smt_theory.specs.Words.{look_up}
 use Rattle.smt_theory.specs.declared.theories.Theories.{Theories}
-use Rattle.smt_terms.specs.Items.{declared_named, if_declared}
 use Rattle.smt_terms.specs.Library.{defined_among, is_declared}
 use Rattle.smt_terms.specs.Signature.{AreDistinct, Entry, Origin, Declared, Defined, IsDeclared, Signature}
-use Rattle.smt_terms.specs.Signature.{entry_named, is_taken, names_of, rank_of_entry, unlabelled_over}
-use Rattle.smt_terms.specs.Signature.{ranks_of}
+use Rattle.smt_terms.specs.Signature.{declared_named, entry_named, if_declared, names_of, rank_of_entry}
+use Rattle.smt_terms.specs.Signature.{ranks_of, unlabelled_over}
+use Rattle.smt_terms.specs.Freshness.{is_taken}
 use Rattle.smt_terms.specs.WellSorted.{AreWellSorted, IsWellSortedFrom}
 use Rattle.smt_eval.specs.Internal.DefinitionValues.{AllDefined, IsDefined}
 use Rattle.smt_eval.specs.Structure.{structure_of}

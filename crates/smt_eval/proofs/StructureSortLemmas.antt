@@ -11,11 +11,11 @@ use Rattle.smt_theory.specs.Words.{look_up}
 use Rattle.smt_theory.specs.declared.sort.Sort.{Sort}
 use Rattle.smt_theory.specs.declared.theories.Theories.{Theories}
 use Rattle.smt_terms.specs.Checking.{sort_in}
-use Rattle.smt_terms.specs.Items.{declared_named, if_declared}
 use Rattle.smt_terms.specs.Library.{defined_among, is_declared}
 use Rattle.smt_terms.specs.Signature.{AreDistinct, Entry, IsDeclared, KeepsRank, Names, Origin, Declared}
-use Rattle.smt_terms.specs.Signature.{Defined, Rank, Signature, entry_named, is_taken, names_of}
-use Rattle.smt_terms.specs.Signature.{rank_of_entry, ranks_of, unlabelled_over}
+use Rattle.smt_terms.specs.Signature.{Defined, Rank, Signature, declared_named, entry_named, if_declared}
+use Rattle.smt_terms.specs.Signature.{names_of, rank_of_entry, ranks_of, unlabelled_over}
+use Rattle.smt_terms.specs.Freshness.{is_taken}
 use Rattle.smt_terms.specs.WellSorted.{AreIntroduced, AreWellSorted, IsDefinition, IsSortedIfDefined}
 use Rattle.smt_terms.specs.WellSorted.{IsWellSortedFrom, Keeps}
 use Rattle.smt_eval.proofs.NameLemmas.{same_name, same_self}

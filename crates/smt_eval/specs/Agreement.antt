@@ -5,7 +5,7 @@ use Rattle.smt_theory.specs.Words.{look_up}
 use Rattle.smt_theory.specs.declared.sort.Sort.{Sort}
 use Rattle.smt_values.specs.Element.{Agrees, Element, IsOfSort}
 
--- the same variables have values, and what is known of each is true
+-- both have the variable or neither has it, and what is known of its value is true
 abbrev pub AgreeBoth : Option (Option Element) → Option Element → Type 0
 AgreeBoth None None = Unit {0}
 AgreeBoth (Some known) (Some e) = Agrees known e

@@ -15,13 +15,13 @@ use Rattle.smt_values.specs.KnownOperations.{known_step}
 use Rattle.smt_values.specs.Literals.{bin_element, hex_element, numeral_element}
 use Rattle.smt_forms.specs.Identifier.{Identifier, Plain, Indexed, applied, indexed, operator_of}
 use Rattle.smt_terms.specs.Signature.{Entry, Origin, Declared, Defined, Signature}
-use Rattle.smt_faults.specs.declared.term_fault.TermFault.{TermFault}
+use Rattle.smt_faults.specs.declared.term_flaw.TermFlaw.{TermFlaw}
 
 -- what identifiers are known to mean: for each, what is known of the element that it gives for arguments
 abbrev pub KnownMeaning : Type 0
 KnownMeaning = Identifier → List (Option Element) → Option Element
 
-abbrev pub known_by : Result Identifier TermFault → (Identifier → Option Element) → Option Element
+abbrev pub known_by : Result Identifier TermFlaw → (Identifier → Option Element) → Option Element
 known_by (Ok f) give = give f
 known_by (Err fault) give = None
 

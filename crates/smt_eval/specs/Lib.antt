@@ -2,6 +2,7 @@ pub mod Meaning
 pub mod Known
 pub mod Agreement
 pub mod Model
+pub mod ModelFaults
 pub mod CompleteModel
 pub mod Structure
 pub mod Interpretation

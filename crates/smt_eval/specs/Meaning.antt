@@ -16,14 +16,14 @@ use Rattle.smt_values.specs.Element.{Element, Truth, Integer, Vector}
 use Rattle.smt_values.specs.Operations.{DivisionByZero, operate}
 use Rattle.smt_forms.specs.Identifier.{Identifier, Plain, Indexed, applied, indexed, operator_of}
 use Rattle.smt_terms.specs.Signature.{Entry, Origin, Declared, Defined, Signature}
-use Rattle.smt_faults.specs.declared.term_fault.TermFault.{TermFault}
+use Rattle.smt_faults.specs.declared.term_flaw.TermFlaw.{TermFlaw}
 
 -- what identifiers mean: for each, the element that it gives for arguments
 abbrev pub Meaning : Type 0
 Meaning = Identifier → List Element → Element
 
 -- what is no well-sorted term has a value of no interest
-abbrev pub element_by : Result Identifier TermFault → (Identifier → Element) → Element
+abbrev pub element_by : Result Identifier TermFlaw → (Identifier → Element) → Element
 element_by (Ok f) give = give f
 element_by (Err fault) give = Truth false
 

@@ -7,19 +7,19 @@ use Rattle.smt_trees.specs.Sexp.{Sexps, Nil, Cons, is_symbol}
 use Rattle.smt_theory.specs.Words.{result_and_then}
 use Rattle.smt_terms.specs.Items.{item_in, items_before}
 use Rattle.smt_terms.specs.Signature.{Entry, Origin, Declared, Defined, IsDeclared, Signature, entry_named}
-use Rattle.smt_faults.specs.declared.term_fault.TermFault.{TermFault}
-use Rattle.smt_eval.specs.declared.interpretation.ModelFault.{ModelFault}
-use Rattle.smt_eval.specs.declared.interpretation.ModelFault.TheVariants.{Item, Lacks}
+use Rattle.smt_faults.specs.declared.term_flaw.TermFlaw.{TermFlaw}
+use Rattle.smt_eval.specs.declared.model_fault.ModelFlaw.{ModelFlaw}
+use Rattle.smt_eval.specs.declared.model_fault.ModelFlaw.TheVariants.{Item, Lacks}
 
--- what comes of an item, or its fault with its number
-abbrev pub or_item : {A : Type 0} → ℕ → Result Entry TermFault → (Entry → Result A ModelFault)
-    → Result A ModelFault
+-- what comes of an item, or its flaw with its number
+abbrev pub or_item : {A : Type 0} → ℕ → Result Entry TermFlaw → (Entry → Result A ModelFlaw)
+    → Result A ModelFlaw
 or_item number (Ok e) next = next e
-or_item number (Err fault) next = Err (Item number fault)
+or_item number (Err flaw) next = Err (Item number flaw)
 
--- what the items define, behind what came before; or the first item with a fault, the first of them having
+-- what the items define, behind what came before; or the first item with a flaw, the first of them having
 -- this number
-abbrev pub items_from : Signature → List Entry → ℕ → Sexps → Result (List Entry) ModelFault
+abbrev pub items_from : Signature → List Entry → ℕ → Sexps → Result (List Entry) ModelFlaw
 items_from script earlier number Nil = Ok earlier
 items_from script earlier number (Cons x xs) =
     or_item number (item_in script earlier x) (λ e. items_from script (earlier ++ e ∷ []) (number + 1) xs)
@@ -44,13 +44,13 @@ first_lacking [] items = None
 first_lacking (e ∷ es) items = option_or (lacking_at items e) (first_lacking es items)
 
 -- the items as definitions over the script's theories, unless a name is lacking
-abbrev pub complete_or : Option ℕ → Signature → Result Signature ModelFault
+abbrev pub complete_or : Option ℕ → Signature → Result Signature ModelFlaw
 complete_or None definitions = Ok definitions
 complete_or (Some command) definitions = Err (Lacks command)
 
 -- the definitions of a model of the script's declared names, over the script's theories; or the model's first
--- fault: that of an item, or else a name that is lacking
-abbrev pub model_in : Signature → Sexps → Result Signature ModelFault
+-- flaw: that of an item, or else a name that is lacking
+abbrev pub model_in : Signature → Sexps → Result Signature ModelFlaw
 model_in script parts =
     result_and_then (items_from script [] 1 (items_of parts))
     (λ items. complete_or (first_lacking script.entries items) (items_before script items))
@@ -70,12 +70,12 @@ abbrev pub AreDefined : List Entry → List Entry → Type 0
 AreDefined entries items = (place : ℕ) (e : Entry) → slice_get entries place ≡ Some e → IsDeclared e.origin
     → is_some (entry_named items e.name) ≡ true
 
--- the tree behind so many others that are items has this fault, and is the first that has one
-abbrev pub HasFirstFault : Signature → List Entry → Sexps → ℕ → TermFault → Type 0
-HasFirstFault script earlier Nil n fault = ⊥
-HasFirstFault script earlier (Cons x xs) zero fault = item_in script earlier x ≡ Err fault
-HasFirstFault script earlier (Cons x xs) (suc n) fault =
-    (e : Entry) × (item_in script earlier x ≡ Ok e) × HasFirstFault script (earlier ++ e ∷ []) xs n fault
+-- the tree behind so many others that are items has this flaw, and is the first that has one
+abbrev pub HasFirstFlaw : Signature → List Entry → Sexps → ℕ → TermFlaw → Type 0
+HasFirstFlaw script earlier Nil n flaw = ⊥
+HasFirstFlaw script earlier (Cons x xs) zero flaw = item_in script earlier x ≡ Err flaw
+HasFirstFlaw script earlier (Cons x xs) (suc n) flaw =
+    (e : Entry) × (item_in script earlier x ≡ Ok e) × HasFirstFlaw script (earlier ++ e ∷ []) xs n flaw
 
 -- the first entry that a command declared and no item defines is of this command
 pub record IsFirstLacking (entries items : List Entry) (command : ℕ) : Type 0 where

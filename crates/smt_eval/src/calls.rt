@@ -1,17 +1,16 @@
 //! What names mean: operators, and definitions, whose bodies see their parameters and the definitions before
-//! them.
+//! them. This file looks into no term.
 
-ghost use Rattle.std.specs.Prelude.{◌≡◌, ◌<◌, Some, length, map, slice_get, IfOk};
+ghost use Rattle.std.specs.Prelude.{◌≡◌, ◌<◌, Some, length, map, slice_get};
 ghost use Rattle.std.specs.List.{zip};
 ghost use Rattle.smt_trees.specs.Tree.{sexp_of};
 ghost use Rattle.smt_values.specs.Element.{known_element, known_elements};
 ghost use Rattle.smt_forms.specs.Identifier.{Plain};
 ghost use Rattle.smt_forms.specs.IdentifierView.{identifier_view};
-ghost use Rattle.smt_terms.specs.Signature.{Entry, Signature};
 ghost use Rattle.smt_eval.specs.Internal.DefinitionValues as values;
-ghost use Rattle.smt_eval.specs.Internal.DefinitionValues.{first};
-ghost use Rattle.smt_eval.specs.Internal.Evaluation.{Evaluates, bodies_of, meaning_over};
-ghost use Rattle.smt_eval.specs.Known.{known_defined, known_in, known_of, known_of_op};
+ghost use Rattle.smt_eval.specs.Internal.Evaluation.{IsOfStructure, KnowsAt, KnowsBefore, KnowsGiven};
+ghost use Rattle.smt_eval.specs.Internal.Evaluation.{bodies_of};
+ghost use Rattle.smt_eval.specs.Known.{known_defined, known_of, known_of_op};
 
 use crate::definitions::{Definitions, definition_at, place_of};
 use crate::evaluator::known_value;
@@ -29,10 +28,8 @@ pub(crate) fn known_applied(
     identifier: &Identifier<'_>,
     args: &[Option<Value>],
 ) -> Result<Option<Value>, Memory>
-    requires { (d : Signature) × Evaluates over d }
-    ensures { (d : Signature) → Evaluates over.entry d
-        → IfOk result (λ v. known_element v
-        ≡ meaning_over over.entry d (identifier_view identifier.now) (known_elements args.now)) }
+    requires { IsOfStructure over }
+    ensures { KnowsGiven over.entry (identifier_view identifier.now) (known_elements args.now) result }
 {
     match identifier {
         Identifier::Plain(name) => known_plain(over, *name, args),
@@ -52,10 +49,8 @@ pub(crate) fn known_plain(
     name: &[u8],
     args: &[Option<Value>],
 ) -> Result<Option<Value>, Memory>
-    requires { (d : Signature) × Evaluates over d }
-    ensures { (d : Signature) → Evaluates over.entry d
-        → IfOk result (λ v. known_element v
-        ≡ meaning_over over.entry d (Plain name.now) (known_elements args.now)) }
+    requires { IsOfStructure over }
+    ensures { KnowsGiven over.entry (Plain name.now) (known_elements args.now) result }
 {
     match place_of(over, name) {
         Some(place) => known_at(over, place, args),
@@ -71,11 +66,9 @@ pub(crate) fn known_at(
     place: usize,
     args: &[Option<Value>],
 ) -> Result<Option<Value>, Memory>
-    requires over { (d : Signature) × Evaluates over d }
+    requires over { IsOfStructure over }
     requires seen { place < over.count }
-    ensures { (d : Signature) (e : Entry) → Evaluates over.entry d → slice_get d.entries place ≡ Some e
-        → IfOk result (λ v. known_element v
-        ≡ known_defined (known_in (first place d)) e.origin (known_elements args.now)) }
+    ensures { KnowsAt over.entry place (λ m o. known_defined m o (known_elements args.now)) result }
 {
     let (params, body) = definition_at(over, place);
     if params.is_empty() {
@@ -95,13 +88,11 @@ fn known_body(
     body: &Tree,
     args: &[Option<Value>],
 ) -> Result<Option<Value>, Memory>
-    requires over { (d : Signature) × Evaluates over d }
+    requires over { IsOfStructure over }
     requires seen { place < over.count }
     requires body { slice_get (bodies_of over) place ≡ Some (Some (sexp_of body.now)) }
-    ensures { (d : Signature) → Evaluates over.entry d
-        → IfOk result (λ v. known_element v
-        ≡ known_of (known_in (first place d))
-        (zip (map (λ p. p.0.items) params.now) (known_elements args.now)) (sexp_of body.now)) }
+    ensures { KnowsBefore over.entry place (λ m. known_of m
+        (zip (map (λ p. p.0.items) params.now) (known_elements args.now)) (sexp_of body.now)) result }
 {
     let variables = bind(over.model.alloc(), params, args)?;
     let earlier = Definitions {
@@ -115,11 +106,9 @@ fn known_body(
 
 /// What is kept of the first definition that is not seen: the value of a constant.
 pub(crate) fn kept_value(over: Definitions<'_>) -> Result<Option<Value>, Memory>
-    requires over { (d : Signature) × Evaluates over d }
+    requires over { IsOfStructure over }
     requires place { over.count < length (bodies_of over) }
-    ensures { (d : Signature) (e : Entry) → Evaluates over.entry d
-        → slice_get d.entries over.entry.count ≡ Some e
-        → IfOk result (λ v. known_element v ≡ values.kept_value (meaning_over over.entry d) e.origin) }
+    ensures { KnowsAt over.entry over.entry.count values.kept_value result }
 {
     let (params, body) = definition_at(over, over.count);
     if params.is_empty() {

@@ -1,4 +1,5 @@
-//! Terms that have been checked, whatever they are kept as.
+//! Terms that have been checked, whatever they are kept as. This file knows no library, and evaluates
+//! nothing.
 
 use smt_faults::Memory;
 use smt_values::Value;

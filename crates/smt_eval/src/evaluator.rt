@@ -1,18 +1,17 @@
-//! Evaluation of terms.
+//! Evaluation of terms. This file names no operator but `ite`, and looks into no definition.
 
-ghost use Rattle.std.specs.Prelude.{◌≡◌, [], IfOk, IsTrue};
+ghost use Rattle.std.specs.Prelude.{◌≡◌, [], IsTrue};
 ghost use Rattle.smt_trees.specs.Sexp.{Atom, Cons, Items, Nil, Reserved, Symbol};
 ghost use Rattle.smt_trees.specs.Tree.{sexp_of, sexps_of};
 ghost use Rattle.smt_trees.specs.declared.reserved.Word.TheVariants.{Let};
 ghost use Rattle.smt_values.specs.KnownOperations as operations;
 ghost use Rattle.smt_values.specs.KnownOperations.{known_step};
-ghost use Rattle.smt_values.specs.Element.{known_element, known_elements};
 ghost use Rattle.smt_theory.specs.declared.op.CoreOp.TheVariants.{Ite};
 ghost use Rattle.smt_theory.specs.declared.op.Op.TheVariants.{Core};
-ghost use Rattle.smt_forms.specs.Identifier.{applied, indexed};
-ghost use Rattle.smt_terms.specs.Signature.{Signature};
-ghost use Rattle.smt_eval.specs.Internal.Evaluation.{Evaluates, known_scope, meaning_over};
-ghost use Rattle.smt_eval.specs.Known.{known_by, known_of, knowns_bound, knowns_of};
+ghost use Rattle.smt_forms.specs.Identifier.{indexed};
+ghost use Rattle.smt_eval.specs.Internal.Evaluation.{IsOfStructure, Knows, KnowsAll, KnowsBound, KnowsBy};
+ghost use Rattle.smt_eval.specs.Internal.Evaluation.{KnowsCall, KnowsOf};
+ghost use Rattle.smt_eval.specs.Known.{known_by};
 
 use crate::calls::{known_applied, known_at, known_of_operator, known_plain};
 use crate::definitions::{Definitions, place_of};
@@ -35,10 +34,8 @@ pub(crate) fn known_value<'a>(
     scope: &[Variable<'a, Option<Value>>],
     term: &'a Tree,
 ) -> Result<Option<Value>, Memory>
-    requires { (d : Signature) × Evaluates over d }
-    ensures { (d : Signature) → Evaluates over.entry d
-        → IfOk result (λ v. known_element v
-        ≡ known_of (meaning_over over.entry d) (known_scope scope.now) (sexp_of term.now)) }
+    requires { IsOfStructure over }
+    ensures { Knows over.entry scope.now (sexp_of term.now) result }
 {
     match term {
         Tree::Symbol(name) => known_symbol(over, scope, name.as_slice()),
@@ -46,17 +43,15 @@ pub(crate) fn known_value<'a>(
     }
 }
 
-// The same, out of line: most terms are symbols.
+// What is known of a term, out of line: most terms are symbols, which `known_value` takes in line.
 #[cycle(known)]
 fn known_other<'a>(
     over: Definitions<'_>,
     scope: &[Variable<'a, Option<Value>>],
     term: &'a Tree,
 ) -> Result<Option<Value>, Memory>
-    requires { (d : Signature) × Evaluates over d }
-    ensures { (d : Signature) → Evaluates over.entry d
-        → IfOk result (λ v. known_element v
-        ≡ known_of (meaning_over over.entry d) (known_scope scope.now) (sexp_of term.now)) }
+    requires { IsOfStructure over }
+    ensures { Knows over.entry scope.now (sexp_of term.now) result }
 {
     match term {
         Tree::Symbol(name) => known_symbol(over, scope, name.as_slice()),
@@ -77,10 +72,8 @@ fn known_symbol(
     scope: &[Variable<'_, Option<Value>>],
     name: &[u8],
 ) -> Result<Option<Value>, Memory>
-    requires { (d : Signature) × Evaluates over d }
-    ensures { (d : Signature) → Evaluates over.entry d
-        → IfOk result (λ v. known_element v
-        ≡ known_of (meaning_over over.entry d) (known_scope scope.now) (Atom Symbol name.now)) }
+    requires { IsOfStructure over }
+    ensures { Knows over.entry scope.now (Atom Symbol name.now) result }
 {
     match find_variable(scope, name) {
         Some(value) => Ok(value),
@@ -95,10 +88,8 @@ fn known_list<'a>(
     scope: &[Variable<'a, Option<Value>>],
     parts: &'a Trees,
 ) -> Result<Option<Value>, Memory>
-    requires { (d : Signature) × Evaluates over d }
-    ensures { (d : Signature) → Evaluates over.entry d
-        → IfOk result (λ v. known_element v
-        ≡ known_of (meaning_over over.entry d) (known_scope scope.now) (Items parts.now)) }
+    requires { IsOfStructure over }
+    ensures { Knows over.entry scope.now (Items parts.now) result }
 {
     let Some((head, args)) = split_first(parts.as_slice()) else {
         return Ok(None);
@@ -119,11 +110,8 @@ fn known_reserved<'a>(
     word: Word,
     args: &'a [Tree],
 ) -> Result<Option<Value>, Memory>
-    requires { (d : Signature) × Evaluates over d }
-    ensures { (d : Signature) → Evaluates over.entry d
-        → IfOk result (λ v. known_element v
-        ≡ known_of (meaning_over over.entry d) (known_scope scope.now)
-        (Items (Cons (Reserved word) (sexps_of args.now)))) }
+    requires { IsOfStructure over }
+    ensures { Knows over.entry scope.now (Items (Cons (Reserved word) (sexps_of args.now))) result }
 {
     match word {
         Word::Underscore => known_indexed(over, args),
@@ -138,9 +126,7 @@ fn known_reserved<'a>(
 
 // What is known of the identifier `(_ symbol index ..)`, by what stands behind the `_`.
 fn known_indexed(over: Definitions<'_>, parts: &[Tree]) -> Result<Option<Value>, Memory>
-    ensures { (d : Signature) → Evaluates over.entry d
-        → IfOk result (λ v. known_element v
-        ≡ known_by (indexed (sexps_of parts.now)) (λ f. meaning_over over.entry d f [])) }
+    ensures { KnowsBy over.entry (λ m. known_by (indexed (sexps_of parts.now)) (λ f. m f [])) result }
 {
     match indexed_identifier(over.model.alloc(), parts) {
         Ok(identifier) => Ok(known_of_operator(identifier.operator(over.model.theories()), &[])),
@@ -156,11 +142,8 @@ fn known_let<'a>(
     scope: &[Variable<'a, Option<Value>>],
     args: &'a [Tree],
 ) -> Result<Option<Value>, Memory>
-    requires { (d : Signature) × Evaluates over d }
-    ensures { (d : Signature) → Evaluates over.entry d
-        → IfOk result (λ v. known_element v
-        ≡ known_of (meaning_over over.entry d) (known_scope scope.now)
-        (Items (Cons (Reserved Let) (sexps_of args.now)))) }
+    requires { IsOfStructure over }
+    ensures { Knows over.entry scope.now (Items (Cons (Reserved Let) (sexps_of args.now))) result }
 {
     let Some((bindings, body)) = split_let(args) else {
         return Ok(None);
@@ -177,10 +160,8 @@ fn knowns_bound_by<'a>(
     scope: &[Variable<'a, Option<Value>>],
     bindings: &'a [Tree],
 ) -> Result<Vec<Variable<'a, Option<Value>>>, Memory>
-    requires { (d : Signature) × Evaluates over d }
-    ensures { (d : Signature) → Evaluates over.entry d
-        → IfOk result (λ variables. known_scope variables.items
-        ≡ knowns_bound (meaning_over over.entry d) (known_scope scope.now) (sexps_of bindings.now)) }
+    requires { IsOfStructure over }
+    ensures { KnowsBound over.entry scope.now (sexps_of bindings.now) result }
 {
     let mut variables = Vec::new(over.model.alloc());
     let mut left = bindings;
@@ -200,11 +181,8 @@ fn known_named<'a>(
     name: &[u8],
     args: &'a [Tree],
 ) -> Result<Option<Value>, Memory>
-    requires { (d : Signature) × Evaluates over d }
-    ensures { (d : Signature) → Evaluates over.entry d
-        → IfOk result (λ v. known_element v ≡ known_by (applied (Atom Symbol name.now) (sexps_of args.now))
-        (λ f. meaning_over over.entry d f
-        (knowns_of (meaning_over over.entry d) (known_scope scope.now) (sexps_of args.now)))) }
+    requires { IsOfStructure over }
+    ensures { KnowsCall over.entry scope.now (Atom Symbol name.now) (sexps_of args.now) result }
 {
     let Some(_) = split_first(args) else {
         return Ok(None);
@@ -229,11 +207,8 @@ fn known_operation<'a>(
     op: Op,
     args: &'a [Tree],
 ) -> Result<Option<Value>, Memory>
-    requires { (d : Signature) × Evaluates over d }
-    ensures { (d : Signature) → Evaluates over.entry d
-        → IfOk result (λ v. known_element v
-        ≡ known_step op (knowns_of (meaning_over over.entry d) (known_scope scope.now)
-        (sexps_of args.now))) }
+    requires { IsOfStructure over }
+    ensures { KnowsOf over.entry scope.now (known_step op) (sexps_of args.now) result }
 {
     if is_choice(&op) {
         return known_choice(over, scope, args);
@@ -256,8 +231,8 @@ fn is_choice(op: &Op) -> bool
     matches!(op, Op::Core(CoreOp::Ite))
 }
 
-// The same of one argument, of two and of three: each out of line, since the room for all would be cleared at
-// each call.
+// What an operator gives of one argument, of two and of three: each out of line, since the room for all would
+// be cleared at each call.
 #[cycle(known)]
 #[inline(never)]
 fn known_of_one<'a>(
@@ -266,11 +241,8 @@ fn known_of_one<'a>(
     op: Op,
     only: &'a Tree,
 ) -> Result<Option<Value>, Memory>
-    requires { (d : Signature) × Evaluates over d }
-    ensures { (d : Signature) → Evaluates over.entry d
-        → IfOk result (λ v. known_element v
-        ≡ known_step op (knowns_of (meaning_over over.entry d) (known_scope scope.now)
-        (Cons (sexp_of only.now) Nil))) }
+    requires { IsOfStructure over }
+    ensures { KnowsOf over.entry scope.now (known_step op) (Cons (sexp_of only.now) Nil) result }
 {
     Ok(apply(op, &[known_value(over, scope, only)?]))
 }
@@ -284,11 +256,9 @@ fn known_of_two<'a>(
     first: &'a Tree,
     second: &'a Tree,
 ) -> Result<Option<Value>, Memory>
-    requires { (d : Signature) × Evaluates over d }
-    ensures { (d : Signature) → Evaluates over.entry d
-        → IfOk result (λ v. known_element v
-        ≡ known_step op (knowns_of (meaning_over over.entry d) (known_scope scope.now)
-        (Cons (sexp_of first.now) (Cons (sexp_of second.now) Nil)))) }
+    requires { IsOfStructure over }
+    ensures { KnowsOf over.entry scope.now (known_step op)
+        (Cons (sexp_of first.now) (Cons (sexp_of second.now) Nil)) result }
 {
     Ok(apply(
         op,
@@ -309,11 +279,9 @@ fn known_of_three<'a>(
     second: &'a Tree,
     third: &'a Tree,
 ) -> Result<Option<Value>, Memory>
-    requires { (d : Signature) × Evaluates over d }
-    ensures { (d : Signature) → Evaluates over.entry d
-        → IfOk result (λ v. known_element v
-        ≡ known_step op (knowns_of (meaning_over over.entry d) (known_scope scope.now)
-        (Cons (sexp_of first.now) (Cons (sexp_of second.now) (Cons (sexp_of third.now) Nil))))) }
+    requires { IsOfStructure over }
+    ensures { KnowsOf over.entry scope.now (known_step op)
+        (Cons (sexp_of first.now) (Cons (sexp_of second.now) (Cons (sexp_of third.now) Nil))) result }
 {
     Ok(apply(
         op,
@@ -334,11 +302,8 @@ fn known_call<'a>(
     head: &'a Tree,
     args: &'a [Tree],
 ) -> Result<Option<Value>, Memory>
-    requires { (d : Signature) × Evaluates over d }
-    ensures { (d : Signature) → Evaluates over.entry d
-        → IfOk result (λ v. known_element v ≡ known_by (applied (sexp_of head.now) (sexps_of args.now))
-        (λ f. meaning_over over.entry d f
-        (knowns_of (meaning_over over.entry d) (known_scope scope.now) (sexps_of args.now)))) }
+    requires { IsOfStructure over }
+    ensures { KnowsCall over.entry scope.now (sexp_of head.now) (sexps_of args.now) result }
 {
     match applied_identifier(over.model.alloc(), head, args) {
         Ok(identifier) => {
@@ -358,11 +323,8 @@ fn known_choice<'a>(
     scope: &[Variable<'a, Option<Value>>],
     args: &'a [Tree],
 ) -> Result<Option<Value>, Memory>
-    requires { (d : Signature) × Evaluates over d }
-    ensures { (d : Signature) → Evaluates over.entry d
-        → IfOk result (λ v. known_element v
-        ≡ operations.known_choice
-        (knowns_of (meaning_over over.entry d) (known_scope scope.now) (sexps_of args.now))) }
+    requires { IsOfStructure over }
+    ensures { KnowsOf over.entry scope.now operations.known_choice (sexps_of args.now) result }
 {
     let Some((condition, branches)) = split_first(args) else {
         return Ok(None);
@@ -391,10 +353,8 @@ fn known_all<'a>(
     scope: &[Variable<'a, Option<Value>>],
     terms: &'a [Tree],
 ) -> Result<Vec<Option<Value>>, Memory>
-    requires { (d : Signature) × Evaluates over d }
-    ensures { (d : Signature) → Evaluates over.entry d
-        → IfOk result (λ known. known_elements known.items
-        ≡ knowns_of (meaning_over over.entry d) (known_scope scope.now) (sexps_of terms.now)) }
+    requires { IsOfStructure over }
+    ensures { KnowsAll over.entry scope.now (sexps_of terms.now) result }
 {
     let mut known = Vec::with_capacity(over.model.alloc(), terms.len())?;
     let mut left = terms;

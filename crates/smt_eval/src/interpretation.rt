@@ -1,4 +1,4 @@
-//! Models, as solvers print them.
+//! Models, as solvers print them. This file looks into no item: a library takes them.
 
 ghost use Rattle.std.specs.Prelude.{◌≡◌, ◌⊎◌, List, [], Ok, Err, MatchResult, IfOk};
 ghost use Rattle.smt_trees.specs.Tree.{sexps_of};
@@ -8,43 +8,21 @@ ghost use Rattle.smt_terms.specs.Library.{StandsFor};
 ghost use Rattle.smt_terms.specs.Signature.{Entry, Signature};
 ghost use Rattle.smt_eval.specs.Internal.DefinitionValues.{definition_values};
 ghost use Rattle.smt_eval.specs.Internal.Evaluation.{HaveStructure};
-ghost use Rattle.smt_eval.specs.Internal.ItemFault.{fault_of_item};
+ghost use Rattle.smt_eval.specs.Internal.ItemFault.{model_fault_of_item};
 ghost use Rattle.smt_eval.specs.Interpretation.{IsInterpretation};
 ghost use Rattle.smt_eval.specs.Model as model;
 ghost use Rattle.smt_eval.specs.Model.{model_in, items_from, items_of};
 ghost use Rattle.smt_eval.specs.Structure.{structure_of};
-ghost use Rattle.smt_eval.specs.declared.interpretation.ModelFault.TheVariants.{Memory as OutOfMemory};
+ghost use Rattle.smt_eval.specs.ModelFaults.{TellsModel};
 
 use crate::calls::kept_value;
 use crate::definitions::Definitions;
 use crate::laws::{models_are_complete, structures_are_distinct};
+use crate::model_fault::ModelFault;
 use smt_faults::Memory;
-use smt_terms::laws::faults_are_no_memory;
 use smt_terms::{Library, TermFault};
 use smt_trees::{Tree, Trees, split_first};
 use smt_values::Value;
-
-/// Why a model can't be used.
-#[derive(Clone, Copy)]
-pub enum ModelFault {
-    /// The first item with a fault; items count from 1.
-    Item { number: u64, fault: TermFault },
-    /// The command of the first declared name that no item defines.
-    Lacks { command: u64 },
-    /// Memory was refused.
-    Memory,
-}
-
-impl From<Memory> for ModelFault {
-    ghost use Rattle.std.specs.Prelude.{◌≡◌};
-    ghost use Rattle.smt_eval.specs.declared.interpretation.ModelFault.TheVariants.{Memory as OutOfMemory};
-
-    ghost from_gives = { λ _ fault. fault ≡ OutOfMemory };
-
-    fn from(_memory: Memory) -> ModelFault {
-        ModelFault::Memory
-    }
-}
 
 /// The definitions of a model, and what is known of the value of each constant among them and the script's
 /// own definitions behind them.
@@ -64,7 +42,7 @@ impl Interpretation {
         ensures { (s : Signature) → StandsFor declared.now s
             → MatchResult result (λ i. (d : Signature) × (model_in s model.now ≡ Ok d)
             × IsInterpretation i s d)
-            (λ fault. (fault ≡ OutOfMemory) ⊎ (model_in s model.now ≡ Err fault)) }
+            (TellsModel (model_in s model.now)) }
     {
         let definitions = read_items(declared, items(model.as_slice()))?;
         // (dropped by name: the prover takes long over a library that is owned on more than one path)
@@ -93,10 +71,8 @@ fn read_items(declared: &Library, items: &[Tree]) -> Result<Library, ModelFault>
     ensures { (s : Signature) → StandsFor declared.now s
         → MatchResult result (λ library. (es : List Entry) × (items_from s [] 1 (sexps_of items.now) ≡ Ok es)
         × StandsFor library (items_before s es))
-        (λ fault. (fault ≡ OutOfMemory) ⊎ (items_from s [] 1 (sexps_of items.now) ≡ Err fault)) }
+        (TellsModel (items_from s [] 1 (sexps_of items.now))) }
 {
-    // A law: a fault of an item is not want of memory.
-    faults_are_no_memory();
     let Ok(mut definitions) = declared.for_model() else {
         return Err(ModelFault::Memory);
     };
@@ -110,7 +86,7 @@ fn read_items(declared: &Library, items: &[Tree]) -> Result<Library, ModelFault>
 }
 
 fn item_fault(number: u64, fault: TermFault) -> ModelFault
-    ensures { result ≡ fault_of_item number fault }
+    ensures { result ≡ model_fault_of_item number fault }
 {
     if fault == TermFault::Memory {
         ModelFault::Memory

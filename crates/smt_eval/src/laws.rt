@@ -12,22 +12,19 @@ ghost use Rattle.smt_terms.specs.Library.{StandsFor};
 ghost use Rattle.smt_terms.specs.Signature.{AreDistinct, Entry, Signature, names_of, unlabelled};
 ghost use Rattle.smt_terms.specs.WellSorted.{AreIntroduced, AreWellSorted};
 ghost use Rattle.smt_eval.specs.Agreement.{AgreesWith, FitsScope};
-ghost use Rattle.smt_faults.specs.declared.term_fault.TermFault.{TermFault};
-ghost use Rattle.smt_faults.specs.declared.term_fault.TermFault.TheVariants.{Memory};
+ghost use Rattle.smt_faults.specs.declared.term_flaw.TermFlaw.{TermFlaw};
 ghost use Rattle.smt_eval.specs.CompleteModel.{IsModelOf};
 ghost use Rattle.smt_eval.specs.Interpretation.{IsInterpretation};
 ghost use Rattle.smt_eval.specs.Known.{known_in, known_of};
 ghost use Rattle.smt_eval.specs.Meaning.{value_over};
-ghost use Rattle.smt_eval.specs.Model.{AreDefined, AreItems, HasFirstFault, IsFirstLacking, items_of};
+ghost use Rattle.smt_eval.specs.Model.{AreDefined, AreItems, HasFirstFlaw, IsFirstLacking, items_of};
 ghost use Rattle.smt_eval.specs.Model.{model_in};
 ghost use Rattle.smt_eval.specs.Structure.{IsStructure, structure_of};
 ghost use Rattle.smt_eval.specs.declared.plain.Closed.{Closed};
-ghost use Rattle.smt_eval.specs.declared.interpretation.ModelFault.TheVariants.{Item, Lacks};
-ghost use Rattle.smt_eval.specs.declared.interpretation.ModelFault.TheVariants.{Memory as OutOfMemory};
+ghost use Rattle.smt_eval.specs.declared.model_fault.ModelFlaw.TheVariants.{Item, Lacks};
 
 use crate::checked::Checked;
 use crate::plain::Closed;
-use smt_terms::laws as terms;
 use smt_terms::laws::{items_are_well_sorted, sorts_are_kept};
 use smt_theory::laws::{ranks_are_the_table, sorts_are_compared};
 use smt_values::laws::{known_results_are_true, results_are_of_their_sorts};
@@ -100,15 +97,6 @@ pub fn closed_trees_stand_for_themselves()
         × (structure ≡ structure_of script definitions) × (term ≡ sexp_of closed.tree.now)) }
 {}
 
-/// No definition answers that memory was refused.
-pub fn faults_are_no_memory()
-    ensures models { (script : Signature) (parts : Sexps) → model_in script parts ≡ Err OutOfMemory → ⊥ }
-    ensures items { (script : Signature) (parts : Sexps) (number : ℕ)
-        → model_in script parts ≡ Err (Item number Memory) → ⊥ }
-{
-    terms::faults_are_no_memory();
-}
-
 /// A model of the script's names is its items: they are definitions in order, each over the earlier ones, and
 /// every declared name is among them (SMT-LIB 2.6, section 4.2.6).
 pub fn models_are_their_items()
@@ -121,9 +109,9 @@ pub fn models_are_their_items()
 /// the fault; a lacking name is told where all items are definitions, and is the first declared name that
 /// none of them defines.
 pub fn the_first_fault_of_a_model_is_told()
-    ensures item { (script : Signature) (parts : Sexps) (n : ℕ) (fault : TermFault)
-        → (model_in script parts ≡ Err (Item (n + 1) fault))
-        ↔ HasFirstFault script [] (items_of parts) n fault }
+    ensures item { (script : Signature) (parts : Sexps) (n : ℕ) (flaw : TermFlaw)
+        → (model_in script parts ≡ Err (Item (n + 1) flaw))
+        ↔ HasFirstFlaw script [] (items_of parts) n flaw }
     ensures lacking { (script : Signature) (parts : Sexps) (command : ℕ)
         → (model_in script parts ≡ Err (Lacks command))
         ↔ ((items : List Entry) × AreItems script [] (items_of parts) items

@@ -12,10 +12,12 @@ mod definitions;
 mod evaluator;
 mod interpretation;
 pub mod laws;
+mod model_fault;
 pub mod plain;
 mod scope;
 
 pub use checked::Checked;
-pub use interpretation::{Interpretation, ModelFault};
+pub use interpretation::Interpretation;
+pub use model_fault::{ModelFault, ModelFlaw};
 pub use plain::eval;
 pub use smt_faults::Memory;

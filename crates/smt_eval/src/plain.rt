@@ -1,4 +1,4 @@
-//! Terms that are kept as their trees.
+//! Terms that are kept as their trees. This file looks into no tree.
 
 ghost use Rattle.std.specs.Prelude.{◌≡◌, IfOk};
 ghost use Rattle.smt_trees.specs.Sexp.{Sexp};

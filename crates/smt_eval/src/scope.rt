@@ -1,4 +1,5 @@
-//! The variables that a term sees, with what is known of each.
+//! The variables that a term sees, with what is known of each. This file looks up no name, and evaluates
+//! nothing.
 
 ghost use Rattle.std.specs.Prelude.{◌≡◌, [], ◌∷◌, ◌++◌, map, IfOk, OnOk};
 ghost use Rattle.std.specs.List.{zip};

@@ -1,2 +1,3 @@
-pub mod FaultText
 pub mod Faults
+pub mod FlawText
+pub mod Outcome

@@ -1,9 +1,12 @@
-//! What can be wrong with a command.
+//! Why a command is refused, as a caller is told.
 
+ghost use Rattle.std.specs.Prelude.{◌≡◌};
+ghost use Rattle.smt_faults.specs.Faults.{flaw_of_command_fault};
+
+use crate::command_flaw::CommandFlaw;
 use crate::memory::Memory;
 use crate::term_fault::TermFault;
 use std::alloc::{AllocError, AllocFailed};
-use std::fmt;
 
 /// Why a command is refused.
 #[derive(Clone, Copy)]
@@ -22,35 +25,57 @@ pub enum CommandFault {
     AfterExit,
     /// A term, a sort or a name in it has a fault (`C7`).
     Term { fault: TermFault },
-    /// Memory was refused (`C0`).
+    /// Memory was refused (`C0`), which says nothing of the command.
     Memory,
 }
 
-impl fmt::Display for CommandFault {
-    ghost use Rattle.std.specs.Prelude.{Some};
-    ghost use Rattle.smt_faults.specs.FaultText.{text_of_command_fault};
-
-    ghost output = { λ x. Some (text_of_command_fault x) };
-
-    fn fmt<W: fmt::Write>(&self, f: &mut fmt::Formatter<W>) -> fmt::Result {
+impl CommandFault {
+    /// What is wrong with the command; `None` where memory was refused.
+    pub fn flaw(self) -> Option<CommandFlaw>
+        ensures { result ≡ flaw_of_command_fault self }
+    {
         match self {
-            CommandFault::Form => write!(f, "C1"),
-            CommandFault::Unsupported => write!(f, "C2"),
-            CommandFault::TooDeep => write!(f, "C3"),
-            CommandFault::NoLevel => write!(f, "C4"),
-            CommandFault::Logic => write!(f, "C5"),
-            CommandFault::AfterExit => write!(f, "C6"),
-            CommandFault::Term { fault } => write!(f, "C7 {fault}"),
-            CommandFault::Memory => write!(f, "C0"),
+            CommandFault::Form => Some(CommandFlaw::Form),
+            CommandFault::Unsupported => Some(CommandFlaw::Unsupported),
+            CommandFault::TooDeep => Some(CommandFlaw::TooDeep),
+            CommandFault::NoLevel => Some(CommandFlaw::NoLevel),
+            CommandFault::Logic => Some(CommandFlaw::Logic),
+            CommandFault::AfterExit => Some(CommandFlaw::AfterExit),
+            CommandFault::Term { fault } => match fault.flaw() {
+                Some(flaw) => Some(CommandFlaw::Term { flaw }),
+                None => None,
+            },
+            CommandFault::Memory => None,
+        }
+    }
+}
+
+impl From<CommandFlaw> for CommandFault {
+    ghost use Rattle.std.specs.Prelude.{◌≡◌, Some};
+    ghost use Rattle.smt_faults.specs.Faults.{flaw_of_command_fault};
+
+    ghost from_gives = { λ flaw fault. flaw_of_command_fault fault ≡ Some flaw };
+
+    fn from(flaw: CommandFlaw) -> CommandFault {
+        match flaw {
+            CommandFlaw::Form => CommandFault::Form,
+            CommandFlaw::Unsupported => CommandFault::Unsupported,
+            CommandFlaw::TooDeep => CommandFault::TooDeep,
+            CommandFlaw::NoLevel => CommandFault::NoLevel,
+            CommandFlaw::Logic => CommandFault::Logic,
+            CommandFlaw::AfterExit => CommandFault::AfterExit,
+            CommandFlaw::Term { flaw } => CommandFault::Term {
+                fault: TermFault::from(flaw),
+            },
         }
     }
 }
 
 impl From<TermFault> for CommandFault {
     ghost use Rattle.std.specs.Prelude.{◌≡◌};
-    ghost use Rattle.smt_faults.specs.Faults.{command_fault};
+    ghost use Rattle.smt_faults.specs.Faults.{fault_by_term};
 
-    ghost from_gives = { λ fault made. made ≡ command_fault fault };
+    ghost from_gives = { λ fault made. made ≡ fault_by_term fault };
 
     fn from(fault: TermFault) -> CommandFault {
         match fault {

@@ -6,15 +6,19 @@
 #![tactic(auto)]
 
 mod command_fault;
+mod command_flaw;
 mod failure;
 mod memory;
 mod term_fault;
+mod term_flaw;
 mod text_fault;
 mod text_flaw;
 
 pub use command_fault::CommandFault;
+pub use command_flaw::CommandFlaw;
 pub use failure::Failure;
 pub use memory::Memory;
 pub use term_fault::TermFault;
+pub use term_flaw::TermFlaw;
 pub use text_fault::TextFault;
 pub use text_flaw::TextFlaw;

@@ -1,10 +1,13 @@
-//! What can be wrong with a term, a sort or a definition.
+//! Why a term, a sort or a definition is refused, as a caller is told.
+
+ghost use Rattle.std.specs.Prelude.{◌≡◌};
+ghost use Rattle.smt_faults.specs.Faults.{flaw_of_term_fault};
 
 use crate::memory::Memory;
+use crate::term_flaw::TermFlaw;
 use std::alloc::{AllocError, AllocFailed};
-use std::fmt;
 
-/// The first thing that is wrong with a term, a sort or a definition.
+/// Why a term, a sort or a definition is refused: the first thing that is wrong with it, or want of memory.
 #[derive(Clone, Copy, Debug, PartialEq, Eq)]
 pub enum TermFault {
     /// It isn't in form (`F1`).
@@ -24,28 +27,47 @@ pub enum TermFault {
     NotFresh,
     /// A label stands where none may stand (`F8`).
     Label,
-    /// Memory was refused (`F0`).
+    /// Memory was refused (`F0`), which says nothing of the term.
     Memory,
 }
 
-impl fmt::Display for TermFault {
+impl TermFault {
+    /// What is wrong with the term, the sort or the definition; `None` where memory was refused.
+    pub fn flaw(self) -> Option<TermFlaw>
+        ensures { result ≡ flaw_of_term_fault self }
+    {
+        match self {
+            TermFault::Form => Some(TermFlaw::Form),
+            TermFault::Unsupported => Some(TermFlaw::Unsupported),
+            TermFault::Unknown => Some(TermFlaw::Unknown),
+            TermFault::IllSorted => Some(TermFlaw::IllSorted),
+            TermFault::Index => Some(TermFlaw::Index),
+            TermFault::BoundTwice => Some(TermFlaw::BoundTwice),
+            TermFault::NotFresh => Some(TermFlaw::NotFresh),
+            TermFault::Label => Some(TermFlaw::Label),
+            TermFault::Memory => None,
+        }
+    }
+}
+
+impl From<TermFlaw> for TermFault {
+    ghost use Rattle.std.specs.Prelude.{◌≡◌};
     ghost use Rattle.std.specs.Prelude.{Some};
-    ghost use Rattle.smt_faults.specs.FaultText.{text_of_term_fault};
+    ghost use Rattle.smt_faults.specs.Faults.{flaw_of_term_fault};
 
-    ghost output = { λ x. Some (text_of_term_fault x) };
+    ghost from_gives = { λ flaw fault. flaw_of_term_fault fault ≡ Some flaw };
 
-    fn fmt<W: fmt::Write>(&self, f: &mut fmt::Formatter<W>) -> fmt::Result {
-        f.write_str(match self {
-            TermFault::Form => "F1",
-            TermFault::Unsupported => "F2",
-            TermFault::Unknown => "F3",
-            TermFault::IllSorted => "F4",
-            TermFault::Index => "F5",
-            TermFault::BoundTwice => "F6",
-            TermFault::NotFresh => "F7",
-            TermFault::Label => "F8",
-            TermFault::Memory => "F0",
-        })
+    fn from(flaw: TermFlaw) -> TermFault {
+        match flaw {
+            TermFlaw::Form => TermFault::Form,
+            TermFlaw::Unsupported => TermFault::Unsupported,
+            TermFlaw::Unknown => TermFault::Unknown,
+            TermFlaw::IllSorted => TermFault::IllSorted,
+            TermFlaw::Index => TermFault::Index,
+            TermFlaw::BoundTwice => TermFault::BoundTwice,
+            TermFlaw::NotFresh => TermFault::NotFresh,
+            TermFlaw::Label => TermFault::Label,
+        }
     }
 }
 

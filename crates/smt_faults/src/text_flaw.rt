@@ -30,7 +30,7 @@ impl TextFlaw {
 
 impl fmt::Display for TextFlaw {
     ghost use Rattle.std.specs.Prelude.{Some};
-    ghost use Rattle.smt_faults.specs.FaultText.{text_of_flaw};
+    ghost use Rattle.smt_faults.specs.FlawText.{text_of_flaw};
 
     ghost output = { λ x. Some (text_of_flaw x) };
 

@@ -4,8 +4,8 @@ use Rattle.std.proofs.Common.{Ok, Err, IfOk, refl, ap, sym, ◌∙◌}
 use Rattle.smt_trees.specs.Sexp.{Sexp, Sexps, Atom, Reserved, Items, Nil, Cons, Symbol}
 use Rattle.smt_trees.specs.declared.reserved.Word.TheVariants.{Bang, Let, Underscore}
 use Rattle.smt_forms.specs.Bindings.{first_named, let_form, named_trees}
-use Rattle.smt_forms.specs.Heads.{is_underscore_tree}
-use Rattle.smt_forms.specs.Heads.{is_bang_tree, is_let_tree}
+use Rattle.smt_forms.specs.Heads.{begins_indexed}
+use Rattle.smt_forms.specs.Heads.{begins_annotated, begins_let}
 use Rattle.smt_theory.specs.declared.sort.Sort.{Sort}
 use Rattle.smt_forms.specs.Variables.{any_uses_outer, bindings_use_outer, is_among, uses_outer}
 use Rattle.smt_faults.specs.declared.memory.Memory.{Memory}
@@ -21,7 +21,7 @@ used_as (Err f) a b same h = h
 
 -- a list with another head
 pub other_list : (inner : List (List ℕ)) (outer : Scope) (head : Sexp) (args : Sexps)
-    → is_underscore_tree head ≡ false → is_let_tree head ≡ false → is_bang_tree head ≡ false
+    → begins_indexed head ≡ false → begins_let head ≡ false → begins_annotated head ≡ false
     → uses_outer inner outer (Items (Cons head args)) ≡ any_uses_outer inner outer args
 other_list inner outer (Reserved Underscore) args h i j = cc
 other_list inner outer (Reserved Let) args h i j = cc

@@ -3,16 +3,17 @@ use Rattle.std.specs.Prelude.{Bool, true, false}
 use Rattle.smt_trees.specs.Sexp.{Sexp, Reserved}
 use Rattle.smt_trees.specs.declared.reserved.Word.TheVariants.{Bang, Let, Underscore}
 
--- an identifier with indexes
-abbrev pub is_underscore_tree : Sexp → Bool
-is_underscore_tree (Reserved Underscore) = true
-is_underscore_tree _ = false
+-- whether a list of this head is an identifier with indexes
+abbrev pub begins_indexed : Sexp → Bool
+begins_indexed (Reserved Underscore) = true
+begins_indexed _ = false
 
-abbrev pub is_let_tree : Sexp → Bool
-is_let_tree (Reserved Let) = true
-is_let_tree _ = false
+-- whether a list of this head is a `let`
+abbrev pub begins_let : Sexp → Bool
+begins_let (Reserved Let) = true
+begins_let _ = false
 
--- an annotated term
-abbrev pub is_bang_tree : Sexp → Bool
-is_bang_tree (Reserved Bang) = true
-is_bang_tree _ = false
+-- whether a list of this head is an annotated term
+abbrev pub begins_annotated : Sexp → Bool
+begins_annotated (Reserved Bang) = true
+begins_annotated _ = false

@@ -12,8 +12,8 @@ use Rattle.smt_theory.specs.Operators.{op_by}
 use Rattle.smt_theory.specs.declared.op.Op.{Op}
 use Rattle.smt_theory.specs.declared.op.OpFault.{OpFault}
 use Rattle.smt_theory.specs.declared.theories.Theories.{Theories}
-use Rattle.smt_faults.specs.declared.term_fault.TermFault.{TermFault}
-use Rattle.smt_faults.specs.declared.term_fault.TermFault.TheVariants.{Form, Unsupported}
+use Rattle.smt_faults.specs.declared.term_flaw.TermFlaw.{TermFlaw}
+use Rattle.smt_faults.specs.declared.term_flaw.TermFlaw.TheVariants.{Form, Unsupported}
 
 -- a symbol, or a symbol with indexes
 pub data Identifier : Type 0 where
@@ -38,25 +38,25 @@ all_indexes Nil = Some []
 all_indexes (Cons x xs) = option_and_then (λ i. option_map (λ is. i ∷ is) (all_indexes xs)) (index_of_tree x)
 
 -- the identifier `(_ symbol index ..)`, by what stands behind the `_`
-abbrev pub indexed : Sexps → Result Identifier TermFault
+abbrev pub indexed : Sexps → Result Identifier TermFlaw
 indexed (Cons (Atom Symbol name) (Cons x xs)) =
     ok_or (option_map (λ is. Indexed name is) (all_indexes (Cons x xs))) Form
 indexed _ = Err Form
 
 -- what is wrong with a list that begins with this word
-abbrev pub word_fault : Word → TermFault
-word_fault Forall = Unsupported
-word_fault Exists = Unsupported
-word_fault Match = Unsupported
-word_fault As = Unsupported
-word_fault _ = Form
+abbrev pub word_flaw : Word → TermFlaw
+word_flaw Forall = Unsupported
+word_flaw Exists = Unsupported
+word_flaw Match = Unsupported
+word_flaw As = Unsupported
+word_flaw _ = Form
 
 -- the identifier that a list of this head applies to its arguments, or what is wrong with its form
-abbrev pub applied : Sexp → Sexps → Result Identifier TermFault
+abbrev pub applied : Sexp → Sexps → Result Identifier TermFlaw
 applied (Atom Symbol name) (Cons x xs) = Ok (Plain name)
 applied (Items (Cons (Reserved As) parts)) args = Err Unsupported
 applied (Items (Cons (Reserved Underscore) parts)) (Cons x xs) = indexed parts
-applied (Reserved word) args = Err (word_fault word)
+applied (Reserved word) args = Err (word_flaw word)
 applied _ _ = Err Form
 
 -- the operator of an identifier

@@ -3,8 +3,8 @@ use Rattle.std.specs.Prelude.{ℕ, List, Result, Ok, Err, if◌then◌else◌}
 use Rattle.smt_trees.specs.Sexp.{Sexp, Atom, Reserved, Items, Nil, Cons, Symbol}
 use Rattle.smt_trees.specs.declared.reserved.Word.TheVariants.{DefineFun, DefineFunRec, DefineFunsRec}
 use Rattle.smt_forms.specs.Bindings.{are_named_trees, named_trees}
-use Rattle.smt_faults.specs.declared.term_fault.TermFault.{TermFault}
-use Rattle.smt_faults.specs.declared.term_fault.TermFault.TheVariants.{Form, Unsupported}
+use Rattle.smt_faults.specs.declared.term_flaw.TermFlaw.{TermFlaw}
+use Rattle.smt_faults.specs.declared.term_flaw.TermFlaw.TheVariants.{Form, Unsupported}
 
 -- the parts of an item: a name, parameters, a sort and a body
 pub record ItemForm : Type 0 where
@@ -14,7 +14,7 @@ pub record ItemForm : Type 0 where
   pub body : Sexp
 
 -- the parts of an item, or what is wrong with its form
-abbrev pub item_form : Sexp → Result ItemForm TermFault
+abbrev pub item_form : Sexp → Result ItemForm TermFlaw
 item_form (Items (Cons (Reserved DefineFunRec) rest)) = Err Unsupported
 item_form (Items (Cons (Reserved DefineFunsRec) rest)) = Err Unsupported
 item_form (Items (Cons (Reserved DefineFun)

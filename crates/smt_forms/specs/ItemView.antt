@@ -4,8 +4,8 @@ use Rattle.smt_forms.specs.Bindings.{named_trees}
 use Rattle.smt_forms.specs.ItemForm as items
 use Rattle.smt_forms.specs.declared.items.ItemForm.{ItemForm}
 
-abbrev pub form_of : ItemForm → items.ItemForm
-form_of form = record {
+abbrev pub item_view : ItemForm → items.ItemForm
+item_view form = record {
   name = form.name.now;
   parameters = named_trees (sexps_of form.parameters.now);
   sort = sexp_of form.sort.now;

@@ -2,28 +2,28 @@
 
 ghost use Rattle.std.specs.Prelude.{◌≡◌};
 ghost use Rattle.smt_trees.specs.Tree.{sexp_of};
-ghost use Rattle.smt_forms.specs.Heads.{is_underscore_tree};
-ghost use Rattle.smt_forms.specs.Heads.{is_bang_tree, is_let_tree};
+ghost use Rattle.smt_forms.specs.Heads.{begins_indexed};
+ghost use Rattle.smt_forms.specs.Heads.{begins_annotated, begins_let};
 
 use smt_trees::{Tree, Word};
 
-/// Whether a list that begins so is an identifier with indexes (SMT-LIB 2.6, section 3.3).
-pub fn is_underscore(tree: &Tree) -> bool
-    ensures { result ≡ is_underscore_tree (sexp_of tree.now) }
+/// Whether a list of this head is an identifier with indexes (SMT-LIB 2.6, section 3.3).
+pub fn is_underscore(head: &Tree) -> bool
+    ensures { result ≡ begins_indexed (sexp_of head.now) }
 {
-    matches!(tree, Tree::Reserved(Word::Underscore))
+    matches!(head, Tree::Reserved(Word::Underscore))
 }
 
-/// Whether it is a `let` (section 3.6.1).
-pub fn is_let(tree: &Tree) -> bool
-    ensures { result ≡ is_let_tree (sexp_of tree.now) }
+/// Whether a list of this head is a `let` (SMT-LIB 2.6, section 3.6.1).
+pub fn is_let(head: &Tree) -> bool
+    ensures { result ≡ begins_let (sexp_of head.now) }
 {
-    matches!(tree, Tree::Reserved(Word::Let))
+    matches!(head, Tree::Reserved(Word::Let))
 }
 
-/// Whether it is an annotated term (section 3.6.5).
-pub fn is_bang(tree: &Tree) -> bool
-    ensures { result ≡ is_bang_tree (sexp_of tree.now) }
+/// Whether a list of this head is an annotated term (SMT-LIB 2.6, section 3.6.5).
+pub fn is_bang(head: &Tree) -> bool
+    ensures { result ≡ begins_annotated (sexp_of head.now) }
 {
-    matches!(tree, Tree::Reserved(Word::Bang))
+    matches!(head, Tree::Reserved(Word::Bang))
 }

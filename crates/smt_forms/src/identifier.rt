@@ -1,6 +1,6 @@
 //! Identifiers: plain symbols, and symbols with indexes.
 
-ghost use Rattle.std.specs.Prelude.{◌≡◌, ◌⊎◌, Some, None, Ok, Err, map, is_some, MatchOption, MatchResult};
+ghost use Rattle.std.specs.Prelude.{◌≡◌, Some, None, map, is_some, ok_or, MatchOption};
 ghost use Rattle.smt_trees.specs.Sexp.{Items};
 ghost use Rattle.smt_trees.specs.Tree.{sexp_of, sexps_of};
 ghost use Rattle.smt_theory.specs.Index.{index_view};
@@ -8,9 +8,10 @@ ghost use Rattle.smt_forms.specs.Identifier as identifiers;
 ghost use Rattle.smt_forms.specs.Identifier.{all_indexes, applied, index_of_numeral, index_of_tree, indexed};
 ghost use Rattle.smt_forms.specs.Identifier.{operator_of};
 ghost use Rattle.smt_forms.specs.IdentifierView.{identifier_view};
-ghost use Rattle.smt_faults.specs.declared.term_fault.TermFault.TheVariants.{Form, Memory};
+ghost use Rattle.smt_faults.specs.declared.term_flaw.TermFlaw.TheVariants.{Form};
+ghost use Rattle.smt_faults.specs.Outcome.{IsOutcome};
 
-use smt_faults::TermFault;
+use smt_faults::{TermFault, TermFlaw};
 use smt_theory::{Index, Op, OpFault, Theories, number, op_of};
 use smt_trees::{Tree, Trees, Word, split_first};
 use std::alloc::Global;
@@ -47,13 +48,11 @@ pub fn applied_identifier<'a>(
     head: &'a Tree,
     args: &[Tree],
 ) -> Result<Identifier<'a>, TermFault>
-    ensures { MatchResult result
-        (λ f. applied (sexp_of head.now) (sexps_of args.now) ≡ Ok (identifier_view f))
-        (λ fault. (fault ≡ Memory) ⊎ (applied (sexp_of head.now) (sexps_of args.now) ≡ Err fault)) }
+    ensures { IsOutcome identifier_view (applied (sexp_of head.now) (sexps_of args.now)) result }
 {
     match head {
         Tree::Symbol(name) if split_first(args).is_some() => Ok(Identifier::Plain(name.as_slice())),
-        Tree::Reserved(word) => Err(word_fault(*word)),
+        Tree::Reserved(word) => Err(TermFault::from(word_flaw(*word))),
         Tree::List(parts) => applied_list(alloc, parts, args),
         _ => Err(TermFault::Form),
     }
@@ -65,8 +64,7 @@ fn applied_list<'a>(
     parts: &'a Trees,
     args: &[Tree],
 ) -> Result<Identifier<'a>, TermFault>
-    ensures { MatchResult result (λ f. applied (Items parts.now) (sexps_of args.now) ≡ Ok (identifier_view f))
-        (λ fault. (fault ≡ Memory) ⊎ (applied (Items parts.now) (sexps_of args.now) ≡ Err fault)) }
+    ensures { IsOutcome identifier_view (applied (Items parts.now) (sexps_of args.now)) result }
 {
     match split_first(parts.as_slice()) {
         Some((Tree::Reserved(Word::As), _)) => Err(TermFault::Unsupported),
@@ -79,8 +77,7 @@ fn applied_list<'a>(
 
 /// The identifier `(_ symbol index ..)`, by what stands behind the `_`.
 pub fn indexed_identifier<'a>(alloc: Global, parts: &'a [Tree]) -> Result<Identifier<'a>, TermFault>
-    ensures { MatchResult result (λ f. indexed (sexps_of parts.now) ≡ Ok (identifier_view f))
-        (λ fault. (fault ≡ Memory) ⊎ (indexed (sexps_of parts.now) ≡ Err fault)) }
+    ensures { IsOutcome identifier_view (indexed (sexps_of parts.now)) result }
 {
     let Some((Tree::Symbol(name), rest)) = split_first(parts) else {
         return Err(TermFault::Form);
@@ -97,9 +94,8 @@ pub fn indexed_identifier<'a>(alloc: Global, parts: &'a [Tree]) -> Result<Identi
 
 // The indexes that trees are, in order.
 fn indexes_of<'a>(alloc: Global, trees: &'a [Tree]) -> Result<Vec<Index<'a>>, TermFault>
-    ensures { MatchResult result
-        (λ indexes. all_indexes (sexps_of trees.now) ≡ Some (map index_view indexes.items))
-        (λ fault. (fault ≡ Memory) ⊎ ((fault ≡ Form) × (all_indexes (sexps_of trees.now) ≡ None))) }
+    ensures { IsOutcome (λ indexes. map index_view indexes.items)
+        (ok_or (all_indexes (sexps_of trees.now)) Form) result }
 {
     let mut indexes = Vec::new(alloc);
     let mut left = trees;
@@ -149,11 +145,11 @@ fn numeral_index(digits: &[u8]) -> Index<'static>
 }
 
 // What is wrong with a list that begins with this word, and is no term in form.
-fn word_fault(word: Word) -> TermFault
-    ensures { result ≡ identifiers.word_fault word }
+fn word_flaw(word: Word) -> TermFlaw
+    ensures { result ≡ identifiers.word_flaw word }
 {
     match word {
-        Word::Forall | Word::Exists | Word::Match | Word::As => TermFault::Unsupported,
-        _ => TermFault::Form,
+        Word::Forall | Word::Exists | Word::Match | Word::As => TermFlaw::Unsupported,
+        _ => TermFlaw::Form,
     }
 }

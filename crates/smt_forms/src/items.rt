@@ -4,12 +4,12 @@ ghost use Rattle.std.specs.Prelude.{◌≡◌, MatchOption, MatchResult};
 ghost use Rattle.smt_trees.specs.Sexp.{Cons, Items, Nil, Reserved};
 ghost use Rattle.smt_trees.specs.Tree.{sexp_of, sexps_of};
 ghost use Rattle.smt_trees.specs.declared.reserved.Word.TheVariants.{DefineFun};
-ghost use Rattle.smt_forms.specs.ItemView.{form_of};
+ghost use Rattle.smt_forms.specs.ItemView.{item_view};
 ghost use Rattle.smt_forms.specs.ItemForm as items;
-ghost use Rattle.smt_faults.specs.declared.term_fault.TermFault.TheVariants.{Form};
+ghost use Rattle.smt_faults.specs.declared.term_flaw.TermFlaw.TheVariants.{Form};
 
 use crate::bindings::are_named;
-use smt_faults::TermFault;
+use smt_faults::TermFlaw;
 use smt_trees::{Tree, Word, split_first};
 
 /// The parts of an item (SMT-LIB 2.6, section 4.2.6): its name without bars, its parameters, each a list of a
@@ -24,23 +24,23 @@ pub struct ItemForm<'a> {
 
 /// The parts of an item, or what is wrong with its form: `Unsupported` for a recursive definition, else
 /// `Form`.
-pub fn item_form(item: &Tree) -> Result<ItemForm<'_>, TermFault>
-    ensures { MatchResult result (λ form. items.item_form (sexp_of item.now) ≡ Ok (form_of form))
-        (λ fault. items.item_form (sexp_of item.now) ≡ Err fault) }
+pub fn item_form(item: &Tree) -> Result<ItemForm<'_>, TermFlaw>
+    ensures { MatchResult result (λ form. items.item_form (sexp_of item.now) ≡ Ok (item_view form))
+        (λ flaw. items.item_form (sexp_of item.now) ≡ Err flaw) }
 {
     let Tree::List(parts) = item else {
-        return Err(TermFault::Form);
+        return Err(TermFlaw::Form);
     };
     let Some((Tree::Reserved(word), rest)) = split_first(parts.as_slice()) else {
-        return Err(TermFault::Form);
+        return Err(TermFlaw::Form);
     };
     match word {
-        Word::DefineFunRec | Word::DefineFunsRec => Err(TermFault::Unsupported),
+        Word::DefineFunRec | Word::DefineFunsRec => Err(TermFlaw::Unsupported),
         Word::DefineFun => match definition_form(rest) {
             Some(form) => Ok(form),
-            None => Err(TermFault::Form),
+            None => Err(TermFlaw::Form),
         },
-        _ => Err(TermFault::Form),
+        _ => Err(TermFlaw::Form),
     }
 }
 
@@ -49,7 +49,7 @@ fn definition_form(parts: &[Tree]) -> Option<ItemForm<'_>>
     ensures { MatchOption result
         (items.item_form (Items (Cons (Reserved DefineFun) (sexps_of parts.now))) ≡ Err Form)
         (λ form. items.item_form (Items (Cons (Reserved DefineFun) (sexps_of parts.now)))
-        ≡ Ok (form_of form)) }
+        ≡ Ok (item_view form)) }
 {
     let Some((Tree::Symbol(name), rest)) = split_first(parts) else {
         return None;

@@ -16,7 +16,7 @@ use Rattle.smt_report.specs.declared.verdict.Tally.{Tally}
 use Rattle.smt_report.specs.declared.verdict.Verdict.{Verdict}
 use Rattle.smt_report.specs.declared.verdict.Verdict.TheVariants as verdicts
 use Rattle.smt_faults.specs.Faults.{place_of}
-use Rattle.smt_faults.specs.FaultText.{text_of_command_fault, text_of_flaw, text_of_term_fault}
+use Rattle.smt_faults.specs.FlawText.{text_of_command_flaw, text_of_flaw, text_of_term_flaw}
 
 abbrev pub text_of_answer : CheckAnswer → List ℕ
 text_of_answer Unsat = codes "unsat"
@@ -57,9 +57,9 @@ abbrev pub text_of : Line → List ℕ
 text_of (Unchecked check command answer) = check_line check command (codes ": " ++ text_of_answer answer)
 text_of (Confirmed check command) = check_line check command (codes ": sat, confirmed")
 text_of (NoModel check command) = check_line check command (codes ": sat, no model")
-text_of (ItemFault check command model item fault) =
+text_of (ItemFault check command model item flaw) =
     model_line check command model
-    (codes ": item " ++ (decimal item ++ (codes " " ++ text_of_term_fault fault)))
+    (codes ": item " ++ (decimal item ++ (codes " " ++ text_of_term_flaw flaw)))
 text_of (Lacks check command model declaration) =
     model_line check command model (codes ": lacks the symbol of command " ++ decimal declaration)
 text_of (Refuted check command model claim) =
@@ -69,8 +69,8 @@ text_of (NotDecided check command model claim) =
 text_of (TextFault side flaw) =
     codes "fault " ++ text_of_flaw flaw ++ codes " in the " ++ text_of_side side
     ++ codes " at byte " ++ decimal (place_of flaw)
-text_of (CommandFault command fault) =
-    codes "fault " ++ text_of_command_fault fault ++ codes " at command " ++ decimal command
+text_of (CommandFault command flaw) =
+    codes "fault " ++ text_of_command_flaw flaw ++ codes " at command " ++ decimal command
 text_of (MissingAnswer command) = codes "fault P1 at command " ++ decimal command
 text_of (UnexpectedAnswer command answer) =
     codes "fault P2 at command " ++ decimal command ++ codes ", answer " ++ decimal answer

@@ -28,7 +28,7 @@ is_unchecked_line _ = false
 
 abbrev pub is_fault_line : Line → Bool
 is_fault_line (lines.TextFault side flaw) = true
-is_fault_line (lines.CommandFault n fault) = true
+is_fault_line (lines.CommandFault n flaw) = true
 is_fault_line (lines.MissingAnswer n) = true
 is_fault_line (lines.UnexpectedAnswer n m) = true
 is_fault_line (lines.ExtraAnswer m) = true

@@ -5,7 +5,7 @@ ghost use Rattle.smt_report.specs.Verdict as verdicts;
 
 use crate::claim::Claim;
 use crate::verdict::{Tally, Verdict};
-use smt_faults::{CommandFault, TermFault, TextFlaw};
+use smt_faults::{CommandFlaw, TermFlaw, TextFlaw};
 use std::fmt;
 
 /// What a check was answered where it was not `sat`.
@@ -44,13 +44,13 @@ pub enum Line {
         check: u64,
         command: u64,
     },
-    /// A `sat` with a model, printed for command `model`, whose first item with a fault this is.
+    /// A `sat` with a model, printed for command `model`, whose first item with a flaw this is.
     ItemFault {
         check: u64,
         command: u64,
         model: u64,
         item: u64,
-        fault: TermFault,
+        flaw: TermFlaw,
     },
     /// A `sat` with a model that doesn't define what command `declaration` declares.
     Lacks {
@@ -81,7 +81,7 @@ pub enum Line {
     /// A command that is refused.
     CommandFault {
         command: u64,
-        fault: CommandFault,
+        flaw: CommandFlaw,
     },
     /// The answers end where a command needs one (`P1`).
     MissingAnswer {
@@ -202,10 +202,7 @@ impl fmt::Display for Line {
                 let place = flaw.place();
                 write!(f, "fault {flaw} in the {side} at byte {place}")
             }
-            Line::CommandFault { command, fault } => write!(
-                f,
-                "fault {fault} at command {command}"
-            ),
+            Line::CommandFault { command, flaw } => write!(f, "fault {flaw} at command {command}"),
             Line::MissingAnswer { command } => write!(f, "fault P1 at command {command}"),
             Line::UnexpectedAnswer { command, answer } => write!(
                 f,
@@ -260,7 +257,7 @@ impl fmt::Display for Finding<'_> {
 
     fn fmt<W: fmt::Write>(&self, f: &mut fmt::Formatter<W>) -> fmt::Result {
         match self.line {
-            Line::ItemFault { item, fault, .. } => write!(f, "item {item} {fault}"),
+            Line::ItemFault { item, flaw, .. } => write!(f, "item {item} {flaw}"),
             Line::Lacks { declaration, .. } => write!(
                 f,
                 "lacks the symbol of command {declaration}"

@@ -1,5 +1,7 @@
 -- What each command does to a stack.
-use Rattle.std.proofs.Common.{◌≡◌, ◌≤◌, ℕ, ◌+◌, zero, suc, List, [], ◌∷◌, ◌++◌, ◌⊎◌, inl, inr, Bool, false, ◌||◌, Option, None, Some, Result, Ok, Err, length, slice_get, take, refl, ap, sym, subst, ◌∙◌, arith}
+use Rattle.std.proofs.Common.{◌≡◌, ◌≤◌, ℕ, ◌+◌, zero, suc, List, [], ◌∷◌, ◌++◌, ◌⊎◌, inl, inr, Bool, false}
+use Rattle.std.proofs.Common.{◌||◌, Option, None, Some, Result, Ok, Err, length, slice_get, take, refl, ap}
+use Rattle.std.proofs.Common.{sym, subst, ◌∙◌, arith}
 use Rattle.std.proofs.lemmas.List.{append-nil, length-append}
 use Rattle.std.specs.Global.{Vec}
 use Rattle.smt_trees.specs.Sexp.{Sexp, Sexps, Nil}
@@ -11,37 +13,57 @@ use Rattle.smt_terms.specs.Contents.{Contents, Extends, contents_of, first_of}
 use Rattle.smt_terms.specs.Definitions.{defined_in}
 use Rattle.smt_terms.specs.Library as library
 use Rattle.smt_terms.specs.Library.{Holds, IsTermOf}
-use Rattle.smt_terms.specs.Signature.{Entry, Signature, declared_in, names_of, no_names, sort_names_of, with_abbreviation, with_entries, with_entry}
-use Rattle.smt_terms.specs.SortTrees.{abbreviated_in}
-use Rattle.smt_faults.specs.Faults.{command_fault}
+use Rattle.smt_terms.specs.Declarations.{abbreviated_in, declared_in}
+use Rattle.smt_terms.specs.Signature.{Entry, Signature, names_of, no_names, sort_names_of, with_abbreviation}
+use Rattle.smt_terms.specs.Signature.{with_entries, with_entry}
+use Rattle.smt_faults.specs.Faults.{fault_by_term}
+use Rattle.smt_faults.specs.declared.term_flaw.TermFlaw.{TermFlaw}
+use Rattle.smt_terms.specs.declared.library.Library.{Library}
+use Rattle.smt_script.specs.Command.{Command, Effect, Addition, SetLogic, DeclareConst, DeclareFun, DefineFun}
+use Rattle.smt_script.specs.Command.{DefineSort, Assert, Brings, Removing, Nothing, effect_of}
+use Rattle.smt_script.specs.Stack as spec
+use Rattle.smt_script.specs.Stack.{Brought, Numbered, abbreviations_by, abbreviations_of_effect}
+use Rattle.smt_script.specs.Stack.{assertions_of_effect, depth_by, entries_of_effect, flaw_by}
+use Rattle.smt_script.specs.Stack.{removed_of_effect, resets, theories_by, abbreviations_of, assertions_by}
+use Rattle.smt_script.specs.Stack.{assertions_in_force, assertions_of, brought_by, depth_after}
+use Rattle.smt_script.specs.Stack.{depth_in_force, entries_by, entries_of, flaw_of, flaw_of_effect}
+use Rattle.smt_script.specs.Stack.{has_exited, history, in_force, names_stand, is_exit, is_reset, one_or_none}
+use Rattle.smt_script.specs.Stack.{print_success_after, print_success_in_force, signature_in_force}
+use Rattle.smt_script.specs.Stack.{signature_of, theories_after, theories_in_force, theories_or}
+use Rattle.smt_script.specs.Stack.{assertions_stand, is_logic_set, is_too_late}
+use Rattle.smt_script.specs.StackView.{AreAssertions, IsLevel, StandsFor, to_level}
+use Rattle.smt_script.specs.Internal.Effect.{ContentsAreKept, HasEffect, IsUnchanged, with_notes, logic_after}
+use Rattle.smt_faults.specs.declared.command_fault.CommandFault.{CommandFault}
+use Rattle.smt_faults.specs.declared.command_flaw.CommandFlaw.{CommandFlaw}
+use Rattle.smt_faults.specs.declared.command_flaw.CommandFlaw.TheVariants.{Term}
+use Rattle.smt_faults.specs.Outcome.{Tells, TellsCommand, flaw_told}
 use Rattle.smt_faults.specs.declared.term_fault.TermFault.{TermFault}
 use Rattle.smt_faults.specs.declared.term_fault.TermFault.TheVariants as terms
-use Rattle.smt_terms.specs.declared.library.Library.{Library}
-use Rattle.smt_script.specs.Command.{Command, Effect, Item, SetLogic, DeclareConst, DeclareFun, DefineFun, DefineSort, Assert, Brings, Removing, Nothing, effect_of}
-use Rattle.smt_script.specs.Stack as spec
-use Rattle.smt_script.specs.Stack.{Brought, Numbered, abbreviations_by, abbreviations_of_effect, assertions_of_effect, depth_by, entries_of_effect, fault_by, removed_of_effect, resets, theories_by, abbreviations_of, assertions_by, assertions_in_force, assertions_of, brought_by, depth_after, depth_in_force, entries_by, entries_of, fault_of, fault_of_effect, has_exited, history, in_force, names_stand, is_exit, is_reset, one_or_none, print_success_after, print_success_in_force, signature_in_force, signature_of, theories_after, theories_in_force, theories_or, assertions_stand, is_logic_set, is_too_late}
-use Rattle.smt_script.specs.StackView.{AreAssertions, IsLevel, StandsFor, to_level}
-use Rattle.smt_script.specs.Internal.Effect.{ContentsAreKept, HasEffect, IsUnchanged, noted, logic_after}
-use Rattle.smt_faults.specs.declared.command_fault.CommandFault.{CommandFault}
-use Rattle.smt_faults.specs.declared.command_fault.CommandFault.TheVariants.{Term, Memory}
 use Rattle.smt_script.specs.declared.stack.Assertion.{Assertion}
 use Rattle.smt_script.specs.declared.stack.LogicState.{LogicState}
 use Rattle.smt_script.specs.declared.stack.levels.Level.{Level}
 use Rattle.smt_script.specs.declared.stack.Stack.{Stack}
-use Rattle.smt_script.proofs.HistoryLemmas.{abbreviations-push, assertions-push, entries-push, exited-push, logic-push, in_force-grow, print-push, theories-push, to_level-push, unfixed_is_empty}
+use Rattle.smt_script.proofs.HistoryLemmas.{abbreviations-push, assertions-push, entries-push, exited-push}
+use Rattle.smt_script.proofs.HistoryLemmas.{logic-push, in_force-grow, print-push, theories-push}
+use Rattle.smt_script.proofs.HistoryLemmas.{to_level-push, unfixed_is_empty}
 use Rattle.smt_script.proofs.StandingLemmas.{depth-push}
 
 -- ---- assertions
 
-assertions_stay : ContentsAreKept → (c d : Contents) → Extends c d → (as' : List Assertion) (bs : List spec.Assertion) → AreAssertions c as' bs → AreAssertions d as' bs
+assertions_stay : ContentsAreKept → (c d : Contents) → Extends c d
+    → (as' : List Assertion) (bs : List spec.Assertion) → AreAssertions c as' bs → AreAssertions d as' bs
 assertions_stay law c d more [] [] h = tt
-assertions_stay law c d more (a ∷ as') (b ∷ bs) h = (h.0, law.terms c d a.term b.term more h.1, assertions_stay law c d more as' bs h.2)
+assertions_stay law c d more (a ∷ as') (b ∷ bs) h =
+    (h.0, law.terms c d a.term b.term more h.1, assertions_stay law c d more as' bs h.2)
 assertions_stay law c d more [] (b ∷ bs) h = h
 assertions_stay law c d more (a ∷ as') [] h = h
 
-one_more_assertion : (c : Contents) (as' : List Assertion) (bs : List spec.Assertion) (a : Assertion) (b : spec.Assertion) → AreAssertions c as' bs → a.command ≡ b.command → IsTermOf c a.term b.term → AreAssertions c (as' ++ a ∷ []) (bs ++ b ∷ [])
+one_more_assertion : (c : Contents) (as' : List Assertion) (bs : List spec.Assertion) (a : Assertion)
+    (b : spec.Assertion) → AreAssertions c as' bs → a.command ≡ b.command → IsTermOf c a.term b.term
+    → AreAssertions c (as' ++ a ∷ []) (bs ++ b ∷ [])
 one_more_assertion c [] [] a b h command term = (command, term, tt)
-one_more_assertion c (x ∷ as') (y ∷ bs) a b h command term = (h.0, h.1, one_more_assertion c as' bs a b h.2 command term)
+one_more_assertion c (x ∷ as') (y ∷ bs) a b h command term =
+    (h.0, h.1, one_more_assertion c as' bs a b h.2 command term)
 one_more_assertion c [] (y ∷ bs) a b h command term = absurd h
 one_more_assertion c (x ∷ as') [] a b h command term = absurd h
 
@@ -72,67 +94,121 @@ pub record Keeps (command : Command) : Type 0 where
   pub theories : (t : Theories) → theories_after t command ≡ t
 
 pub adds_keeps : (command : Command) → Adds command → Keeps command
-adds_keeps command adds = record { no_reset = adds.no_reset; level = λ d. (let e = adds.level d in omega arith); theories = adds.theories }
+adds_keeps command adds =
+    record {
+      no_reset = adds.no_reset;
+      level = λ d. (let e = adds.level d in omega arith);
+      theories =
+          adds.theories;
+    }
 
 -- what a signature is with what a command brings
 abbrev pub with_brought : Signature → ℕ → Command → Signature
-with_brought s n command = record { theories = s.theories; abbreviations = s.abbreviations ++ abbreviations_by s command; entries = s.entries ++ entries_by s n command }
+with_brought s n command =
+    record {
+      theories = s.theories;
+      abbreviations = s.abbreviations ++ abbreviations_by s command;
+      entries =
+          s.entries ++ entries_by s n command;
+    }
 
-pub signature-add : (cs : List Numbered) (c : Numbered) → Keeps c.command → signature_in_force (cs ++ c ∷ []) ≡ with_brought (signature_in_force cs) c.number c.command
+pub signature-add : (cs : List Numbered) (c : Numbered) → Keeps c.command
+    → signature_in_force (cs ++ c ∷ []) ≡ with_brought (signature_in_force cs) c.number c.command
 signature-add cs c adds =
     let b = brought_by cs (history cs) c in
     let grow = in_force-grow cs c adds.no_reset (adds.level (depth_in_force cs)) in
-    ap (λ (t : Theories). signature_of t ((in_force names_stand) (history (cs ++ c ∷ [])))) (theories-push cs c ∙ adds.theories (theories_in_force cs))
+    ap (λ (t : Theories). signature_of t ((in_force names_stand) (history (cs ++ c ∷ []))))
+    (theories-push cs c ∙ adds.theories (theories_in_force cs))
     ∙ ap (λ (l : List Brought). signature_of (theories_in_force cs) l) grow
-    ∙ ap (λ (es : List Entry). record { theories = theories_in_force cs; abbreviations = abbreviations_of ((in_force names_stand) (history cs) ++ b ∷ []); entries = es }) (entries-push ((in_force names_stand) (history cs)) b)
-    ∙ ap (λ (as' : List (List ℕ × Sort)). record { theories = theories_in_force cs; abbreviations = as'; entries = entries_of ((in_force names_stand) (history cs)) ++ b.entries }) (abbreviations-push ((in_force names_stand) (history cs)) b)
+    ∙ ap (λ (es : List Entry).
+    record {
+      theories = theories_in_force cs;
+      abbreviations =
+          abbreviations_of ((in_force names_stand) (history cs) ++ b ∷ []);
+      entries = es;
+    })
+    (entries-push ((in_force names_stand) (history cs)) b)
+    ∙ ap (λ (as' : List (List ℕ × Sort)).
+    record {
+      theories = theories_in_force cs;
+      abbreviations = as';
+      entries =
+          entries_of ((in_force names_stand) (history cs)) ++ b.entries;
+    })
+    (abbreviations-push ((in_force names_stand) (history cs)) b)
 
-pub assertions-add : (cs : List Numbered) (c : Numbered) → Keeps c.command → assertions_in_force (cs ++ c ∷ []) ≡ assertions_in_force cs ++ assertions_by c.number c.command
+pub assertions-add : (cs : List Numbered) (c : Numbered) → Keeps c.command
+    → assertions_in_force (cs ++ c ∷ []) ≡ assertions_in_force cs ++ assertions_by c.number c.command
 assertions-add cs c adds =
     let b = brought_by cs (history cs) c in
     let grow = in_force-grow cs c adds.no_reset (adds.level (depth_in_force cs)) in
     ap assertions_of grow ∙ assertions-push ((in_force names_stand) (history cs)) b
 
 -- a level stays as the contents and the assertions grow
-pub level_stays : ContentsAreKept → (c d : Contents) (as' more : List Assertion) (l : Level) (t : Theories) (b : List Brought) → Extends c d → IsLevel c as' l t b b → IsLevel d (as' ++ more) l t b b
+pub level_stays : ContentsAreKept
+    → (c d : Contents) (as' more : List Assertion) (l : Level) (t : Theories) (b : List Brought) → Extends c d
+    → IsLevel c as' l t b b → IsLevel d (as' ++ more) l t b b
 level_stays law c d as' more l t b grown h = record {
   within = law.within l.mark c d h.within grown;
   count = (let e = length-append as' more in let m = h.count in omega arith);
-  holds = subst (λ (x : Contents). Holds x (signature_of t b)) (sym (law.first l.mark c d h.within grown)) h.holds;
+  holds = subst (λ (x : Contents). Holds x (signature_of t b)) (sym (law.first l.mark c d h.within grown))
+      h.holds;
   assertions_are =
-      subst (λ (x : Contents). AreAssertions x (take l.assertions (as' ++ more)) (assertions_of b)) (sym (law.first l.mark c d h.within grown))
-      (subst (λ (x : List Assertion). AreAssertions (first_of l.mark c) x (assertions_of b)) (sym (take_before l.assertions as' more h.count)) h.assertions_are);
+      subst (λ (x : Contents). AreAssertions x (take l.assertions (as' ++ more)) (assertions_of b))
+      (sym (law.first l.mark c d h.within grown))
+      (subst (λ (x : List Assertion). AreAssertions (first_of l.mark c) x (assertions_of b))
+      (sym (take_before l.assertions as' more h.count)) h.assertions_are);
 }
 
 -- a stack after a command that adds to what is in force
-pub added : ContentsAreKept → (old new : Stack) (more : List Assertion) (cs : List Numbered) (n : ℕ) (command : Command) → StandsFor old cs → Adds command
-    → new.levels.items ≡ old.levels.items → new.logic ≡ old.logic → new.print_success ≡ old.print_success → new.exited ≡ old.exited → new.start ≡ old.start
-    → Extends (contents_of old.library) (contents_of new.library) → new.assertions.items ≡ old.assertions.items ++ more
+pub added : ContentsAreKept
+    → (old new : Stack) (more : List Assertion) (cs : List Numbered) (n : ℕ) (command : Command)
+    → StandsFor old cs → Adds command
+    → new.levels.items ≡ old.levels.items → new.logic ≡ old.logic → new.print_success ≡ old.print_success
+    → new.exited ≡ old.exited → new.initial_print_success ≡ old.initial_print_success
+    → Extends (contents_of old.library) (contents_of new.library)
+    → new.assertions.items ≡ old.assertions.items ++ more
     → library.StandsFor new.library (with_brought (signature_in_force cs) n command)
-    → AreAssertions (contents_of new.library) new.assertions.items (assertions_in_force cs ++ assertions_by n command)
-    → StandsFor (noted command new) (cs ++ record { number = n; command = command } ∷ [])
+    → AreAssertions (contents_of new.library) new.assertions.items
+    (assertions_in_force cs ++ assertions_by n command)
+    → StandsFor (with_notes command new) (cs ++ record { number = n; command = command } ∷ [])
 added law old new more cs n command h adds levels logic print exited start grown asserted names assertions =
     let c : Numbered = record { number = n; command = command } in
     let b = brought_by cs (history cs) c in
     let grow = in_force-grow cs c adds.no_reset (let e = adds.level (depth_in_force cs) in omega arith) in
     let theories = theories-push cs c ∙ adds.theories (theories_in_force cs) in
     record {
-      library = subst (λ (s : Signature). library.StandsFor new.library s) (sym (signature-add cs c (adds_keeps command adds))) names;
-      assertions = subst (λ (l : List spec.Assertion). AreAssertions (contents_of new.library) new.assertions.items l) (sym (assertions-add cs c (adds_keeps command adds))) assertions;
+      library = subst (λ (s : Signature). library.StandsFor new.library s)
+          (sym (signature-add cs c (adds_keeps command adds))) names;
+      assertions = subst (λ (l : List spec.Assertion). AreAssertions (contents_of new.library)
+          new.assertions.items l) (sym (assertions-add cs c (adds_keeps command adds))) assertions;
       depth = ap length levels ∙ h.depth ∙ sym (depth-push cs c ∙ adds.level (depth_in_force cs));
       levels = λ k l at.
-          let there : slice_get old.levels.items k ≡ Some l = ap (λ (xs : List Level). slice_get xs k) (sym levels) ∙ at in
-          let inside : k + 1 ≤ b.level = (let m = within old.levels.items k l there in let e = h.depth in let f = adds.level (depth_in_force cs) in omega arith) in
-          subst (λ (t : Theories). IsLevel (contents_of new.library) new.assertions.items l t (to_level k ((in_force names_stand) (history (cs ++ c ∷ [])))) (to_level k ((in_force assertions_stand) (history (cs ++ c ∷ []))))) (sym theories)
-          (subst (λ (x : List Brought). IsLevel (contents_of new.library) new.assertions.items l (theories_in_force cs) x x) (sym (ap (to_level k) grow ∙ to_level-push k ((in_force names_stand) (history cs)) b inside))
-          (subst (λ (x : List Assertion). IsLevel (contents_of new.library) x l (theories_in_force cs) (to_level k ((in_force names_stand) (history cs))) (to_level k ((in_force assertions_stand) (history cs)))) (sym asserted)
-          (level_stays law (contents_of old.library) (contents_of new.library) old.assertions.items more l (theories_in_force cs) (to_level k ((in_force names_stand) (history cs))) grown (h.levels k l there))));
+          let there : slice_get old.levels.items k ≡ Some l =
+          ap (λ (xs : List Level). slice_get xs k) (sym levels) ∙ at in
+          let inside : k + 1 ≤ b.level =
+          (let m = within old.levels.items k l there in let e = h.depth in let f =
+          adds.level (depth_in_force cs) in omega arith) in
+          subst (λ (t : Theories). IsLevel (contents_of new.library) new.assertions.items l t
+          (to_level k ((in_force names_stand) (history (cs ++ c ∷ []))))
+          (to_level k ((in_force assertions_stand) (history (cs ++ c ∷ []))))) (sym theories)
+          (subst (λ (x : List Brought). IsLevel (contents_of new.library) new.assertions.items l
+          (theories_in_force cs) x x)
+          (sym (ap (to_level k) grow ∙ to_level-push k ((in_force names_stand) (history cs)) b inside))
+          (subst (λ (x : List Assertion). IsLevel (contents_of new.library) x l (theories_in_force cs)
+          (to_level k ((in_force names_stand) (history cs)))
+          (to_level k ((in_force assertions_stand) (history cs)))) (sym asserted)
+          (level_stays law (contents_of old.library) (contents_of new.library) old.assertions.items more l
+          (theories_in_force cs) (to_level k ((in_force names_stand) (history cs))) grown
+          (h.levels k l there))));
       ordered = λ j k l m le at there.
-          h.ordered j k l m le (ap (λ (xs : List Level). slice_get xs j) (sym levels) ∙ at) (ap (λ (xs : List Level). slice_get xs k) (sym levels) ∙ there);
+          h.ordered j k l m le (ap (λ (xs : List Level). slice_get xs j) (sym levels) ∙ at)
+          (ap (λ (xs : List Level). slice_get xs k) (sym levels) ∙ there);
       logic = ap (λ (x : LogicState). logic_after x command) (logic ∙ h.logic) ∙ sym (logic-push cs c);
       print_success =
-          ap (λ (x : Bool). print_success_after new.start x command) (print ∙ h.print_success)
-          ∙ ap (λ (x : Bool). print_success_after new.start (print_success_in_force x cs) command) (sym start) ∙ sym (print-push new.start cs c);
+          ap (λ (x : Bool). print_success_after new.initial_print_success x command) (print ∙ h.print_success)
+          ∙ ap (λ (x : Bool). print_success_after new.initial_print_success (print_success_in_force x cs) command) (sym start)
+          ∙ sym (print-push new.initial_print_success cs c);
       exited = ap (λ (x : Bool). x || is_exit command) (exited ∙ h.exited) ∙ sym (exited-push cs c);
     }
 
@@ -149,13 +225,27 @@ extends_itself c = record {
 }
 
 -- a signature to which a command brings nothing
-pub nothing_brought : (l : Library) (s : Signature) (n : ℕ) (command : Command) → abbreviations_by s command ≡ [] → entries_by s n command ≡ [] → library.StandsFor l s → library.StandsFor l (with_brought s n command)
+pub nothing_brought : (l : Library) (s : Signature) (n : ℕ) (command : Command)
+    → abbreviations_by s command ≡ [] → entries_by s n command ≡ [] → library.StandsFor l s
+    → library.StandsFor l (with_brought s n command)
 nothing_brought l s n command abbreviations entries h =
     let P : Signature → Type 0 = λ x. library.StandsFor l x in
-    subst P (sym (ap (λ (as' : List (List ℕ × Sort)). record { theories = s.theories; abbreviations = s.abbreviations ++ as'; entries = s.entries ++ entries_by s n command }) abbreviations
-    ∙ ap (λ (es : List Entry). record { theories = s.theories; abbreviations = s.abbreviations ++ []; entries = s.entries ++ es }) entries
-    ∙ ap (λ (es : List Entry). record { theories = s.theories; abbreviations = s.abbreviations ++ []; entries = es }) (append-nil s.entries)
-    ∙ ap (λ (as' : List (List ℕ × Sort)). record { theories = s.theories; abbreviations = as'; entries = s.entries }) (append-nil s.abbreviations))) h
+    subst P (sym (ap (λ (as' : List (List ℕ × Sort)).
+    record {
+      theories = s.theories;
+      abbreviations = s.abbreviations ++ as';
+      entries =
+          s.entries ++ entries_by s n command;
+    }) abbreviations
+    ∙ ap (λ (es : List Entry).
+    record { theories = s.theories; abbreviations = s.abbreviations ++ []; entries = s.entries ++ es })
+    entries
+    ∙ ap (λ (es : List Entry).
+    record { theories = s.theories; abbreviations = s.abbreviations ++ []; entries = es })
+    (append-nil s.entries)
+    ∙ ap (λ (as' : List (List ℕ × Sort)).
+    record { theories = s.theories; abbreviations = as'; entries = s.entries })
+    (append-nil s.abbreviations))) h
 
 -- a command that changes nothing but the notes
 pub record Idle (command : Command) : Type 0 where
@@ -163,22 +253,28 @@ pub record Idle (command : Command) : Type 0 where
   pub entries : (s : Signature) (n : ℕ) → entries_by s n command ≡ []
   pub abbreviations : (s : Signature) → abbreviations_by s command ≡ []
   pub assertions : (n : ℕ) → assertions_by n command ≡ []
-  pub faultless : (cs : List Numbered) (n : ℕ) → fault_of_effect cs n command ≡ None
+  pub faultless : (cs : List Numbered) (n : ℕ) → flaw_of_effect cs n command ≡ None
 
-pub idle_effect : ContentsAreKept → (s : Stack) (n : ℕ) (command : Command) → Idle command → HasEffect s s n command
+pub idle_effect : ContentsAreKept → (s : Stack) (n : ℕ) (command : Command) → Idle command
+    → HasEffect s s n command
 idle_effect law s n command idle = record {
   faultless = λ cs h. idle.faultless cs n;
   stands = λ cs h.
-      let P : List spec.Assertion → Type 0 = λ bs. AreAssertions (contents_of s.library) s.assertions.items (assertions_in_force cs ++ bs) in
-      added law s s [] cs n command h idle.adds refl refl refl refl refl (extends_itself (contents_of s.library)) (sym (append-nil s.assertions.items))
-      (nothing_brought s.library (signature_in_force cs) n command (idle.abbreviations (signature_in_force cs)) (idle.entries (signature_in_force cs) n) h.library)
-      (subst P (sym (idle.assertions n)) (subst (λ (bs : List spec.Assertion). AreAssertions (contents_of s.library) s.assertions.items bs) (sym (append-nil (assertions_in_force cs))) h.assertions));
+      let P : List spec.Assertion → Type 0 =
+      λ bs. AreAssertions (contents_of s.library) s.assertions.items (assertions_in_force cs ++ bs) in
+      added law s s [] cs n command h idle.adds refl refl refl refl refl
+      (extends_itself (contents_of s.library)) (sym (append-nil s.assertions.items))
+      (nothing_brought s.library (signature_in_force cs) n command
+      (idle.abbreviations (signature_in_force cs)) (idle.entries (signature_in_force cs) n) h.library)
+      (subst P (sym (idle.assertions n))
+      (subst (λ (bs : List spec.Assertion). AreAssertions (contents_of s.library) s.assertions.items bs)
+      (sym (append-nil (assertions_in_force cs))) h.assertions));
   start = refl;
 }
 
 -- a command that brings an item adds it
-pub item_adds : (command : Command) (item : Item) → effect_of command ≡ Brings item → Adds command
-item_adds command item is = record {
+pub addition_adds : (command : Command) (item : Addition) → effect_of command ≡ Brings item → Adds command
+addition_adds command item is = record {
   no_reset = ap (λ (e : Effect). resets (removed_of_effect e)) is;
   level = λ d. ap (depth_by d) is;
   theories = λ t. ap (theories_by t) is;
@@ -195,7 +291,7 @@ no_effect_is_idle command is = record {
   entries = λ s n. ap (entries_of_effect s n) is;
   abbreviations = λ s. ap (abbreviations_of_effect s) is;
   assertions = λ n. ap (assertions_of_effect n) is;
-  faultless = λ cs n. ap (fault_by cs n) is;
+  faultless = λ cs n. ap (flaw_by cs n) is;
 }
 
 -- ---- names
@@ -205,136 +301,226 @@ pub record BringsNames (old new : Library) (n : ℕ) (command : Command) : Type 
   pub adds : Adds command
   pub grown : Extends (contents_of old) (contents_of new)
   pub assertions : assertions_by n command ≡ []
-  pub names : (cs : List Numbered) → library.StandsFor old (signature_in_force cs) → (fault_of_effect cs n command ≡ None) × library.StandsFor new (with_brought (signature_in_force cs) n command)
+  pub names : (cs : List Numbered) → library.StandsFor old (signature_in_force cs)
+      → (flaw_of_effect cs n command ≡ None)
+      × library.StandsFor new (with_brought (signature_in_force cs) n command)
 
-pub names_effect : ContentsAreKept → (old : Stack) (l : Library) (n : ℕ) (command : Command) → BringsNames old.library l n command → HasEffect old (record old { library = l }) n command
+pub names_effect : ContentsAreKept → (old : Stack) (l : Library) (n : ℕ) (command : Command)
+    → BringsNames old.library l n command → HasEffect old (record old { library = l }) n command
 names_effect law old l n command brings = record {
   faultless = λ cs h. (brings.names cs h.library).0;
   stands = λ cs h.
-      let P : List spec.Assertion → Type 0 = λ bs. AreAssertions (contents_of l) old.assertions.items (assertions_in_force cs ++ bs) in
-      added law old (record old { library = l }) [] cs n command h brings.adds refl refl refl refl refl brings.grown (sym (append-nil old.assertions.items)) (brings.names cs h.library).1
+      let P : List spec.Assertion → Type 0 =
+      λ bs. AreAssertions (contents_of l) old.assertions.items (assertions_in_force cs ++ bs) in
+      added law old (record old { library = l })
+      [] cs n command h brings.adds refl refl refl refl refl brings.grown
+      (sym (append-nil old.assertions.items)) (brings.names cs h.library).1
       (subst P (sym brings.assertions)
-      (subst (λ (bs : List spec.Assertion). AreAssertions (contents_of l) old.assertions.items bs) (sym (append-nil (assertions_in_force cs)))
-      (assertions_stay law (contents_of old.library) (contents_of l) brings.grown old.assertions.items (assertions_in_force cs) h.assertions)));
+      (subst (λ (bs : List spec.Assertion). AreAssertions (contents_of l) old.assertions.items bs)
+      (sym (append-nil (assertions_in_force cs)))
+      (assertions_stay law (contents_of old.library) (contents_of l) brings.grown old.assertions.items
+      (assertions_in_force cs) h.assertions)));
   start = refl;
 }
 
 -- one more name is what a command brings that brings it alone
-one_entry : (l : Library) (s : Signature) (n : ℕ) (command : Command) (e : Entry) → abbreviations_by s command ≡ [] → entries_by s n command ≡ e ∷ [] → library.StandsFor l (with_entry s e) → library.StandsFor l (with_brought s n command)
+one_entry : (l : Library) (s : Signature) (n : ℕ) (command : Command) (e : Entry)
+    → abbreviations_by s command ≡ [] → entries_by s n command ≡ e ∷ [] → library.StandsFor l (with_entry s e)
+    → library.StandsFor l (with_brought s n command)
 one_entry l s n command e abbreviations entries h =
     let P : Signature → Type 0 = λ x. library.StandsFor l x in
-    subst P (sym (ap (λ (as' : List (List ℕ × Sort)). record { theories = s.theories; abbreviations = s.abbreviations ++ as'; entries = s.entries ++ entries_by s n command }) abbreviations
-    ∙ ap (λ (es : List Entry). record { theories = s.theories; abbreviations = s.abbreviations ++ []; entries = s.entries ++ es }) entries
-    ∙ ap (λ (as' : List (List ℕ × Sort)). record { theories = s.theories; abbreviations = as'; entries = s.entries ++ e ∷ [] }) (append-nil s.abbreviations))) h
+    subst P (sym (ap (λ (as' : List (List ℕ × Sort)).
+    record {
+      theories = s.theories;
+      abbreviations = s.abbreviations ++ as';
+      entries =
+          s.entries ++ entries_by s n command;
+    }) abbreviations
+    ∙ ap (λ (es : List Entry).
+    record { theories = s.theories; abbreviations = s.abbreviations ++ []; entries = s.entries ++ es })
+    entries
+    ∙ ap (λ (as' : List (List ℕ × Sort)).
+    record { theories = s.theories; abbreviations = as'; entries = s.entries ++ e ∷ [] })
+    (append-nil s.abbreviations))) h
 
 abbrev pub DeclaresIn : Library → Library → ℕ → List ℕ → Sexps → Sexp → Type 0
 DeclaresIn old new n x parameters sort =
-    (s : Signature) → library.StandsFor old s → (e : Entry) × (declared_in s n x parameters sort ≡ Ok e) × library.StandsFor new (with_entry s e)
+    (s : Signature) → library.StandsFor old s
+    → (e : Entry) × (declared_in s n x parameters sort ≡ Ok e) × library.StandsFor new (with_entry s e)
 
-pub declare_const_effect : ContentsAreKept → (old : Stack) (l : Library) (n : ℕ) (x : List ℕ) (sort : Sexp) → DeclaresIn old.library l n x Nil sort → Extends (contents_of old.library) (contents_of l)
+pub declare_const_effect : ContentsAreKept → (old : Stack) (l : Library) (n : ℕ) (x : List ℕ) (sort : Sexp)
+    → DeclaresIn old.library l n x Nil sort → Extends (contents_of old.library) (contents_of l)
     → HasEffect old (record old { library = l }) n (DeclareConst x sort)
 declare_const_effect law old l n x sort declares grown =
     names_effect law old l n (DeclareConst x sort) (record {
-      adds = item_adds (DeclareConst x sort) _ refl;
+      adds = addition_adds (DeclareConst x sort) _ refl;
       grown = grown;
       assertions = refl;
       names = λ cs h.
-          let made = declares (signature_in_force cs) h in
-          (ap fault_of made.1, one_entry l (signature_in_force cs) n (DeclareConst x sort) made.0 refl (ap one_or_none made.1) made.2);
+          let made = declares (signature_in_force cs) h in (
+            ap flaw_of made.1,
+            one_entry l (signature_in_force cs) n (DeclareConst x sort) made.0 refl
+                (ap one_or_none made.1) made.2,
+          );
     })
 
-pub declare_fun_effect : ContentsAreKept → (old : Stack) (l : Library) (n : ℕ) (x : List ℕ) (parameters : Sexps) (sort : Sexp) → DeclaresIn old.library l n x parameters sort → Extends (contents_of old.library) (contents_of l)
+pub declare_fun_effect : ContentsAreKept
+    → (old : Stack) (l : Library) (n : ℕ) (x : List ℕ) (parameters : Sexps) (sort : Sexp)
+    → DeclaresIn old.library l n x parameters sort → Extends (contents_of old.library) (contents_of l)
     → HasEffect old (record old { library = l }) n (DeclareFun x parameters sort)
 declare_fun_effect law old l n x parameters sort declares grown =
     names_effect law old l n (DeclareFun x parameters sort) (record {
-      adds = item_adds (DeclareFun x parameters sort) _ refl;
+      adds = addition_adds (DeclareFun x parameters sort) _ refl;
       grown = grown;
       assertions = refl;
       names = λ cs h.
-          let made = declares (signature_in_force cs) h in
-          (ap fault_of made.1, one_entry l (signature_in_force cs) n (DeclareFun x parameters sort) made.0 refl (ap one_or_none made.1) made.2);
+          let made = declares (signature_in_force cs) h in (
+            ap flaw_of made.1,
+            one_entry l (signature_in_force cs) n (DeclareFun x parameters sort)
+                made.0 refl (ap one_or_none made.1) made.2,
+          );
     })
 
 abbrev pub DefinesIn : Library → Library → List ℕ → List (List ℕ × Sexp) → Sexp → Sexp → Type 0
 DefinesIn old new x parameters sort body =
-    (s : Signature) → library.StandsFor old s → (e : Entry) × (defined_in s x parameters sort body ≡ Ok e) × library.StandsFor new (with_entry s e)
+    (s : Signature) → library.StandsFor old s
+    → (e : Entry) × (defined_in s x parameters sort body ≡ Ok e) × library.StandsFor new (with_entry s e)
 
-pub define_effect : ContentsAreKept → (old : Stack) (l : Library) (n : ℕ) (x : List ℕ) (parameters : List (List ℕ × Sexp)) (sort body : Sexp) → DefinesIn old.library l x parameters sort body → Extends (contents_of old.library) (contents_of l)
+pub define_effect : ContentsAreKept
+    → (old : Stack) (l : Library) (n : ℕ) (x : List ℕ) (parameters : List (List ℕ × Sexp)) (sort body : Sexp)
+    → DefinesIn old.library l x parameters sort body → Extends (contents_of old.library) (contents_of l)
     → HasEffect old (record old { library = l }) n (DefineFun x parameters sort body)
 define_effect law old l n x parameters sort body defines grown =
     names_effect law old l n (DefineFun x parameters sort body) (record {
-      adds = item_adds (DefineFun x parameters sort body) _ refl;
+      adds = addition_adds (DefineFun x parameters sort body) _ refl;
       grown = grown;
       assertions = refl;
       names = λ cs h.
-          let made = defines (signature_in_force cs) h in
-          (ap fault_of made.1, one_entry l (signature_in_force cs) n (DefineFun x parameters sort body) made.0 refl (ap one_or_none made.1) made.2);
+          let made = defines (signature_in_force cs) h in (
+            ap flaw_of made.1,
+            one_entry l (signature_in_force cs) n (DefineFun x parameters sort body)
+                made.0 refl (ap one_or_none made.1) made.2,
+          );
     })
 
 abbrev pub AbbreviatesIn : Library → Library → List ℕ → Sexp → Type 0
 AbbreviatesIn old new x sort =
-    (s : Signature) → library.StandsFor old s → (found : Sort) × (abbreviated_in (sort_names_of s) x sort ≡ Ok found) × library.StandsFor new (with_abbreviation s x found)
+    (s : Signature) → library.StandsFor old s
+    → (found : Sort) × (abbreviated_in (sort_names_of s) x sort ≡ Ok found)
+    × library.StandsFor new (with_abbreviation s x found)
 
-one_abbreviation : (l : Library) (s : Signature) (n : ℕ) (command : Command) (x : List ℕ) (sort : Sort) → abbreviations_by s command ≡ (x, sort) ∷ [] → entries_by s n command ≡ [] → library.StandsFor l (with_abbreviation s x sort) → library.StandsFor l (with_brought s n command)
+one_abbreviation : (l : Library) (s : Signature) (n : ℕ) (command : Command) (x : List ℕ) (sort : Sort)
+    → abbreviations_by s command ≡ (x, sort) ∷ [] → entries_by s n command ≡ []
+    → library.StandsFor l (with_abbreviation s x sort) → library.StandsFor l (with_brought s n command)
 one_abbreviation l s n command x sort abbreviations entries h =
     let P : Signature → Type 0 = λ y. library.StandsFor l y in
-    subst P (sym (ap (λ (as' : List (List ℕ × Sort)). record { theories = s.theories; abbreviations = s.abbreviations ++ as'; entries = s.entries ++ entries_by s n command }) abbreviations
-    ∙ ap (λ (es : List Entry). record { theories = s.theories; abbreviations = s.abbreviations ++ (x, sort) ∷ []; entries = s.entries ++ es }) entries
-    ∙ ap (λ (es : List Entry). record { theories = s.theories; abbreviations = s.abbreviations ++ (x, sort) ∷ []; entries = es }) (append-nil s.entries))) h
+    subst P (sym (ap (λ (as' : List (List ℕ × Sort)).
+    record {
+      theories = s.theories;
+      abbreviations = s.abbreviations ++ as';
+      entries =
+          s.entries ++ entries_by s n command;
+    }) abbreviations
+    ∙ ap (λ (es : List Entry).
+    record {
+      theories = s.theories;
+      abbreviations = s.abbreviations ++ (x, sort) ∷ [];
+      entries =
+          s.entries ++ es;
+    }) entries
+    ∙ ap (λ (es : List Entry).
+    record { theories = s.theories; abbreviations = s.abbreviations ++ (x, sort) ∷ []; entries = es })
+    (append-nil s.entries))) h
 
-pub define_sort_effect : ContentsAreKept → (old : Stack) (l : Library) (n : ℕ) (x : List ℕ) (sort : Sexp) → AbbreviatesIn old.library l x sort → Extends (contents_of old.library) (contents_of l)
+pub define_sort_effect : ContentsAreKept → (old : Stack) (l : Library) (n : ℕ) (x : List ℕ) (sort : Sexp)
+    → AbbreviatesIn old.library l x sort → Extends (contents_of old.library) (contents_of l)
     → HasEffect old (record old { library = l }) n (DefineSort x sort)
 define_sort_effect law old l n x sort abbreviates grown =
     names_effect law old l n (DefineSort x sort) (record {
-      adds = item_adds (DefineSort x sort) _ refl;
+      adds = addition_adds (DefineSort x sort) _ refl;
       grown = grown;
       assertions = refl;
       names = λ cs h.
-          let made = abbreviates (signature_in_force cs) h in
-          (ap fault_of made.1, one_abbreviation l (signature_in_force cs) n (DefineSort x sort) x made.0 (ap (λ (r : Result Sort TermFault). spec.named x (one_or_none r)) made.1) refl made.2);
+          let made = abbreviates (signature_in_force cs) h in (
+            ap flaw_of made.1,
+            one_abbreviation l (signature_in_force cs) n (DefineSort x sort) x made.0
+                (ap (λ (r : Result Sort TermFlaw). spec.named x (one_or_none r)) made.1) refl made.2,
+          );
     })
 
 -- ---- assertions
 
 abbrev pub AssertsIn : Library → Library → Sexp → Type 0
 AssertsIn old new term =
-    (s : Signature) → library.StandsFor old s → (labels : List Entry) × (asserted_in (names_of s) term ≡ Ok labels) × library.StandsFor new (with_entries s labels)
+    (s : Signature) → library.StandsFor old s
+    → (labels : List Entry) × (asserted_in (names_of s) term ≡ Ok labels)
+    × library.StandsFor new (with_entries s labels)
 
-some_entries : (l : Library) (s : Signature) (n : ℕ) (command : Command) (es : List Entry) → abbreviations_by s command ≡ [] → entries_by s n command ≡ es → library.StandsFor l (with_entries s es) → library.StandsFor l (with_brought s n command)
+some_entries : (l : Library) (s : Signature) (n : ℕ) (command : Command) (es : List Entry)
+    → abbreviations_by s command ≡ [] → entries_by s n command ≡ es → library.StandsFor l (with_entries s es)
+    → library.StandsFor l (with_brought s n command)
 some_entries l s n command es abbreviations entries h =
     let P : Signature → Type 0 = λ x. library.StandsFor l x in
-    subst P (sym (ap (λ (as' : List (List ℕ × Sort)). record { theories = s.theories; abbreviations = s.abbreviations ++ as'; entries = s.entries ++ entries_by s n command }) abbreviations
-    ∙ ap (λ (ds : List Entry). record { theories = s.theories; abbreviations = s.abbreviations ++ []; entries = s.entries ++ ds }) entries
-    ∙ ap (λ (as' : List (List ℕ × Sort)). record { theories = s.theories; abbreviations = as'; entries = s.entries ++ es }) (append-nil s.abbreviations))) h
+    subst P (sym (ap (λ (as' : List (List ℕ × Sort)).
+    record {
+      theories = s.theories;
+      abbreviations = s.abbreviations ++ as';
+      entries =
+          s.entries ++ entries_by s n command;
+    }) abbreviations
+    ∙ ap (λ (ds : List Entry).
+    record { theories = s.theories; abbreviations = s.abbreviations ++ []; entries = s.entries ++ ds })
+    entries
+    ∙ ap (λ (as' : List (List ℕ × Sort)).
+    record { theories = s.theories; abbreviations = as'; entries = s.entries ++ es })
+    (append-nil s.abbreviations))) h
 
-pub assert_effect : ContentsAreKept → (old : Stack) (l : Library) (as' : Vec Assertion) (a : Assertion) (term : Sexp) → AssertsIn old.library l term → IsTermOf (contents_of l) a.term term → Extends (contents_of old.library) (contents_of l)
-    → as'.items ≡ old.assertions.items ++ a ∷ [] → HasEffect old (record old { library = l; assertions = as' }) a.command (Assert term)
+pub assert_effect : ContentsAreKept
+    → (old : Stack) (l : Library) (as' : Vec Assertion) (a : Assertion) (term : Sexp)
+    → AssertsIn old.library l term → IsTermOf (contents_of l) a.term term
+    → Extends (contents_of old.library) (contents_of l)
+    → as'.items ≡ old.assertions.items ++ a ∷ []
+    → HasEffect old (record old { library = l; assertions = as' }) a.command (Assert term)
 assert_effect law old l as' a term asserts stored grown pushed = record {
-  faultless = λ cs h. ap fault_of (asserts (signature_in_force cs) h.library).1;
+  faultless = λ cs h. ap flaw_of (asserts (signature_in_force cs) h.library).1;
   stands = λ cs h.
       let made = asserts (signature_in_force cs) h.library in
-      let P : List Assertion → Type 0 = λ xs. AreAssertions (contents_of l) xs (assertions_in_force cs ++ record { command = a.command; term = term } ∷ []) in
-      added law old (record old { library = l; assertions = as' }) (a ∷ []) cs a.command (Assert term) h (item_adds (Assert term) _ refl) refl refl refl refl refl grown pushed
-      (some_entries l (signature_in_force cs) a.command (Assert term) made.0 refl (ap spec.all_or_none made.1) made.2)
+      let P : List Assertion → Type 0 =
+      λ xs. AreAssertions (contents_of l) xs
+      (assertions_in_force cs ++ record { command = a.command; term = term } ∷ []) in
+      added law old (record old { library = l; assertions = as' }) (a ∷ []) cs a.command (Assert term) h
+      (addition_adds (Assert term) _ refl) refl refl refl refl refl grown pushed
+      (some_entries l (signature_in_force cs) a.command (Assert term) made.0 refl
+      (ap spec.all_or_none made.1) made.2)
       (subst P (sym pushed)
-      (one_more_assertion (contents_of l) old.assertions.items (assertions_in_force cs) a (record { command = a.command; term = term })
-      (assertions_stay law (contents_of old.library) (contents_of l) grown old.assertions.items (assertions_in_force cs) h.assertions) refl stored));
+      (one_more_assertion (contents_of l) old.assertions.items (assertions_in_force cs) a
+      (record { command = a.command; term = term })
+      (assertions_stay law (contents_of old.library) (contents_of l) grown old.assertions.items
+      (assertions_in_force cs) h.assertions) refl stored));
   start = refl;
 }
 
 -- a library that stands for the same and has more terms changes nothing
-pub unchanged_by : ContentsAreKept → (old : Stack) (l : Library) (as' : Vec Assertion) → ((s : Signature) → library.StandsFor old.library s → library.StandsFor l s) → Extends (contents_of old.library) (contents_of l) → as'.items ≡ old.assertions.items
+pub unchanged_by : ContentsAreKept → (old : Stack) (l : Library) (as' : Vec Assertion)
+    → ((s : Signature) → library.StandsFor old.library s → library.StandsFor l s)
+    → Extends (contents_of old.library) (contents_of l) → as'.items ≡ old.assertions.items
     → IsUnchanged old (record old { library = l; assertions = as' })
 unchanged_by law old l as' names grown same = record {
   stands = λ cs h. record {
     library = names (signature_in_force cs) h.library;
     assertions =
         subst (λ (xs : List Assertion). AreAssertions (contents_of l) xs (assertions_in_force cs)) (sym same)
-        (assertions_stay law (contents_of old.library) (contents_of l) grown old.assertions.items (assertions_in_force cs) h.assertions);
+        (assertions_stay law (contents_of old.library) (contents_of l) grown old.assertions.items
+        (assertions_in_force cs) h.assertions);
     depth = h.depth;
     levels = λ k level at.
-        subst (λ (xs : List Assertion). IsLevel (contents_of l) xs level (theories_in_force cs) (to_level k ((in_force names_stand) (history cs))) (to_level k ((in_force assertions_stand) (history cs)))) (append-nil old.assertions.items ∙ sym same)
-        (level_stays law (contents_of old.library) (contents_of l) old.assertions.items [] level (theories_in_force cs) (to_level k ((in_force names_stand) (history cs))) grown (h.levels k level at));
+        subst (λ (xs : List Assertion). IsLevel (contents_of l) xs level (theories_in_force cs)
+        (to_level k ((in_force names_stand) (history cs)))
+        (to_level k ((in_force assertions_stand) (history cs))))
+        (append-nil old.assertions.items ∙ sym same)
+        (level_stays law (contents_of old.library) (contents_of l) old.assertions.items [] level
+        (theories_in_force cs) (to_level k ((in_force names_stand) (history cs))) grown
+        (h.levels k level at));
     ordered = h.ordered;
     logic = h.logic;
     print_success = h.print_success;
@@ -346,17 +532,22 @@ unchanged_by law old l as' names grown same = record {
 
 -- ---- logics
 
-no_levels : (old : Stack) (cs : List Numbered) → StandsFor old cs → depth_in_force cs ≡ 0 → (k : ℕ) (level : Level) → slice_get old.levels.items k ≡ Some level → ⊥
-no_levels old cs h zero_deep k level at = let m = within old.levels.items k level at in let e = h.depth in absurd (omega arith)
+no_levels : (old : Stack) (cs : List Numbered) → StandsFor old cs → depth_in_force cs ≡ 0
+    → (k : ℕ) (level : Level) → slice_get old.levels.items k ≡ Some level → ⊥
+no_levels old cs h zero_deep k level at = let m = within old.levels.items k level at in let e =
+    h.depth in absurd (omega arith)
 
 pub none_of_any : (c d : Contents) (as' : List Assertion) → AreAssertions c as' [] → AreAssertions d as' []
 none_of_any c d [] h = tt
 none_of_any c d (a ∷ as') h = h
 
-not_fixed : (old : Stack) (cs : List Numbered) → StandsFor old cs → (old.logic.set || old.logic.late) ≡ false → (is_logic_set cs || is_too_late cs) ≡ false
+not_fixed : (old : Stack) (cs : List Numbered) → StandsFor old cs → (old.logic.set || old.logic.late) ≡ false
+    → (is_logic_set cs || is_too_late cs) ≡ false
 not_fixed old cs h free = sym (ap (λ (l : LogicState). l.set || l.late) h.logic) ∙ free
 
-pub logic_effect : (old : Stack) (l : Library) (theories : Theories) (name : List ℕ) → (old.logic.set || old.logic.late) ≡ false → theories_named name ≡ Some theories → library.StandsFor l (no_names theories)
+pub logic_effect : (old : Stack) (l : Library) (theories : Theories) (name : List ℕ)
+    → (old.logic.set || old.logic.late) ≡ false → theories_named name ≡ Some theories
+    → library.StandsFor l (no_names theories)
     → (n : ℕ) → HasEffect old (record old { library = l }) n (SetLogic name)
 logic_effect old l theories name free named fresh n = record {
   faultless = λ cs h. rw (not_fixed old cs h free, named);
@@ -366,25 +557,36 @@ logic_effect old l theories name free named fresh n = record {
       let B = (in_force names_stand) (history cs) in
       let empty = unfixed_is_empty cs (not_fixed old cs h free) in
       let grow = in_force-grow cs c refl (omega arith) in
-      let entries : entries_of (B ++ b ∷ []) ≡ [] = entries-push B b ∙ append-nil (entries_of B) ∙ empty.0.entries in
-      let abbreviations : abbreviations_of (B ++ b ∷ []) ≡ [] = abbreviations-push B b ∙ append-nil (abbreviations_of B) ∙ empty.0.abbreviations in
-      let assertions : assertions_of (B ++ b ∷ []) ≡ [] = assertions-push B b ∙ append-nil (assertions_of B) ∙ empty.0.assertions in
-      let t : theories_in_force (cs ++ c ∷ []) ≡ theories = theories-push cs c ∙ ap (λ (o : Option Theories). theories_or (theories_in_force cs) o) named in
+      let entries : entries_of (B ++ b ∷ []) ≡ [] =
+      entries-push B b ∙ append-nil (entries_of B) ∙ empty.0.entries in
+      let abbreviations : abbreviations_of (B ++ b ∷ []) ≡ [] =
+      abbreviations-push B b ∙ append-nil (abbreviations_of B) ∙ empty.0.abbreviations in
+      let assertions : assertions_of (B ++ b ∷ []) ≡ [] =
+      assertions-push B b ∙ append-nil (assertions_of B) ∙ empty.0.assertions in
+      let t : theories_in_force (cs ++ c ∷ []) ≡ theories =
+      theories-push cs c ∙ ap (λ (o : Option Theories). theories_or (theories_in_force cs) o) named in
       let deep : depth_in_force (cs ++ c ∷ []) ≡ 0 = depth-push cs c ∙ empty.1 in
       let s : signature_in_force (cs ++ c ∷ []) ≡ no_names theories =
       ap (λ (x : Theories). signature_of x ((in_force names_stand) (history (cs ++ c ∷ [])))) t
       ∙ ap (λ (x : List Brought). signature_of theories x) grow
-      ∙ ap (λ (x : List Entry). record { theories = theories; abbreviations = abbreviations_of (B ++ b ∷ []); entries = x }) entries
-      ∙ ap (λ (x : List (List ℕ × Sort)). record { theories = theories; abbreviations = x; entries = [] }) abbreviations in
-      let was : AreAssertions (contents_of old.library) old.assertions.items [] = subst (λ (x : List spec.Assertion). AreAssertions (contents_of old.library) old.assertions.items x) empty.0.assertions h.assertions in
+      ∙ ap (λ (x : List Entry).
+      record { theories = theories; abbreviations = abbreviations_of (B ++ b ∷ []); entries = x }) entries
+      ∙ ap (λ (x : List (List ℕ × Sort)). record { theories = theories; abbreviations = x; entries = [] })
+      abbreviations in
+      let was : AreAssertions (contents_of old.library) old.assertions.items [] =
+      subst (λ (x : List spec.Assertion). AreAssertions (contents_of old.library) old.assertions.items x)
+      empty.0.assertions h.assertions in
       record {
         library = subst (λ (x : Signature). library.StandsFor l x) (sym s) fresh;
-        assertions = subst (λ (x : List spec.Assertion). AreAssertions (contents_of l) old.assertions.items x) (sym (ap assertions_of grow ∙ assertions)) (none_of_any (contents_of old.library) (contents_of l) old.assertions.items was);
+        assertions = subst (λ (x : List spec.Assertion). AreAssertions (contents_of l) old.assertions.items x)
+            (sym (ap assertions_of grow ∙ assertions))
+            (none_of_any (contents_of old.library) (contents_of l) old.assertions.items was);
         depth = h.depth ∙ empty.1 ∙ sym deep;
         levels = λ k level at. absurd (no_levels old cs h empty.1 k level at);
         ordered = h.ordered;
         logic = ap (λ (x : LogicState). logic_after x (SetLogic name)) h.logic ∙ sym (logic-push cs c);
-        print_success = ap (λ (x : Bool). print_success_after old.start x (SetLogic name)) h.print_success ∙ sym (print-push old.start cs c);
+        print_success = ap (λ (x : Bool). print_success_after old.initial_print_success x (SetLogic name)) h.print_success
+            ∙ sym (print-push old.initial_print_success cs c);
         exited = ap (λ (x : Bool). x || is_exit (SetLogic name)) h.exited ∙ sym (exited-push cs c);
       };
   start = refl;
@@ -406,7 +608,8 @@ with_last s n cs h = record {
 }
 
 -- so a command that took effect and was noted stands under its number
-pub numbered_stands : (old new made : Stack) (n : ℕ) (command : Command) → HasEffect old new n command → made ≡ noted command new → (cs : List Numbered) → StandsFor old cs
+pub numbered_stands : (old new made : Stack) (n : ℕ) (command : Command) → HasEffect old new n command
+    → made ≡ with_notes command new → (cs : List Numbered) → StandsFor old cs
     → StandsFor (record made { last = n }) (cs ++ record { number = n; command = command } ∷ [])
 numbered_stands old new made n command effect is cs h =
     let all = cs ++ record { number = n; command = command } ∷ [] in
@@ -414,20 +617,22 @@ numbered_stands old new made n command effect is cs h =
 
 -- ---- faults
 
--- a fault of a term that is not want of memory
-fault_kept : (f : TermFault) → (f ≡ terms.Memory → ⊥) → command_fault f ≡ Term f
-fault_kept terms.Memory known = absurd (known refl)
-fault_kept terms.Form known = refl
-fault_kept terms.Unsupported known = refl
-fault_kept terms.Unknown known = refl
-fault_kept terms.IllSorted known = refl
-fault_kept terms.Index known = refl
-fault_kept terms.BoundTwice known = refl
-fault_kept terms.NotFresh known = refl
-fault_kept terms.Label known = refl
+-- a fault of a term tells what is wrong with its command
+told_of_term : (f : TermFault) (fault : CommandFault) (expected : Option CommandFlaw)
+    → fault ≡ fault_by_term f
+    → expected ≡ Some (Term (flaw_told f)) → TellsCommand expected fault
+told_of_term terms.Memory fault expected made h = inl made
+told_of_term terms.Form fault expected made h = rw (made, h) (inr (refl, refl))
+told_of_term terms.Unsupported fault expected made h = rw (made, h) (inr (refl, refl))
+told_of_term terms.Unknown fault expected made h = rw (made, h) (inr (refl, refl))
+told_of_term terms.IllSorted fault expected made h = rw (made, h) (inr (refl, refl))
+told_of_term terms.Index fault expected made h = rw (made, h) (inr (refl, refl))
+told_of_term terms.BoundTwice fault expected made h = rw (made, h) (inr (refl, refl))
+told_of_term terms.NotFresh fault expected made h = rw (made, h) (inr (refl, refl))
+told_of_term terms.Label fault expected made h = rw (made, h) (inr (refl, refl))
 
 -- what a refused declaration, definition, abbreviation or assertion tells
-pub refused_by : {A : Type 0} (r : Result A TermFault) (f : TermFault) (fault : CommandFault) → (r ≡ Err terms.Memory → ⊥) → fault ≡ command_fault f → (f ≡ terms.Memory) ⊎ (r ≡ Err f) → (fault ≡ Memory) ⊎ (fault_of r ≡ Some fault)
-refused_by r f fault known made (inl e) = inl (made ∙ ap command_fault e)
-refused_by r f fault known made (inr e) =
-    inr (ap fault_of e ∙ ap (λ (x : CommandFault). Some x) (sym (made ∙ fault_kept f (λ m. known (e ∙ ap (λ (y : TermFault). Err y) m)))))
+pub refused_by : {A : Type 0} (r : Result A TermFlaw) (f : TermFault) (fault : CommandFault)
+    → fault ≡ fault_by_term f → Tells r f → TellsCommand (flaw_of r) fault
+refused_by r f fault made (inl e) = inl (made ∙ ap fault_by_term e)
+refused_by r f fault made (inr e) = told_of_term f fault (flaw_of r) made (ap flaw_of e)

@@ -1,5 +1,7 @@
 -- The names that commands without a fault brought.
-use Rattle.std.proofs.Common.{◌≡◌, ◌≤◌, ℕ, ◌+◌, Bool, true, false, cond, List, [], ◌∷◌, ◌++◌, ◌||◌, Option, Some, None, is_some, Result, Ok, Err, refl, ap, sym, ◌∙◌, subst, arith, append_assoc, append-nil}
+use Rattle.std.proofs.Common.{◌≡◌, ◌≤◌, ℕ, ◌+◌, Bool, true, false, cond, List, [], ◌∷◌, ◌++◌, ◌||◌, Option}
+use Rattle.std.proofs.Common.{Some, None, is_some, Result, Ok, Err, refl, ap, sym, ◌∙◌, subst, arith}
+use Rattle.std.proofs.Common.{append_assoc, append-nil}
 use Rattle.std.specs.Prelude.{bytes_eq, nat_le}
 use Rattle.std.specs.List.{filter}
 use Rattle.std.proofs.lemmas.Grind.{flat_map-append}
@@ -11,15 +13,28 @@ use Rattle.smt_theory.specs.declared.sort.Sort.{Sort}
 use Rattle.smt_theory.specs.declared.theories.Theories.{Theories}
 use Rattle.smt_terms.specs.Assertions.{asserted_in}
 use Rattle.smt_terms.specs.Definitions.{defined_in}
-use Rattle.smt_terms.specs.Signature.{Entry, Names, Origin, Declared, Defined, Rank, Signature, declaration, declared_in, entry_named, is_taken, names_of, rank_named, rank_of_entry, ranks_of, sort_names_of, unlabelled_over}
-use Rattle.smt_terms.specs.WellSorted.{AreIntroduced, IsIntroduced, IsSortedIfDefined, IsWellSorted, IsWellSortedFrom}
-use Rattle.smt_faults.specs.declared.term_fault.TermFault.{TermFault}
-use Rattle.smt_faults.specs.declared.term_fault.TermFault.TheVariants as terms
-use Rattle.smt_script.specs.Command.{Command, Effect, Item, SetLogic, Pop, Declaration, Definition, Abbreviation, Assertion, SetsLogic, Brings, Pushes, Pops, Removing, Nothing, AllButOptions, Everything, effect_of}
-use Rattle.smt_script.specs.Stack.{Brought, HaveNoFault, Numbered, all_or_none, brought_by, depth_by, entries_by, entries_of_effect, entries_of_item, fault_by, fault_of_item, removed_of_effect, resets, theories_by, entries_of, fault_of, fault_of_effect, fault_of_logic, history, in_force, names_stand, is_reset, one_or_none, signature_in_force, theories_in_force, is_logic_set, is_too_late}
+use Rattle.smt_terms.specs.Declarations.{declaration, declared_in, rank_named}
+use Rattle.smt_terms.specs.Freshness.{is_taken}
+use Rattle.smt_terms.specs.Signature.{Entry, Names, Origin, Declared, Defined, Rank, Signature, entry_named}
+use Rattle.smt_terms.specs.Signature.{names_of, rank_of_entry, ranks_of, sort_names_of, unlabelled_over}
+use Rattle.smt_terms.specs.WellSorted.{AreIntroduced, IsIntroduced, IsSortedIfDefined, IsWellSorted}
+use Rattle.smt_terms.specs.WellSorted.{IsWellSortedFrom}
+use Rattle.smt_faults.specs.declared.term_flaw.TermFlaw.{TermFlaw}
+use Rattle.smt_faults.specs.declared.term_flaw.TermFlaw.TheVariants as terms
+use Rattle.smt_script.specs.Command.{Command, Effect, Addition, SetLogic, Pop, Declaration, Definition}
+use Rattle.smt_script.specs.Command.{Abbreviation, Assertion, SetsLogic, Brings, Pushes, Pops, Removing}
+use Rattle.smt_script.specs.Command.{Nothing, AllButOptions, Everything, effect_of}
+use Rattle.smt_script.specs.Stack.{Brought, HaveNoFlaw, Numbered, all_or_none, brought_by, depth_by}
+use Rattle.smt_script.specs.Stack.{entries_by, entries_of_effect, entries_of_addition, flaw_by, flaw_of_addition}
+use Rattle.smt_script.specs.Stack.{removed_of_effect, resets, theories_by, entries_of, flaw_of}
+use Rattle.smt_script.specs.Stack.{flaw_of_effect, flaw_of_logic, history, in_force, names_stand, is_reset}
+use Rattle.smt_script.specs.Stack.{one_or_none, signature_in_force, theories_in_force, is_logic_set}
+use Rattle.smt_script.specs.Stack.{is_too_late}
 use Rattle.smt_script.specs.StackView.{to_level}
-use Rattle.smt_script.proofs.EffectLemmas.{Keeps, adds_keeps, item_adds, no_effect_is_idle, signature-add}
-use Rattle.smt_script.proofs.HistoryLemmas.{AtMost, Kept, entries-push, history-push, in_force-grow, in_force-push, kept_by_all, levels_still, none_still, still, still_at_most, theories-push, unfixed_is_empty}
+use Rattle.smt_script.proofs.EffectLemmas.{Keeps, adds_keeps, addition_adds, no_effect_is_idle, signature-add}
+use Rattle.smt_script.proofs.HistoryLemmas.{AtMost, Kept, entries-push, history-push, in_force-grow}
+use Rattle.smt_script.proofs.HistoryLemmas.{in_force-push, kept_by_all, levels_still, none_still, still}
+use Rattle.smt_script.proofs.HistoryLemmas.{still_at_most, theories-push, unfixed_is_empty}
 
 -- ---- what is in force stands in the order of its levels
 
@@ -31,7 +46,8 @@ abbrev Sorted : List Brought → Type 0
 Sorted [] = Unit {0}
 Sorted (b ∷ bs) = AtLeast b.level bs × Sorted bs
 
-some_at_least : (d : ℕ) (b : Brought) (u : Bool) (bs : List Brought) → d ≤ b.level → AtLeast d bs → AtLeast d (cond u (b ∷ bs) bs)
+some_at_least : (d : ℕ) (b : Brought) (u : Bool) (bs : List Brought) → d ≤ b.level → AtLeast d bs
+    → AtLeast d (cond u (b ∷ bs) bs)
 some_at_least d b true bs h all = (h, all)
 some_at_least d b false bs h all = all
 
@@ -39,15 +55,18 @@ filter_at_least : (f : Brought → Bool) (d : ℕ) (bs : List Brought) → AtLea
 filter_at_least f d [] all = tt
 filter_at_least f d (b ∷ bs) all = some_at_least d b (f b) (filter f bs) all.0 (filter_at_least f d bs all.1)
 
-some_sorted : (b : Brought) (u : Bool) (bs : List Brought) → AtLeast b.level bs → Sorted bs → Sorted (cond u (b ∷ bs) bs)
+some_sorted : (b : Brought) (u : Bool) (bs : List Brought) → AtLeast b.level bs → Sorted bs
+    → Sorted (cond u (b ∷ bs) bs)
 some_sorted b true bs h all = (h, all)
 some_sorted b false bs h all = all
 
 filter_sorted : (f : Brought → Bool) (bs : List Brought) → Sorted bs → Sorted (filter f bs)
 filter_sorted f [] all = tt
-filter_sorted f (b ∷ bs) all = some_sorted b (f b) (filter f bs) (filter_at_least f b.level bs all.0) (filter_sorted f bs all.1)
+filter_sorted f (b ∷ bs) all =
+    some_sorted b (f b) (filter f bs) (filter_at_least f b.level bs all.0) (filter_sorted f bs all.1)
 
-at_least-push : (d : ℕ) (bs : List Brought) (b : Brought) → AtLeast d bs → d ≤ b.level → AtLeast d (bs ++ b ∷ [])
+at_least-push : (d : ℕ) (bs : List Brought) (b : Brought) → AtLeast d bs → d ≤ b.level
+    → AtLeast d (bs ++ b ∷ [])
 at_least-push d [] b all h = (h, tt)
 at_least-push d (x ∷ bs) b all h = (all.0, at_least-push d bs b all.1 h)
 
@@ -61,7 +80,10 @@ Ordered before brought = Sorted ((in_force names_stand) brought)
 ordered_step : Kept Ordered
 ordered_step before brought c h =
     let b = brought_by before brought c in
-    subst Sorted (sym (in_force-push brought b)) (sorted-push (still b ((in_force names_stand) brought)) b (filter_sorted _ ((in_force names_stand) brought) h) (still_at_most b ((in_force names_stand) brought)))
+    subst Sorted (sym (in_force-push brought b))
+    (sorted-push (still b ((in_force names_stand) brought)) b
+    (filter_sorted _ ((in_force names_stand) brought) h)
+    (still_at_most b ((in_force names_stand) brought)))
 
 in_force_sorted : (cs : List Numbered) → Sorted ((in_force names_stand) (history cs))
 in_force_sorted cs = kept_by_all Ordered tt ordered_step cs
@@ -75,14 +97,20 @@ below d m k h i = grind (arith)
 none_to_level : (k d : ℕ) (bs : List Brought) → k + 1 ≤ d → AtLeast d bs → to_level k bs ≡ []
 none_to_level k d [] h all = refl
 none_to_level k d (b ∷ bs) h all =
-    ap (λ (u : Bool). cond u (b ∷ to_level k bs) (to_level k bs)) (below d b.level k h all.0) ∙ none_to_level k d bs h all.1
+    ap (λ (u : Bool). cond u (b ∷ to_level k bs) (to_level k bs)) (below d b.level k h all.0)
+    ∙ none_to_level k d bs h all.1
 
 abbrev IsBeginning : List Brought → List Brought → Type 0
 IsBeginning first all = (rest : List Brought) × (all ≡ first ++ rest)
 
-beginning_by : (k : ℕ) (b : Brought) (bs : List Brought) → AtLeast b.level bs → IsBeginning (to_level k bs) bs → (u : Bool) → nat_le b.level k ≡ u → IsBeginning (cond u (b ∷ to_level k bs) (to_level k bs)) (b ∷ bs)
+beginning_by : (k : ℕ) (b : Brought) (bs : List Brought) → AtLeast b.level bs → IsBeginning (to_level k bs) bs
+    → (u : Bool) → nat_le b.level k ≡ u → IsBeginning (cond u (b ∷ to_level k bs) (to_level k bs)) (b ∷ bs)
 beginning_by k b bs all next true is = (next.0, ap (λ (l : List Brought). b ∷ l) next.1)
-beginning_by k b bs all next false is = (b ∷ bs, ap (λ (l : List Brought). l ++ b ∷ bs) (sym (none_to_level k b.level bs (above b.level k is) all)))
+beginning_by k b bs all next false is = (
+  b ∷ bs,
+  ap (λ (l : List Brought). l ++ b ∷ bs)
+      (sym (none_to_level k b.level bs (above b.level k is) all)),
+)
 
 -- what came at some levels is a beginning of it
 beginning : (k : ℕ) (bs : List Brought) → Sorted bs → IsBeginning (to_level k bs) bs
@@ -92,7 +120,10 @@ beginning k (b ∷ bs) all = beginning_by k b bs all.0 (beginning k bs all.1) (n
 -- ---- names
 
 -- a name that has no rank has no entry
-no_entry_by : (x : List ℕ) (e : Entry) (es : List Entry) → (look_up (ranks_of es) x ≡ None → entry_named es x ≡ None) → (b : Bool) → cond b (Some (rank_of_entry e)) (look_up (ranks_of es) x) ≡ None → cond b (Some e) (entry_named es x) ≡ None
+no_entry_by : (x : List ℕ) (e : Entry) (es : List Entry)
+    → (look_up (ranks_of es) x ≡ None → entry_named es x ≡ None) → (b : Bool)
+    → cond b (Some (rank_of_entry e)) (look_up (ranks_of es) x) ≡ None
+    → cond b (Some e) (entry_named es x) ≡ None
 no_entry_by x e es next true h = absurd (cc)
 no_entry_by x e es next false h = next h
 
@@ -101,13 +132,20 @@ no_entry [] x h = refl
 no_entry (e ∷ es) x h = no_entry_by x e es (no_entry es x) (bytes_eq x e.name) h
 
 -- more names
-more_names : (theories : Theories) (earlier es fs : List Entry) → AreIntroduced theories earlier es → AreIntroduced theories (earlier ++ es) fs → AreIntroduced theories earlier (es ++ fs)
-more_names theories earlier [] fs h more = subst (λ (before : List Entry). AreIntroduced theories before fs) (append-nil earlier) more
-more_names theories earlier (c ∷ es) fs h more =
-    (h.0, more_names theories (earlier ++ c ∷ []) es fs h.1 (subst (λ (before : List Entry). AreIntroduced theories before fs) (sym (append_assoc earlier (c ∷ []) es)) more))
+more_names : (theories : Theories) (earlier es fs : List Entry) → AreIntroduced theories earlier es
+    → AreIntroduced theories (earlier ++ es) fs → AreIntroduced theories earlier (es ++ fs)
+more_names theories earlier [] fs h more =
+    subst (λ (before : List Entry). AreIntroduced theories before fs) (append-nil earlier) more
+more_names theories earlier (c ∷ es) fs h more = (
+  h.0,
+  more_names theories (earlier ++ c ∷ []) es fs h.1
+      (subst (λ (before : List Entry). AreIntroduced theories before fs)
+      (sym (append_assoc earlier (c ∷ []) es)) more),
+)
 
 -- fewer names
-fewer_names : (theories : Theories) (earlier es fs : List Entry) → AreIntroduced theories earlier (es ++ fs) → AreIntroduced theories earlier es
+fewer_names : (theories : Theories) (earlier es fs : List Entry) → AreIntroduced theories earlier (es ++ fs)
+    → AreIntroduced theories earlier es
 fewer_names theories earlier [] fs h = tt
 fewer_names theories earlier (c ∷ es) fs h = (h.0, fewer_names theories (earlier ++ c ∷ []) es fs h.1)
 
@@ -120,32 +158,47 @@ none_of None h = refl
 none_of (Some a) h = absurd (cc)
 
 -- what a name that is not taken may bring
-introduced : (s : Signature) (e : Entry) → is_taken (names_of s) e.name ≡ false → IsSortedIfDefined (unlabelled_over s.theories s.entries) e.parameters e.sort e.origin → IsIntroduced s.theories s.entries e
+introduced : (s : Signature) (e : Entry) → is_taken (names_of s) e.name ≡ false
+    → IsSortedIfDefined (unlabelled_over s.theories s.entries) e.parameters e.sort e.origin
+    → IsIntroduced s.theories s.entries e
 introduced s e free sorted =
-    let both = first_false (is_some (look_up (ranks_of s.entries) e.name)) (is_plain_operator s.theories e.name) free in
-    record { new = no_entry s.entries e.name (none_of (look_up (ranks_of s.entries) e.name) both.0); free = both.1; sorted = sorted }
+    let both = first_false (is_some (look_up (ranks_of s.entries) e.name))
+    (is_plain_operator s.theories e.name) free in
+    record {
+      new = no_entry s.entries e.name (none_of (look_up (ranks_of s.entries) e.name) both.0);
+      free =
+          both.1;
+      sorted = sorted;
+    }
 
-ok_or_fault : {A : Type 0} (r : Result A TermFault) → fault_of r ≡ None → (x : A) × (r ≡ Ok x)
+ok_or_fault : {A : Type 0} (r : Result A TermFlaw) → flaw_of r ≡ None → (x : A) × (r ≡ Ok x)
 ok_or_fault (Ok x) h = (x, refl)
 ok_or_fault (Err f) h = absurd (cc)
 
 -- a declaration says its name and where it comes from, and the name is not taken
-declared_entry : (taken : Bool) (x : List ℕ) (n : ℕ) (rank : Result Rank TermFault) (e : Entry) → cond taken (Err terms.NotFresh) (result_and_then rank (λ r. Ok (declaration x n r))) ≡ Ok e
+declared_entry : (taken : Bool) (x : List ℕ) (n : ℕ) (rank : Result Rank TermFlaw) (e : Entry)
+    → cond taken (Err terms.NotFresh) (result_and_then rank (λ r. Ok (declaration x n r))) ≡ Ok e
     → (taken ≡ false) × (e.name ≡ x) × (e.origin ≡ Declared n)
 declared_entry true x n rank e h = absurd (cc)
 declared_entry false x n (Err f) e h = absurd (cc)
-declared_entry false x n (Ok r) e h = let same : declaration x n r ≡ e = cc in (refl, ap (λ (d : Entry). d.name) (sym same), ap (λ (d : Entry). d.origin) (sym same))
+declared_entry false x n (Ok r) e h = let same : declaration x n r ≡ e =
+    cc in (refl, ap (λ (d : Entry). d.name) (sym same), ap (λ (d : Entry). d.origin) (sym same))
 
-sorted_as : (names : Names) (sorts : List Sort) (sort : Sort) (o : Origin) → IsWellSortedFrom names sorts sort o → IsSortedIfDefined names sorts sort o
+sorted_as : (names : Names) (sorts : List Sort) (sort : Sort) (o : Origin)
+    → IsWellSortedFrom names sorts sort o → IsSortedIfDefined names sorts sort o
 sorted_as names sorts sort (Declared command) h = absurd h
 sorted_as names sorts sort (Defined ps body) h = h
 
 -- the laws of definitions and labels
 pub record NamesAreIntroduced : Type 0 where
-  pub sorted : (s : Signature) (x : List ℕ) (ps : List (List ℕ × Sexp)) (tree body : Sexp) (e : Entry) → defined_in s x ps tree body ≡ Ok e → IsWellSorted s.theories s.entries e
-  pub named : (s : Signature) (x : List ℕ) (ps : List (List ℕ × Sexp)) (tree body : Sexp) (e : Entry) → defined_in s x ps tree body ≡ Ok e → e.name ≡ x
-  pub free : (s : Signature) (x : List ℕ) (ps : List (List ℕ × Sexp)) (tree body : Sexp) (e : Entry) → defined_in s x ps tree body ≡ Ok e → is_taken (names_of s) x ≡ false
-  pub labels : (s : Signature) (term : Sexp) (es : List Entry) → asserted_in (names_of s) term ≡ Ok es → AreIntroduced s.theories s.entries es
+  pub sorted : (s : Signature) (x : List ℕ) (ps : List (List ℕ × Sexp)) (tree body : Sexp) (e : Entry)
+      → defined_in s x ps tree body ≡ Ok e → IsWellSorted s.theories s.entries e
+  pub named : (s : Signature) (x : List ℕ) (ps : List (List ℕ × Sexp)) (tree body : Sexp) (e : Entry)
+      → defined_in s x ps tree body ≡ Ok e → e.name ≡ x
+  pub free : (s : Signature) (x : List ℕ) (ps : List (List ℕ × Sexp)) (tree body : Sexp) (e : Entry)
+      → defined_in s x ps tree body ≡ Ok e → is_taken (names_of s) x ≡ false
+  pub labels : (s : Signature) (term : Sexp) (es : List Entry) → asserted_in (names_of s) term ≡ Ok es
+      → AreIntroduced s.theories s.entries es
 
 abbrev IsWell : Signature → Type 0
 IsWell s = AreIntroduced s.theories [] s.entries
@@ -161,33 +214,49 @@ pop_alone : (command : Command) (m : ℕ) → effect_of command ≡ Pops m → c
 pop_alone command m h = grind (arith)
 
 module _ (law : NamesAreIntroduced) where
-  declares : (s : Signature) (n : ℕ) (x : List ℕ) (parameters : Sexps) (sort : Sexp) → fault_of (declared_in s n x parameters sort) ≡ None → BringsWell s (one_or_none (declared_in s n x parameters sort))
+  declares : (s : Signature) (n : ℕ) (x : List ℕ) (parameters : Sexps) (sort : Sexp)
+      → flaw_of (declared_in s n x parameters sort) ≡ None
+      → BringsWell s (one_or_none (declared_in s n x parameters sort))
   declares s n x parameters sort h =
       let made = ok_or_fault (declared_in s n x parameters sort) h in
-      let said = declared_entry (is_taken (names_of s) x) x n (rank_named (sort_names_of s) parameters sort) made.0 made.1 in
-      subst (BringsWell s) (sym (ap one_or_none made.1))
-      (introduced s made.0 (ap (is_taken (names_of s)) said.1 ∙ said.0) (subst (IsSortedIfDefined (unlabelled_over s.theories s.entries) made.0.parameters made.0.sort) (sym said.2) tt), tt)
-
-  defines : (s : Signature) (x : List ℕ) (ps : List (List ℕ × Sexp)) (sort body : Sexp) → fault_of (defined_in s x ps sort body) ≡ None → BringsWell s (one_or_none (defined_in s x ps sort body))
-  defines s x ps sort body h =
-      let made = ok_or_fault (defined_in s x ps sort body) h in
+      let said = declared_entry (is_taken (names_of s) x) x n (rank_named (sort_names_of s) parameters sort)
+      made.0 made.1 in
       subst (BringsWell s) (sym (ap one_or_none made.1)) (
-        introduced s made.0 (ap (is_taken (names_of s)) (law.named s x ps sort body made.0 made.1) ∙ law.free s x ps sort body made.0 made.1)
-            (sorted_as (unlabelled_over s.theories s.entries) made.0.parameters made.0.sort made.0.origin (law.sorted s x ps sort body made.0 made.1)),
+        introduced s made.0 (ap (is_taken (names_of s)) said.1 ∙ said.0)
+            (subst (IsSortedIfDefined (unlabelled_over s.theories s.entries) made.0.parameters made.0.sort)
+            (sym said.2) tt),
         tt,
       )
 
-  asserts : (s : Signature) (term : Sexp) → fault_of (asserted_in (names_of s) term) ≡ None → BringsWell s (all_or_none (asserted_in (names_of s) term))
+  defines : (s : Signature) (x : List ℕ) (ps : List (List ℕ × Sexp)) (sort body : Sexp)
+      → flaw_of (defined_in s x ps sort body) ≡ None
+      → BringsWell s (one_or_none (defined_in s x ps sort body))
+  defines s x ps sort body h =
+      let made = ok_or_fault (defined_in s x ps sort body) h in
+      subst (BringsWell s) (sym (ap one_or_none made.1)) (
+        introduced s made.0 (ap (is_taken (names_of s)) (law.named s x ps sort body made.0 made.1)
+            ∙ law.free s x ps sort body made.0 made.1)
+            (sorted_as (unlabelled_over s.theories s.entries) made.0.parameters made.0.sort made.0.origin
+            (law.sorted s x ps sort body made.0 made.1)),
+        tt,
+      )
+
+  asserts : (s : Signature) (term : Sexp) → flaw_of (asserted_in (names_of s) term) ≡ None
+      → BringsWell s (all_or_none (asserted_in (names_of s) term))
   asserts s term h =
       let made = ok_or_fault (asserted_in (names_of s) term) h in
       subst (BringsWell s) (sym (ap all_or_none made.1)) (law.labels s term made.0 made.1)
 
-  adds : (cs : List Numbered) (c : Numbered) → Keeps c.command → IsWell (signature_in_force cs) → BringsWell (signature_in_force cs) (entries_by (signature_in_force cs) c.number c.command) → IsWell (signature_in_force (cs ++ c ∷ []))
+  adds : (cs : List Numbered) (c : Numbered) → Keeps c.command → IsWell (signature_in_force cs)
+      → BringsWell (signature_in_force cs) (entries_by (signature_in_force cs) c.number c.command)
+      → IsWell (signature_in_force (cs ++ c ∷ []))
   adds cs c keeps all brought =
       let s = signature_in_force cs in
-      subst IsWell (sym (signature-add cs c keeps)) (more_names s.theories [] s.entries (entries_by s c.number c.command) all brought)
+      subst IsWell (sym (signature-add cs c keeps))
+      (more_names s.theories [] s.entries (entries_by s c.number c.command) all brought)
 
-  unfixed : (set late : Bool) (theories : Option Theories) → fault_of_logic set late theories ≡ None → (set || late) ≡ false
+  unfixed : (set late : Bool) (theories : Option Theories) → flaw_of_logic set late theories ≡ None
+      → (set || late) ≡ false
   unfixed true late theories h = absurd (cc)
   unfixed false true theories h = absurd (cc)
   unfixed false false theories h = refl
@@ -196,58 +265,77 @@ module _ (law : NamesAreIntroduced) where
   no_entries : (s : Signature) → s.entries ≡ [] → IsWell s
   no_entries s none = subst (λ (es : List Entry). AreIntroduced s.theories [] es) (sym none) tt
 
-  sets_logic : (cs : List Numbered) (n : ℕ) (x : List ℕ) → fault_of_effect cs n (SetLogic x) ≡ None → IsWell (signature_in_force (cs ++ record { number = n; command = SetLogic x } ∷ []))
+  sets_logic : (cs : List Numbered) (n : ℕ) (x : List ℕ) → flaw_of_effect cs n (SetLogic x) ≡ None
+      → IsWell (signature_in_force (cs ++ record { number = n; command = SetLogic x } ∷ []))
   sets_logic cs n x h =
       let c : Numbered = record { number = n; command = SetLogic x } in
       let b = brought_by cs (history cs) c in
       let empty = unfixed_is_empty cs (unfixed (is_logic_set cs) (is_too_late cs) (theories_named x) h) in
       no_entries (signature_in_force (cs ++ c ∷ []))
-      (ap entries_of (in_force-grow cs c refl (omega arith)) ∙ entries-push ((in_force names_stand) (history cs)) b ∙ append-nil (entries_of ((in_force names_stand) (history cs))) ∙ empty.0.entries)
+      (ap entries_of (in_force-grow cs c refl (omega arith))
+      ∙ entries-push ((in_force names_stand) (history cs)) b
+      ∙ append-nil (entries_of ((in_force names_stand) (history cs))) ∙ empty.0.entries)
 
-  pops : (cs : List Numbered) (n m : ℕ) → IsWell (signature_in_force cs) → IsWell (signature_in_force (cs ++ record { number = n; command = Pop m } ∷ []))
+  pops : (cs : List Numbered) (n m : ℕ) → IsWell (signature_in_force cs)
+      → IsWell (signature_in_force (cs ++ record { number = n; command = Pop m } ∷ []))
   pops cs n m all =
       let c : Numbered = record { number = n; command = Pop m } in
       let b = brought_by cs (history cs) c in
       let B = (in_force names_stand) (history cs) in
       let first = beginning b.level B (in_force_sorted cs) in
-      let now : entries_of ((in_force names_stand) (history (cs ++ c ∷ []))) ≡ entries_of (to_level b.level B) =
-      ap (λ (h : List Brought). entries_of ((in_force names_stand) h)) (history-push cs c) ∙ ap entries_of (in_force-push (history cs) b)
-      ∙ entries-push (still b B) b ∙ append-nil (entries_of (still b B)) ∙ ap entries_of (levels_still b B refl) in
-      let split : entries_of B ≡ entries_of (to_level b.level B) ++ entries_of first.0 = ap entries_of first.1 ∙ flat_map-append (λ (x : Brought). x.entries) (to_level b.level B) first.0 in
-      subst (λ (t : Theories). AreIntroduced t [] (entries_of ((in_force names_stand) (history (cs ++ c ∷ []))))) (sym (theories-push cs c))
+      let now : entries_of ((in_force names_stand) (history (cs ++ c ∷ [])))
+      ≡ entries_of (to_level b.level B) =
+      ap (λ (h : List Brought). entries_of ((in_force names_stand) h)) (history-push cs c)
+      ∙ ap entries_of (in_force-push (history cs) b)
+      ∙ entries-push (still b B) b ∙ append-nil (entries_of (still b B))
+      ∙ ap entries_of (levels_still b B refl) in
+      let split : entries_of B ≡ entries_of (to_level b.level B) ++ entries_of first.0 =
+      ap entries_of first.1 ∙ flat_map-append (λ (x : Brought). x.entries) (to_level b.level B) first.0 in
+      subst (λ (t : Theories). AreIntroduced t []
+      (entries_of ((in_force names_stand) (history (cs ++ c ∷ []))))) (sym (theories-push cs c))
       (subst (λ (es : List Entry). AreIntroduced (theories_in_force cs) [] es) (sym now)
-      (fewer_names (theories_in_force cs) [] (entries_of (to_level b.level B)) (entries_of first.0) (subst (λ (es : List Entry). AreIntroduced (theories_in_force cs) [] es) split all)))
+      (fewer_names (theories_in_force cs) [] (entries_of (to_level b.level B)) (entries_of first.0)
+      (subst (λ (es : List Entry). AreIntroduced (theories_in_force cs) [] es) split all)))
 
-  behind_reset : (cs : List Numbered) (c : Numbered) → is_reset c.command ≡ true → ((s : Signature) (n : ℕ) → entries_by s n c.command ≡ []) → IsWell (signature_in_force (cs ++ c ∷ []))
+  behind_reset : (cs : List Numbered) (c : Numbered) → is_reset c.command ≡ true
+      → ((s : Signature) (n : ℕ) → entries_by s n c.command ≡ []) → IsWell (signature_in_force (cs ++ c ∷ []))
   behind_reset cs c all none =
       let b = brought_by cs (history cs) c in
       no_entries (signature_in_force (cs ++ c ∷ []))
-      (ap (λ (h : List Brought). entries_of ((in_force names_stand) h)) (history-push cs c) ∙ ap entries_of (in_force-push (history cs) b)
-      ∙ entries-push (still b ((in_force names_stand) (history cs))) b ∙ ap (λ (l : List Brought). entries_of l ++ b.entries) (none_still b ((in_force names_stand) (history cs)) all) ∙ none (signature_in_force cs) c.number)
+      (ap (λ (h : List Brought). entries_of ((in_force names_stand) h)) (history-push cs c)
+      ∙ ap entries_of (in_force-push (history cs) b)
+      ∙ entries-push (still b ((in_force names_stand) (history cs))) b
+      ∙ ap (λ (l : List Brought). entries_of l ++ b.entries)
+      (none_still b ((in_force names_stand) (history cs)) all) ∙ none (signature_in_force cs) c.number)
 
   -- one more command, by what it does
-  brings : (s : Signature) (n : ℕ) (item : Item) → fault_of_item s n item ≡ None → BringsWell s (entries_of_item s n item)
+  brings : (s : Signature) (n : ℕ) (item : Addition) → flaw_of_addition s n item ≡ None
+      → BringsWell s (entries_of_addition s n item)
   brings s n (Declaration x ps sort) h = declares s n x ps sort h
   brings s n (Definition x ps sort body) h = defines s x ps sort body h
   brings s n (Abbreviation x sort) h = tt
   brings s n (Assertion term) h = asserts s term h
 
   abbrev IsWellBehind : List Numbered → ℕ → Command → Type 0
-  IsWellBehind cs n command = IsWell (signature_in_force (cs ++ record { number = n; command = command } ∷ []))
+  IsWellBehind cs n command =
+      IsWell (signature_in_force (cs ++ record { number = n; command = command } ∷ []))
 
   -- a command that brings no name
   adds_none : (cs : List Numbered) (n : ℕ) (command : Command) → Keeps command
-      → entries_by (signature_in_force cs) n command ≡ [] → IsWell (signature_in_force cs) → IsWellBehind cs n command
+      → entries_by (signature_in_force cs) n command ≡ [] → IsWell (signature_in_force cs)
+      → IsWellBehind cs n command
   adds_none cs n command keeps none all =
-      adds cs (record { number = n; command = command }) keeps all (subst (BringsWell (signature_in_force cs)) (sym none) tt)
+      adds cs (record { number = n; command = command }) keeps all
+      (subst (BringsWell (signature_in_force cs)) (sym none) tt)
 
-  step : (cs : List Numbered) (n : ℕ) (command : Command) (e : Effect) → effect_of command ≡ e → IsWell (signature_in_force cs)
-      → fault_by cs n e ≡ None → IsWellBehind cs n command
+  step : (cs : List Numbered) (n : ℕ) (command : Command) (e : Effect) → effect_of command ≡ e
+      → IsWell (signature_in_force cs)
+      → flaw_by cs n e ≡ None → IsWellBehind cs n command
   step cs n command (SetsLogic x) is all h =
       subst (IsWellBehind cs n) (sym (logic_alone command x is)) (sets_logic cs n x h)
   step cs n command (Brings item) is all h =
       let s = signature_in_force cs in
-      adds cs (record { number = n; command = command }) (adds_keeps command (item_adds command item is)) all
+      adds cs (record { number = n; command = command }) (adds_keeps command (addition_adds command item is)) all
       (subst (BringsWell s) (sym (ap (entries_of_effect s n) is)) (brings s n item h))
   step cs n command (Pushes m) is all h =
       adds_none cs n command (record {
@@ -255,22 +343,27 @@ module _ (law : NamesAreIntroduced) where
         level = λ d. (let e = ap (depth_by d) is in omega arith);
         theories = λ t. ap (theories_by t) is;
       }) (ap (entries_of_effect (signature_in_force cs) n) is) all
-  step cs n command (Pops m) is all h = subst (IsWellBehind cs n) (sym (pop_alone command m is)) (pops cs n m all)
+  step cs n command (Pops m) is all h =
+      subst (IsWellBehind cs n) (sym (pop_alone command m is)) (pops cs n m all)
   step cs n command (Removing Nothing) is all h =
       adds_none cs n command (adds_keeps command (no_effect_is_idle command is).adds)
       (ap (entries_of_effect (signature_in_force cs) n) is) all
   step cs n command (Removing AllButOptions) is all h =
-      behind_reset cs (record { number = n; command = command }) (ap (λ (e : Effect). resets (removed_of_effect e)) is)
+      behind_reset cs (record { number = n; command = command })
+      (ap (λ (e : Effect). resets (removed_of_effect e)) is)
       (λ s k. ap (entries_of_effect s k) is)
   step cs n command (Removing Everything) is all h =
-      behind_reset cs (record { number = n; command = command }) (ap (λ (e : Effect). resets (removed_of_effect e)) is)
+      behind_reset cs (record { number = n; command = command })
+      (ap (λ (e : Effect). resets (removed_of_effect e)) is)
       (λ s k. ap (entries_of_effect s k) is)
 
-  from : (before cs : List Numbered) → IsWell (signature_in_force before) → HaveNoFault before cs → IsWell (signature_in_force (before ++ cs))
-  from before [] all h = subst (λ (cs : List Numbered). IsWell (signature_in_force cs)) (sym (append-nil before)) all
+  from : (before cs : List Numbered) → IsWell (signature_in_force before) → HaveNoFlaw before cs
+      → IsWell (signature_in_force (before ++ cs))
+  from before [] all h = subst (λ (cs : List Numbered). IsWell (signature_in_force cs))
+      (sym (append-nil before)) all
   from before (c ∷ cs) all h =
       subst (λ (ds : List Numbered). IsWell (signature_in_force ds)) (append_assoc before (c ∷ []) cs)
       (from (before ++ c ∷ []) cs (step before c.number c.command (effect_of c.command) refl all h.0) h.1)
 
-  pub names_introduced : (cs : List Numbered) → HaveNoFault [] cs → IsWell (signature_in_force cs)
+  pub names_introduced : (cs : List Numbered) → HaveNoFlaw [] cs → IsWell (signature_in_force cs)
   names_introduced cs h = from [] cs tt h

@@ -1,5 +1,6 @@
 -- What commands set last.
-use Rattle.std.proofs.Common.{◌≡◌, ℕ, ◌+◌, ◌-◌, Bool, true, false, cond, ◌||◌, List, [], ◌∷◌, ◌++◌, Some, None, refl, ap, sym, ◌∙◌, subst, arith, append_assoc}
+use Rattle.std.proofs.Common.{◌≡◌, ℕ, ◌+◌, ◌-◌, Bool, true, false, cond, ◌||◌, List, [], ◌∷◌, ◌++◌, Some}
+use Rattle.std.proofs.Common.{None, refl, ap, sym, ◌∙◌, subst, arith, append_assoc}
 use Rattle.std.specs.Prelude.{fold, nat_lt}
 use Rattle.std.specs.List.{list_any}
 use Rattle.std.proofs.Math.Bool.{or-false}
@@ -7,10 +8,17 @@ use Rattle.std.proofs.lemmas.List.{append-nil}
 use Rattle.std.proofs.lemmas.List.Sums.{fold-append}
 use Rattle.smt_theory.specs.Theories.{theories_named}
 use Rattle.smt_theory.specs.declared.theories.Theories.{Theories}
-use Rattle.smt_faults.specs.declared.command_fault.CommandFault.TheVariants.{NoLevel}
-use Rattle.smt_script.specs.Command.{Command, Effect, SetLogic, SetPrintSuccess, Exit, SetsLogic, Brings, Pushes, Pops, Removing, Nothing, AllButOptions, Everything, effect_of}
-use Rattle.smt_script.specs.Stack.{HaveNoFault, Numbered, all_theories, depth_after, depth_by, depth_in_force, fault_by, has_exited, is_exit, is_late_after, is_logic_set, is_reset, is_set_after, is_too_late, makes_late, print_success_after, print_success_in_force, removed_of_effect, resets, theories_after, theories_in_force, theories_or}
-use Rattle.smt_script.specs.Standing.{AreSince, Behind, IsAmong, IsLast, Never, Start, is_whole_reset, levels_popped, levels_pushed, popped, pushed, sets_logic, sets_print_success, sets_theories}
+use Rattle.smt_faults.specs.declared.command_flaw.CommandFlaw.TheVariants.{NoLevel}
+use Rattle.smt_script.specs.Command.{Command, Effect, SetLogic, SetPrintSuccess, Exit, SetsLogic, Brings}
+use Rattle.smt_script.specs.Command.{Pushes, Pops, Removing, Nothing, AllButOptions, Everything, effect_of}
+use Rattle.smt_script.specs.Stack.{HaveNoFlaw, Numbered, all_theories, depth_after, depth_by, depth_in_force}
+use Rattle.smt_script.specs.Stack.{flaw_by, has_exited, is_exit, is_late_after, is_logic_set, is_reset}
+use Rattle.smt_script.specs.Stack.{is_set_after, is_too_late, makes_late, print_success_after}
+use Rattle.smt_script.specs.Stack.{print_success_in_force, removed_of_effect, resets, theories_after}
+use Rattle.smt_script.specs.Stack.{theories_in_force, theories_or}
+use Rattle.smt_script.specs.Standing.{AreSince, Behind, IsAmong, IsLast, Never, Start, is_whole_reset}
+use Rattle.smt_script.specs.Standing.{levels_popped, levels_pushed, popped, pushed, sets_logic}
+use Rattle.smt_script.specs.Standing.{sets_print_success, sets_theories}
 use Rattle.smt_script.proofs.StandingLemmas.{depth-push}
 
 -- ---- commands since one
@@ -19,11 +27,15 @@ none_of_either : (a b : Bool) → (a || b) ≡ false → (a ≡ false) × (b ≡
 none_of_either true b h = absurd (cc)
 none_of_either false b h = (refl, h)
 
-never_behind : (test : Command → Bool) (earlier : List Numbered) (c : Numbered) (later : List Numbered) → Never test (earlier ++ c ∷ later) → Never test later
+never_behind : (test : Command → Bool) (earlier : List Numbered) (c : Numbered) (later : List Numbered)
+    → Never test (earlier ++ c ∷ later) → Never test later
 never_behind test [] c later h = (none_of_either (test c.command) (list_any (λ d. test d.command) later) h).1
-never_behind test (e ∷ earlier) c later h = never_behind test earlier c later (none_of_either (test e.command) (list_any (λ d. test d.command) (earlier ++ c ∷ later)) h).1
+never_behind test (e ∷ earlier) c later h =
+    never_behind test earlier c later
+    (none_of_either (test e.command) (list_any (λ d. test d.command) (earlier ++ c ∷ later)) h).1
 
-never_since : (test : Command → Bool) (commands since : List Numbered) → AreSince test commands since → Never test since
+never_since : (test : Command → Bool) (commands since : List Numbered) → AreSince test commands since
+    → Never test since
 never_since test commands since (Start is none) = none
 never_since test commands since (Behind earlier c is ends none) = none
 
@@ -34,14 +46,18 @@ module _ {B : Type 0} (step : B → Command → B) where
   after_all v cs = fold (λ w c. step w c.command) v cs
 
   -- a command that begins anew leaves only those since to look at
-  pub since_alone : (test : Command → Bool) (start : B) → ((v : B) (command : Command) → test command ≡ true → step v command ≡ start)
-      → (commands since : List Numbered) → AreSince test commands since → after_all start commands ≡ after_all start since
+  pub since_alone : (test : Command → Bool) (start : B)
+      → ((v : B) (command : Command) → test command ≡ true → step v command ≡ start)
+      → (commands since : List Numbered) → AreSince test commands since
+      → after_all start commands ≡ after_all start since
   since_alone test start anew commands since (Start is none) = ap (after_all start) is
   since_alone test start anew commands since (Behind earlier c is ends none) =
-      ap (after_all start) is ∙ fold-append (λ (w : B) (d : Numbered). step w d.command) start earlier (c ∷ since) ∙ ap (λ (v : B). after_all v since) (anew (after_all start earlier) c.command ends)
+      ap (after_all start) is ∙ fold-append (λ (w : B) (d : Numbered). step w d.command) start earlier
+      (c ∷ since) ∙ ap (λ (v : B). after_all v since) (anew (after_all start earlier) c.command ends)
 
   -- commands that neither set it nor begin anew keep it
-  pub unset : (sets ends : Command → Bool) → ((v : B) (command : Command) → sets command ≡ false → ends command ≡ false → step v command ≡ v)
+  pub unset : (sets ends : Command → Bool)
+      → ((v : B) (command : Command) → sets command ≡ false → ends command ≡ false → step v command ≡ v)
       → (v : B) (cs : List Numbered) → Never sets cs → Never ends cs → after_all v cs ≡ v
   unset sets ends keeps v [] none goes = refl
   unset sets ends keeps v (c ∷ cs) none goes =
@@ -50,92 +66,119 @@ module _ {B : Type 0} (step : B → Command → B) where
       ap (λ (w : B). after_all w cs) (keeps v c.command a.0 b.0) ∙ unset sets ends keeps v cs a.1 b.1
 
   -- it is what the last set that sets it
-  pub set_last : (sets ends : Command → Bool) → ((v : B) (command : Command) → sets command ≡ false → ends command ≡ false → step v command ≡ v)
-      → (start value : B) (since : List Numbered) (command : Command) → ((v : B) → step v command ≡ value) → IsLast sets since command → Never ends since → after_all start since ≡ value
+  pub set_last : (sets ends : Command → Bool)
+      → ((v : B) (command : Command) → sets command ≡ false → ends command ≡ false → step v command ≡ v)
+      → (start value : B) (since : List Numbered) (command : Command) → ((v : B) → step v command ≡ value)
+      → IsLast sets since command → Never ends since → after_all start since ≡ value
   set_last sets ends keeps start value since command made l goes =
       let c : Numbered = record { number = l.number; command = command } in
       let still = never_behind ends l.earlier c l.later (subst (Never ends) l.place goes) in
-      ap (after_all start) l.place ∙ fold-append (λ (w : B) (d : Numbered). step w d.command) start l.earlier (c ∷ l.later)
-      ∙ ap (λ (v : B). after_all v l.later) (made (after_all start l.earlier)) ∙ unset sets ends keeps value l.later l.none still
+      ap (after_all start) l.place
+      ∙ fold-append (λ (w : B) (d : Numbered). step w d.command) start l.earlier (c ∷ l.later)
+      ∙ ap (λ (v : B). after_all v l.later) (made (after_all start l.earlier))
+      ∙ unset sets ends keeps value l.later l.none still
 
 or_assoc : (a b d : Bool) → ((a || b) || d) ≡ (a || (b || d))
 or_assoc true b d = refl
 or_assoc false b d = refl
 
 -- one that each command may make true is true where one of them does
-any_does : (step : Bool → Command → Bool) (test ends : Command → Bool) → ((v : Bool) (command : Command) → ends command ≡ false → step v command ≡ (v || test command))
-    → (v : Bool) (cs : List Numbered) → Never ends cs → fold (λ w c. step w c.command) v cs ≡ (v || list_any (λ c. test c.command) cs)
+any_does : (step : Bool → Command → Bool) (test ends : Command → Bool)
+    → ((v : Bool) (command : Command) → ends command ≡ false → step v command ≡ (v || test command))
+    → (v : Bool) (cs : List Numbered) → Never ends cs
+    → fold (λ w c. step w c.command) v cs ≡ (v || list_any (λ c. test c.command) cs)
 any_does step test ends does v [] goes = sym (or-false v)
 any_does step test ends does v (c ∷ cs) goes =
     let b = none_of_either (ends c.command) (list_any (λ d. ends d.command) cs) goes in
-    ap (λ (w : Bool). fold (λ u d. step u d.command) w cs) (does v c.command b.0) ∙ any_does step test ends does (v || test c.command) cs b.1
+    ap (λ (w : Bool). fold (λ u d. step u d.command) w cs) (does v c.command b.0)
+    ∙ any_does step test ends does (v || test c.command) cs b.1
     ∙ or_assoc v (test c.command) (list_any (λ d. test d.command) cs)
 
 -- ---- theories
 
-theories_anew : (t : Theories) (command : Command) → is_whole_reset command ≡ true → theories_after t command ≡ all_theories
+theories_anew : (t : Theories) (command : Command) → is_whole_reset command ≡ true
+    → theories_after t command ≡ all_theories
 theories_anew t command h = grind (arith)
 
-theories_kept : (t : Theories) (command : Command) → sets_theories command ≡ false → is_whole_reset command ≡ false → theories_after t command ≡ t
+theories_kept : (t : Theories) (command : Command) → sets_theories command ≡ false
+    → is_whole_reset command ≡ false → theories_after t command ≡ t
 theories_kept t command h k = grind (arith)
 
-pub theories_of_the_last : (commands since : List Numbered) (name : List ℕ) (theories : Theories) → AreSince is_whole_reset commands since
-    → IsLast sets_theories since (SetLogic name) → theories_named name ≡ Some theories → theories_in_force commands ≡ theories
+pub theories_of_the_last : (commands since : List Numbered) (name : List ℕ) (theories : Theories)
+    → AreSince is_whole_reset commands since
+    → IsLast sets_theories since (SetLogic name) → theories_named name ≡ Some theories
+    → theories_in_force commands ≡ theories
 theories_of_the_last commands since name theories s l is =
     since_alone theories_after is_whole_reset all_theories theories_anew commands since s
-    ∙ set_last theories_after sets_theories is_whole_reset theories_kept all_theories theories since (SetLogic name) (λ v. ap (theories_or v) is) l (never_since is_whole_reset commands since s)
+    ∙ set_last theories_after sets_theories is_whole_reset theories_kept all_theories theories since
+    (SetLogic name) (λ v. ap (theories_or v) is) l (never_since is_whole_reset commands since s)
 
-pub theories_of_the_start : (commands since : List Numbered) → AreSince is_whole_reset commands since → Never sets_theories since → theories_in_force commands ≡ all_theories
+pub theories_of_the_start : (commands since : List Numbered) → AreSince is_whole_reset commands since
+    → Never sets_theories since → theories_in_force commands ≡ all_theories
 theories_of_the_start commands since s none =
     since_alone theories_after is_whole_reset all_theories theories_anew commands since s
-    ∙ unset theories_after sets_theories is_whole_reset theories_kept all_theories since none (never_since is_whole_reset commands since s)
+    ∙ unset theories_after sets_theories is_whole_reset theories_kept all_theories since none
+    (never_since is_whole_reset commands since s)
 
 -- ---- `success`
 
-print_anew : (start v : Bool) (command : Command) → is_whole_reset command ≡ true → print_success_after start v command ≡ start
+print_anew : (start v : Bool) (command : Command) → is_whole_reset command ≡ true
+    → print_success_after start v command ≡ start
 print_anew start v command h = grind (arith)
 
-print_kept : (start v : Bool) (command : Command) → sets_print_success command ≡ false → is_whole_reset command ≡ false → print_success_after start v command ≡ v
+print_kept : (start v : Bool) (command : Command) → sets_print_success command ≡ false
+    → is_whole_reset command ≡ false → print_success_after start v command ≡ v
 print_kept start v command h k = grind (arith)
 
-pub print_of_the_last : (start on : Bool) (commands since : List Numbered) → AreSince is_whole_reset commands since
+pub print_of_the_last : (start on : Bool) (commands since : List Numbered)
+    → AreSince is_whole_reset commands since
     → IsLast sets_print_success since (SetPrintSuccess on) → print_success_in_force start commands ≡ on
 print_of_the_last start on commands since s l =
     since_alone (print_success_after start) is_whole_reset start (print_anew start) commands since s
-    ∙ set_last (print_success_after start) sets_print_success is_whole_reset (print_kept start) start on since (SetPrintSuccess on) (λ v. refl) l (never_since is_whole_reset commands since s)
+    ∙ set_last (print_success_after start) sets_print_success is_whole_reset (print_kept start) start on since
+    (SetPrintSuccess on) (λ v. refl) l (never_since is_whole_reset commands since s)
 
-pub print_of_the_start : (start : Bool) (commands since : List Numbered) → AreSince is_whole_reset commands since → Never sets_print_success since → print_success_in_force start commands ≡ start
+pub print_of_the_start : (start : Bool) (commands since : List Numbered)
+    → AreSince is_whole_reset commands since → Never sets_print_success since
+    → print_success_in_force start commands ≡ start
 print_of_the_start start commands since s none =
     since_alone (print_success_after start) is_whole_reset start (print_anew start) commands since s
-    ∙ unset (print_success_after start) sets_print_success is_whole_reset (print_kept start) start since none (never_since is_whole_reset commands since s)
+    ∙ unset (print_success_after start) sets_print_success is_whole_reset (print_kept start) start since none
+    (never_since is_whole_reset commands since s)
 
 -- ---- logics
 
 set_anew : (v : Bool) (command : Command) → is_whole_reset command ≡ true → is_set_after v command ≡ false
 set_anew v command h = grind (arith)
 
-set_by : (v : Bool) (command : Command) → is_whole_reset command ≡ false → is_set_after v command ≡ (v || sets_logic command)
+set_by : (v : Bool) (command : Command) → is_whole_reset command ≡ false
+    → is_set_after v command ≡ (v || sets_logic command)
 set_by v command h = grind (arith)
 
-pub set_since : (commands since : List Numbered) → AreSince is_whole_reset commands since → is_logic_set commands ≡ list_any (λ c. sets_logic c.command) since
+pub set_since : (commands since : List Numbered) → AreSince is_whole_reset commands since
+    → is_logic_set commands ≡ list_any (λ c. sets_logic c.command) since
 set_since commands since s =
     since_alone is_set_after is_whole_reset false set_anew commands since s
-    ∙ any_does is_set_after sets_logic is_whole_reset set_by false since (never_since is_whole_reset commands since s)
+    ∙ any_does is_set_after sets_logic is_whole_reset set_by false since
+    (never_since is_whole_reset commands since s)
 
 late_anew : (v : Bool) (command : Command) → is_whole_reset command ≡ true → is_late_after v command ≡ false
 late_anew v command h = grind (arith)
 
-late_by : (v : Bool) (command : Command) → is_whole_reset command ≡ false → is_late_after v command ≡ (v || makes_late command)
+late_by : (v : Bool) (command : Command) → is_whole_reset command ≡ false
+    → is_late_after v command ≡ (v || makes_late command)
 late_by v command h = grind (arith)
 
-pub late_since : (commands since : List Numbered) → AreSince is_whole_reset commands since → is_too_late commands ≡ list_any (λ c. makes_late c.command) since
+pub late_since : (commands since : List Numbered) → AreSince is_whole_reset commands since
+    → is_too_late commands ≡ list_any (λ c. makes_late c.command) since
 late_since commands since s =
     since_alone is_late_after is_whole_reset false late_anew commands since s
-    ∙ any_does is_late_after makes_late is_whole_reset late_by false since (never_since is_whole_reset commands since s)
+    ∙ any_does is_late_after makes_late is_whole_reset late_by false since
+    (never_since is_whole_reset commands since s)
 
 -- ---- levels
 
-levels_by : (before : List Numbered) (n : ℕ) (e : Effect) → fault_by before n e ≡ None
+levels_by : (before : List Numbered) (n : ℕ) (e : Effect) → flaw_by before n e ≡ None
     → resets (removed_of_effect e) ≡ false
     → depth_by (depth_in_force before) e + levels_popped e ≡ depth_in_force before + levels_pushed e
 levels_by before n (Pops m) h k = popped_all (depth_in_force before) (nat_lt (depth_in_force before) m) refl h
@@ -150,53 +193,73 @@ levels_by before n (Removing Nothing) h k = refl
 levels_by before n (Removing AllButOptions) h k = absurd (cc)
 levels_by before n (Removing Everything) h k = absurd (cc)
 
-summed_from : (before cs : List Numbered) → HaveNoFault before cs → Never is_reset cs → depth_in_force (before ++ cs) + popped cs ≡ depth_in_force before + pushed cs
+summed_from : (before cs : List Numbered) → HaveNoFlaw before cs → Never is_reset cs
+    → depth_in_force (before ++ cs) + popped cs ≡ depth_in_force before + pushed cs
 summed_from before [] h none = ap (λ (l : List Numbered). depth_in_force l + 0) (append-nil before)
 summed_from before (c ∷ cs) h none =
     let b = none_of_either (is_reset c.command) (list_any (λ d. is_reset d.command) cs) none in
     let rest = summed_from (before ++ c ∷ []) cs h.1 b.1 in
     let here = levels_by before c.number (effect_of c.command) h.0 b.0 in
     let push = depth-push before c in
-    let same : depth_in_force ((before ++ c ∷ []) ++ cs) ≡ depth_in_force (before ++ c ∷ cs) = ap depth_in_force (append_assoc before (c ∷ []) cs) in
+    let same : depth_in_force ((before ++ c ∷ []) ++ cs) ≡ depth_in_force (before ++ c ∷ cs) =
+    ap depth_in_force (append_assoc before (c ∷ []) cs) in
     omega arith
 
-faultless_behind : (before earlier : List Numbered) (c : Numbered) (later : List Numbered) → HaveNoFault before (earlier ++ c ∷ later) → HaveNoFault (before ++ (earlier ++ c ∷ [])) later
+faultless_behind : (before earlier : List Numbered) (c : Numbered) (later : List Numbered)
+    → HaveNoFlaw before (earlier ++ c ∷ later) → HaveNoFlaw (before ++ (earlier ++ c ∷ [])) later
 faultless_behind before [] c later h = h.1
 faultless_behind before (e ∷ earlier) c later h =
-    subst (λ (l : List Numbered). HaveNoFault l later) (append_assoc before (e ∷ []) (earlier ++ c ∷ [])) (faultless_behind (before ++ e ∷ []) earlier c later h.1)
+    subst (λ (l : List Numbered). HaveNoFlaw l later) (append_assoc before (e ∷ []) (earlier ++ c ∷ []))
+    (faultless_behind (before ++ e ∷ []) earlier c later h.1)
 
 reset_levels : (d : ℕ) (command : Command) → is_reset command ≡ true → depth_after d command ≡ 0
 reset_levels d command h = grind (arith)
 
-pub no_levels_behind : (commands : List Numbered) (c : Numbered) → is_reset c.command ≡ true → depth_in_force (commands ++ c ∷ []) ≡ 0
+pub no_levels_behind : (commands : List Numbered) (c : Numbered) → is_reset c.command ≡ true
+    → depth_in_force (commands ++ c ∷ []) ≡ 0
 no_levels_behind commands c h = depth-push commands c ∙ reset_levels (depth_in_force commands) c.command h
 
 zero_more : (n : ℕ) → 0 + n ≡ n
 zero_more n = omega arith
 
-pub levels_since : (commands since : List Numbered) → HaveNoFault [] commands → AreSince is_reset commands since → depth_in_force commands + popped since ≡ pushed since
+pub levels_since : (commands since : List Numbered) → HaveNoFlaw [] commands
+    → AreSince is_reset commands since → depth_in_force commands + popped since ≡ pushed since
 levels_since commands since h (Start is none) =
-    let sum = summed_from [] since (subst (HaveNoFault []) is h) none in
+    let sum = summed_from [] since (subst (HaveNoFlaw []) is h) none in
     ap (λ (l : List Numbered). depth_in_force l + popped since) is ∙ sum ∙ zero_more (pushed since)
 levels_since commands since h (Behind earlier c is ends none) =
-    let sum = summed_from (earlier ++ c ∷ []) since (faultless_behind [] earlier c since (subst (HaveNoFault []) is h)) none in
+    let sum = summed_from (earlier ++ c ∷ []) since
+    (faultless_behind [] earlier c since (subst (HaveNoFlaw []) is h)) none in
     let same : commands ≡ (earlier ++ c ∷ []) ++ since = is ∙ sym (append_assoc earlier (c ∷ []) since) in
     let zero = no_levels_behind earlier c ends in
-    ap (λ (l : List Numbered). depth_in_force l + popped since) same ∙ sum ∙ ap (λ (d : ℕ). d + pushed since) zero ∙ zero_more (pushed since)
+    ap (λ (l : List Numbered). depth_in_force l + popped since) same ∙ sum
+    ∙ ap (λ (d : ℕ). d + pushed since) zero ∙ zero_more (pushed since)
 
 -- ---- `exit`
 
 exit_alone : (command : Command) → is_exit command ≡ true → command ≡ Exit
 exit_alone command h = grind (arith)
 
-exit_here_or_later : (c : Numbered) (cs : List Numbered) → (has_exited cs ≡ true → (n : ℕ) × IsAmong (record { number = n; command = Exit }) cs)
-    → (b : Bool) → is_exit c.command ≡ b → (b || has_exited cs) ≡ true → (n : ℕ) × IsAmong (record { number = n; command = Exit }) (c ∷ cs)
-exit_here_or_later c cs next true e h = (c.number, ([], cs, ap (λ (d : Command). record { number = c.number; command = d } ∷ cs) (exit_alone c.command e)))
+exit_here_or_later : (c : Numbered) (cs : List Numbered)
+    → (has_exited cs ≡ true → (n : ℕ) × IsAmong (record { number = n; command = Exit }) cs)
+    → (b : Bool) → is_exit c.command ≡ b → (b || has_exited cs) ≡ true
+    → (n : ℕ) × IsAmong (record { number = n; command = Exit }) (c ∷ cs)
+exit_here_or_later c cs next true e h = (
+  c.number,
+  (
+    [],
+    cs,
+    ap (λ (d : Command). record { number = c.number; command = d } ∷ cs)
+        (exit_alone c.command e),
+  ),
+)
 exit_here_or_later c cs next false e h = behind (next h)
   where
-    behind : (n : ℕ) × IsAmong (record { number = n; command = Exit }) cs → (n : ℕ) × IsAmong (record { number = n; command = Exit }) (c ∷ cs)
+    behind : (n : ℕ) × IsAmong (record { number = n; command = Exit }) cs
+        → (n : ℕ) × IsAmong (record { number = n; command = Exit }) (c ∷ cs)
     behind (n, (first, last, is)) = (n, (c ∷ first, last, ap (λ (l : List Numbered). c ∷ l) is))
 
-pub exit_found : (commands : List Numbered) → has_exited commands ≡ true → (n : ℕ) × IsAmong (record { number = n; command = Exit }) commands
+pub exit_found : (commands : List Numbered) → has_exited commands ≡ true
+    → (n : ℕ) × IsAmong (record { number = n; command = Exit }) commands
 exit_found [] h = absurd (cc)
 exit_found (c ∷ cs) h = exit_here_or_later c cs (exit_found cs) (is_exit c.command) refl h

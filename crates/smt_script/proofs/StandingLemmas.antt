@@ -1,36 +1,49 @@
 -- What stands behind later commands.
-use Rattle.std.proofs.Common.{◌≡◌, ◌≤◌, ℕ, Bool, true, false, not, ◌&&◌, ◌||◌, List, [], ◌∷◌, ◌++◌, refl, ap, sym, ◌∙◌, subst, arith, append_assoc}
+use Rattle.std.proofs.Common.{◌≡◌, ◌≤◌, ℕ, Bool, true, false, not, ◌&&◌, ◌||◌, List, [], ◌∷◌, ◌++◌, refl, ap}
+use Rattle.std.proofs.Common.{sym, ◌∙◌, subst, arith, append_assoc}
 use Rattle.std.specs.Prelude.{nat_le}
 use Rattle.std.specs.List.{list_all, list_any}
 use Rattle.std.proofs.lemmas.List.{append-nil}
 use Rattle.std.proofs.lemmas.List.Sums.{fold-append}
 use Rattle.smt_trees.specs.Sexp.{Sexp}
-use Rattle.smt_script.specs.Command.{Command, Effect, Assert, SetsLogic, Brings, Pushes, Pops, Removing, effect_of}
+use Rattle.smt_script.specs.Command.{Command, Effect, Assert, SetsLogic, Brings, Pushes, Pops, Removing}
+use Rattle.smt_script.specs.Command.{effect_of}
 use Rattle.smt_script.specs.Command as items
-use Rattle.smt_script.specs.Stack.{Brought, KeepLevels, Numbered, assertions_by, assertions_of_effect, brought_by, brought_from, depth_after, depth_in_force, is_reset, stands_after}
+use Rattle.smt_script.specs.Stack.{Brought, KeepLevels, Numbered, assertions_by, assertions_of_effect}
+use Rattle.smt_script.specs.Stack.{brought_by, brought_from, depth_after, depth_in_force, is_reset}
+use Rattle.smt_script.specs.Stack.{stands_after}
 
 -- what commands bring, behind those before them
 abbrev pub steps : List Numbered → List Brought → List Numbered → List Brought
 steps before brought [] = []
-steps before brought (c ∷ cs) = brought_by before brought c ∷ steps (before ++ c ∷ []) (brought ++ brought_by before brought c ∷ []) cs
+steps before brought (c ∷ cs) =
+    brought_by before brought c ∷ steps (before ++ c ∷ []) (brought ++ brought_by before brought c ∷ []) cs
 
-pub steps-from : (before : List Numbered) (brought : List Brought) (cs : List Numbered) → brought_from before brought cs ≡ brought ++ steps before brought cs
+pub steps-from : (before : List Numbered) (brought : List Brought) (cs : List Numbered)
+    → brought_from before brought cs ≡ brought ++ steps before brought cs
 steps-from before brought [] = sym (append-nil brought)
 steps-from before brought (c ∷ cs) =
     let b = brought_by before brought c in
-    steps-from (before ++ c ∷ []) (brought ++ b ∷ []) cs ∙ append_assoc brought (b ∷ []) (steps (before ++ c ∷ []) (brought ++ b ∷ []) cs)
+    steps-from (before ++ c ∷ []) (brought ++ b ∷ []) cs
+    ∙ append_assoc brought (b ∷ []) (steps (before ++ c ∷ []) (brought ++ b ∷ []) cs)
 
-pub steps-append : (before : List Numbered) (brought : List Brought) (xs ys : List Numbered) → steps before brought (xs ++ ys) ≡ steps before brought xs ++ steps (before ++ xs) (brought ++ steps before brought xs) ys
+pub steps-append : (before : List Numbered) (brought : List Brought) (xs ys : List Numbered)
+    → steps before brought (xs ++ ys)
+    ≡ steps before brought xs ++ steps (before ++ xs) (brought ++ steps before brought xs) ys
 steps-append before brought [] ys =
-    ap (λ (b : List Numbered). steps b brought ys) (sym (append-nil before)) ∙ ap (λ (b : List Brought). steps (before ++ []) b ys) (sym (append-nil brought))
+    ap (λ (b : List Numbered). steps b brought ys) (sym (append-nil before))
+    ∙ ap (λ (b : List Brought). steps (before ++ []) b ys) (sym (append-nil brought))
 steps-append before brought (x ∷ xs) ys =
     let b = brought_by before brought x in
     let rest = steps (before ++ x ∷ []) (brought ++ b ∷ []) xs in
     ap (λ (l : List Brought). b ∷ l) (steps-append (before ++ x ∷ []) (brought ++ b ∷ []) xs ys)
-    ∙ ap (λ (p : List Numbered). b ∷ (rest ++ steps p ((brought ++ b ∷ []) ++ rest) ys)) (append_assoc before (x ∷ []) xs)
-    ∙ ap (λ (p : List Brought). b ∷ (rest ++ steps (before ++ x ∷ xs) p ys)) (append_assoc brought (b ∷ []) rest)
+    ∙ ap (λ (p : List Numbered). b ∷ (rest ++ steps p ((brought ++ b ∷ []) ++ rest) ys))
+    (append_assoc before (x ∷ []) xs)
+    ∙ ap (λ (p : List Brought). b ∷ (rest ++ steps (before ++ x ∷ xs) p ys))
+    (append_assoc brought (b ∷ []) rest)
 
-pub depth-push : (cs : List Numbered) (c : Numbered) → depth_in_force (cs ++ c ∷ []) ≡ depth_after (depth_in_force cs) c.command
+pub depth-push : (cs : List Numbered) (c : Numbered)
+    → depth_in_force (cs ++ c ∷ []) ≡ depth_after (depth_in_force cs) c.command
 depth-push cs c = fold-append (λ (d : ℕ) (x : Numbered). depth_after d x.command) 0 cs (c ∷ [])
 
 -- ---- what stands behind what
@@ -57,13 +70,19 @@ not_true true h = cc
 not_true false h = refl
 
 -- a level stands behind commands none of which resets and that keep as many levels
-pub all_stand : (level : ℕ) (before : List Numbered) (brought : List Brought) (cs : List Numbered) → list_any (λ d. is_reset d.command) cs ≡ false → KeepLevels level before cs → list_all (stands_after level) (steps before brought cs) ≡ true
+pub all_stand : (level : ℕ) (before : List Numbered) (brought : List Brought) (cs : List Numbered)
+    → list_any (λ d. is_reset d.command) cs ≡ false → KeepLevels level before cs
+    → list_all (stands_after level) (steps before brought cs) ≡ true
 all_stand level before brought [] none keep = refl
 all_stand level before brought (c ∷ cs) none keep =
     let b = brought_by before brought c in
     let split = or_false (is_reset c.command) (list_any (λ d. is_reset d.command) cs) none in
-    let fits : nat_le level (depth_after (depth_in_force before) c.command) ≡ true = le_true level (depth_after (depth_in_force before) c.command) (subst (λ (d : ℕ). level ≤ d) (depth-push before c) keep.0) in
-    let here : stands_after level b ≡ true = both (is_reset c.command) (nat_le level (depth_after (depth_in_force before) c.command)) split.0 fits in
+    let fits : nat_le level (depth_after (depth_in_force before) c.command) ≡ true =
+    le_true level (depth_after (depth_in_force before) c.command)
+    (subst (λ (d : ℕ). level ≤ d) (depth-push before c) keep.0) in
+    let here : stands_after level b ≡ true =
+    both (is_reset c.command) (nat_le level (depth_after (depth_in_force before) c.command))
+    split.0 fits in
     let there = all_stand level (before ++ c ∷ []) (brought ++ b ∷ []) cs split.1 keep.1 in
     rw (here, there) refl
 
@@ -72,17 +91,24 @@ pub record Keeps (level : ℕ) (before cs : List Numbered) : Type 0 where
   pub no_reset : list_any (λ (d : Numbered). is_reset d.command) cs ≡ false
   pub levels : KeepLevels level before cs
 
-pub keeps : (level : ℕ) (before : List Numbered) (brought : List Brought) (cs : List Numbered) → list_all (stands_after level) (steps before brought cs) ≡ true → Keeps level before cs
+pub keeps : (level : ℕ) (before : List Numbered) (brought : List Brought) (cs : List Numbered)
+    → list_all (stands_after level) (steps before brought cs) ≡ true → Keeps level before cs
 keeps level before brought [] h = record { no_reset = refl; levels = tt }
 keeps level before brought (c ∷ cs) h =
     let b = brought_by before brought c in
-    let split = and_true (stands_after level b) (list_all (stands_after level) (steps (before ++ c ∷ []) (brought ++ b ∷ []) cs)) h in
-    let here = and_true (not (is_reset c.command)) (nat_le level (depth_after (depth_in_force before) c.command)) split.0 in
+    let split = and_true (stands_after level b)
+    (list_all (stands_after level) (steps (before ++ c ∷ []) (brought ++ b ∷ []) cs)) h in
+    let here = and_true (not (is_reset c.command))
+    (nat_le level (depth_after (depth_in_force before) c.command)) split.0 in
     let rest = keeps level (before ++ c ∷ []) (brought ++ b ∷ []) cs split.1 in
     let first : is_reset c.command ≡ false = not_true (is_reset c.command) here.0 in
     record {
       no_reset = rw (first, rest.no_reset) refl;
-      levels = (subst (λ (d : ℕ). level ≤ d) (sym (depth-push before c)) (le_of level (depth_after (depth_in_force before) c.command) here.1), rest.levels);
+      levels = (
+        subst (λ (d : ℕ). level ≤ d) (sym (depth-push before c))
+            (le_of level (depth_after (depth_in_force before) c.command) here.1),
+        rest.levels,
+      );
     }
 
 -- ---- which commands bring an assertion
@@ -91,7 +117,8 @@ pub data IsAssertion (n : ℕ) (command : Command) : Type 0 where
   Yes : (term : Sexp) → (command ≡ Assert term) → IsAssertion n command
   No : assertions_by n command ≡ [] → IsAssertion n command
 
-assertion_alone : (command : Command) (term : Sexp) → effect_of command ≡ Brings (items.Assertion term) → command ≡ Assert term
+assertion_alone : (command : Command) (term : Sexp) → effect_of command ≡ Brings (items.Assertion term)
+    → command ≡ Assert term
 assertion_alone command term h = grind (arith)
 
 -- by what it does

@@ -1,13 +1,17 @@
--- SMT-LIB 2.6, section 4.2: the trees that are commands. Which commands are supported is this project's choice.
-use Rattle.std.specs.Prelude.{ℕ, List, Bool, true, false, ◌&&◌, Option, Some, None, is_some, option_map, option_and_then, Result, Err, ok_or, bytes_eq, codes, if◌then◌else◌}
+-- SMT-LIB 2.6, section 4.2: the trees that are commands. Which commands are supported is this project's
+-- choice.
+use Rattle.std.specs.Prelude.{ℕ, List, Bool, true, false, ◌&&◌, Option, Some, None, is_some, option_map}
+use Rattle.std.specs.Prelude.{option_and_then, Result, Err, ok_or, bytes_eq, codes, if◌then◌else◌}
 use Rattle.smt_trees.specs.Sexp.{Sexp, Sexps, Atom, Reserved, Items, Nil, Cons, Symbol}
 use Rattle.smt_trees.specs.declared.reserved.Word.{Word}
 use Rattle.smt_trees.specs.declared.reserved.Word.TheVariants as words
 use Rattle.smt_script.specs.declared.command.Kind.{Kind}
 use Rattle.smt_script.specs.declared.command.Kind.TheVariants as kinds
-use Rattle.smt_script.specs.Parts.{is_none, keyword_and_value, list_and_tree, name_and_abbreviated, name_and_definition, name_and_rank, name_and_sort, one_keyword, one_list, one_numeral, one_symbol, one_text, one_tree, truth_of_value}
-use Rattle.smt_faults.specs.declared.command_fault.CommandFault.{CommandFault}
-use Rattle.smt_faults.specs.declared.command_fault.CommandFault.TheVariants.{Form, Unsupported}
+use Rattle.smt_script.specs.Parts.{is_none, keyword_and_value, list_and_tree, name_and_abbreviated}
+use Rattle.smt_script.specs.Parts.{name_and_definition, name_and_rank, name_and_sort, one_keyword, one_list}
+use Rattle.smt_script.specs.Parts.{one_numeral, one_symbol, one_text, one_tree, truth_of_value}
+use Rattle.smt_faults.specs.declared.command_flaw.CommandFlaw.{CommandFlaw}
+use Rattle.smt_faults.specs.declared.command_flaw.CommandFlaw.TheVariants.{Form, Unsupported}
 
 -- what a solver is asked for, beside models
 pub data Query : Type 0 where
@@ -49,7 +53,8 @@ is_print_success keyword = bytes_eq keyword (codes "print-success")
 abbrev pub is_global_declarations : List ℕ → Bool
 is_global_declarations keyword = bytes_eq keyword (codes "global-declarations")
 
--- declarations may be set to be no longer global, as they are at the start; that they are global is not supported
+-- declarations may be set to be no longer global, as they are at the start; that they are global is not
+-- supported
 abbrev pub global_setting : Option Bool → Option Command
 global_setting (Some false) = Some (SetGlobalDeclarations false)
 global_setting _ = None
@@ -74,7 +79,8 @@ command_with words.SetOption parts = option_and_then option_setting (keyword_and
 command_with words.SetInfo parts = option_map (λ p. SetInfo p.0 p.1) (keyword_and_value parts)
 command_with words.DeclareConst parts = option_map (λ p. DeclareConst p.0 p.1) (name_and_sort parts)
 command_with words.DeclareFun parts = option_map (λ p. DeclareFun p.0 p.1.0 p.1.1) (name_and_rank parts)
-command_with words.DefineFun parts = option_map (λ p. DefineFun p.0 p.1.0 p.1.1.0 p.1.1.1) (name_and_definition parts)
+command_with words.DefineFun parts =
+    option_map (λ p. DefineFun p.0 p.1.0 p.1.1.0 p.1.1.1) (name_and_definition parts)
 command_with words.DefineSort parts = option_map (λ p. DefineSort p.0 p.1) (name_and_abbreviated parts)
 command_with words.Assert parts = option_map Assert (one_tree parts)
 command_with words.Push parts = option_map Push (one_numeral parts)
@@ -109,9 +115,9 @@ abbrev pub makes_global : Option (List ℕ × Option Sexp) → Bool
 makes_global None = false
 makes_global (Some p) = is_global_declarations p.0 && is_true (truth_of_value p.1)
 
--- what is wrong with a list that begins with this word, and is no command: some commands of the standard are not supported, whatever
--- follows their word; others with some parts
-abbrev pub refusal : Word → Sexps → CommandFault
+-- what is wrong with a list that begins with this word, and is no command: some commands of the standard are
+-- not supported, whatever follows their word; others with some parts
+abbrev pub refusal : Word → Sexps → CommandFlaw
 refusal words.CheckSatAssuming parts = Unsupported
 refusal words.DeclareDatatype parts = Unsupported
 refusal words.DeclareDatatypes parts = Unsupported
@@ -123,13 +129,14 @@ refusal words.SetOption parts = if makes_global (keyword_and_value parts) then U
 refusal _ parts = Form
 
 -- the command that a tree is, or why it is refused
-abbrev pub command_of : Sexp → Result Command CommandFault
+abbrev pub command_of : Sexp → Result Command CommandFlaw
 command_of (Items (Cons (Reserved word) parts)) = ok_or (command_with word parts) (refusal word parts)
 command_of _ = Err Form
 
 -- ---- what commands are
 
--- the kind of a command: all that is asked of commands but for what they do to the stack is asked of their kinds
+-- the kind of a command: all that is asked of commands but for what they do to the stack is asked of their
+-- kinds
 abbrev pub kind_of : Command → Kind
 kind_of (SetLogic name) = kinds.Logic
 kind_of (SetPrintSuccess on) = kinds.PrintSuccess on
@@ -171,20 +178,23 @@ changes_force kinds.Model = false
 changes_force kinds.Echo = false
 changes_force kinds.Query = false
 
--- a command whose effect changes what is in force. (A logic is set before every check; so in a script without a fault it ends no window.)
+-- a command whose effect changes what is in force. (A logic is set before every check; so in a script without
+-- a fault it ends no window.)
 abbrev pub closes_window : Command → Bool
 closes_window command = changes_force (kind_of command)
 
 -- ---- what commands do to the stack
 
--- what a command brings
-pub data Item : Type 0 where
-  Declaration : (name : List ℕ) → (parameters : Sexps) → (sort : Sexp) → Item
-  Definition : (name : List ℕ) → (parameters : List (List ℕ × Sexp)) → (sort : Sexp) → (body : Sexp) → Item
-  Abbreviation : (name : List ℕ) → (sort : Sexp) → Item
-  Assertion : (term : Sexp) → Item
+-- what a command adds to what is in force
+pub data Addition : Type 0 where
+  Declaration : (name : List ℕ) → (parameters : Sexps) → (sort : Sexp) → Addition
+  Definition : (name : List ℕ) → (parameters : List (List ℕ × Sexp)) → (sort : Sexp) → (body : Sexp)
+      → Addition
+  Abbreviation : (name : List ℕ) → (sort : Sexp) → Addition
+  Assertion : (term : Sexp) → Addition
 
--- what a command removes of what there was before it
+-- what a command removes of all that there was before it, at whatever level it came. (What goes with a
+-- level, when `pop` removes the level, is said by the number of levels that are left.)
 pub data Removes : Type 0 where
   Nothing : Removes
   AllButOptions : Removes
@@ -193,7 +203,7 @@ pub data Removes : Type 0 where
 -- what a command does to what is in force
 pub data Effect : Type 0 where
   SetsLogic : (name : List ℕ) → Effect
-  Brings : (item : Item) → Effect
+  Brings : (addition : Addition) → Effect
   Pushes : (levels : ℕ) → Effect
   Pops : (levels : ℕ) → Effect
   Removing : (what : Removes) → Effect

@@ -5,9 +5,15 @@ use Rattle.smt_trees.specs.Tree.{sexp_of}
 use Rattle.smt_forms.specs.Bindings.{named_trees}
 use Rattle.smt_script.specs.Command as spec
 use Rattle.smt_script.specs.declared.command.Command.{Command}
-use Rattle.smt_script.specs.declared.command.Command.TheVariants.{SetLogic, SetPrintSuccess, SetGlobalDeclarations, SetOption, SetInfo, DeclareConst, DeclareFun, DefineFun, DefineSort, Assert, Push, Pop, Reset, ResetAssertions, Exit, CheckSat, GetModel, Echo, Get}
+use Rattle.smt_script.specs.declared.command.Command.TheVariants.{SetLogic, SetPrintSuccess}
+use Rattle.smt_script.specs.declared.command.Command.TheVariants.{SetGlobalDeclarations, SetOption, SetInfo}
+use Rattle.smt_script.specs.declared.command.Command.TheVariants.{DeclareConst, DeclareFun, DefineFun}
+use Rattle.smt_script.specs.declared.command.Command.TheVariants.{DefineSort, Assert, Push, Pop, Reset}
+use Rattle.smt_script.specs.declared.command.Command.TheVariants.{ResetAssertions, Exit, CheckSat, GetModel}
+use Rattle.smt_script.specs.declared.command.Command.TheVariants.{Echo, Get}
 use Rattle.smt_script.specs.declared.command.Query.{Query}
-use Rattle.smt_script.specs.declared.command.Query.TheVariants.{Values, Info, Setting, Assertions, Assignment, Proof, UnsatCore, UnsatAssumptions}
+use Rattle.smt_script.specs.declared.command.Query.TheVariants.{Values, Info, Setting, Assertions, Assignment}
+use Rattle.smt_script.specs.declared.command.Query.TheVariants.{Proof, UnsatCore, UnsatAssumptions}
 
 abbrev pub query_view : Query → spec.Query
 query_view (Values terms) = spec.Values terms
@@ -28,7 +34,8 @@ command_view (SetOption keyword value) = spec.SetOption keyword (option_map sexp
 command_view (SetInfo keyword value) = spec.SetInfo keyword (option_map sexp_of value)
 command_view (DeclareConst name sort) = spec.DeclareConst name (sexp_of sort)
 command_view (DeclareFun name params sort) = spec.DeclareFun name params (sexp_of sort)
-command_view (DefineFun name params sort body) = spec.DefineFun name (named_trees params) (sexp_of sort) (sexp_of body)
+command_view (DefineFun name params sort body) =
+    spec.DefineFun name (named_trees params) (sexp_of sort) (sexp_of body)
 command_view (DefineSort name sort) = spec.DefineSort name (sexp_of sort)
 command_view (Assert term) = spec.Assert (sexp_of term)
 command_view (Push levels) = spec.Push (digits_value 10 levels)

@@ -1,7 +1,8 @@
 -- What stands behind the word of a command, in the shapes that commands have.
 use Rattle.std.specs.Prelude.{ℕ, List, Bool, true, false, Option, Some, None, codes, if◌then◌else◌}
 use Rattle.std.specs.Str.Parse.{digits_value}
-use Rattle.smt_trees.specs.Sexp.{Sexp, Sexps, Atom, Items, Nil, Cons, Keyword, Numeral, Symbol, Text, is_symbol}
+use Rattle.smt_trees.specs.Sexp.{Sexp, Sexps, Atom, Items, Nil, Cons, Keyword, Numeral, Symbol, Text}
+use Rattle.smt_trees.specs.Sexp.{is_symbol}
 use Rattle.smt_forms.specs.Bindings.{are_named_trees, named_trees}
 
 abbrev pub is_none : Sexps → Bool
@@ -98,4 +99,5 @@ name_and_abbreviated _ = None
 abbrev pub truth_of_value : Option Sexp → Option Bool
 truth_of_value None = None
 truth_of_value (Some value) =
-    if is_symbol (codes "true") value then Some true else if is_symbol (codes "false") value then Some false else None
+    if is_symbol (codes "true") value then Some true else if is_symbol (codes "false") value then Some false
+    else None

@@ -1,7 +1,10 @@
--- SMT-LIB 2.6, sections 4.1.1, 4.1.4 and 4.2: what is in force after commands that took effect, and the fault of a command's effect.
--- Commands count from 1. Declarations, definitions, labels and abbreviations go with the level at which they came, as assertions do:
--- `:global-declarations` is false. That there are at most 10,000 levels is this project's limit.
-use Rattle.std.specs.Prelude.{◌≡◌, ◌≤◌, ℕ, ◌+◌, ◌-◌, List, [], ◌∷◌, ◌++◌, Bool, true, false, not, ◌&&◌, ◌||◌, Option, Some, None, is_some, Result, Ok, Err, fold, nat_le, nat_lt, if◌then◌else◌}
+-- SMT-LIB 2.6, sections 4.1.1, 4.1.4 and 4.2: what is in force after commands that took effect, and the fault
+-- of a command's effect. Commands count from 1. Declarations, definitions, labels and abbreviations go with
+-- the level at which they came, as assertions do: `:global-declarations` is false. That there are at most
+-- 10,000 levels is this project's limit.
+use Rattle.std.specs.Prelude.{◌≡◌, ◌≤◌, ℕ, ◌+◌, ◌-◌, List, [], ◌∷◌, ◌++◌, Bool, true, false, not, ◌&&◌, ◌||◌}
+use Rattle.std.specs.Prelude.{Option, Some, None, is_some, Result, Ok, Err, fold, nat_le, nat_lt}
+use Rattle.std.specs.Prelude.{if◌then◌else◌}
 use Rattle.std.specs.List.{flat_map, list_all, list_any}
 use Rattle.smt_trees.specs.Sexp.{Sexp}
 use Rattle.smt_theory.specs.Theories.{theories_named}
@@ -9,15 +12,16 @@ use Rattle.smt_theory.specs.declared.sort.Sort.{Sort}
 use Rattle.smt_theory.specs.declared.theories.Theories.{Theories}
 use Rattle.smt_terms.specs.Assertions.{asserted_in}
 use Rattle.smt_terms.specs.Definitions.{defined_in}
-use Rattle.smt_terms.specs.Signature.{Entry, Signature, declared_in, names_of, sort_names_of}
-use Rattle.smt_terms.specs.SortTrees.{abbreviated_in}
-use Rattle.smt_faults.specs.declared.term_fault.TermFault.{TermFault}
-use Rattle.smt_script.specs.Command.{Command, Effect, Item, Removes, SetsLogic, Brings, Pushes, Pops, Removing, Nothing, AllButOptions, Everything, effect_of, kind_of}
+use Rattle.smt_terms.specs.Declarations.{abbreviated_in, declared_in}
+use Rattle.smt_terms.specs.Signature.{Entry, Signature, names_of, sort_names_of}
+use Rattle.smt_faults.specs.declared.term_flaw.TermFlaw.{TermFlaw}
+use Rattle.smt_script.specs.Command.{Command, Effect, Addition, Removes, SetsLogic, Brings, Pushes, Pops}
+use Rattle.smt_script.specs.Command.{Removing, Nothing, AllButOptions, Everything, effect_of, kind_of}
 use Rattle.smt_script.specs.Command as items
 use Rattle.smt_script.specs.declared.command.Kind.{Kind}
 use Rattle.smt_script.specs.declared.command.Kind.TheVariants as kinds
-use Rattle.smt_faults.specs.declared.command_fault.CommandFault.{CommandFault}
-use Rattle.smt_faults.specs.declared.command_fault.CommandFault.TheVariants.{TooDeep, NoLevel, Logic, Term}
+use Rattle.smt_faults.specs.declared.command_flaw.CommandFlaw.{CommandFlaw}
+use Rattle.smt_faults.specs.declared.command_flaw.CommandFlaw.TheVariants.{TooDeep, NoLevel, Logic, Term}
 
 -- a command that took effect, and its number
 pub record Numbered : Type 0 where
@@ -83,16 +87,17 @@ abbrev pub depth_in_force : List Numbered → ℕ
 depth_in_force commands = fold (λ depth c. depth_after depth c.command) 0 commands
 
 abbrev pub print_success_by : Bool → Bool → Kind → Bool
-print_success_by start on (kinds.PrintSuccess value) = value
-print_success_by start on kinds.Reset = start
-print_success_by start on _ = on
+print_success_by initial on (kinds.PrintSuccess value) = value
+print_success_by initial on kinds.Reset = initial
+print_success_by initial on _ = on
 
--- whether `success` is printed after a command: `start` says whether it is at the start
+-- whether `success` is printed after a command: `initial` says whether it is at the start
 abbrev pub print_success_after : Bool → Bool → Command → Bool
-print_success_after start on command = print_success_by start on (kind_of command)
+print_success_after initial on command = print_success_by initial on (kind_of command)
 
 abbrev pub print_success_in_force : Bool → List Numbered → Bool
-print_success_in_force start commands = fold (λ on c. print_success_after start on c.command) start commands
+print_success_in_force initial commands =
+    fold (λ on c. print_success_after initial on c.command) initial commands
 
 abbrev pub exits : Kind → Bool
 exits kinds.Exit = true
@@ -107,7 +112,8 @@ has_exited commands = list_any (λ c. is_exit c.command) commands
 
 -- ---- what each command brought
 
--- what a command brought: names, abbreviations and assertions; the level at which they came; and what it removed
+-- what a command brought: names, abbreviations and assertions; the level at which they came; and what it
+-- removed
 pub record Brought : Type 0 where
   pub level : ℕ
   pub removes : Removes
@@ -115,11 +121,13 @@ pub record Brought : Type 0 where
   pub abbreviations : List (List ℕ × Sort)
   pub assertions : List Assertion
 
--- whether what came at a level stands after a later command, which left so many levels: that did not remove all, and left as many
+-- whether what came at a level stands after a later command, which left so many levels: that did not remove
+-- all, and left as many
 abbrev pub stands_after : ℕ → Brought → Bool
 stands_after level later = not (resets later.removes) && nat_le level later.level
 
--- whether names and abbreviations stand that were brought before these, and whether assertions do
+-- whether names and abbreviations stand that were brought before these, and whether assertions do: the same
+-- rule for both, as declarations go with their levels
 abbrev pub names_stand : Brought → List Brought → Bool
 names_stand b later = list_all (stands_after b.level) later
 
@@ -142,15 +150,16 @@ assertions_of brought = flat_map (λ b. b.assertions) brought
 
 -- the signature that what was brought gives in these theories
 abbrev pub signature_of : Theories → List Brought → Signature
-signature_of theories brought = record { theories = theories; abbreviations = abbreviations_of brought; entries = entries_of brought }
+signature_of theories brought =
+    record { theories = theories; abbreviations = abbreviations_of brought; entries = entries_of brought }
 
 -- one thing, or none at a fault
-abbrev pub one_or_none : {A : Type 0} → Result A TermFault → List A
+abbrev pub one_or_none : {A : Type 0} → Result A TermFlaw → List A
 one_or_none (Ok x) = x ∷ []
 one_or_none (Err fault) = []
 
 -- some things, or none at a fault
-abbrev pub all_or_none : {A : Type 0} → Result (List A) TermFault → List A
+abbrev pub all_or_none : {A : Type 0} → Result (List A) TermFlaw → List A
 all_or_none (Ok xs) = xs
 all_or_none (Err fault) = []
 
@@ -159,15 +168,17 @@ named x [] = []
 named x (sort ∷ sorts) = (x, sort) ∷ named x sorts
 
 -- the names that an item of command n brings to a signature
-abbrev pub entries_of_item : Signature → ℕ → Item → List Entry
-entries_of_item s n (items.Declaration x parameters sort) = one_or_none (declared_in s n x parameters sort)
-entries_of_item s n (items.Definition x parameters sort body) = one_or_none (defined_in s x parameters sort body)
-entries_of_item s n (items.Abbreviation x sort) = []
-entries_of_item s n (items.Assertion term) = all_or_none (asserted_in (names_of s) term)
+abbrev pub entries_of_addition : Signature → ℕ → Addition → List Entry
+entries_of_addition s n (items.Declaration x parameters sort) =
+    one_or_none (declared_in s n x parameters sort)
+entries_of_addition s n (items.Definition x parameters sort body) =
+    one_or_none (defined_in s x parameters sort body)
+entries_of_addition s n (items.Abbreviation x sort) = []
+entries_of_addition s n (items.Assertion term) = all_or_none (asserted_in (names_of s) term)
 
 abbrev pub entries_of_effect : Signature → ℕ → Effect → List Entry
 entries_of_effect s n (SetsLogic name) = []
-entries_of_effect s n (Brings item) = entries_of_item s n item
+entries_of_effect s n (Brings item) = entries_of_addition s n item
 entries_of_effect s n (Pushes levels) = []
 entries_of_effect s n (Pops levels) = []
 entries_of_effect s n (Removing what) = []
@@ -176,15 +187,16 @@ entries_of_effect s n (Removing what) = []
 abbrev pub entries_by : Signature → ℕ → Command → List Entry
 entries_by s n command = entries_of_effect s n (effect_of command)
 
-abbrev pub abbreviations_of_item : Signature → Item → List (List ℕ × Sort)
-abbreviations_of_item s (items.Declaration x parameters sort) = []
-abbreviations_of_item s (items.Definition x parameters sort body) = []
-abbreviations_of_item s (items.Abbreviation x sort) = named x (one_or_none (abbreviated_in (sort_names_of s) x sort))
-abbreviations_of_item s (items.Assertion term) = []
+abbrev pub abbreviations_of_addition : Signature → Addition → List (List ℕ × Sort)
+abbreviations_of_addition s (items.Declaration x parameters sort) = []
+abbreviations_of_addition s (items.Definition x parameters sort body) = []
+abbreviations_of_addition s (items.Abbreviation x sort) =
+    named x (one_or_none (abbreviated_in (sort_names_of s) x sort))
+abbreviations_of_addition s (items.Assertion term) = []
 
 abbrev pub abbreviations_of_effect : Signature → Effect → List (List ℕ × Sort)
 abbreviations_of_effect s (SetsLogic name) = []
-abbreviations_of_effect s (Brings item) = abbreviations_of_item s item
+abbreviations_of_effect s (Brings item) = abbreviations_of_addition s item
 abbreviations_of_effect s (Pushes levels) = []
 abbreviations_of_effect s (Pops levels) = []
 abbreviations_of_effect s (Removing what) = []
@@ -193,15 +205,15 @@ abbreviations_of_effect s (Removing what) = []
 abbrev pub abbreviations_by : Signature → Command → List (List ℕ × Sort)
 abbreviations_by s command = abbreviations_of_effect s (effect_of command)
 
-abbrev pub assertions_of_item : ℕ → Item → List Assertion
-assertions_of_item n (items.Declaration x parameters sort) = []
-assertions_of_item n (items.Definition x parameters sort body) = []
-assertions_of_item n (items.Abbreviation x sort) = []
-assertions_of_item n (items.Assertion term) = record { command = n; term = term } ∷ []
+abbrev pub assertions_of_addition : ℕ → Addition → List Assertion
+assertions_of_addition n (items.Declaration x parameters sort) = []
+assertions_of_addition n (items.Definition x parameters sort body) = []
+assertions_of_addition n (items.Abbreviation x sort) = []
+assertions_of_addition n (items.Assertion term) = record { command = n; term = term } ∷ []
 
 abbrev pub assertions_of_effect : ℕ → Effect → List Assertion
 assertions_of_effect n (SetsLogic name) = []
-assertions_of_effect n (Brings item) = assertions_of_item n item
+assertions_of_effect n (Brings item) = assertions_of_addition n item
 assertions_of_effect n (Pushes levels) = []
 assertions_of_effect n (Pops levels) = []
 assertions_of_effect n (Removing what) = []
@@ -217,7 +229,8 @@ removed_of_effect (Pushes levels) = Nothing
 removed_of_effect (Pops levels) = Nothing
 removed_of_effect (Removing what) = what
 
--- what a command removes
+-- what a command removes at whatever level it came: a reset does. What `pop` takes is no matter of this, but
+-- of how many levels it leaves (`stands_after`)
 abbrev pub removed_by : Command → Removes
 removed_by command = removed_of_effect (effect_of command)
 
@@ -240,7 +253,8 @@ brought_by before brought c =
 -- what commands brought, one by one, behind the commands before them and what those brought
 abbrev pub brought_from : List Numbered → List Brought → List Numbered → List Brought
 brought_from before brought [] = brought
-brought_from before brought (c ∷ commands) = brought_from (before ++ c ∷ []) (brought ++ brought_by before brought c ∷ []) commands
+brought_from before brought (c ∷ commands) =
+    brought_from (before ++ c ∷ []) (brought ++ brought_by before brought c ∷ []) commands
 
 -- all that commands ever brought, one by one
 abbrev pub history : List Numbered → List Brought
@@ -250,7 +264,8 @@ history commands = brought_from [] [] commands
 
 -- the theories, abbreviations and names in force after commands that took effect
 abbrev pub signature_in_force : List Numbered → Signature
-signature_in_force commands = signature_of (theories_in_force commands) (in_force names_stand (history commands))
+signature_in_force commands =
+    signature_of (theories_in_force commands) (in_force names_stand (history commands))
 
 -- the assertions in force after commands that took effect, in their order
 abbrev pub assertions_in_force : List Numbered → List Assertion
@@ -259,9 +274,11 @@ assertions_in_force commands = assertions_of (in_force assertions_stand (history
 -- commands behind others leave so many levels, each of them
 abbrev pub KeepLevels : ℕ → List Numbered → List Numbered → Type 0
 KeepLevels level before [] = Unit {0}
-KeepLevels level before (c ∷ commands) = (level ≤ depth_in_force (before ++ c ∷ [])) × KeepLevels level (before ++ c ∷ []) commands
+KeepLevels level before (c ∷ commands) =
+    (level ≤ depth_in_force (before ++ c ∷ [])) × KeepLevels level (before ++ c ∷ []) commands
 
--- what a command brought stands behind the earlier ones: no later one removes all, and none leaves fewer levels than there were then
+-- what a command brought stands behind the earlier ones: no later one removes all, and none leaves fewer
+-- levels than there were then
 pub record Stands (commands earlier : List Numbered) (c : Numbered) : Type 0 where
   pub later : List Numbered
   pub place : commands ≡ earlier ++ c ∷ later
@@ -293,7 +310,8 @@ fixes_logic kinds.Model = false
 fixes_logic kinds.Echo = false
 fixes_logic kinds.Query = false
 
--- whether it is too late to set a logic behind the command: a declaration, definition, assertion, change of level or check
+-- whether it is too late to set a logic behind the command: a declaration, definition, assertion, change of
+-- level or check
 abbrev pub makes_late : Command → Bool
 makes_late command = fixes_logic (kind_of command)
 
@@ -311,37 +329,41 @@ is_too_late commands = fold (λ late c. is_late_after late c.command) false comm
 -- ---- faults of effects
 
 -- the fault of what a command brings, if it brings none
-abbrev pub fault_of : {A : Type 0} → Result A TermFault → Option CommandFault
-fault_of (Ok x) = None
-fault_of (Err fault) = Some (Term fault)
+abbrev pub flaw_of : {A : Type 0} → Result A TermFlaw → Option CommandFlaw
+flaw_of (Ok x) = None
+flaw_of (Err fault) = Some (Term fault)
 
--- the fault of setting a logic that has these theories, if it is one that is taken: where one is set, or it is too late
-abbrev pub fault_of_logic : (set late : Bool) → Option Theories → Option CommandFault
-fault_of_logic set late theories = if (set || late) || not (is_some theories) then Some Logic else None
+-- the fault of setting a logic that has these theories, if it is one that is taken: where one is set, or it
+-- is too late
+abbrev pub flaw_of_logic : (set late : Bool) → Option Theories → Option CommandFlaw
+flaw_of_logic set late theories = if (set || late) || not (is_some theories) then Some Logic else None
 
 -- the greatest number of levels
 abbrev pub limit : ℕ
 limit = 10000
 
 -- the fault of an item that command n brings to a signature
-abbrev pub fault_of_item : Signature → ℕ → Item → Option CommandFault
-fault_of_item s n (items.Declaration x parameters sort) = fault_of (declared_in s n x parameters sort)
-fault_of_item s n (items.Definition x parameters sort body) = fault_of (defined_in s x parameters sort body)
-fault_of_item s n (items.Abbreviation x sort) = fault_of (abbreviated_in (sort_names_of s) x sort)
-fault_of_item s n (items.Assertion term) = fault_of (asserted_in (names_of s) term)
+abbrev pub flaw_of_addition : Signature → ℕ → Addition → Option CommandFlaw
+flaw_of_addition s n (items.Declaration x parameters sort) = flaw_of (declared_in s n x parameters sort)
+flaw_of_addition s n (items.Definition x parameters sort body) = flaw_of (defined_in s x parameters sort body)
+flaw_of_addition s n (items.Abbreviation x sort) = flaw_of (abbreviated_in (sort_names_of s) x sort)
+flaw_of_addition s n (items.Assertion term) = flaw_of (asserted_in (names_of s) term)
 
-abbrev pub fault_by : List Numbered → ℕ → Effect → Option CommandFault
-fault_by before n (SetsLogic name) = fault_of_logic (is_logic_set before) (is_too_late before) (theories_named name)
-fault_by before n (Brings item) = fault_of_item (signature_in_force before) n item
-fault_by before n (Pushes levels) = if nat_lt limit (depth_in_force before + levels) then Some TooDeep else None
-fault_by before n (Pops levels) = if nat_lt (depth_in_force before) levels then Some NoLevel else None
-fault_by before n (Removing what) = None
+abbrev pub flaw_by : List Numbered → ℕ → Effect → Option CommandFlaw
+flaw_by before n (SetsLogic name) =
+    flaw_of_logic (is_logic_set before) (is_too_late before) (theories_named name)
+flaw_by before n (Brings item) = flaw_of_addition (signature_in_force before) n item
+flaw_by before n (Pushes levels) =
+    if nat_lt limit (depth_in_force before + levels) then Some TooDeep else None
+flaw_by before n (Pops levels) = if nat_lt (depth_in_force before) levels then Some NoLevel else None
+flaw_by before n (Removing what) = None
 
 -- the fault of the effect of command n after the commands that took effect before it
-abbrev pub fault_of_effect : List Numbered → ℕ → Command → Option CommandFault
-fault_of_effect before n command = fault_by before n (effect_of command)
+abbrev pub flaw_of_effect : List Numbered → ℕ → Command → Option CommandFlaw
+flaw_of_effect before n command = flaw_by before n (effect_of command)
 
 -- no command's effect has a fault, behind those that come before
-abbrev pub HaveNoFault : List Numbered → List Numbered → Type 0
-HaveNoFault before [] = Unit {0}
-HaveNoFault before (c ∷ commands) = (fault_of_effect before c.number c.command ≡ None) × HaveNoFault (before ++ c ∷ []) commands
+abbrev pub HaveNoFlaw : List Numbered → List Numbered → Type 0
+HaveNoFlaw before [] = Unit {0}
+HaveNoFlaw before (c ∷ commands) =
+    (flaw_of_effect before c.number c.command ≡ None) × HaveNoFlaw (before ++ c ∷ []) commands

@@ -7,7 +7,10 @@ use Rattle.smt_terms.specs.Library as library
 use Rattle.smt_terms.specs.Library.{Holds, IsTermOf}
 use Rattle.smt_terms.specs.declared.library.Library.{Library}
 use Rattle.smt_script.specs.Stack as spec
-use Rattle.smt_script.specs.Stack.{Brought, Numbered, assertions_in_force, assertions_of, depth_in_force, has_exited, history, in_force, is_logic_set, is_too_late, names_stand, assertions_stand, print_success_in_force, signature_in_force, signature_of, theories_in_force}
+use Rattle.smt_script.specs.Stack.{Brought, Numbered, assertions_in_force, assertions_of, depth_in_force}
+use Rattle.smt_script.specs.Stack.{has_exited, history, in_force, is_logic_set, is_too_late, names_stand}
+use Rattle.smt_script.specs.Stack.{assertions_stand, print_success_in_force, signature_in_force, signature_of}
+use Rattle.smt_script.specs.Stack.{theories_in_force}
 use Rattle.smt_script.specs.declared.stack.Assertion.{Assertion}
 use Rattle.smt_script.specs.declared.stack.LogicState.{LogicState}
 use Rattle.smt_script.specs.declared.stack.levels.Level.{Level}
@@ -22,25 +25,29 @@ abbrev pub last_of : Stack → ℕ
 last_of stack = stack.last
 
 -- whether `success` is printed at the start
-abbrev pub start_of : Stack → Bool
-start_of stack = stack.start
+abbrev pub initial_print_success_of : Stack → Bool
+initial_print_success_of stack = stack.initial_print_success
 
 -- one by one they are of the same command, and the second's term stands under the first's number
 abbrev pub AreAssertions : Contents → List Assertion → List spec.Assertion → Type 0
 AreAssertions terms [] [] = Unit {0}
-AreAssertions terms (a ∷ as') (b ∷ bs) = (a.command ≡ b.command) × IsTermOf terms a.term b.term × AreAssertions terms as' bs
+AreAssertions terms (a ∷ as') (b ∷ bs) =
+    (a.command ≡ b.command) × IsTermOf terms a.term b.term × AreAssertions terms as' bs
 AreAssertions terms _ _ = ⊥
 
 -- what was brought at this level or an outer one
 abbrev pub to_level : ℕ → List Brought → List Brought
 to_level k brought = filter (λ b. nat_le b.level k) brought
 
--- the first so many of the terms and names as a level notes are what was brought, and so are the first so many of the assertions
-pub record IsLevel (contents : Contents) (assertions : List Assertion) (level : Level) (theories : Theories) (names asserted : List Brought) : Type 0 where
+-- the first so many of the terms and names as a level notes are what was brought, and so are the first so
+-- many of the assertions
+pub record IsLevel (contents : Contents) (assertions : List Assertion) (level : Level) (theories : Theories)
+    (names asserted : List Brought) : Type 0 where
   pub within : IsWithin level.mark contents
   pub count : level.assertions ≤ length assertions
   pub holds : Holds (first_of level.mark contents) (signature_of theories names)
-  pub assertions_are : AreAssertions (first_of level.mark contents) (take level.assertions assertions) (assertions_of asserted)
+  pub assertions_are : AreAssertions (first_of level.mark contents) (take level.assertions assertions)
+      (assertions_of asserted)
 
 -- an inner level notes as much as an outer one, or more
 pub record IsOuter (level inner : Level) : Type 0 where
@@ -51,15 +58,19 @@ pub record IsOuter (level inner : Level) : Type 0 where
 abbrev pub logic_state : List Numbered → LogicState
 logic_state commands = record { set = is_logic_set commands; late = is_too_late commands }
 
--- the stack holds exactly what is in force after these commands; and each of its levels notes what of it came outside that level
+-- the stack holds exactly what is in force after these commands; and each of its levels notes what of it came
+-- outside that level
 pub record StandsFor (stack : Stack) (commands : List Numbered) : Type 0 where
   pub library : library.StandsFor (library_of stack) (signature_in_force commands)
-  pub assertions : AreAssertions (contents_of (library_of stack)) stack.assertions.items (assertions_in_force commands)
+  pub assertions : AreAssertions (contents_of (library_of stack)) stack.assertions.items
+      (assertions_in_force commands)
   pub depth : length stack.levels.items ≡ depth_in_force commands
   pub levels : (k : ℕ) (level : Level) → slice_get stack.levels.items k ≡ Some level
       → IsLevel (contents_of (library_of stack)) stack.assertions.items level (theories_in_force commands)
-      (to_level k (in_force names_stand (history commands))) (to_level k (in_force assertions_stand (history commands)))
-  pub ordered : (j k : ℕ) (level inner : Level) → j ≤ k → slice_get stack.levels.items j ≡ Some level → slice_get stack.levels.items k ≡ Some inner → IsOuter level inner
+      (to_level k (in_force names_stand (history commands)))
+      (to_level k (in_force assertions_stand (history commands)))
+  pub ordered : (j k : ℕ) (level inner : Level) → j ≤ k → slice_get stack.levels.items j ≡ Some level
+      → slice_get stack.levels.items k ≡ Some inner → IsOuter level inner
   pub logic : stack.logic ≡ logic_state commands
-  pub print_success : stack.print_success ≡ print_success_in_force stack.start commands
+  pub print_success : stack.print_success ≡ print_success_in_force stack.initial_print_success commands
   pub exited : stack.exited ≡ has_exited commands

@@ -7,7 +7,8 @@ use Rattle.smt_terms.specs.Signature.{Entry}
 use Rattle.smt_script.specs.Command.{Command, Effect, SetsLogic, Pushes, Pops, effect_of, kind_of}
 use Rattle.smt_script.specs.declared.command.Kind.{Kind}
 use Rattle.smt_script.specs.declared.command.Kind.TheVariants as kinds
-use Rattle.smt_script.specs.Stack.{Assertion, Numbered, Stands, abbreviations_by, assertions_by, entries_by, signature_in_force}
+use Rattle.smt_script.specs.Stack.{Assertion, Numbered, Stands, abbreviations_by, assertions_by, entries_by}
+use Rattle.smt_script.specs.Stack.{signature_in_force}
 
 abbrev pub numbered : ℕ → Command → Numbered
 numbered n command = record { number = n; command = command }

@@ -1,4 +1,4 @@
-//! Commands.
+//! The commands that are supported, each of a kind. This file knows no stack and no answers.
 
 ghost use Rattle.std.specs.Prelude.{◌≡◌};
 ghost use Rattle.smt_script.specs.Command as commands;
@@ -9,7 +9,8 @@ use smt_trees::{Bytes, Tree, Trees};
 /// A command (SMT-LIB 2.6, section 4.2). Names are without bars, and keywords without their colon.
 #[derive(Drop)]
 pub enum Command {
-    /// `(set-logic name)` (section 4.2.1). The name of any logic is kept: `Stack::apply` refuses those that aren't taken.
+    /// `(set-logic name)` (section 4.2.1). The name of any logic is kept: `Stack::apply` refuses those that
+    /// aren't taken.
     SetLogic {
         name: Bytes,
     },
@@ -17,8 +18,8 @@ pub enum Command {
     SetPrintSuccess {
         on: bool,
     },
-    /// `(set-option :global-declarations false)` (section 4.1.7): declarations go with their levels, as from the start. `read_command`
-    /// refuses `true` as not supported, and on the stack neither changes anything.
+    /// `(set-option :global-declarations false)` (section 4.1.7): declarations go with their levels, as from
+    /// the start. `read_command` refuses `true` as not supported, and on the stack neither changes anything.
     SetGlobalDeclarations {
         on: bool,
     },
@@ -27,7 +28,7 @@ pub enum Command {
         keyword: Bytes,
         value: Option<Tree>,
     },
-    /// `(set-info keyword value)`, with a value or without (section 4.2.1).
+    /// `(set-info keyword value)`, with a value or without (section 4.2.9).
     SetInfo {
         keyword: Bytes,
         value: Option<Tree>,
@@ -43,7 +44,8 @@ pub enum Command {
         params: Trees,
         sort: Tree,
     },
-    /// `(define-fun name ((x sort) ..) sort body)` (section 4.2.3): each of `params` is a list of a symbol and the tree of a sort.
+    /// `(define-fun name ((x sort) ..) sort body)` (section 4.2.3): each of `params` is a list of a symbol
+    /// and the tree of a sort.
     DefineFun {
         name: Bytes,
         params: Trees,
@@ -55,19 +57,19 @@ pub enum Command {
         name: Bytes,
         sort: Tree,
     },
-    /// `(assert term)` (section 4.2.5).
+    /// `(assert term)` (section 4.2.4).
     Assert {
         term: Tree,
     },
-    /// `(push levels)` (section 4.1.4): the decimal digits of the number of levels, of any length.
+    /// `(push levels)` (section 4.2.2): the decimal digits of the number of levels, of any length.
     Push {
         levels: Bytes,
     },
-    /// `(pop levels)` (section 4.1.4): the decimal digits of the number of levels, of any length.
+    /// `(pop levels)` (section 4.2.2): the decimal digits of the number of levels, of any length.
     Pop {
         levels: Bytes,
     },
-    /// `(reset)` (section 4.2.2).
+    /// `(reset)` (section 4.2.1).
     Reset,
     /// `(reset-assertions)` (section 4.2.2).
     ResetAssertions,
@@ -77,7 +79,7 @@ pub enum Command {
     CheckSat,
     /// `(get-model)` (section 4.2.6).
     GetModel,
-    /// `(echo "text")` (section 4.2.1).
+    /// `(echo "text")` (section 4.2.8).
     Echo {
         text: Bytes,
     },
@@ -109,24 +111,6 @@ impl Command {
             Command::Get { .. } => Kind::Query,
         }
     }
-
-    /// Whether it asks if the assertions in force are satisfiable (section 4.2.5).
-    pub fn is_check(&self) -> bool
-        ensures { result ≡ commands.is_check (command_view self.now) }
-    {
-        matches!(self.kind(), Kind::Check)
-    }
-
-    /// Whether its effect changes what is in force, and so ends the window of an earlier check.
-    pub fn closes_window(&self) -> bool
-        ensures { result ≡ commands.closes_window (command_view self.now) }
-    {
-        match self.kind() {
-            Kind::Logic | Kind::Change | Kind::Reset => true,
-            Kind::PrintSuccess { .. } | Kind::Setting | Kind::Exit => false,
-            Kind::Check | Kind::Model | Kind::Echo | Kind::Query => false,
-        }
-    }
 }
 
 /// What is asked of commands, but for what they do to the stack, is asked of their kinds.
@@ -154,7 +138,7 @@ pub enum Kind {
     Query,
 }
 
-/// What a solver is asked for, beside models (SMT-LIB 2.6, sections 4.1.7 and 4.2.6).
+/// What a solver is asked for, beside models (SMT-LIB 2.6, sections 4.2.4 to 4.2.8).
 #[derive(Drop)]
 pub enum Query {
     /// `(get-value (term ..))`, of one term or more, which are not checked.

@@ -1,4 +1,5 @@
-//! The trees that are commands.
+//! The trees that are commands, and why another tree is none. This file knows no stack: what a command does
+//! is said elsewhere.
 
 ghost use Rattle.std.specs.Prelude.{◌≡◌, Some, Ok, Err, MatchResult, option_map, bytes_eq, if◌then◌else◌};
 ghost use Rattle.smt_trees.specs.Tree.{sexp_of, sexps_of};
@@ -16,21 +17,21 @@ use crate::forms::shapes::{
     name_and_definition, name_and_rank, name_and_sort, one_keyword, one_list, one_numeral,
     one_symbol, one_text, one_tree, truth_of_value,
 };
-use smt_faults::CommandFault;
+use smt_faults::CommandFlaw;
 use smt_trees::{Bytes, Tree, Word, split_first};
 
-/// The command that a tree is (SMT-LIB 2.6, section 4.2). A tree that is none is refused: as `Unsupported` where it is a list that
-/// begins with the name of a command that is not supported, whatever follows, a `define-sort` with parameters, or makes declarations
-/// global; else for its `Form`.
-pub fn read_command(tree: Tree) -> Result<Command, CommandFault>
+/// The command that a tree is (SMT-LIB 2.6, section 4.2). A tree that is none is refused: as `Unsupported`
+/// where it is a list that begins with the name of a command that is not supported, whatever follows, a
+/// `define-sort` with parameters, or makes declarations global; else for its `Form`.
+pub fn read_command(tree: Tree) -> Result<Command, CommandFlaw>
     ensures { MatchResult result (λ command. commands.command_of (sexp_of tree) ≡ Ok (command_view command))
-        (λ fault. commands.command_of (sexp_of tree) ≡ Err fault) }
+        (λ flaw. commands.command_of (sexp_of tree) ≡ Err flaw) }
 {
     let Tree::List(parts) = tree else {
-        return Err(CommandFault::Form);
+        return Err(CommandFlaw::Form);
     };
     let Some((Tree::Reserved(word), rest)) = split_first(parts.as_slice()) else {
-        return Err(CommandFault::Form);
+        return Err(CommandFlaw::Form);
     };
     let word = *word;
     let refusal = refusal(word, rest);
@@ -94,7 +95,8 @@ fn alone(command: Command, parts: Parts) -> Option<Command>
     parts.is_empty().then_some(command)
 }
 
-// The setting of an option: `:print-success` has to be a truth value, and `:global-declarations` has to be `false`.
+// The setting of an option: `:print-success` has to be a truth value, and `:global-declarations` has to be
+// `false`.
 fn option(parts: Parts) -> Option<Command>
     ensures { option_map command_view result ≡ commands.command_with Word.SetOption (parts_view parts) }
 {
@@ -168,7 +170,8 @@ fn abbreviation(parts: Parts) -> Option<Command>
 
 // A command that asks for something, beside models.
 fn query(query: Query, parts: Parts) -> Option<Command>
-    ensures { option_map command_view result ≡ commands.alone (commands.Get (query_view query)) (parts_view parts) }
+    ensures { option_map command_view result
+        ≡ commands.alone (commands.Get (query_view query)) (parts_view parts) }
 {
     alone(Command::Get { query }, parts)
 }
@@ -198,36 +201,36 @@ fn asked_info(parts: Parts) -> Option<Command>
 }
 
 // What is wrong with a list that begins with this word, and is no command.
-fn refusal(word: Word, parts: &[Tree]) -> CommandFault
+fn refusal(word: Word, parts: &[Tree]) -> CommandFlaw
     ensures { result ≡ commands.refusal word (sexps_of parts.now) }
 {
     match word {
         Word::CheckSatAssuming | Word::DeclareDatatype | Word::DeclareDatatypes =>
-            CommandFault::Unsupported,
-        Word::DeclareSort | Word::DefineFunRec | Word::DefineFunsRec => CommandFault::Unsupported,
+            CommandFlaw::Unsupported,
+        Word::DeclareSort | Word::DefineFunRec | Word::DefineFunsRec => CommandFlaw::Unsupported,
         Word::DefineSort => unsupported_if(is_abbreviation(parts)),
         Word::SetOption => unsupported_if(makes_global(parts)),
         Word::Bang | Word::Underscore | Word::As | Word::Binary | Word::Decimal =>
-            CommandFault::Form,
+            CommandFlaw::Form,
         Word::Exists | Word::Hexadecimal | Word::Forall | Word::Let | Word::Match =>
-            CommandFault::Form,
+            CommandFlaw::Form,
         Word::Numeral | Word::Par | Word::String | Word::Assert | Word::CheckSat =>
-            CommandFault::Form,
-        Word::DeclareConst | Word::DeclareFun | Word::DefineFun | Word::Echo => CommandFault::Form,
-        Word::Exit | Word::GetAssertions | Word::GetAssignment => CommandFault::Form,
-        Word::GetInfo | Word::GetModel | Word::GetOption | Word::GetProof => CommandFault::Form,
-        Word::GetUnsatAssumptions | Word::GetUnsatCore | Word::GetValue => CommandFault::Form,
-        Word::Pop | Word::Push | Word::Reset | Word::ResetAssertions => CommandFault::Form,
-        Word::SetInfo | Word::SetLogic => CommandFault::Form,
+            CommandFlaw::Form,
+        Word::DeclareConst | Word::DeclareFun | Word::DefineFun | Word::Echo => CommandFlaw::Form,
+        Word::Exit | Word::GetAssertions | Word::GetAssignment => CommandFlaw::Form,
+        Word::GetInfo | Word::GetModel | Word::GetOption | Word::GetProof => CommandFlaw::Form,
+        Word::GetUnsatAssumptions | Word::GetUnsatCore | Word::GetValue => CommandFlaw::Form,
+        Word::Pop | Word::Push | Word::Reset | Word::ResetAssertions => CommandFlaw::Form,
+        Word::SetInfo | Word::SetLogic => CommandFlaw::Form,
     }
 }
 
-fn unsupported_if(unsupported: bool) -> CommandFault
-    ensures { result ≡ (if unsupported then CommandFault.Unsupported else CommandFault.Form) }
+fn unsupported_if(unsupported: bool) -> CommandFlaw
+    ensures { result ≡ (if unsupported then CommandFlaw.Unsupported else CommandFlaw.Form) }
 {
     if unsupported {
-        CommandFault::Unsupported
+        CommandFlaw::Unsupported
     } else {
-        CommandFault::Form
+        CommandFlaw::Form
     }
 }

@@ -8,28 +8,35 @@ ghost use Rattle.smt_theory.specs.declared.sort.Sort.{Sort};
 ghost use Rattle.smt_theory.specs.declared.theories.Theories.{Theories};
 ghost use Rattle.smt_terms.specs.Assertions.{asserted_in};
 ghost use Rattle.smt_terms.specs.Definitions.{defined_in};
-ghost use Rattle.smt_terms.specs.Signature.{Entry, declared_in, names_of, sort_names_of};
-ghost use Rattle.smt_terms.specs.SortTrees.{abbreviated_in};
+ghost use Rattle.smt_terms.specs.Declarations.{abbreviated_in, declared_in};
+ghost use Rattle.smt_terms.specs.Signature.{Entry, names_of, sort_names_of};
 ghost use Rattle.smt_terms.specs.WellSorted.{AreIntroduced};
-ghost use Rattle.smt_faults.specs.declared.command_fault.CommandFault.TheVariants.{Memory, Term};
-ghost use Rattle.smt_faults.specs.declared.term_fault.TermFault.TheVariants as terms;
-ghost use Rattle.smt_script.specs.Command.{Command, SetLogic, SetPrintSuccess, DeclareConst, DeclareFun, DefineFun, DefineSort, Assert, Push, Pop, Exit};
-ghost use Rattle.smt_script.specs.Stack.{Assertion, HaveNoFault, Numbered, Stands, all_theories, assertions_in_force, depth_in_force, fault_of_effect, has_exited, is_logic_set, is_reset, is_too_late, makes_late, print_success_in_force, signature_in_force, theories_in_force};
-ghost use Rattle.smt_script.specs.Standing.{AreAmong, AreBrought, AreSince, IsAmong, IsBrought, IsLast, Never, abbreviations_of_command, assertions_of_command, is_whole_reset, names_of_command, numbered, popped, pushed, sets_logic, sets_print_success, sets_theories};
+ghost use Rattle.smt_script.specs.Command.{Command, SetLogic, SetPrintSuccess, DeclareConst, DeclareFun};
+ghost use Rattle.smt_script.specs.Command.{DefineFun, DefineSort, Assert, Push, Pop, Exit};
+ghost use Rattle.smt_script.specs.Stack.{Assertion, HaveNoFlaw, Numbered, Stands, all_theories};
+ghost use Rattle.smt_script.specs.Stack.{assertions_in_force, depth_in_force, flaw_of_effect, has_exited};
+ghost use Rattle.smt_script.specs.Stack.{is_logic_set, is_reset, is_too_late, makes_late};
+ghost use Rattle.smt_script.specs.Stack.{print_success_in_force, signature_in_force, theories_in_force};
+ghost use Rattle.smt_script.specs.Standing.{AreAmong, AreBrought, AreSince, IsAmong, IsBrought, IsLast};
+ghost use Rattle.smt_script.specs.Standing.{Never, abbreviations_of_command, assertions_of_command};
+ghost use Rattle.smt_script.specs.Standing.{is_whole_reset, names_of_command, numbered, popped, pushed};
+ghost use Rattle.smt_script.specs.Standing.{sets_logic, sets_print_success, sets_theories};
 
-use smt_terms::laws::{definitions_are_well_sorted, faults_are_no_memory, labels_are_introduced};
+use smt_terms::laws::{definitions_are_well_sorted, labels_are_introduced};
 
-/// Each name in force after commands without a fault is new behind the earlier ones and no operator's, and each definition and label
-/// among them is well sorted over the earlier ones (SMT-LIB 2.6, sections 3.6.5 and 4.2.3).
+/// Each name in force after commands without a fault is new behind the earlier ones and no operator's, and
+/// each definition and label among them is well sorted over the earlier ones (SMT-LIB 2.6, sections 3.6.5 and
+/// 4.2.3).
 pub fn names_in_force_are_introduced()
-    ensures { (commands : List Numbered) → HaveNoFault [] commands → AreIntroduced (signature_in_force commands).theories [] (signature_in_force commands).entries }
+    ensures { (commands : List Numbered) → HaveNoFlaw [] commands
+        → AreIntroduced (signature_in_force commands).theories [] (signature_in_force commands).entries }
 {
     definitions_are_well_sorted();
     labels_are_introduced();
 }
 
 /// A declaration or a definition brings its one name, an assertion its labels, and `define-sort` its one
-/// abbreviation (SMT-LIB 2.6, sections 4.2.3 and 4.2.5).
+/// abbreviation (SMT-LIB 2.6, sections 4.2.3 and 4.2.4).
 pub fn commands_bring_names()
     ensures constants { (earlier : List Numbered) (n : ℕ) (x : List ℕ) (sort : Sexp) (e : Entry)
         → declared_in (signature_in_force earlier) n x Nil sort ≡ Ok e
@@ -84,7 +91,7 @@ pub fn assertions_in_force_stand()
 {}
 
 /// The theories in force are those of the last logic that was set since the last `reset`, or else all
-/// (SMT-LIB 2.6, sections 4.2.1 and 4.2.2).
+/// (SMT-LIB 2.6, section 4.2.1).
 pub fn theories_in_force_are_the_last()
     ensures set { (commands since : List Numbered) (name : List ℕ) (theories : Theories)
         → AreSince is_whole_reset commands since → IsLast sets_theories since (SetLogic name)
@@ -96,7 +103,7 @@ pub fn theories_in_force_are_the_last()
 {}
 
 /// Whether `success` is printed was said by the last command since the last `reset` that sets it, or else at
-/// the start (SMT-LIB 2.6, sections 4.1.7 and 4.2.2).
+/// the start (SMT-LIB 2.6, sections 4.1.7 and 4.2.1).
 pub fn print_success_is_the_last()
     ensures set { (start on : Bool) (commands since : List Numbered) → AreSince is_whole_reset commands since
         → IsLast sets_print_success since (SetPrintSuccess on) → print_success_in_force start commands ≡ on }
@@ -133,7 +140,7 @@ pub fn depth_counts_levels()
         → depth_in_force (commands ++ numbered n (Pop levels) ∷ []) ≡ depth_in_force commands - levels }
     ensures reset { (commands : List Numbered) (c : Numbered) → is_reset c.command ≡ true
         → depth_in_force (commands ++ c ∷ []) ≡ 0 }
-    ensures sum { (commands since : List Numbered) → HaveNoFault [] commands
+    ensures sum { (commands since : List Numbered) → HaveNoFlaw [] commands
         → AreSince is_reset commands since
         → depth_in_force commands + popped since ≡ pushed since }
 {}
@@ -146,13 +153,3 @@ pub fn exited_behind_an_exit()
     ensures found { (commands : List Numbered) → has_exited commands ≡ true
         → (n : ℕ) × IsAmong (numbered n Exit) commands }
 {}
-
-/// No fault of a command's effect is want of memory, be it the command's own or a term's.
-pub fn effects_have_no_want_of_memory()
-    ensures own { (before : List Numbered) (n : ℕ) (command : Command)
-        → fault_of_effect before n command ≡ Some Memory → ⊥ }
-    ensures terms { (before : List Numbered) (n : ℕ) (command : Command)
-        → fault_of_effect before n command ≡ Some (Term terms.Memory) → ⊥ }
-{
-    faults_are_no_memory();
-}

@@ -1,13 +1,17 @@
-//! The stack: what is in force after the commands that took effect.
+//! The stack: what is in force after the commands that took effect. This file knows no answers, and does not
+//! say which commands took effect.
 
-ghost use Rattle.std.specs.Prelude.{◌≡◌, ◌<◌, ◌++◌, ◌∷◌, ◌⊎◌, ◌||◌, ℕ, List, [], None, Some, IfErr, OnOk, OnErr};
+ghost use Rattle.std.specs.Prelude.{◌≡◌, ◌<◌, ◌++◌, ◌∷◌, ◌⊎◌, ◌||◌, ℕ, List, [], None, Some, IfErr, OnOk};
+ghost use Rattle.std.specs.Prelude.{OnErr};
 ghost use Rattle.smt_terms.specs.Contents.{contents_of};
 ghost use Rattle.smt_terms.specs.Library as terms;
 ghost use Rattle.smt_script.specs.CommandView.{command_view};
-ghost use Rattle.smt_script.specs.Stack.{Numbered, assertions_in_force, depth_in_force, fault_of_effect, has_exited, print_success_in_force, signature_in_force};
+ghost use Rattle.smt_script.specs.Stack.{Numbered, assertions_in_force, depth_in_force, flaw_of_effect};
+ghost use Rattle.smt_script.specs.Stack.{has_exited, print_success_in_force, signature_in_force};
 ghost use Rattle.smt_script.specs.Stack as stack;
-ghost use Rattle.smt_script.specs.StackView.{AreAssertions, StandsFor, last_of, library_of, start_of};
-ghost use Rattle.smt_faults.specs.declared.command_fault.CommandFault.TheVariants.{Memory};
+ghost use Rattle.smt_script.specs.StackView.{AreAssertions, StandsFor, last_of, library_of};
+ghost use Rattle.smt_script.specs.StackView.{initial_print_success_of};
+ghost use Rattle.smt_faults.specs.Outcome.{TellsCommand};
 
 mod effects;
 mod levels;
@@ -31,7 +35,8 @@ pub struct Assertion {
 pub struct LogicState {
     /// Whether one is set.
     pub(crate) set: bool,
-    /// Whether it is too late to set one: a command came that declares, defines, asserts, changes levels or checks.
+    /// Whether it is too late to set one: a command came that declares, defines, asserts, changes levels or
+    /// checks.
     pub(crate) late: bool,
 }
 
@@ -44,8 +49,8 @@ impl LogicState {
     }
 }
 
-/// What is in force after commands that took effect: theories, names, assertions and assertion levels (SMT-LIB 2.6, sections 4.1.1 and
-/// 4.1.4).
+/// What is in force after commands that took effect: theories, names, assertions and assertion levels
+/// (SMT-LIB 2.6, sections 4.1.1, 4.1.4 and 4.2.2).
 #[derive(Drop)]
 pub struct Stack {
     alloc: Global,
@@ -56,7 +61,7 @@ pub struct Stack {
     logic: LogicState,
     /// Whether `success` is printed: now, and at the start.
     print_success: bool,
-    start: bool,
+    initial_print_success: bool,
     exited: bool,
     /// The number of the last command that was applied, 0 before the first.
     last: u64,
@@ -73,11 +78,12 @@ pub fn all_theories() -> Theories
 }
 
 impl Stack {
-    /// A stack before any command: all theories, and nothing in force. `start` says whether `success` is printed.
-    pub fn new(alloc: Global, start: bool) -> Self
+    /// A stack before any command: all theories, and nothing in force. `initial_print_success` says whether
+    /// `success` is printed.
+    pub fn new(alloc: Global, initial_print_success: bool) -> Self
         ensures stands { StandsFor result [] }
         ensures last { last_of result ≡ 0 }
-        ensures start { start_of result ≡ start }
+        ensures start { initial_print_success_of result ≡ initial_print_success }
     {
         Stack {
             alloc,
@@ -88,8 +94,8 @@ impl Stack {
                 set: false,
                 late: false,
             },
-            print_success: start,
-            start,
+            print_success: initial_print_success,
+            initial_print_success,
             exited: false,
             last: 0,
         }
@@ -97,7 +103,8 @@ impl Stack {
 
     /// The theories, abbreviations and names in force, and the terms of the assertions.
     pub fn library(&self) -> &Library
-        ensures stands { (commands : List Numbered) → StandsFor self.now commands → terms.StandsFor result.now (signature_in_force commands) }
+        ensures stands { (commands : List Numbered) → StandsFor self.now commands
+            → terms.StandsFor result.now (signature_in_force commands) }
         ensures view { result.now ≡ library_of self.now }
     {
         &self.library
@@ -105,62 +112,74 @@ impl Stack {
 
     /// The assertions in force, in order. Their terms are those of `library`.
     pub fn assertions(&self) -> &[Assertion]
-        ensures { (commands : List Numbered) → StandsFor self.now commands → AreAssertions (contents_of (library_of self.now)) result.now (assertions_in_force commands) }
+        ensures { (commands : List Numbered) → StandsFor self.now commands
+            → AreAssertions (contents_of (library_of self.now)) result.now (assertions_in_force commands) }
     {
         self.assertions.as_slice()
     }
 
     /// How many assertion levels there are beside the first, from 0 to 10,000 (SMT-LIB 2.6, section 4.1.4).
     pub fn depth(&self) -> u64
-        ensures { (commands : List Numbered) → StandsFor self.now commands → result ≡ depth_in_force commands }
+        ensures { (commands : List Numbered) → StandsFor self.now commands
+            → result ≡ depth_in_force commands }
     {
         self.levels.len() as u64
     }
 
-    /// Whether the solver prints `success` for the next command that has no answer of its own (SMT-LIB 2.6, section 4.1.7): as the last
-    /// command said that set it since the last `reset`, or else as at the start.
+    /// Whether the solver prints `success` for the next command that has no answer of its own (SMT-LIB 2.6,
+    /// section 4.1.7): as the last command said that set it since the last `reset`, or else as at the start.
     pub fn print_success(&self) -> bool
-        ensures { (commands : List Numbered) → StandsFor self.now commands → result ≡ print_success_in_force (start_of self.now) commands }
+        ensures { (commands : List Numbered) → StandsFor self.now commands
+            → result ≡ print_success_in_force (initial_print_success_of self.now) commands }
     {
         self.print_success
     }
 
-    /// Whether an `exit` was applied.
+    /// Whether an `exit` was applied (SMT-LIB 2.6, section 4.2.1).
     pub fn exited(&self) -> bool
         ensures { (commands : List Numbered) → StandsFor self.now commands → result ≡ has_exited commands }
     {
         self.exited
     }
 
-    /// Applies a command that took effect, the one of this number; commands count from 1, and their numbers grow. Refused are a
-    /// command whose effect has a fault, and want of memory; then what is in force stays as it is. The faults of effects are:
+    /// Applies a command that took effect, the one of this number; commands count from 1, and their numbers
+    /// grow. Refused are a command whose effect has a fault, and want of memory; then what is in force stays
+    /// as it is. The faults of effects are:
     ///
-    /// - `SetLogic`: `Logic` for a name that isn't taken, and after a command that set a logic, declared, defined, asserted, changed
-    ///   levels or checked, since the start or the last `Reset` (SMT-LIB 2.6, sections 4.1.1 and 4.2.1).
-    /// - `DeclareConst`, `DeclareFun`: `Term` with `NotFresh` for a name that is in use or is a plain operator's, and with the fault of
-    ///   the first tree that names no sort of the theories in force (section 4.2.3).
-    /// - `DefineFun`: the same for its name; then, parameter by parameter, `Term` with the fault of the tree of its sort and with
-    ///   `BoundTwice` for a name that an earlier one has; then with the fault of the tree of the result's sort, with the first fault of
-    ///   the body, which sees the parameters and not the name, and with `IllSorted` for a body of another sort (section 4.2.3).
-    /// - `DefineSort`: `Term` with `NotFresh` for a name that abbreviates a sort, `Bool` and `Int`, and then with the fault of a tree that
-    ///   names no sort (section 4.2.3).
-    /// - `Assert`: `Term` with the first fault of its term, that of a label among them, and then with `IllSorted` for a term that is no
-    ///   formula (sections 3.6.5 and 4.2.5).
-    /// - `Push`: `TooDeep` where there would be more than 10,000 levels. `Pop`: `NoLevel` where it removes more than there are
-    ///   (section 4.1.4).
+    /// - `SetLogic`: `Logic` for a name that isn't taken, and after a command that set a logic, declared,
+    ///   defined, asserted, changed levels or checked, since the start or the last `Reset` (SMT-LIB 2.6,
+    ///   sections 4.1.1 and 4.2.1).
+    /// - `DeclareConst`, `DeclareFun`: `Term` with `NotFresh` for a name that is in use or is a plain
+    ///   operator's, and with the fault of the first tree that names no sort of the theories in force
+    ///   (section 4.2.3).
+    /// - `DefineFun`: the same for its name; then, parameter by parameter, `Term` with the fault of the tree
+    ///   of its sort and with `BoundTwice` for a name that an earlier one has; then with the fault of the
+    ///   tree of the result's sort, with the first fault of the body, which sees the parameters and not the
+    ///   name, and with `IllSorted` for a body of another sort (section 4.2.3).
+    /// - `DefineSort`: `Term` with `NotFresh` for a name that abbreviates a sort, `Bool` and `Int`, and then
+    ///   with the fault of a tree that names no sort (section 4.2.3).
+    /// - `Assert`: `Term` with the first fault of its term, that of a label among them, and then with
+    ///   `IllSorted` for a term that is no formula (sections 3.6.5 and 4.2.4).
+    /// - `Push`: `TooDeep` where there would be more than 10,000 levels. `Pop`: `NoLevel` where it removes
+    ///   more than there are (section 4.2.2).
     ///
-    /// The others have none. `Pop` removes what came at the levels that it removes, and takes time for that alone. The term of an
-    /// assertion is moved into the library, and not copied.
+    /// The others have none. `Pop` removes what came at the levels that it removes, and takes time for that
+    /// alone. The term of an assertion is moved into the library, and not copied.
     pub fn take(&mut self, number: u64, command: Command) -> Result<(), CommandFault>
         requires { last_of self.old < number }
-        ensures faultless { OnOk result ((commands : List Numbered) → StandsFor self.old commands → fault_of_effect commands number (command_view command) ≡ None) }
+        ensures faultless { OnOk result
+            ((commands : List Numbered) → StandsFor self.old commands
+            → flaw_of_effect commands number (command_view command) ≡ None) }
         ensures applied { OnOk result ((commands : List Numbered) → StandsFor self.old commands
-            → StandsFor self.new (commands ++ record { number = number; command = command_view command } ∷ [])) }
+            → StandsFor self.new (commands ++ record { number = number; command = command_view command }
+            ∷ [])) }
         ensures last { OnOk result (last_of self.new ≡ number) }
         ensures refused { IfErr result (λ fault. (commands : List Numbered) → StandsFor self.old commands
-            → (fault ≡ Memory) ⊎ (fault_of_effect commands number (command_view command) ≡ Some fault)) }
-        ensures unchanged { OnErr result (((commands : List Numbered) → StandsFor self.old commands → StandsFor self.new commands) × (last_of self.new ≡ last_of self.old)) }
-        ensures start { start_of self.new ≡ start_of self.old }
+            → TellsCommand (flaw_of_effect commands number (command_view command)) fault) }
+        ensures unchanged { OnErr result
+            (((commands : List Numbered) → StandsFor self.old commands → StandsFor self.new commands)
+            × (last_of self.new ≡ last_of self.old)) }
+        ensures start { initial_print_success_of self.new ≡ initial_print_success_of self.old }
     {
         match command {
             Command::Assert { term } => {
@@ -169,7 +188,8 @@ impl Stack {
                 self.last = number;
                 Ok(())
             }
-            // dropped by name: what the prover has to say of a drop at the end, variant by variant, takes it long
+            // dropped by name: what the prover has to say of a drop at the end, variant by variant, takes it
+            // long
             command => {
                 let outcome = self.apply(number, &command);
                 drop(command);
@@ -181,14 +201,19 @@ impl Stack {
     /// As `take`, but leaves the command whole: the term of an assertion is copied.
     pub fn apply(&mut self, number: u64, command: &Command) -> Result<(), CommandFault>
         requires { last_of self.old < number }
-        ensures faultless { OnOk result ((commands : List Numbered) → StandsFor self.old commands → fault_of_effect commands number (command_view command.now) ≡ None) }
+        ensures faultless { OnOk result
+            ((commands : List Numbered) → StandsFor self.old commands
+            → flaw_of_effect commands number (command_view command.now) ≡ None) }
         ensures applied { OnOk result ((commands : List Numbered) → StandsFor self.old commands
-            → StandsFor self.new (commands ++ record { number = number; command = command_view command.now } ∷ [])) }
+            → StandsFor self.new (commands ++ record { number = number; command = command_view command.now }
+            ∷ [])) }
         ensures last { OnOk result (last_of self.new ≡ number) }
         ensures refused { IfErr result (λ fault. (commands : List Numbered) → StandsFor self.old commands
-            → (fault ≡ Memory) ⊎ (fault_of_effect commands number (command_view command.now) ≡ Some fault)) }
-        ensures unchanged { OnErr result (((commands : List Numbered) → StandsFor self.old commands → StandsFor self.new commands) × (last_of self.new ≡ last_of self.old)) }
-        ensures start { start_of self.new ≡ start_of self.old }
+            → TellsCommand (flaw_of_effect commands number (command_view command.now)) fault) }
+        ensures unchanged { OnErr result
+            (((commands : List Numbered) → StandsFor self.old commands → StandsFor self.new commands)
+            × (last_of self.new ≡ last_of self.old)) }
+        ensures start { initial_print_success_of self.new ≡ initial_print_success_of self.old }
     {
         self.take_effect(number, command)?;
         self.note(command);

@@ -21,7 +21,7 @@ use Rattle.smt_forms.specs.Labels.{labels_in}
 use Rattle.smt_terms.specs.Library.{StandsFor}
 use Rattle.smt_terms.specs.Signature.{Entry, Names, Rank, Signature, behind, in_assertion, names_of}
 use Rattle.smt_terms.specs.Signature.{rank_of_entry, with_entries, with_entry}
-use Rattle.smt_faults.specs.declared.term_fault.TermFault.TheVariants.{IllSorted}
+use Rattle.smt_faults.specs.declared.term_flaw.TermFlaw.TheVariants.{IllSorted}
 use Rattle.smt_terms.specs.declared.labels.Label.{Label}
 use Rattle.smt_terms.specs.declared.labels.Labels.{Labels}
 use Rattle.smt_terms.specs.declared.library.Library.{Library}

@@ -1,17 +1,19 @@
 -- Terms that bind variables, and annotated terms, one step at a time.
-use Rattle.std.proofs.Common.{◌≡◌, ◌⊎◌, ℕ, Bool, true, false, cond, List, [], ◌∷◌, ◌++◌, Option, Some, None}
+use Rattle.std.proofs.Common.{◌≡◌, ℕ, Bool, true, false, cond, List, [], ◌∷◌, ◌++◌, Option, Some, None}
 use Rattle.std.proofs.Common.{is_some, Result, Ok, Err, refl, ap, sym, ◌∙◌, inl, inr}
 use Rattle.smt_trees.specs.Sexp.{Sexp, Sexps, Atom, Reserved, Items, Nil, Cons, Symbol}
 use Rattle.smt_trees.specs.declared.reserved.Word.TheVariants.{Bang, Let}
 use Rattle.smt_theory.specs.Words.{look_up, result_and_then}
 use Rattle.smt_theory.specs.declared.sort.Sort.{Sort}
 use Rattle.smt_forms.specs.Bindings.{are_attributes, are_bindings}
-use Rattle.smt_terms.specs.Checking.{bound_in, fault_of_labels, sort_in, unless}
+use Rattle.smt_terms.specs.Checking.{bound_in, flaw_of_labels, sort_in, unless}
 use Rattle.smt_forms.specs.Labels.{labels_among, labels_in, labels_in_bindings}
 use Rattle.smt_terms.specs.Signature.{Names, behind}
-use Rattle.smt_faults.specs.declared.term_fault.TermFault.{TermFault}
-use Rattle.smt_faults.specs.declared.term_fault.TermFault.TheVariants.{BoundTwice, Form, Memory}
+use Rattle.smt_faults.specs.declared.term_flaw.TermFlaw.{TermFlaw}
+use Rattle.smt_faults.specs.declared.term_flaw.TermFlaw.TheVariants.{BoundTwice, Form}
 use Rattle.smt_terms.proofs.CheckerLemmas.{Scope}
+use Rattle.smt_faults.specs.Outcome.{Tells, TellsSome, flaw_told}
+use Rattle.smt_faults.specs.declared.term_fault.TermFault.{TermFault}
 
 -- ## Bindings
 
@@ -37,19 +39,19 @@ bound_in-twice names scope bound x term rest left split twice = rw (split, twice
 -- a fault of a term
 pub bound_in-fault : (names : Names) (scope bound : Scope) (x : List ℕ) (term : Sexp) (rest left : Sexps)
     (e : TermFault) → left ≡ Cons (binding x term) rest
-    → is_some (look_up bound x) ≡ false → (e ≡ Memory) ⊎ (sort_in names scope term ≡ Err e)
-    → (e ≡ Memory) ⊎ (bound_in names scope bound left ≡ Err e)
+    → is_some (look_up bound x) ≡ false → Tells (sort_in names scope term) e
+    → Tells (bound_in names scope bound left) e
 bound_in-fault names scope bound x term rest left e split new (inl m) = inl m
 bound_in-fault names scope bound x term rest left e split new (inr is) = inr (rw (split, new, is) refl)
 
 -- ## Lets
 
 -- the sort of a `let` of these arguments
-abbrev pub let_in : Names → Scope → Sexps → Result Sort TermFault
+abbrev pub let_in : Names → Scope → Sexps → Result Sort TermFlaw
 let_in names scope args = sort_in names scope (Items (Cons (Reserved Let) args))
 
 -- the sort of its body over the variables
-abbrev body_in : Names → Scope → Sexps → Sexp → Scope → Result Sort TermFault
+abbrev body_in : Names → Scope → Sexps → Sexp → Scope → Result Sort TermFlaw
 body_in names scope bindings body bound =
     sort_in (behind (labels_in_bindings bindings) names) (bound ++ scope) body
 
@@ -67,8 +69,8 @@ let_with_parts names scope args bindings body b split is =
 -- a fault of the bindings is its fault
 pub fault_of_bindings : (names : Names) (scope : Scope) (args bindings : Sexps) (body : Sexp) (e : TermFault)
     → args ≡ Cons (Items bindings) (Cons body Nil) → are_bindings bindings ≡ true
-    → (e ≡ Memory) ⊎ (bound_in names scope [] bindings ≡ Err e)
-    → (e ≡ Memory) ⊎ (let_in names scope args ≡ Err e)
+    → Tells (bound_in names scope [] bindings) e
+    → Tells (let_in names scope args) e
 fault_of_bindings names scope args bindings body e split is (inl m) = inl m
 fault_of_bindings names scope args bindings body e split is (inr h) =
     inr (let_with_parts names scope args bindings body true split is ∙ ap
@@ -89,13 +91,13 @@ let_of_body names later scope inner bound args bindings body next split is h mor
 -- ## Annotated terms
 
 -- the sort of a term annotated so
-abbrev pub bang_in : Names → Scope → Sexps → Result Sort TermFault
+abbrev pub bang_in : Names → Scope → Sexps → Result Sort TermFlaw
 bang_in names scope args = sort_in names scope (Items (Cons (Reserved Bang) args))
 
 -- the same, where the term has this sort
-abbrev labelled_in : Names → Scope → Sexps → Sexp → Sort → Result Sort TermFault
+abbrev labelled_in : Names → Scope → Sexps → Sexp → Sort → Result Sort TermFlaw
 labelled_in names scope attributes term sort =
-    unless (fault_of_labels (behind (labels_in term) names) scope term (labels_among attributes)) (Ok sort)
+    unless (flaw_of_labels (behind (labels_in term) names) scope term (labels_among attributes)) (Ok sort)
 
 bang_with_parts : (names : Names) (scope : Scope) (args attributes : Sexps) (term : Sexp) (b : Bool)
     → args ≡ Cons term attributes → are_attributes attributes ≡ b
@@ -110,7 +112,7 @@ bang_with_parts names scope args attributes term b split is =
 -- a fault of the term is its fault
 pub fault_of_annotated : (names : Names) (scope : Scope) (args attributes : Sexps) (term : Sexp)
     (e : TermFault) → args ≡ Cons term attributes → are_attributes attributes ≡ true
-    → (e ≡ Memory) ⊎ (sort_in names scope term ≡ Err e) → (e ≡ Memory) ⊎ (bang_in names scope args ≡ Err e)
+    → Tells (sort_in names scope term) e → Tells (bang_in names scope args) e
 fault_of_annotated names scope args attributes term e split is (inl m) = inl m
 fault_of_annotated names scope args attributes term e split is (inr h) =
     inr (bang_with_parts names scope args attributes term true split is ∙ ap
@@ -118,19 +120,19 @@ fault_of_annotated names scope args attributes term e split is (inr h) =
 
 -- and then that of its labels
 annotated_by : (names later : Names) (scope : Scope) (args attributes : Sexps) (term : Sexp) (sort : Sort)
-    (o : Option TermFault) → later ≡ behind (labels_in term) names → args ≡ Cons term attributes
+    (o : Option TermFlaw) → later ≡ behind (labels_in term) names → args ≡ Cons term attributes
     → are_attributes attributes ≡ true
-    → sort_in names scope term ≡ Ok sort → fault_of_labels later scope term (labels_among attributes) ≡ o
+    → sort_in names scope term ≡ Ok sort → flaw_of_labels later scope term (labels_among attributes) ≡ o
     → bang_in names scope args ≡ unless o (Ok sort)
 annotated_by names later scope args attributes term sort o next split is h fault =
     bang_with_parts names scope args attributes term true split is ∙ ap
     (λ r. result_and_then r (labelled_in names scope attributes term)) h
-    ∙ ap (λ (ns : Names). unless (fault_of_labels ns scope term (labels_among attributes)) (Ok sort))
+    ∙ ap (λ (ns : Names). unless (flaw_of_labels ns scope term (labels_among attributes)) (Ok sort))
     (sym next) ∙ ap (λ p. unless p (Ok sort)) fault
 
 pub annotated : (names later : Names) (scope : Scope) (args attributes : Sexps) (term : Sexp) (sort : Sort)
     → later ≡ behind (labels_in term) names → args ≡ Cons term attributes → are_attributes attributes ≡ true
-    → sort_in names scope term ≡ Ok sort → fault_of_labels later scope term (labels_among attributes) ≡ None
+    → sort_in names scope term ≡ Ok sort → flaw_of_labels later scope term (labels_among attributes) ≡ None
     → bang_in names scope args ≡ Ok sort
 annotated names later scope args attributes term sort =
     annotated_by names later scope args attributes term sort None
@@ -139,8 +141,8 @@ pub fault_of_annotation : (names later : Names) (scope : Scope) (args attributes
     (sort : Sort) (e : TermFault) → later ≡ behind (labels_in term) names → args ≡ Cons term attributes
     → are_attributes attributes ≡ true
     → sort_in names scope term ≡ Ok sort
-    → (e ≡ Memory) ⊎ (fault_of_labels later scope term (labels_among attributes) ≡ Some e)
-    → (e ≡ Memory) ⊎ (bang_in names scope args ≡ Err e)
+    → TellsSome (flaw_of_labels later scope term (labels_among attributes)) e
+    → Tells (bang_in names scope args) e
 fault_of_annotation names later scope args attributes term sort e next split is h (inl m) = inl m
 fault_of_annotation names later scope args attributes term sort e next split is h (inr fault) =
-    inr (annotated_by names later scope args attributes term sort (Some e) next split is h fault)
+    inr (annotated_by names later scope args attributes term sort (Some (flaw_told e)) next split is h fault)

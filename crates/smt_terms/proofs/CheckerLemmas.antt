@@ -1,29 +1,31 @@
 -- Sorts of lists, one step at a time.
-use Rattle.std.proofs.Common.{◌≡◌, ◌⊎◌, ℕ, true, false, List, [], ◌∷◌, ◌++◌, Option, Some, None, is_some}
+use Rattle.std.proofs.Common.{◌≡◌, ℕ, true, false, List, [], ◌∷◌, ◌++◌, Option, Some, None, is_some}
 use Rattle.std.proofs.Common.{Result, Ok, Err, refl, sym, ap, ◌∙◌, append_assoc, inl, inr, length, arith}
-use Rattle.std.proofs.Common.{MatchResult}
 use Rattle.smt_trees.specs.Sexp.{Sexp, Sexps, Reserved, Items, Cons, count}
 use Rattle.smt_trees.specs.Tree.{sexps_of}
 use Rattle.smt_trees.specs.declared.tree.Tree.{Tree}
 use Rattle.smt_trees.specs.declared.reserved.Word.TheVariants.{Bang, Let, Underscore}
 use Rattle.smt_theory.specs.Words.{look_up, result_and_then}
 use Rattle.smt_theory.specs.declared.sort.Sort.{Sort}
-use Rattle.smt_forms.specs.Heads.{is_underscore_tree}
+use Rattle.smt_forms.specs.Heads.{begins_indexed}
 use Rattle.smt_terms.specs.Checking.{sort_in, sorts_in, sort_applied, sort_of_call, sort_unless_variable}
 use Rattle.smt_forms.specs.Identifier.{Identifier, Plain, Indexed, applied, indexed}
-use Rattle.smt_forms.specs.Heads.{is_bang_tree, is_let_tree}
+use Rattle.smt_forms.specs.Heads.{begins_annotated, begins_let}
 use Rattle.smt_terms.specs.Internal.Calls.{names_variable}
 use Rattle.smt_forms.specs.Labels.{labels_in}
 use Rattle.smt_terms.specs.Signature.{Names, behind}
+use Rattle.smt_faults.specs.declared.term_flaw.TermFlaw.{TermFlaw}
+use Rattle.smt_faults.specs.declared.term_flaw.TermFlaw.TheVariants.{IllSorted}
+use Rattle.smt_faults.specs.Faults.{flaw_of_term_fault}
+use Rattle.smt_faults.specs.Outcome.{IsOutcome, Tells}
 use Rattle.smt_faults.specs.declared.term_fault.TermFault.{TermFault}
-use Rattle.smt_faults.specs.declared.term_fault.TermFault.TheVariants.{IllSorted, Memory}
 
 -- variables with their sorts
 abbrev pub Scope : Type 0
 Scope = List (List ℕ × Sort)
 
 -- the sorts of all are those that are done, and then those of the trees that are left
-abbrev pub sorts_behind : Names → Scope → List Sort → Sexps → Result (List Sort) TermFault
+abbrev pub sorts_behind : Names → Scope → List Sort → Sexps → Result (List Sort) TermFlaw
 sorts_behind names scope before left = result_and_then (sorts_in names scope left) (λ ss. Ok (before ++ ss))
 
 -- at first no sort is done
@@ -31,7 +33,7 @@ pub sorts_behind-start : (names : Names) (scope : Scope) (before : List Sort) (l
     → sorts_in names scope left ≡ sorts_behind names scope before left
 sorts_behind-start names scope before left none = rw none (by (sorts_in names scope left))
   where
-    by : (r : Result (List Sort) TermFault) → r ≡ result_and_then r (λ ss. Ok ([] ++ ss))
+    by : (r : Result (List Sort) TermFlaw) → r ≡ result_and_then r (λ ss. Ok ([] ++ ss))
     by (Ok ss) = refl
     by (Err f) = refl
 
@@ -43,7 +45,7 @@ pub sorts_behind-next : (names later : Names) (scope : Scope) (before after : Li
 sorts_behind-next names later scope before after x xs left sort next split is more =
     rw (split, is, more, next) (by (sorts_in (behind (labels_in x) names) scope xs))
   where
-    by : (r : Result (List Sort) TermFault)
+    by : (r : Result (List Sort) TermFlaw)
         → result_and_then (result_and_then r (λ ss. Ok (sort ∷ ss))) (λ ss. Ok (before ++ ss))
         ≡ result_and_then r (λ ss. Ok ((before ++ sort ∷ []) ++ ss))
     by (Ok ss) = ap Ok (sym (append_assoc before (sort ∷ []) ss))
@@ -51,34 +53,34 @@ sorts_behind-next names later scope before after x xs left sort next split is mo
 
 -- a fault of one sort is that of all
 pub sorts_behind-fault : (names : Names) (scope : Scope) (before : List Sort) (x : Sexp) (xs left : Sexps)
-    (e : TermFault) → left ≡ Cons x xs → (e ≡ Memory) ⊎ (sort_in names scope x ≡ Err e)
-    → (e ≡ Memory) ⊎ (sorts_behind names scope before left ≡ Err e)
+    (e : TermFault) → left ≡ Cons x xs → Tells (sort_in names scope x) e
+    → Tells (sorts_behind names scope before left) e
 sorts_behind-fault names scope before x xs left e split (inl m) = inl m
 sorts_behind-fault names scope before x xs left e split (inr is) = inr (rw (split, is) refl)
 
 -- a head that is `_`
-pub underscore_head : (head : Sexp) → is_underscore_tree head ≡ true → head ≡ Reserved Underscore
+pub underscore_head : (head : Sexp) → begins_indexed head ≡ true → head ≡ Reserved Underscore
 underscore_head (Reserved Underscore) h = refl
 underscore_head _ h = cc
 
 -- so is one that is `let`, and one that is `!`
-pub let_head : (head : Sexp) → is_let_tree head ≡ true → head ≡ Reserved Let
+pub let_head : (head : Sexp) → begins_let head ≡ true → head ≡ Reserved Let
 let_head (Reserved Let) h = refl
 let_head _ h = cc
 
-pub bang_head : (head : Sexp) → is_bang_tree head ≡ true → head ≡ Reserved Bang
+pub bang_head : (head : Sexp) → begins_annotated head ≡ true → head ≡ Reserved Bang
 bang_head (Reserved Bang) h = refl
 bang_head _ h = cc
 
 -- a head that is none of these
 pub record IsPlainHead (head : Sexp) : Type 0 where
-  pub no_index : is_underscore_tree head ≡ false
-  pub no_let : is_let_tree head ≡ false
-  pub no_bang : is_bang_tree head ≡ false
+  pub no_index : begins_indexed head ≡ false
+  pub no_let : begins_let head ≡ false
+  pub no_bang : begins_annotated head ≡ false
 
 -- a list with another head applies an identifier, or is out of form
 pub other_head : (names : Names) (scope : Scope) (head : Sexp) (args : Sexps)
-    → is_underscore_tree head ≡ false → is_let_tree head ≡ false → is_bang_tree head ≡ false
+    → begins_indexed head ≡ false → begins_let head ≡ false → begins_annotated head ≡ false
     → sort_in names scope (Items (Cons head args))
     ≡ result_and_then (applied head args)
     (λ f. result_and_then (sorts_in names scope args) (λ ss. sort_of_call names scope f ss))
@@ -123,8 +125,8 @@ applied_ok names scope head args parts f ss split other is done =
 
 -- a fault of the form is the list's
 pub fault_of_form : (names : Names) (scope : Scope) (head : Sexp) (args parts : Sexps) (e : TermFault)
-    → parts ≡ Cons head args → IsPlainHead head → (e ≡ Memory) ⊎ (applied head args ≡ Err e)
-    → (e ≡ Memory) ⊎ (sort_in names scope (Items parts) ≡ Err e)
+    → parts ≡ Cons head args → IsPlainHead head → Tells (applied head args) e
+    → Tells (sort_in names scope (Items parts)) e
 fault_of_form names scope head args parts e split other (inl m) = inl m
 fault_of_form names scope head args parts e split other (inr is) =
     inr (ap (λ ps. sort_in names scope (Items ps)) split ∙ other_head names scope head args other.no_index
@@ -135,8 +137,8 @@ fault_of_form names scope head args parts e split other (inr is) =
 -- and one of the arguments
 pub fault_of_args : (names : Names) (scope : Scope) (head : Sexp) (args parts : Sexps) (f : Identifier)
     (e : TermFault) → parts ≡ Cons head args → IsPlainHead head → applied head args ≡ Ok f
-    → (e ≡ Memory) ⊎ (sorts_in names scope args ≡ Err e)
-    → (e ≡ Memory) ⊎ (sort_in names scope (Items parts) ≡ Err e)
+    → Tells (sorts_in names scope args) e
+    → Tells (sort_in names scope (Items parts)) e
 fault_of_args names scope head args parts f e split other is (inl m) = inl m
 fault_of_args names scope head args parts f e split other is (inr done) =
     inr (ap (λ ps. sort_in names scope (Items ps)) split ∙ other_head names scope head args other.no_index
@@ -147,31 +149,29 @@ fault_of_args names scope head args parts f e split other is (inr done) =
 
 -- the sort of an identifier with indexes alone
 pub indexed_ok : (names : Names) (scope : Scope) (head : Sexp) (args parts : Sexps) (f : Identifier)
-    → parts ≡ Cons head args → is_underscore_tree head ≡ true → indexed args ≡ Ok f
+    → parts ≡ Cons head args → begins_indexed head ≡ true → indexed args ≡ Ok f
     → sort_in names scope (Items parts) ≡ sort_applied names f []
 indexed_ok names scope head args parts f split is_head is =
     ap (λ ps. sort_in names scope (Items ps)) (split ∙ ap (λ h. Cons h args) (underscore_head head is_head)) ∙
     ap (λ r. result_and_then r (λ g. sort_applied names g [])) is
 
 pub fault_of_indexed : (names : Names) (scope : Scope) (head : Sexp) (args parts : Sexps) (e : TermFault)
-    → parts ≡ Cons head args → is_underscore_tree head ≡ true → (e ≡ Memory) ⊎ (indexed args ≡ Err e)
-    → (e ≡ Memory) ⊎ (sort_in names scope (Items parts) ≡ Err e)
+    → parts ≡ Cons head args → begins_indexed head ≡ true → Tells (indexed args) e
+    → Tells (sort_in names scope (Items parts)) e
 fault_of_indexed names scope head args parts e split is_head (inl m) = inl m
 fault_of_indexed names scope head args parts e split is_head (inr is) =
     inr (ap (λ ps. sort_in names scope (Items ps))
     (split ∙ ap (λ h. Cons h args) (underscore_head head is_head)) ∙ ap
     (λ r. result_and_then r (λ g. sort_applied names g [])) is)
 
--- what a result says of an answer that it is
-pub told : {A : Type 0} (r s : Result A TermFault) → s ≡ r
-    → MatchResult r (λ v. s ≡ Ok v) (λ f. (f ≡ Memory) ⊎ (s ≡ Err f))
-told (Ok v) s e = e
-told (Err f) s e = inr e
+-- a flaw that is expected is told by the fault that it is made to
+pub told : {A : Type 0} (expected : Result A TermFlaw) (flaw : TermFlaw) (fault : TermFault)
+    → expected ≡ Err flaw → flaw_of_term_fault fault ≡ Some flaw → Tells expected fault
+told expected flaw fault is made = inr (rw (is, made) refl)
 
--- and of one that is the same
-pub carried : {A : Type 0} (r s t : Result A TermFault) → t ≡ s
-    → MatchResult r (λ v. s ≡ Ok v) (λ f. (f ≡ Memory) ⊎ (s ≡ Err f))
-    → MatchResult r (λ v. t ≡ Ok v) (λ f. (f ≡ Memory) ⊎ (t ≡ Err f))
+-- an outcome is that of what is the same
+pub carried : {A : Type 0} (r : Result A TermFault) (s t : Result A TermFlaw) → t ≡ s
+    → IsOutcome (λ v. v) s r → IsOutcome (λ v. v) t r
 carried (Ok v) s t e h = e ∙ h
 carried (Err f) s t e (inl m) = inl m
 carried (Err f) s t e (inr h) = inr (e ∙ h)

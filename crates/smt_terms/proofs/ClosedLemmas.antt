@@ -11,15 +11,15 @@ use Rattle.smt_trees.specs.declared.reserved.Word.TheVariants.{Bang, Let, Unders
 use Rattle.smt_theory.specs.Words.{look_up, result_and_then}
 use Rattle.smt_theory.specs.declared.sort.Sort.{Sort}
 use Rattle.smt_forms.specs.Bindings.{are_attributes, are_bindings, named_trees}
-use Rattle.smt_terms.specs.Checking.{bound_in, fault_of_labels, sort_applied, sort_in, sort_of_call}
+use Rattle.smt_terms.specs.Checking.{bound_in, flaw_of_labels, sort_applied, sort_in, sort_of_call}
 use Rattle.smt_terms.specs.Checking.{sort_of_symbol, sort_unless_variable, sorts_in, unless}
 use Rattle.smt_forms.specs.Identifier.{Identifier, Plain, Indexed, applied}
 use Rattle.smt_terms.specs.Labels.{Unread}
 use Rattle.smt_forms.specs.Variables.{any_uses_outer, bindings_use_outer, is_among, uses_outer}
 use Rattle.smt_forms.specs.Labels.{labels_among, labels_in, labels_in_bindings}
 use Rattle.smt_terms.specs.Signature.{Names, behind}
-use Rattle.smt_faults.specs.declared.term_fault.TermFault.{TermFault}
-use Rattle.smt_faults.specs.declared.term_fault.TermFault.TheVariants.{BoundTwice, Form}
+use Rattle.smt_faults.specs.declared.term_flaw.TermFlaw.{TermFlaw}
+use Rattle.smt_faults.specs.declared.term_flaw.TermFlaw.TheVariants.{BoundTwice, Form}
 use Rattle.smt_terms.proofs.CheckerLemmas.{Scope}
 use Rattle.smt_terms.proofs.KeptLemmas.{Unread-behind, answered, kept-else, kept-steps, kept-then}
 use Rattle.smt_terms.proofs.KeptLemmas.{unless-none, unread_faults}
@@ -65,7 +65,7 @@ inner_none (v ∷ inner) outer x h = by (bytes_eq x v.0) h (inner_none inner out
     by true g rest = cc
     by false g rest = rest g
 
-closed-unless : (o p : Option Sort) (r : Result Sort TermFault) (sort : Sort) → (o ≡ None → p ≡ None)
+closed-unless : (o p : Option Sort) (r : Result Sort TermFlaw) (sort : Sort) → (o ≡ None → p ≡ None)
     → sort_unless_variable o r ≡ Ok sort → sort_unless_variable p r ≡ Ok sort
 closed-unless (Some s) p r sort none h = cc
 closed-unless None p r sort none h = ap (λ q. sort_unless_variable q r) (none refl) ∙ h
@@ -84,7 +84,7 @@ names-push [] x s xs = refl
 names-push (v ∷ scope) x s xs = ap (λ ys. v.0 ∷ ys) (names-push scope x s xs)
 
 -- what is the same answer
-pub of_ok : {A : Type 0} (x y : A) (r : Result A TermFault) → r ≡ Ok x → r ≡ Ok y → x ≡ y
+pub of_ok : {A : Type 0} (x y : A) (r : Result A TermFlaw) → r ≡ Ok x → r ≡ Ok y → x ≡ y
 of_ok x y r h i = cc
 
 -- bindings bring variables of their names
@@ -97,7 +97,7 @@ bound-names names scope bound (Cons (Items (Cons (Atom Symbol x) (Cons term Nil)
     (λ s g. bound-names (behind (labels_in term) names) scope
     (bound ++ (x, s) ∷ []) rest vs g ∙ names-push bound x s (map (λ b. b.0) (named_trees rest)))
   where
-    by : (b : Bool) (r : Result Sort TermFault)
+    by : (b : Bool) (r : Result Sort TermFlaw)
         → cond b (Err BoundTwice)
         (result_and_then r (λ s. bound_in (behind (labels_in term) names) scope (bound ++ (x, s) ∷ []) rest))
         ≡ Ok vs
@@ -172,16 +172,16 @@ mutual
       let xs = labels_among attributes in
       kept-then (are_attributes attributes)
       (result_and_then (sort_in names (inner ++ outer) term)
-      (λ s. unless (fault_of_labels later (inner ++ outer) term xs) (Ok s)))
-      (result_and_then (sort_in names inner term) (λ s. unless (fault_of_labels later inner term xs) (Ok s)))
+      (λ s. unless (flaw_of_labels later (inner ++ outer) term xs) (Ok s)))
+      (result_and_then (sort_in names inner term) (λ s. unless (flaw_of_labels later inner term xs) (Ok s)))
       Form sort
       (kept-steps (sort_in names (inner ++ outer) term) (sort_in names inner term)
-      (λ s. unless (fault_of_labels later (inner ++ outer) term xs) (Ok s))
-      (λ s. unless (fault_of_labels later inner term xs) (Ok s)) sort
+      (λ s. unless (flaw_of_labels later (inner ++ outer) term xs) (Ok s))
+      (λ s. unless (flaw_of_labels later inner term xs) (Ok s)) sort
       (λ s i. closed-sort names inner outer term s u unused i)
       (λ s i. ap (λ o. unless o (Ok s))
       (unread_faults later inner term xs (Unread-behind (labels_in term) names.labels u)) ∙
-      (unless-none (fault_of_labels later (inner ++ outer) term xs) (Ok s) sort i).1)) h
+      (unless-none (flaw_of_labels later (inner ++ outer) term xs) (Ok s) sort i).1)) h
   closed-sort names inner outer (Items (Cons (Reserved Bang) args)) sort u unused h = cc
   closed-sort names inner outer (Items (Cons head args)) sort u unused h = closed-application names inner
       outer head args sort (λ ss. closed-sorts names inner outer args ss u unused) h

@@ -1,5 +1,5 @@
 -- Definitions, one step at a time.
-use Rattle.std.proofs.Common.{◌≡◌, ◌⊎◌, ℕ, Bool, false, cond, List, [], Result, Ok, Err, ap, sym, ◌∙◌, inl}
+use Rattle.std.proofs.Common.{◌≡◌, ℕ, Bool, false, cond, List, [], Result, Ok, Err, ap, sym, ◌∙◌, inl}
 use Rattle.std.proofs.Common.{inr}
 use Rattle.smt_trees.specs.Sexp.{Sexp}
 use Rattle.smt_theory.specs.Sort.{is_same_sort}
@@ -9,12 +9,15 @@ use Rattle.smt_terms.specs.Checking.{sort_in}
 use Rattle.smt_terms.specs.Definitions.{defined_in, definition, definition_in, parameters_named}
 use Rattle.smt_terms.specs.Internal.LibraryView.{names_of_library, sort_names}
 use Rattle.smt_terms.specs.Library.{StandsFor}
-use Rattle.smt_terms.specs.Signature.{Names, Signature, is_taken, names_of, sort_names_of}
+use Rattle.smt_terms.specs.Freshness.{is_taken}
+use Rattle.smt_terms.specs.Signature.{Names, Signature, names_of, sort_names_of}
 use Rattle.smt_terms.specs.SortTrees.{sort_named}
-use Rattle.smt_faults.specs.declared.term_fault.TermFault.{TermFault}
-use Rattle.smt_faults.specs.declared.term_fault.TermFault.TheVariants.{IllSorted, Memory, NotFresh}
+use Rattle.smt_faults.specs.declared.term_flaw.TermFlaw.{TermFlaw}
+use Rattle.smt_faults.specs.declared.term_flaw.TermFlaw.TheVariants.{IllSorted, NotFresh}
 use Rattle.smt_terms.specs.declared.library.Library.{Library}
 use Rattle.smt_terms.proofs.ItemLemmas.{Params, names_as, sorts_as}
+use Rattle.smt_faults.specs.Outcome.{Tells}
+use Rattle.smt_faults.specs.declared.term_fault.TermFault.{TermFault}
 
 -- a definition whose body has a sort
 pub definition_by : (names library : Names) (x : List ℕ) (ps : Params) (sort found : Sort) (body : Sexp)
@@ -28,8 +31,8 @@ definition_by names library x ps sort found body b same is fits =
 
 -- and one whose body has a fault
 pub fault_of_body : (names library : Names) (x : List ℕ) (ps : Params) (sort : Sort) (body : Sexp)
-    (e : TermFault) → library ≡ names → (e ≡ Memory) ⊎ (sort_in library ps body ≡ Err e)
-    → (e ≡ Memory) ⊎ (definition_in names x ps sort body ≡ Err e)
+    (e : TermFault) → library ≡ names → Tells (sort_in library ps body) e
+    → Tells (definition_in names x ps sort body) e
 fault_of_body names library x ps sort body e same (inl m) = inl m
 fault_of_body names library x ps sort body e same (inr h) =
     inr (ap (λ n. definition_in n x ps sort body) (sym same) ∙ ap
@@ -70,8 +73,8 @@ defined-sorted s x params tree body ps sort free bound sorted =
     (λ r. result_and_then r (λ z. definition_in (names_of s) x ps z body)) sorted
 
 -- a refusal of what is the same
-pub same_fault : {A : Type 0} (r s : Result A TermFault) (e : TermFault) → s ≡ r → (e ≡ Memory) ⊎ (r ≡ Err e)
-    → (e ≡ Memory) ⊎ (s ≡ Err e)
+pub same_fault : {A : Type 0} (r s : Result A TermFlaw) (e : TermFault) → s ≡ r → Tells (r) e
+    → Tells (s) e
 same_fault r s e h (inl m) = inl m
 same_fault r s e h (inr i) = inr (h ∙ i)
 

@@ -13,12 +13,13 @@ use Rattle.smt_theory.specs.declared.theories.Theories.{Theories}
 use Rattle.smt_terms.specs.Checking.{sort_in}
 use Rattle.smt_terms.specs.Definitions.{defined_in, definition, definition_in, parameters_named}
 use Rattle.smt_terms.specs.Labels.{Refused}
-use Rattle.smt_terms.specs.Signature.{Entry, Names, Signature, is_taken, names_of, ranks_of, sort_names_of}
+use Rattle.smt_terms.specs.Freshness.{is_taken}
+use Rattle.smt_terms.specs.Signature.{Entry, Names, Signature, names_of, ranks_of, sort_names_of}
 use Rattle.smt_terms.specs.Signature.{unlabelled_over}
 use Rattle.smt_terms.specs.SortTrees.{SortNames, sort_named}
 use Rattle.smt_terms.specs.WellSorted.{AreDifferent, IsWellSorted}
-use Rattle.smt_faults.specs.declared.term_fault.TermFault.{TermFault}
-use Rattle.smt_faults.specs.declared.term_fault.TermFault.TheVariants.{BoundTwice, IllSorted, NotFresh}
+use Rattle.smt_faults.specs.declared.term_flaw.TermFlaw.{TermFlaw}
+use Rattle.smt_faults.specs.declared.term_flaw.TermFlaw.TheVariants.{BoundTwice, IllSorted, NotFresh}
 use Rattle.smt_terms.proofs.ItemLemmas.{Params}
 use Rattle.smt_terms.proofs.KeptLemmas.{Keeps-unlabelled, kept-sort}
 use Rattle.smt_terms.proofs.NameLemmas.{none_step, same_flip}
@@ -62,7 +63,7 @@ different names earlier (p ∷ params) ps d h = by (sort_named names p.1) (is_so
     (λ s new more. different names (earlier ++ (p.0, s) ∷ []) params ps
     (different-push earlier p.0 s d new) more)
   where
-    by : (r : Result Sort TermFault) (b : Bool) → is_some (look_up earlier p.0) ≡ b
+    by : (r : Result Sort TermFlaw) (b : Bool) → is_some (look_up earlier p.0) ≡ b
         → result_and_then r (λ s. cond b (Err BoundTwice)
         (parameters_named names (earlier ++ (p.0, s) ∷ []) params)) ≡ Ok ps
         → ((s : Sort) → look_up earlier p.0 ≡ None
@@ -113,7 +114,7 @@ well_sorted compared theories earlier x ps sort body e different h = by (sort_in
         made (cc) (sorted ∙ ap (λ (s : Sort). Ok s) ((compared found sort).0 same))
     found_by found false same sorted h = cc
 
-    by : (r : Result Sort TermFault) → sort_in names ps body ≡ r
+    by : (r : Result Sort TermFlaw) → sort_in names ps body ≡ r
         → result_and_then r (λ found. cond (is_same_sort found sort) (Ok (definition x ps sort body))
         (Err IllSorted)) ≡ Ok e → (definition x ps sort body ≡ e) × IsWellSorted theories earlier e
     by (Err f) sorted h = cc
@@ -135,8 +136,8 @@ IsTaken-defined compared s x params tree body e h = by (is_taken (names_of s) x)
         → (definition x ps sort body ≡ e) × IsWellSorted s.theories s.entries e → IsTaken s x e
     made ps sort free p = record { free = free; named = sym (ap (λ (d : Entry). d.name) p.0); sorted = p.1 }
 
-    by : (b : Bool) → is_taken (names_of s) x ≡ b → (r : Result Params TermFault)
-        → parameters_named (sort_names_of s) [] params ≡ r → (q : Result Sort TermFault)
+    by : (b : Bool) → is_taken (names_of s) x ≡ b → (r : Result Params TermFlaw)
+        → parameters_named (sort_names_of s) [] params ≡ r → (q : Result Sort TermFlaw)
         → cond b (Err NotFresh) (result_and_then r
         (λ ps. result_and_then q (λ sort. definition_in (names_of s) x ps sort body))) ≡ Ok e
         → IsTaken s x e

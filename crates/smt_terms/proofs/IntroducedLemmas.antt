@@ -13,20 +13,20 @@ use Rattle.smt_theory.specs.declared.sort.Sort.TheVariants.{Bool as Boolean}
 use Rattle.smt_theory.specs.declared.theories.Theories.{Theories}
 use Rattle.smt_terms.specs.Assertions.{asserted_in, label_entries, label_or_none}
 use Rattle.smt_forms.specs.Bindings.{are_attributes, are_bindings}
-use Rattle.smt_terms.specs.Checking.{bound_in, fault_of_label, fault_of_labels, sort_in, sort_of_call}
+use Rattle.smt_terms.specs.Checking.{bound_in, flaw_of_label, flaw_of_labels, sort_in, sort_of_call}
 use Rattle.smt_terms.specs.Checking.{sorts_in, unless}
 use Rattle.smt_terms.specs.Definitions.{definition}
 use Rattle.smt_forms.specs.Identifier.{applied}
 use Rattle.smt_terms.specs.Labels.{Labels, Refused, Given, Unread, with_labels}
 use Rattle.smt_forms.specs.Variables.{is_among, uses_variable}
 use Rattle.smt_forms.specs.Labels.{labels_among, labels_in, labels_in_all, labels_in_bindings}
+use Rattle.smt_terms.specs.Freshness.{is_label_taken, is_taken}
 use Rattle.smt_terms.specs.Signature.{Entry, Names, Rank, Signature, behind, entry_named, in_assertion}
-use Rattle.smt_terms.specs.Signature.{is_taken, names_of, rank_of_entry, ranks_of, unlabelled}
-use Rattle.smt_terms.specs.Signature.{unlabelled_over}
+use Rattle.smt_terms.specs.Signature.{names_of, rank_of_entry, ranks_of, unlabelled, unlabelled_over}
 use Rattle.smt_terms.specs.WellSorted.{AreIntroduced, Keeps}
-use Rattle.smt_faults.specs.declared.term_fault.TermFault.{TermFault}
-use Rattle.smt_faults.specs.declared.term_fault.TermFault.TheVariants.{BoundTwice, Form, IllSorted, NotFresh}
-use Rattle.smt_faults.specs.declared.term_fault.TermFault.TheVariants.{Label as IsLabel}
+use Rattle.smt_faults.specs.declared.term_flaw.TermFlaw.{TermFlaw}
+use Rattle.smt_faults.specs.declared.term_flaw.TermFlaw.TheVariants.{BoundTwice, Form, IllSorted, NotFresh}
+use Rattle.smt_faults.specs.declared.term_flaw.TermFlaw.TheVariants.{Label as IsLabel}
 use Rattle.smt_terms.proofs.CheckerLemmas.{Scope}
 use Rattle.smt_terms.proofs.EntryLemmas.{look_up-ranks}
 use Rattle.smt_terms.proofs.ClosedLemmas.{closed, neither, of_ok}
@@ -82,15 +82,15 @@ AreFit-append names (x ∷ xs) ys h i = (
 -- a label without a fault
 fit-label : (names : Names) (labels : Labels) (scope : Scope) (term : Sexp) (x : List ℕ) (sort : Sort)
     → MayBeGiven labels → sort_in (unlabelled names) scope term ≡ Ok sort
-    → fault_of_label names labels scope term x ≡ None
+    → flaw_of_label names labels scope term x ≡ None
     → (is_taken names x ≡ false) × (is_given labels x ≡ false)
     × (sort_in (unlabelled names) [] term ≡ Ok sort)
 fit-label names Refused scope term x sort may h i = cc
 fit-label names Unread scope term x sort may h i = absurd may
 fit-label names (Given ls) scope term x sort may h i =
-    by (uses_variable scope term) refl (is_taken names x || is_among ls x) refl i
+    by (uses_variable scope term) refl (is_label_taken names ls x) refl i
   where
-    by : (u : Bool) → uses_variable scope term ≡ u → (b : Bool) → is_taken names x || is_among ls x ≡ b
+    by : (u : Bool) → uses_variable scope term ≡ u → (b : Bool) → is_label_taken names ls x ≡ b
         → cond u (Some IsLabel) (cond b (Some NotFresh) None) ≡ None
         → (is_taken names x ≡ false) × (is_among ls x ≡ false)
         × (sort_in (unlabelled names) [] term ≡ Ok sort)
@@ -101,12 +101,12 @@ fit-label names (Given ls) scope term x sort may h i =
 
 fit-labels : (names : Names) (scope : Scope) (term : Sexp) (xs : List (List ℕ)) (sort : Sort)
     → MayBeGiven names.labels → sort_in (unlabelled names) scope term ≡ Ok sort
-    → fault_of_labels names scope term xs ≡ None → AreFit names (with_term term xs)
+    → flaw_of_labels names scope term xs ≡ None → AreFit names (with_term term xs)
 fit-labels names scope term [] sort may h i = tt
 fit-labels names scope term (x ∷ xs) sort may h i =
     let later = behind ((x, term) ∷ []) names in
     let n =
-    or_none (fault_of_label names names.labels scope term x) (fault_of_labels later scope term xs) i in
+    or_none (flaw_of_label names names.labels scope term x) (flaw_of_labels later scope term xs) i in
     let f = fit-label names names.labels scope term x sort may h n.0 in (
       record { free = f.0; new = f.1; sorted = (sort, f.2) },
       fit-labels later scope term xs sort
@@ -114,12 +114,12 @@ fit-labels names scope term (x ∷ xs) sort may h i =
     )
 
 -- what a test lets pass
-pub passed : {A : Type 0} (b : Bool) (r : Result A TermFault) (e : TermFault) (y : A)
+pub passed : {A : Type 0} (b : Bool) (r : Result A TermFlaw) (e : TermFlaw) (y : A)
     → cond b r (Err e) ≡ Ok y → r ≡ Ok y
 passed true r e y h = h
 passed false r e y h = cc
 
-pub passed-else : {A : Type 0} (b : Bool) (r : Result A TermFault) (e : TermFault) (y : A)
+pub passed-else : {A : Type 0} (b : Bool) (r : Result A TermFlaw) (e : TermFlaw) (y : A)
     → cond b (Err e) r ≡ Ok y → r ≡ Ok y
 passed-else true r e y h = cc
 passed-else false r e y h = h
@@ -159,7 +159,7 @@ mutual
   fit names scope (Items (Cons (Reserved Bang) (Cons term attributes))) sort may h =
       let ls = labels_in term in
       let xs = labels_among attributes in
-      let next = λ (s : Sort). unless (fault_of_labels (behind ls names) scope term xs) (Ok s) in
+      let next = λ (s : Sort). unless (flaw_of_labels (behind ls names) scope term xs) (Ok s) in
       let a =
       answered (sort_in names scope term) next sort
       (passed (are_attributes attributes) (result_and_then (sort_in names scope term) next) Form sort h)
@@ -167,7 +167,7 @@ mutual
       AreFit-append names ls (with_term term xs) (fit names scope term a.0 may a.1)
       (fit-labels (behind ls names) scope term xs a.0 (MayBeGiven-behind (map (λ l. l.0) ls) names.labels may)
       (kept-sort names (unlabelled names) (Keeps-unlabelled names) scope term a.0 a.1)
-      (unless-none (fault_of_labels (behind ls names) scope term xs) (Ok a.0) sort a.2).0)
+      (unless-none (flaw_of_labels (behind ls names) scope term xs) (Ok a.0) sort a.2).0)
   fit names scope (Items (Cons (Reserved Bang) args)) sort may h = cc
   fit names scope (Items (Cons head args)) sort may h =
       fit-application names scope head args sort (λ ss. fit-all names scope args ss may) h
@@ -363,7 +363,7 @@ introduced-asserted s term labels h = by (sort_in names [] term) refl h
         (Ok (label_entries (names_of s) (labels_in term))) refl g) (all sort is)
     test sort false is g = cc
 
-    by : (r : Result Sort TermFault) → sort_in names [] term ≡ r
+    by : (r : Result Sort TermFlaw) → sort_in names [] term ≡ r
         → result_and_then r (λ sort. cond (is_same_sort sort Boolean)
         (Ok (label_entries (names_of s) (labels_in term))) (Err IllSorted)) ≡ Ok labels
         → AreIntroduced s.theories s.entries labels

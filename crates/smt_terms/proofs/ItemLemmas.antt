@@ -12,16 +12,16 @@ use Rattle.smt_terms.specs.Checking.{unless}
 use Rattle.smt_terms.specs.Definitions.{definition_in, parameters_named}
 use Rattle.smt_terms.specs.Internal.LibraryView.{names_of_library, sort_names}
 use Rattle.smt_forms.specs.ItemForm.{ItemForm, item_form}
-use Rattle.smt_terms.specs.Items.{declared_named, defined_as, form_in, has_rank_of, if_declared, item_in}
-use Rattle.smt_terms.specs.Items.{items_before, name_fault}
+use Rattle.smt_terms.specs.Freshness.{is_defined_before, is_taken_undeclared, name_flaw}
+use Rattle.smt_terms.specs.Items.{defined_as, form_in, has_rank_of, item_in, items_before}
 use Rattle.smt_terms.specs.Labels.{Refused}
 use Rattle.smt_terms.specs.Library.{HasTheoriesOf, StandsFor, is_declared, places_from}
 use Rattle.smt_terms.specs.Signature as signature
-use Rattle.smt_terms.specs.Signature.{Entry, Names, Origin, Rank, Signature, entry_named, is_taken, names_of}
-use Rattle.smt_terms.specs.Signature.{rank_of_entry, ranks_of, sort_names_of}
+use Rattle.smt_terms.specs.Signature.{Entry, Names, Origin, Rank, Signature, declared_named, entry_named}
+use Rattle.smt_terms.specs.Signature.{if_declared, names_of, rank_of_entry, ranks_of, sort_names_of}
 use Rattle.smt_terms.specs.SortTrees.{sort_named}
-use Rattle.smt_faults.specs.declared.term_fault.TermFault.{TermFault}
-use Rattle.smt_faults.specs.declared.term_fault.TermFault.TheVariants.{BoundTwice, IllSorted, NotFresh}
+use Rattle.smt_faults.specs.declared.term_flaw.TermFlaw.{TermFlaw}
+use Rattle.smt_faults.specs.declared.term_flaw.TermFlaw.TheVariants.{BoundTwice, IllSorted, NotFresh}
 use Rattle.smt_terms.specs.declared.library.Found.{Found}
 use Rattle.smt_terms.specs.declared.library.Library.{Library}
 use Rattle.smt_terms.proofs.EntryLemmas.{look_up-ranks}
@@ -97,18 +97,18 @@ abbrev pub Params : Type 0
 Params = List (List ℕ × Sort)
 
 -- what is defined by parts with a name that is fit
-abbrev pub item_behind : Signature → List Entry → ItemForm → Result Entry TermFault
+abbrev pub item_behind : Signature → List Entry → ItemForm → Result Entry TermFlaw
 item_behind s es form = result_and_then (parameters_named (sort_names_of s) [] form.parameters)
     (λ ps. result_and_then (sort_named (sort_names_of s) form.sort) (λ sort. defined_as s es form ps sort))
 
 pub item_named : (s : Signature) (es : List Entry) (t : Sexp) (form : ItemForm) → item_form t ≡ Ok form
-    → name_fault s es form.name ≡ None → item_in s es t ≡ item_behind s es form
+    → name_flaw s es form.name ≡ None → item_in s es t ≡ item_behind s es form
 item_named s es t form is free =
     ap (λ r. result_and_then r (λ f. form_in s es f)) is ∙ ap (λ o. unless o (item_behind s es form)) free
 
 -- with parameters that have sorts
 pub item_bound : (s : Signature) (es : List Entry) (t : Sexp) (form : ItemForm) (ps : Params)
-    → item_form t ≡ Ok form → name_fault s es form.name ≡ None
+    → item_form t ≡ Ok form → name_flaw s es form.name ≡ None
     → parameters_named (sort_names_of s) [] form.parameters ≡ Ok ps
     → item_in s es t ≡ result_and_then (sort_named (sort_names_of s) form.sort)
     (λ sort. defined_as s es form ps sort)
@@ -119,7 +119,7 @@ item_bound s es t form ps is free bound =
 
 -- with a sort, and by whether it keeps the rank of its declaration
 pub item_ranked : (s : Signature) (es : List Entry) (t : Sexp) (form : ItemForm) (ps : Params) (sort : Sort)
-    (b : Bool) → item_form t ≡ Ok form → name_fault s es form.name ≡ None
+    (b : Bool) → item_form t ≡ Ok form → name_flaw s es form.name ≡ None
     → parameters_named (sort_names_of s) [] form.parameters ≡ Ok ps
     → sort_named (sort_names_of s) form.sort ≡ Ok sort
     → has_rank_of (declared_named s.entries form.name) (map (λ p. p.1) ps) sort ≡ b
@@ -135,7 +135,7 @@ item_ranked s es t form ps sort b is free bound sorted kept =
 pub item_step : (library script : Library) (s m : Signature) (t : Sexp) (form : ItemForm) (ps qs rs : Params)
     (sort : Sort) (b : Bool) → HasTheoriesOf library script → StandsFor script s → StandsFor library m
     → item_form t ≡ Ok form
-    → name_fault s m.entries form.name ≡ None
+    → name_flaw s m.entries form.name ≡ None
     → parameters_named (sort_names script.sorts) [] form.parameters ≡ Ok ps
     → Ok sort ≡ sort_named (sort_names script.sorts) form.sort
     → b ≡ has_rank_of (declared_named s.entries form.name) (map (λ p. p.1) qs) sort → b ≡ true
@@ -158,11 +158,9 @@ in_force library m x b c stands h i =
     is_named m.entries x ∙ ap (λ rs. is_some (look_up rs x)) (sym stands.ranks) ∙ sym h ∙ i
 
 -- the fault of a name by two tests
-pub name_fault_by : (s : Signature) (es : List Entry) (x : List ℕ) (b c : Bool)
-    → is_some (entry_named es x) ≡ b
-    → c ≡ (not (is_some (declared_named s.entries x)) && is_taken (names_of s) x)
-    → name_fault s es x ≡ cond b (Some BoundTwice) (cond c (Some NotFresh) None)
-name_fault_by s es x b c h i =
-    ap (λ d. cond d (Some BoundTwice)
-    (cond (not (is_some (declared_named s.entries x)) && is_taken (names_of s) x) (Some NotFresh) None)) h
+pub name_flaw_by : (s : Signature) (es : List Entry) (x : List ℕ) (b c : Bool)
+    → is_defined_before es x ≡ b → c ≡ is_taken_undeclared s x
+    → name_flaw s es x ≡ cond b (Some BoundTwice) (cond c (Some NotFresh) None)
+name_flaw_by s es x b c h i =
+    ap (λ d. cond d (Some BoundTwice) (cond (is_taken_undeclared s x) (Some NotFresh) None)) h
     ∙ ap (λ d. cond b (Some BoundTwice) (cond d (Some NotFresh) None)) (sym i)

@@ -10,31 +10,27 @@ use Rattle.smt_theory.specs.declared.sort.Sort.{Sort}
 use Rattle.smt_terms.specs.Checking.{unless}
 use Rattle.smt_terms.specs.Definitions.{definition, definition_in, parameters_named}
 use Rattle.smt_forms.specs.ItemForm.{ItemForm, item_form}
-use Rattle.smt_terms.specs.Items.{declared_named, defined_as, form_in, has_rank_of, item_in, items_before}
-use Rattle.smt_terms.specs.Items.{name_fault}
-use Rattle.smt_terms.specs.Signature.{Entry, KeepsRank, Signature, entry_named, is_taken, names_of}
+use Rattle.smt_terms.specs.Items.{defined_as, form_in, has_rank_of, item_in, items_before}
+use Rattle.smt_terms.specs.Freshness.{is_taken, is_taken_undeclared, name_flaw}
+use Rattle.smt_terms.specs.Signature.{Entry, KeepsRank, Signature, declared_named, entry_named, names_of}
 use Rattle.smt_terms.specs.Signature.{sort_names_of}
 use Rattle.smt_terms.specs.SortTrees.{sort_named}
 use Rattle.smt_terms.specs.WellSorted.{AreDifferent, IsWellSorted}
-use Rattle.smt_faults.specs.declared.term_fault.TermFault.{TermFault}
-use Rattle.smt_faults.specs.declared.term_fault.TermFault.TheVariants.{BoundTwice, IllSorted, NotFresh}
+use Rattle.smt_faults.specs.declared.term_flaw.TermFlaw.{TermFlaw}
+use Rattle.smt_faults.specs.declared.term_flaw.TermFlaw.TheVariants.{BoundTwice, IllSorted, NotFresh}
 use Rattle.smt_terms.proofs.DefinitionSortLemmas.{AreCompared, different, well_sorted}
-
--- whether no new thing may have the name, and it is not declared
-abbrev pub is_unfit : Signature → List ℕ → Bool
-is_unfit script x = not (is_some (declared_named script.entries x)) && is_taken (names_of script) x
 
 -- what an item that is taken defines
 pub record IsItem (script : Signature) (earlier : List Entry) (e : Entry) : Type 0 where
   pub fresh : entry_named earlier e.name ≡ None
-  pub fit : is_unfit script e.name ≡ false
+  pub fit : is_taken_undeclared script e.name ≡ false
   pub sorted : IsWellSorted script.theories earlier e
   pub ranked : has_rank_of (declared_named script.entries e.name) e.parameters e.sort ≡ true
 
 -- a name without a fault is new among the items, and fit
-no_fault : (script : Signature) (earlier : List Entry) (x : List ℕ) → name_fault script earlier x ≡ None
-    → (entry_named earlier x ≡ None) × (is_unfit script x ≡ false)
-no_fault script earlier x h = by (entry_named earlier x) (is_unfit script x) h
+no_fault : (script : Signature) (earlier : List Entry) (x : List ℕ) → name_flaw script earlier x ≡ None
+    → (entry_named earlier x ≡ None) × (is_taken_undeclared script x ≡ false)
+no_fault script earlier x h = by (entry_named earlier x) (is_taken_undeclared script x) h
   where
     by : (o : Option Entry) (b : Bool)
         → cond (is_some o) (Some BoundTwice) (cond b (Some NotFresh) None) ≡ None → (o ≡ None) × (b ≡ false)
@@ -46,7 +42,7 @@ no_fault script earlier x h = by (entry_named earlier x) (is_unfit script x) h
 IsItem-definition : AreCompared
     → (script : Signature) (earlier : List Entry) (form : ItemForm) (ps : List (List ℕ × Sort)) (sort : Sort)
     (e : Entry)
-    → entry_named earlier form.name ≡ None → is_unfit script form.name ≡ false
+    → entry_named earlier form.name ≡ None → is_taken_undeclared script form.name ≡ false
     → AreDifferent (map (λ p. p.0) ps)
     → defined_as script earlier form ps sort ≡ Ok e → IsItem script earlier e
 IsItem-definition compared script earlier form ps sort e fresh fit different h =
@@ -57,7 +53,7 @@ IsItem-definition compared script earlier form ps sort e fresh fit different h =
         → IsItem script earlier e
     made ranked p = record {
       fresh = subst (λ (d : Entry). entry_named earlier d.name ≡ None) p.0 fresh;
-      fit = subst (λ (d : Entry). is_unfit script d.name ≡ false) p.0 fit;
+      fit = subst (λ (d : Entry). is_taken_undeclared script d.name ≡ false) p.0 fit;
       sorted = p.1;
       ranked = subst (λ (d : Entry). has_rank_of (declared_named script.entries d.name) d.parameters d.sort
           ≡ true) p.0 ranked;
@@ -74,13 +70,13 @@ IsItem-definition compared script earlier form ps sort e fresh fit different h =
 -- so is what parts of the right form define
 IsItem-form : AreCompared → (script : Signature) (earlier : List Entry) (form : ItemForm) (e : Entry)
     → form_in script earlier form ≡ Ok e → IsItem script earlier e
-IsItem-form compared script earlier form e h = by (name_fault script earlier form.name) refl
+IsItem-form compared script earlier form e h = by (name_flaw script earlier form.name) refl
     (parameters_named (sort_names_of script) [] form.parameters) refl
     (sort_named (sort_names_of script) form.sort) h
   where
-    by : (o : Option TermFault) → name_fault script earlier form.name ≡ o
-        → (r : Result (List (List ℕ × Sort)) TermFault)
-        → parameters_named (sort_names_of script) [] form.parameters ≡ r → (q : Result Sort TermFault)
+    by : (o : Option TermFlaw) → name_flaw script earlier form.name ≡ o
+        → (r : Result (List (List ℕ × Sort)) TermFlaw)
+        → parameters_named (sort_names_of script) [] form.parameters ≡ r → (q : Result Sort TermFlaw)
         → unless o (result_and_then r
         (λ ps. result_and_then q (λ sort. defined_as script earlier form ps sort))) ≡ Ok e
         → IsItem script earlier e
@@ -97,7 +93,7 @@ pub IsItem-taken : AreCompared → (script : Signature) (earlier : List Entry) (
     → item_in script earlier tree ≡ Ok e → IsItem script earlier e
 IsItem-taken compared script earlier tree e h = by (item_form tree) h
   where
-    by : (r : Result ItemForm TermFault) → result_and_then r (λ form. form_in script earlier form) ≡ Ok e
+    by : (r : Result ItemForm TermFlaw) → result_and_then r (λ form. form_in script earlier form) ≡ Ok e
         → IsItem script earlier e
     by (Err f) h = cc
     by (Ok form) h = IsItem-form compared script earlier form e h
@@ -118,6 +114,6 @@ KeepsRank-tested compared o d e is h = by (are_exactly d.parameters e.parameters
     )
 
 -- a name that is fit and not declared is not taken
-pub fit_is_free : (script : Signature) (x : List ℕ) → is_unfit script x ≡ false
+pub fit_is_free : (script : Signature) (x : List ℕ) → is_taken_undeclared script x ≡ false
     → declared_named script.entries x ≡ None → is_taken (names_of script) x ≡ false
 fit_is_free script x h none = sym (ap (λ o. not (is_some o) && is_taken (names_of script) x) none) ∙ h

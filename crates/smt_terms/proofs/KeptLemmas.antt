@@ -13,7 +13,7 @@ use Rattle.smt_theory.specs.declared.op.Op.{Op}
 use Rattle.smt_theory.specs.declared.op.OpFault.TheVariants as ops
 use Rattle.smt_theory.specs.declared.sort.Sort.{Sort}
 use Rattle.smt_forms.specs.Bindings.{are_attributes, are_bindings}
-use Rattle.smt_terms.specs.Checking.{bound_in, fault_of_label, fault_of_labels, sort_applied, sort_in}
+use Rattle.smt_terms.specs.Checking.{bound_in, flaw_of_label, flaw_of_labels, sort_applied, sort_in}
 use Rattle.smt_terms.specs.Checking.{sort_of_call, sort_of_operator, sort_of_plain, sort_of_symbol}
 use Rattle.smt_terms.specs.Checking.{sort_unless_variable, sorts_in, unless}
 use Rattle.smt_forms.specs.Identifier.{Identifier, Plain, Indexed, applied, indexed}
@@ -22,20 +22,20 @@ use Rattle.smt_forms.specs.Labels.{labels_among, labels_in, labels_in_bindings}
 use Rattle.smt_terms.specs.Signature.{Names, Rank, behind, unlabelled}
 use Rattle.smt_terms.specs.SortTrees.{bit_vectors, integers}
 use Rattle.smt_terms.specs.WellSorted.{Keeps}
-use Rattle.smt_faults.specs.declared.term_fault.TermFault.{TermFault}
-use Rattle.smt_faults.specs.declared.term_fault.TermFault.TheVariants.{BoundTwice, Form}
+use Rattle.smt_faults.specs.declared.term_flaw.TermFlaw.{TermFlaw}
+use Rattle.smt_faults.specs.declared.term_flaw.TermFlaw.TheVariants.{BoundTwice, Form}
 use Rattle.smt_terms.proofs.CheckerLemmas.{Scope}
 
 -- ## Answers
 
 -- where the second of two steps is answered, the first is
-pub answered : {A B : Type 0} (r : Result A TermFault) (next : A → Result B TermFault) (y : B)
+pub answered : {A B : Type 0} (r : Result A TermFlaw) (next : A → Result B TermFlaw) (y : B)
     → result_and_then r next ≡ Ok y → (x : A) × (r ≡ Ok x) × (next x ≡ Ok y)
 answered (Ok x) next y h = (x, refl, h)
 answered (Err f) next y h = cc
 
 -- two steps that are answered by the same keep the answer
-pub kept-steps : {A B : Type 0} (r s : Result A TermFault) (next more : A → Result B TermFault) (y : B)
+pub kept-steps : {A B : Type 0} (r s : Result A TermFlaw) (next more : A → Result B TermFlaw) (y : B)
     → ((x : A) → r ≡ Ok x → s ≡ Ok x) → ((x : A) → next x ≡ Ok y → more x ≡ Ok y)
     → result_and_then r next ≡ Ok y
     → result_and_then s more ≡ Ok y
@@ -44,12 +44,12 @@ kept-steps r s next more y first second h =
     ap (λ q. result_and_then q more) (first a.0 a.1) ∙ second a.0 a.2
 
 -- so does a test
-pub kept-then : {A : Type 0} (b : Bool) (x y : Result A TermFault) (e : TermFault) (a : A)
+pub kept-then : {A : Type 0} (b : Bool) (x y : Result A TermFlaw) (e : TermFlaw) (a : A)
     → (x ≡ Ok a → y ≡ Ok a) → cond b x (Err e) ≡ Ok a → cond b y (Err e) ≡ Ok a
 kept-then true x y e a f h = f h
 kept-then false x y e a f h = cc
 
-pub kept-else : {A : Type 0} (b : Bool) (x y : Result A TermFault) (e : TermFault) (a : A)
+pub kept-else : {A : Type 0} (b : Bool) (x y : Result A TermFlaw) (e : TermFlaw) (a : A)
     → (x ≡ Ok a → y ≡ Ok a) → cond b (Err e) x ≡ Ok a → cond b (Err e) y ≡ Ok a
 kept-else true x y e a f h = cc
 kept-else false x y e a f h = f h
@@ -86,7 +86,7 @@ kept-symbol : (names more : Names) → Keeps names more → (x : List ℕ) (o : 
 kept-symbol names more keeps x None sort h = kept-applied names more keeps (Plain x) [] sort h
 kept-symbol names more keeps x (Some s) sort h = h
 
-kept-unless : (o : Option Sort) (x y : Result Sort TermFault) (sort : Sort) → (x ≡ Ok sort → y ≡ Ok sort)
+kept-unless : (o : Option Sort) (x y : Result Sort TermFlaw) (sort : Sort) → (x ≡ Ok sort → y ≡ Ok sort)
     → sort_unless_variable o x ≡ Ok sort → sort_unless_variable o y ≡ Ok sort
 kept-unless None x y sort f h = f h
 kept-unless (Some s) x y sort f h = cc
@@ -103,7 +103,7 @@ kept-call names more keeps scope (Indexed f is) args sort h =
 -- ## Terms
 
 -- what a list applies
-abbrev application : Names → Scope → Sexp → Sexps → Result Sort TermFault
+abbrev application : Names → Scope → Sexp → Sexps → Result Sort TermFlaw
 application names scope head args = result_and_then (applied head args)
     (λ f. result_and_then (sorts_in names scope args) (λ ss. sort_of_call names scope f ss))
 
@@ -128,20 +128,20 @@ Unread-behind ls labels h = ap (λ ks. with_labels (map (λ l. l.0) ls) ks) h
 
 -- and have no fault
 unread_fault : (names : Names) (labels : Labels) (scope : Scope) (term : Sexp) (x : List ℕ) → labels ≡ Unread
-    → fault_of_label names labels scope term x ≡ None
-unread_fault names labels scope term x h = ap (λ ks. fault_of_label names ks scope term x) h
+    → flaw_of_label names labels scope term x ≡ None
+unread_fault names labels scope term x h = ap (λ ks. flaw_of_label names ks scope term x) h
 
 pub unread_faults : (names : Names) (scope : Scope) (term : Sexp) (xs : List (List ℕ)) → names.labels ≡ Unread
-    → fault_of_labels names scope term xs ≡ None
+    → flaw_of_labels names scope term xs ≡ None
 unread_faults names scope term [] h = refl
 unread_faults names scope term (x ∷ xs) h =
-    ap (λ o. option_or o (fault_of_labels (behind ((x, term) ∷ []) names) scope term xs))
+    ap (λ o. option_or o (flaw_of_labels (behind ((x, term) ∷ []) names) scope term xs))
     (unread_fault names names.labels scope term x h)
     ∙ unread_faults (behind ((x, term) ∷ []) names) scope term xs
     (Unread-behind ((x, term) ∷ []) names.labels h)
 
 -- what has no fault is what comes then
-pub unless-none : {A : Type 0} (o : Option TermFault) (r : Result A TermFault) (y : A) → unless o r ≡ Ok y
+pub unless-none : {A : Type 0} (o : Option TermFlaw) (r : Result A TermFlaw) (y : A) → unless o r ≡ Ok y
     → (o ≡ None) × (r ≡ Ok y)
 unless-none None r y h = (refl, h)
 unless-none (Some f) r y h = cc
@@ -207,16 +207,16 @@ mutual
       let xs = labels_among attributes in
       kept-then (are_attributes attributes)
       (result_and_then (sort_in names scope term)
-      (λ s. unless (fault_of_labels (behind ls names) scope term xs) (Ok s)))
+      (λ s. unless (flaw_of_labels (behind ls names) scope term xs) (Ok s)))
       (result_and_then (sort_in more scope term)
-      (λ s. unless (fault_of_labels (behind ls more) scope term xs) (Ok s))) Form sort
+      (λ s. unless (flaw_of_labels (behind ls more) scope term xs) (Ok s))) Form sort
       (kept-steps (sort_in names scope term) (sort_in more scope term)
-      (λ s. unless (fault_of_labels (behind ls names) scope term xs) (Ok s))
-      (λ s. unless (fault_of_labels (behind ls more) scope term xs) (Ok s)) sort
+      (λ s. unless (flaw_of_labels (behind ls names) scope term xs) (Ok s))
+      (λ s. unless (flaw_of_labels (behind ls more) scope term xs) (Ok s)) sort
       (kept-sort names more keeps scope term)
       (λ s i. ap (λ o. unless o (Ok s))
       (unread_faults (behind ls more) scope term xs (Unread-behind ls more.labels keeps.labels)) ∙
-      (unless-none (fault_of_labels (behind ls names) scope term xs) (Ok s) sort i).1)) h
+      (unless-none (flaw_of_labels (behind ls names) scope term xs) (Ok s) sort i).1)) h
   kept-sort names more keeps scope (Items (Cons (Reserved Bang) args)) sort h = cc
   kept-sort names more keeps scope (Items (Cons head args)) sort h =
       kept-application names more keeps scope head args sort (kept-sorts names more keeps scope args) h

@@ -1,5 +1,5 @@
 -- Labels that are given, one behind another.
-use Rattle.std.proofs.Common.{◌≡◌, ◌⊎◌, ℕ, Bool, true, false, cond, ◌||◌, List, [], ◌∷◌, ◌++◌, map, Option}
+use Rattle.std.proofs.Common.{◌≡◌, ℕ, Bool, true, false, cond, List, [], ◌∷◌, ◌++◌, map, Option}
 use Rattle.std.proofs.Common.{Some, None, Result, Ok, Err, OnOk, refl, ap, sym, subst, ◌∙◌, append_assoc}
 use Rattle.std.proofs.Common.{append-nil, inl, inr}
 use Rattle.std.specs.Option.{option_or}
@@ -9,25 +9,29 @@ use Rattle.smt_trees.specs.declared.reserved.Word.TheVariants.{Bang, Let, Unders
 use Rattle.smt_trees.specs.Tree.{sexp_of}
 use Rattle.smt_theory.specs.Words.{look_up}
 use Rattle.smt_theory.specs.declared.sort.Sort.{Sort}
-use Rattle.smt_terms.specs.Checking.{fault_of_label, fault_of_labels, sort_in, sort_of_call, sort_of_plain}
-use Rattle.smt_terms.specs.Checking.{sort_unless_variable}
-use Rattle.smt_forms.specs.Heads.{is_underscore_tree}
+use Rattle.smt_terms.specs.Checking.{flaw_of_label, flaw_of_labels, sort_in, sort_of_call, sort_of_plain}
+use Rattle.smt_terms.specs.Checking.{sort_unless_variable, sorts_in}
+use Rattle.smt_forms.specs.Heads.{begins_indexed}
 use Rattle.smt_forms.specs.Identifier.{Identifier, Plain, Indexed}
 use Rattle.smt_forms.specs.Labels.{label_of_tree}
-use Rattle.smt_forms.specs.Heads.{is_bang_tree, is_let_tree}
+use Rattle.smt_forms.specs.Heads.{begins_annotated, begins_let}
 use Rattle.smt_terms.specs.Internal.LabelsView.{AreGiven, AreSorted, given_names, given_terms, labels_view}
 use Rattle.smt_terms.specs.Internal.LibraryView.{names_for, names_of_library}
+use Rattle.smt_forms.specs.Identifier.{applied}
 use Rattle.smt_terms.specs.Labels as spec
-use Rattle.smt_forms.specs.Variables.{is_among, uses_variable}
+use Rattle.smt_forms.specs.Variables.{uses_variable}
 use Rattle.smt_forms.specs.Labels.{labels_among, labels_in, labels_in_all}
 use Rattle.smt_terms.specs.Labels.{with_labels}
-use Rattle.smt_terms.specs.Signature.{Names, Rank, behind, is_taken, unlabelled}
-use Rattle.smt_faults.specs.declared.term_fault.TermFault.{TermFault}
-use Rattle.smt_faults.specs.declared.term_fault.TermFault.TheVariants.{Label as IsLabel, Memory, NotFresh}
-use Rattle.smt_terms.proofs.CheckerLemmas.{Scope}
+use Rattle.smt_terms.specs.Freshness.{is_label_taken}
+use Rattle.smt_terms.specs.Signature.{Names, Rank, behind, unlabelled}
+use Rattle.smt_faults.specs.declared.term_flaw.TermFlaw.{TermFlaw}
+use Rattle.smt_faults.specs.declared.term_flaw.TermFlaw.TheVariants.{Label as IsLabel, NotFresh}
+use Rattle.smt_terms.proofs.CheckerLemmas.{IsPlainHead, Scope, applied_ok}
 use Rattle.smt_terms.specs.declared.labels.Label.{Label}
 use Rattle.smt_terms.specs.declared.labels.Labels.{Labels}
 use Rattle.smt_terms.specs.declared.library.Library.{Library}
+use Rattle.smt_faults.specs.Outcome.{TellsSome, flaw_told}
+use Rattle.smt_faults.specs.declared.term_fault.TermFault.{TermFault}
 
 -- labels with their terms
 abbrev pub Labelled : Type 0
@@ -153,16 +157,16 @@ behind-append xs ys names =
     (map (λ (l : List ℕ × Sexp). l.0) ys) names.labels ∙ ap (λ ls. with_labels ls names.labels)
     (sym (map-append (λ (l : List ℕ × Sexp). l.0) xs ys)))
 
-pub or_none : (o p : Option TermFault) → option_or o p ≡ None → (o ≡ None) × (p ≡ None)
+pub or_none : (o p : Option TermFlaw) → option_or o p ≡ None → (o ≡ None) × (p ≡ None)
 or_none None p h = (refl, h)
 or_none (Some f) p h = cc
 
 -- behind labels without a fault come the others
 faults-behind : (names : Names) (scope : Scope) (term : Sexp) (xs ys : List (List ℕ))
-    → fault_of_labels names scope term xs ≡ None
-    → fault_of_labels names scope term (xs ++ ys)
-    ≡ fault_of_labels (behind (with_term term xs) names) scope term ys
-faults-behind names scope term [] ys h = ap (λ (ns : Names). fault_of_labels ns scope term ys)
+    → flaw_of_labels names scope term xs ≡ None
+    → flaw_of_labels names scope term (xs ++ ys)
+    ≡ flaw_of_labels (behind (with_term term xs) names) scope term ys
+faults-behind names scope term [] ys h = ap (λ (ns : Names). flaw_of_labels ns scope term ys)
     (ap (λ labels. record names { labels = labels }) (none names.labels))
   where
     none : (labels : spec.Labels) → labels ≡ with_labels [] labels
@@ -171,66 +175,65 @@ faults-behind names scope term [] ys h = ap (λ (ns : Names). fault_of_labels ns
     none spec.Unread = refl
 faults-behind names scope term (x ∷ xs) ys h =
     let n =
-    or_none (fault_of_label names names.labels scope term x)
-    (fault_of_labels (behind ((x, term) ∷ []) names) scope term xs) h in
-    ap (λ o. option_or o (fault_of_labels (behind ((x, term) ∷ []) names) scope term (xs ++ ys))) n.0 ∙
+    or_none (flaw_of_label names names.labels scope term x)
+    (flaw_of_labels (behind ((x, term) ∷ []) names) scope term xs) h in
+    ap (λ o. option_or o (flaw_of_labels (behind ((x, term) ∷ []) names) scope term (xs ++ ys))) n.0 ∙
     faults-behind (behind ((x, term) ∷ []) names) scope term xs ys n.1
-    ∙ ap (λ (ns : Names). fault_of_labels ns scope term ys)
+    ∙ ap (λ (ns : Names). flaw_of_labels ns scope term ys)
     (behind-append ((x, term) ∷ []) (with_term term xs) names)
 
 pub faults-next : (names later : Names) (scope : Scope) (term : Sexp) (all xs ys : List (List ℕ))
-    → later ≡ behind (with_term term xs) names → all ≡ xs ++ ys → fault_of_labels names scope term xs ≡ None
-    → fault_of_labels names scope term all ≡ fault_of_labels later scope term ys
+    → later ≡ behind (with_term term xs) names → all ≡ xs ++ ys → flaw_of_labels names scope term xs ≡ None
+    → flaw_of_labels names scope term all ≡ flaw_of_labels later scope term ys
 faults-next names later scope term all xs ys next split none =
-    ap (λ ls. fault_of_labels names scope term ls) split ∙ faults-behind names scope term xs ys none ∙ ap
-    (λ (ns : Names). fault_of_labels ns scope term ys) (sym next)
+    ap (λ ls. flaw_of_labels names scope term ls) split ∙ faults-behind names scope term xs ys none ∙ ap
+    (λ (ns : Names). flaw_of_labels ns scope term ys) (sym next)
 
 -- and a fault of the first is that of all
-faults-first : (names : Names) (scope : Scope) (term : Sexp) (xs ys : List (List ℕ)) (e : TermFault)
-    → fault_of_labels names scope term xs ≡ Some e → fault_of_labels names scope term (xs ++ ys) ≡ Some e
+faults-first : (names : Names) (scope : Scope) (term : Sexp) (xs ys : List (List ℕ)) (e : TermFlaw)
+    → flaw_of_labels names scope term xs ≡ Some e → flaw_of_labels names scope term (xs ++ ys) ≡ Some e
 faults-first names scope term [] ys e h = cc
-faults-first names scope term (x ∷ xs) ys e h = by (fault_of_label names names.labels scope term x) h
+faults-first names scope term (x ∷ xs) ys e h = by (flaw_of_label names names.labels scope term x) h
     (faults-first (behind ((x, term) ∷ []) names) scope term xs ys e)
   where
-    by : (o : Option TermFault)
-        → option_or o (fault_of_labels (behind ((x, term) ∷ []) names) scope term xs) ≡ Some e
-        → (fault_of_labels (behind ((x, term) ∷ []) names) scope term xs ≡ Some e
-        → fault_of_labels (behind ((x, term) ∷ []) names) scope term (xs ++ ys) ≡ Some e)
-        → option_or o (fault_of_labels (behind ((x, term) ∷ []) names) scope term (xs ++ ys)) ≡ Some e
+    by : (o : Option TermFlaw)
+        → option_or o (flaw_of_labels (behind ((x, term) ∷ []) names) scope term xs) ≡ Some e
+        → (flaw_of_labels (behind ((x, term) ∷ []) names) scope term xs ≡ Some e
+        → flaw_of_labels (behind ((x, term) ∷ []) names) scope term (xs ++ ys) ≡ Some e)
+        → option_or o (flaw_of_labels (behind ((x, term) ∷ []) names) scope term (xs ++ ys)) ≡ Some e
     by None g rest = rest g
     by (Some f) g rest = g
 
 pub faults-fault : (names : Names) (scope : Scope) (term : Sexp) (all xs ys : List (List ℕ)) (e : TermFault)
-    → all ≡ xs ++ ys → (e ≡ Memory) ⊎ (fault_of_labels names scope term xs ≡ Some e)
-    → (e ≡ Memory) ⊎ (fault_of_labels names scope term all ≡ Some e)
+    → all ≡ xs ++ ys → TellsSome (flaw_of_labels names scope term xs) e
+    → TellsSome (flaw_of_labels names scope term all) e
 faults-fault names scope term all xs ys e split (inl m) = inl m
 faults-fault names scope term all xs ys e split (inr h) =
-    inr (ap (λ ls. fault_of_labels names scope term ls) split ∙ faults-first names scope term xs ys e h)
+    inr (ap (λ ls. flaw_of_labels names scope term ls) split ∙ faults-first names scope term xs ys (flaw_told e) h)
 
 -- one label
-pub one_fault : (names : Names) (scope : Scope) (term : Sexp) (x : List ℕ) (o : Option TermFault)
-    → fault_of_label names names.labels scope term x ≡ o → fault_of_labels names scope term (x ∷ []) ≡ o
+pub one_fault : (names : Names) (scope : Scope) (term : Sexp) (x : List ℕ) (o : Option TermFlaw)
+    → flaw_of_label names names.labels scope term x ≡ o → flaw_of_labels names scope term (x ∷ []) ≡ o
 one_fault names scope term x o h = ap (λ p. option_or p None) h ∙ same o
   where
-    same : (p : Option TermFault) → option_or p None ≡ p
+    same : (p : Option TermFlaw) → option_or p None ≡ p
     same None = refl
     same (Some f) = refl
 
 -- a label where none may stand, and one by its tests
 pub label_refused : (names : Names) (labels : Labels) (scope : Scope) (term : Sexp) (x : List ℕ)
-    → labels.refused ≡ true → fault_of_label names (labels_view labels) scope term x ≡ Some IsLabel
+    → labels.refused ≡ true → flaw_of_label names (labels_view labels) scope term x ≡ Some IsLabel
 label_refused names labels scope term x h =
-    ap (λ b. fault_of_label names (cond b spec.Refused (spec.Given (given_names labels))) scope term x) h
+    ap (λ b. flaw_of_label names (cond b spec.Refused (spec.Given (given_names labels))) scope term x) h
 
 pub label_tested : (names : Names) (labels : Labels) (scope : Scope) (term : Sexp) (x : List ℕ)
     (used taken : Bool) → labels.refused ≡ false → uses_variable scope term ≡ used
-    → is_taken names x || is_among (given_names labels) x ≡ taken
-    → fault_of_label names (labels_view labels) scope term x
+    → is_label_taken names (given_names labels) x ≡ taken
+    → flaw_of_label names (labels_view labels) scope term x
     ≡ cond used (Some IsLabel) (cond taken (Some NotFresh) None)
 label_tested names labels scope term x used taken h u t =
-    ap (λ b. fault_of_label names (cond b spec.Refused (spec.Given (given_names labels))) scope term x) h ∙ ap
-    (λ b. cond b (Some IsLabel)
-    (cond (is_taken names x || is_among (given_names labels) x) (Some NotFresh) None)) u
+    ap (λ b. flaw_of_label names (cond b spec.Refused (spec.Given (given_names labels))) scope term x) h ∙ ap
+    (λ b. cond b (Some IsLabel) (cond (is_label_taken names (given_names labels) x) (Some NotFresh) None)) u
     ∙ ap (λ b. cond used (Some IsLabel) (cond b (Some NotFresh) None)) t
 
 -- what follows where there is an answer
@@ -239,8 +242,8 @@ on_ok (Ok v) P Q f h = f h
 on_ok (Err e) P Q f h = h
 
 -- a fault of what is the same
-pub carried_fault : (e : TermFault) (o p : Option TermFault) → p ≡ o → (e ≡ Memory) ⊎ (o ≡ Some e)
-    → (e ≡ Memory) ⊎ (p ≡ Some e)
+pub carried_fault : (e : TermFault) (o p : Option TermFlaw) → p ≡ o → TellsSome (o) e
+    → TellsSome (p) e
 carried_fault e o p same (inl m) = inl m
 carried_fault e o p same (inr h) = inr (same ∙ h)
 
@@ -259,16 +262,27 @@ call_without_labels library labels scope (Plain f) args = ap (λ r. sort_unless_
 call_without_labels library labels scope (Indexed f is) args = refl
 
 -- a list with another head has the labels of its arguments
-other_labels : (head : Sexp) (args : Sexps) → is_underscore_tree head ≡ false → is_let_tree head ≡ false
-    → is_bang_tree head ≡ false → labels_in (Items (Cons head args)) ≡ labels_in_all args
+other_labels : (head : Sexp) (args : Sexps) → begins_indexed head ≡ false → begins_let head ≡ false
+    → begins_annotated head ≡ false → labels_in (Items (Cons head args)) ≡ labels_in_all args
 other_labels (Reserved Underscore) args h i j = cc
 other_labels (Reserved Let) args h i j = cc
 other_labels (Reserved Bang) args h i j = cc
 other_labels _ args h i j = refl
 
-pub given_by_args : (r : Result Sort TermFault) (names : Names) (old new : Labels) (head : Sexp)
-    (args parts : Sexps) → parts ≡ Cons head args → is_underscore_tree head ≡ false → is_let_tree head ≡ false
-    → is_bang_tree head ≡ false
+-- the sort of a list is that of the call that it is
+pub called : (library : Library) (labels : spec.Labels) (scope : Scope) (head : Sexp) (args parts : Sexps)
+    (f : Identifier) (ss given : List Sort) (r : Result Sort TermFlaw) → parts ≡ Cons head args
+    → IsPlainHead head → applied head args ≡ Ok f → sorts_in (names_for library labels) scope args ≡ Ok ss
+    → given ≡ ss → r ≡ sort_of_call (names_of_library library) scope f given
+    → sort_in (names_for library labels) scope (Items parts) ≡ r
+called library labels scope head args parts f ss given r split other is done same call =
+    applied_ok (names_for library labels) scope head args parts f ss split other is done
+    ∙ ap (λ ts. sort_of_call (names_for library labels) scope f ts) (sym same)
+    ∙ call_without_labels library labels scope f given ∙ sym call
+
+pub given_by_args : (r : Result Sort TermFlaw) (names : Names) (old new : Labels) (head : Sexp)
+    (args parts : Sexps) → parts ≡ Cons head args → begins_indexed head ≡ false → begins_let head ≡ false
+    → begins_annotated head ≡ false
     → AreGiven names old new (labels_in_all args) → OnOk r (AreGiven names old new (labels_in (Items parts)))
 given_by_args (Err e) names old new head args parts split h i j given = tt
 given_by_args (Ok sort) names old new head args parts split h i j given =

@@ -19,5 +19,4 @@ pub mod ItemLemmas
 pub mod DefinitionLemmas
 pub mod DefinitionSortLemmas
 pub mod ItemSortLemmas
-pub mod NoMemoryLemmas
 pub mod WrittenLemmas

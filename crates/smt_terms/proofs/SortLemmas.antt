@@ -5,11 +5,12 @@ use Rattle.std.specs.Prelude.{bytes_eq, codes}
 use Rattle.smt_trees.specs.Sexp.{Sexps}
 use Rattle.smt_theory.specs.Words.{look_up, result_and_then}
 use Rattle.smt_theory.specs.declared.sort.Sort.{Sort}
-use Rattle.smt_terms.specs.SortTrees.{SortNames, is_sort_taken, sorts_named}
-use Rattle.smt_faults.specs.declared.term_fault.TermFault.{TermFault}
+use Rattle.smt_terms.specs.Freshness.{is_sort_taken}
+use Rattle.smt_terms.specs.SortTrees.{SortNames, sorts_named}
+use Rattle.smt_faults.specs.declared.term_flaw.TermFlaw.{TermFlaw}
 
 -- the sorts that trees name behind earlier ones
-abbrev pub named_behind : SortNames → List Sort → Sexps → Result (List Sort) TermFault
+abbrev pub named_behind : SortNames → List Sort → Sexps → Result (List Sort) TermFlaw
 named_behind names before left = result_and_then (sorts_named names left) (λ ss. Ok (before ++ ss))
 
 neither : (a b c : Bool) → ((a || b) || c) ≡ false → c ≡ false

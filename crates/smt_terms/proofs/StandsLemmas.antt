@@ -15,8 +15,9 @@ use Rattle.smt_terms.specs.Library.{AreDefinitions, Holds, IsDefinitionOf, IsTer
 use Rattle.smt_terms.specs.Library.{declarations_from, declared_among, defined_among, is_declared}
 use Rattle.smt_terms.specs.Library.{places_from}
 use Rattle.smt_terms.specs.Signature as signature
-use Rattle.smt_terms.specs.Signature.{Entry, Origin, Rank, Signature, declaration, entry_named, rank_of_entry}
-use Rattle.smt_terms.specs.Signature.{ranks_of, with_abbreviation, with_entry}
+use Rattle.smt_terms.specs.Declarations.{declaration}
+use Rattle.smt_terms.specs.Signature.{Entry, Origin, Rank, Signature, entry_named, rank_of_entry, ranks_of}
+use Rattle.smt_terms.specs.Signature.{with_abbreviation, with_entry}
 use Rattle.smt_terms.specs.declared.library.Definition.{Definition}
 use Rattle.smt_terms.specs.declared.library.Found.{Found}
 use Rattle.smt_terms.specs.declared.library.Found.TheVariants as place

@@ -13,16 +13,17 @@ use Rattle.smt_terms.specs.Assertions.{asserted_in, label_entries, label_or_none
 use Rattle.smt_terms.specs.Checking.{sort_in}
 use Rattle.smt_terms.specs.Definitions.{defined_in, definition, definition_in, parameters_named}
 use Rattle.smt_forms.specs.ItemForm.{ItemForm, item_form}
-use Rattle.smt_terms.specs.Items.{declared_named, defined_as, form_in, has_rank_of, item_in, items_before}
-use Rattle.smt_terms.specs.Items.{name_fault}
+use Rattle.smt_terms.specs.Items.{defined_as, form_in, has_rank_of, item_in, items_before}
+use Rattle.smt_terms.specs.Freshness.{is_taken, name_flaw}
 use Rattle.smt_terms.specs.Labels.{Labels, Given, with_labels}
 use Rattle.smt_forms.specs.Labels.{labels_in}
-use Rattle.smt_terms.specs.Signature.{Entry, Defined, Names, Rank, Signature, declaration, declared_in}
-use Rattle.smt_terms.specs.Signature.{in_assertion, is_taken, names_of, sort_names_of}
+use Rattle.smt_terms.specs.Declarations.{declaration, declared_in}
+use Rattle.smt_terms.specs.Signature.{Entry, Defined, Names, Rank, Signature, declared_named, in_assertion}
+use Rattle.smt_terms.specs.Signature.{names_of, sort_names_of}
 use Rattle.smt_terms.specs.SortTrees.{SortNames, sort_named, sorts_named}
 use Rattle.smt_terms.specs.Written.{AreLabelsOf, IsDeclaredAs, IsDefinedAs, IsPrintedAs}
-use Rattle.smt_faults.specs.declared.term_fault.TermFault.{TermFault}
-use Rattle.smt_faults.specs.declared.term_fault.TermFault.TheVariants.{BoundTwice, Form, IllSorted, NotFresh}
+use Rattle.smt_faults.specs.declared.term_flaw.TermFlaw.{TermFlaw}
+use Rattle.smt_faults.specs.declared.term_flaw.TermFlaw.TheVariants.{BoundTwice, Form, IllSorted, NotFresh}
 use Rattle.smt_terms.proofs.ClosedLemmas.{of_ok}
 use Rattle.smt_terms.proofs.IntroducedLemmas.{AreFit, fit, passed, passed-else}
 use Rattle.smt_terms.proofs.ItemLemmas.{Params}
@@ -36,8 +37,8 @@ pub written-declared : (s : Signature) (command : ℕ) (x : List ℕ) (parameter
 written-declared s command x parameters tree e h = by (is_taken (names_of s) x)
     (sorts_named (sort_names_of s) parameters) refl (sort_named (sort_names_of s) tree) refl h
   where
-    by : (b : Bool) (r : Result (List Sort) TermFault) → sorts_named (sort_names_of s) parameters ≡ r
-        → (q : Result Sort TermFault) → sort_named (sort_names_of s) tree ≡ q
+    by : (b : Bool) (r : Result (List Sort) TermFlaw) → sorts_named (sort_names_of s) parameters ≡ r
+        → (q : Result Sort TermFlaw) → sort_named (sort_names_of s) tree ≡ q
         → cond b (Err NotFresh) (result_and_then
         (result_and_then r (λ ps. result_and_then q
         (λ sort. Ok (record { parameters = ps; sort = sort }))))
@@ -71,7 +72,7 @@ names-written sorts earlier (w ∷ written) ps h =
     (map-append (λ (p : List ℕ × Sort). p.0) earlier ((w.0, a.0) ∷ [])) ∙ append_assoc
     (map (λ p. p.0) earlier) (w.0 ∷ []) (map (λ p. p.0) written)
 
-abbrev known_sorts : Params → List (Result Sort TermFault)
+abbrev known_sorts : Params → List (Result Sort TermFlaw)
 known_sorts ps = map (λ p. Ok p.1) ps
 
 sorts-written : (sorts : SortNames) (earlier : Params) (written : List (List ℕ × Sexp)) (ps : Params)
@@ -90,11 +91,11 @@ sorts-written sorts earlier (w ∷ written) ps h =
     (parameters_named sorts (earlier ++ (w.0, a.0) ∷ []) written) BoundTwice ps a.2)
     ∙ ap (λ xs. xs ++ rest) (map-append (λ (p : List ℕ × Sort). Ok p.1) earlier ((w.0, a.0) ∷ [])) ∙
     append_assoc (known_sorts earlier) (Ok a.0 ∷ []) rest
-    ∙ ap (λ (r : Result Sort TermFault). known_sorts earlier ++ r ∷ rest) (sym a.1)
+    ∙ ap (λ (r : Result Sort TermFlaw). known_sorts earlier ++ r ∷ rest) (sym a.1)
 
 known-sorts : (ps : Params) → known_sorts ps ≡ map (λ s. Ok s) (map (λ p. p.1) ps)
 known-sorts [] = refl
-known-sorts (p ∷ ps) = ap (λ (rs : List (Result Sort TermFault)). Ok p.1 ∷ rs) (known-sorts ps)
+known-sorts (p ∷ ps) = ap (λ (rs : List (Result Sort TermFlaw)). Ok p.1 ∷ rs) (known-sorts ps)
 
 -- a definition of these parameters is what is written
 as_written : (sorts : SortNames) (x : List ℕ) (written : List (List ℕ × Sexp)) (tree body : Sexp)
@@ -175,7 +176,7 @@ form_defined script earlier form e h =
     let sorted = result_and_then (parameters_named sorts [] form.parameters) by_parameters in
     let a =
     answered (parameters_named sorts [] form.parameters) by_parameters e
-    (unless-none (name_fault script earlier form.name) sorted e h).1 in
+    (unless-none (name_flaw script earlier form.name) sorted e h).1 in
     let b = answered (sort_named sorts form.sort) (by_sort a.0) e a.2 in
     let names = names_of (items_before script earlier) in
     let c =

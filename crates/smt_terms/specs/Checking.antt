@@ -1,7 +1,7 @@
 -- SMT-LIB 2.6, sections 3.6 and 5.2: the sort of a term, or its first fault. That decimals and strings are
 -- not supported as terms is this project's choice, and so is the order of the faults.
-use Rattle.std.specs.Prelude.{ℕ, ◌*◌, List, [], ◌∷◌, ◌++◌, Bool, true, false, ◌||◌, Option, Some, None}
-use Rattle.std.specs.Prelude.{is_some, Result, Ok, Err, length, if◌then◌else◌}
+use Rattle.std.specs.Prelude.{ℕ, ◌*◌, List, [], ◌∷◌, ◌++◌, Option, Some, None, Result, Ok, Err}
+use Rattle.std.specs.Prelude.{length, if◌then◌else◌}
 use Rattle.std.specs.Option.{option_or}
 use Rattle.smt_trees.specs.Sexp as sexp
 use Rattle.smt_trees.specs.Sexp.{Sexp, Sexps, Atom, Reserved, Items, Nil, Cons, Symbol, Keyword, Numeral}
@@ -18,77 +18,78 @@ use Rattle.smt_theory.specs.declared.sort.Sort.{Sort}
 use Rattle.smt_forms.specs.Bindings.{are_attributes, are_bindings}
 use Rattle.smt_forms.specs.Identifier.{Identifier, Plain, Indexed, applied, indexed}
 use Rattle.smt_terms.specs.Labels.{Labels, Refused, Given, Unread}
-use Rattle.smt_forms.specs.Variables.{is_among, uses_variable}
+use Rattle.smt_forms.specs.Variables.{uses_variable}
 use Rattle.smt_forms.specs.Labels.{labels_among, labels_in, labels_in_bindings}
-use Rattle.smt_terms.specs.Signature.{Names, Rank, behind, is_taken}
+use Rattle.smt_terms.specs.Freshness.{NewLabel, NewVariable, where_fresh}
+use Rattle.smt_terms.specs.Signature.{Names, Rank, behind}
 use Rattle.smt_terms.specs.SortTrees.{bit_vectors, integers}
-use Rattle.smt_faults.specs.declared.term_fault.TermFault.{TermFault}
-use Rattle.smt_faults.specs.declared.term_fault.TermFault.TheVariants.{Form, Unsupported, Unknown, IllSorted}
-use Rattle.smt_faults.specs.declared.term_fault.TermFault.TheVariants.{Index, BoundTwice, NotFresh, Label}
+use Rattle.smt_faults.specs.declared.term_flaw.TermFlaw.{TermFlaw}
+use Rattle.smt_faults.specs.declared.term_flaw.TermFlaw.TheVariants.{Form, Unsupported, Unknown, IllSorted}
+use Rattle.smt_faults.specs.declared.term_flaw.TermFlaw.TheVariants.{Index, Label}
 
 -- the sort of a rank that fits
-abbrev pub sort_of_rank : Option Sort → Result Sort TermFault
+abbrev pub sort_of_rank : Option Sort → Result Sort TermFlaw
 sort_of_rank None = Err IllSorted
 sort_of_rank (Some sort) = Ok sort
 
 -- the sort of an operator applied to arguments of these sorts
-abbrev pub sort_of_operator : Result Op OpFault → List Sort → Result Sort TermFault
+abbrev pub sort_of_operator : Result Op OpFault → List Sort → Result Sort TermFlaw
 sort_of_operator (Ok op) args = sort_of_rank (rank_of op args)
 sort_of_operator (Err ops.Unknown) args = Err Unknown
 sort_of_operator (Err ops.Index) args = Err Index
 
 -- the sort of a name in force applied to arguments of these sorts
-abbrev pub sort_of_name : Rank → List Sort → Result Sort TermFault
+abbrev pub sort_of_name : Rank → List Sort → Result Sort TermFlaw
 sort_of_name rank args = if are_exactly rank.parameters args then Ok rank.sort else Err IllSorted
 
 -- a name that isn't in force may be an operator
-abbrev pub sort_of_plain : Names → List ℕ → Option Rank → List Sort → Result Sort TermFault
+abbrev pub sort_of_plain : Names → List ℕ → Option Rank → List Sort → Result Sort TermFlaw
 sort_of_plain names f None args = sort_of_operator (op_by names.theories f []) args
 sort_of_plain names f (Some rank) args = sort_of_name rank args
 
-abbrev pub sort_applied : Names → Identifier → List Sort → Result Sort TermFault
+abbrev pub sort_applied : Names → Identifier → List Sort → Result Sort TermFlaw
 sort_applied names (Plain f) args = sort_of_plain names f (look_up names.ranks f) args
 sort_applied names (Indexed f indexes) args = sort_of_operator (op_by names.theories f indexes) args
 
 -- the sort of a symbol alone: that of a variable, or of a name without arguments
-abbrev pub sort_of_symbol : Names → List ℕ → Option Sort → Result Sort TermFault
+abbrev pub sort_of_symbol : Names → List ℕ → Option Sort → Result Sort TermFlaw
 sort_of_symbol names x None = sort_applied names (Plain x) []
 sort_of_symbol names x (Some sort) = Ok sort
 
 -- the sort of an identifier applied to arguments: a variable takes none
-abbrev pub sort_unless_variable : Option Sort → Result Sort TermFault → Result Sort TermFault
+abbrev pub sort_unless_variable : Option Sort → Result Sort TermFlaw → Result Sort TermFlaw
 sort_unless_variable None found = found
 sort_unless_variable (Some sort) found = Err IllSorted
 
-abbrev pub sort_of_call : Names → List (List ℕ × Sort) → Identifier → List Sort → Result Sort TermFault
+abbrev pub sort_of_call : Names → List (List ℕ × Sort) → Identifier → List Sort → Result Sort TermFlaw
 sort_of_call names scope (Plain f) args =
     sort_unless_variable (look_up scope f) (sort_applied names (Plain f) args)
 sort_of_call names scope (Indexed f indexes) args = sort_applied names (Indexed f indexes) args
 
 -- a fault, or what comes where there is none
-abbrev pub unless : {A : Type 0} → Option TermFault → Result A TermFault → Result A TermFault
+abbrev pub unless : {A : Type 0} → Option TermFlaw → Result A TermFlaw → Result A TermFlaw
 unless None next = next
 unless (Some fault) next = Err fault
 
 -- the fault of a label of a term that sees these variables
-abbrev pub fault_of_label : Names → Labels → List (List ℕ × Sort) → Sexp → List ℕ → Option TermFault
-fault_of_label names Refused scope term x = Some Label
-fault_of_label names (Given labels) scope term x =
+abbrev pub flaw_of_label : Names → Labels → List (List ℕ × Sort) → Sexp → List ℕ → Option TermFlaw
+flaw_of_label names Refused scope term x = Some Label
+flaw_of_label names (Given labels) scope term x =
     if uses_variable scope term then Some Label
-    else if is_taken names x || is_among labels x then Some NotFresh else None
-fault_of_label names Unread scope term x = None
+    else where_fresh (NewLabel names labels) x Some None
+flaw_of_label names Unread scope term x = None
 
 -- the first fault of labels of a term, one behind another
-abbrev pub fault_of_labels : Names → List (List ℕ × Sort) → Sexp → List (List ℕ) → Option TermFault
-fault_of_labels names scope term [] = None
-fault_of_labels names scope term (x ∷ xs) =
-    option_or (fault_of_label names names.labels scope term x)
-    (fault_of_labels (behind ((x, term) ∷ []) names) scope term xs)
+abbrev pub flaw_of_labels : Names → List (List ℕ × Sort) → Sexp → List (List ℕ) → Option TermFlaw
+flaw_of_labels names scope term [] = None
+flaw_of_labels names scope term (x ∷ xs) =
+    option_or (flaw_of_label names names.labels scope term x)
+    (flaw_of_labels (behind ((x, term) ∷ []) names) scope term xs)
 
 -- the sort of a term over names and variables, the innermost variable first, or the first fault; the sorts of
 -- terms, in order
 abbrev mutual
-  pub sort_in : Names → List (List ℕ × Sort) → Sexp → Result Sort TermFault
+  pub sort_in : Names → List (List ℕ × Sort) → Sexp → Result Sort TermFlaw
   sort_in names scope (Atom Symbol x) = sort_of_symbol names x (look_up scope x)
   sort_in names scope (Atom Numeral digits) = integers names.theories
   sort_in names scope (Atom Hexadecimal digits) = bit_vectors names.theories (width_of (4 * length digits))
@@ -107,13 +108,13 @@ abbrev mutual
   sort_in names scope (Items (Cons (Reserved Bang) (Cons term attributes))) =
       if are_attributes attributes
       then result_and_then (sort_in names scope term)
-      (λ s. unless (fault_of_labels (behind (labels_in term) names) scope term (labels_among attributes))
+      (λ s. unless (flaw_of_labels (behind (labels_in term) names) scope term (labels_among attributes))
       (Ok s)) else Err Form
   sort_in names scope (Items (Cons head args)) =
       result_and_then (applied head args)
       (λ f. result_and_then (sorts_in names scope args) (λ ss. sort_of_call names scope f ss))
 
-  pub sorts_in : Names → List (List ℕ × Sort) → Sexps → Result (List Sort) TermFault
+  pub sorts_in : Names → List (List ℕ × Sort) → Sexps → Result (List Sort) TermFlaw
   sorts_in names scope Nil = Ok []
   sorts_in names scope (Cons x xs) =
       result_and_then (sort_in names scope x)
@@ -122,10 +123,10 @@ abbrev mutual
   -- the variables that bindings bring behind those of the earlier ones, with their sorts: each term is seen
   -- without them
   pub bound_in : Names → List (List ℕ × Sort) → List (List ℕ × Sort) → Sexps
-      → Result (List (List ℕ × Sort)) TermFault
+      → Result (List (List ℕ × Sort)) TermFlaw
   bound_in names scope bound Nil = Ok bound
   bound_in names scope bound (Cons (Items (Cons (Atom Symbol x) (Cons term Nil))) rest) =
-      if is_some (look_up bound x) then Err BoundTwice
-      else result_and_then (sort_in names scope term)
-      (λ s. bound_in (behind (labels_in term) names) scope (bound ++ (x, s) ∷ []) rest)
+      where_fresh (NewVariable bound) x Err
+      (result_and_then (sort_in names scope term)
+      (λ s. bound_in (behind (labels_in term) names) scope (bound ++ (x, s) ∷ []) rest))
   bound_in names scope bound _ = Err Form

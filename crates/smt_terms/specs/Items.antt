@@ -1,7 +1,7 @@
 -- SMT-LIB 2.6, section 4.2.6: the items of a printed model, which are definitions. The order of the faults is
 -- this project's rule.
-use Rattle.std.specs.Prelude.{ℕ, List, [], Bool, true, not, ◌&&◌, Option, Some, None, is_some}
-use Rattle.std.specs.Prelude.{option_and_then, Result, Ok, Err, map, if◌then◌else◌}
+use Rattle.std.specs.Prelude.{ℕ, List, [], Bool, true, not, ◌&&◌, Option, Some, None, Result, Err, map}
+use Rattle.std.specs.Prelude.{if◌then◌else◌}
 use Rattle.smt_trees.specs.Sexp.{Sexp}
 use Rattle.smt_theory.specs.Ranks.{are_exactly}
 use Rattle.smt_theory.specs.Sort.{is_same_sort}
@@ -10,27 +10,11 @@ use Rattle.smt_theory.specs.declared.sort.Sort.{Sort}
 use Rattle.smt_forms.specs.ItemForm.{ItemForm, item_form}
 use Rattle.smt_terms.specs.Checking.{unless}
 use Rattle.smt_terms.specs.Definitions.{definition_in, parameters_named}
-use Rattle.smt_terms.specs.Signature.{Entry, Origin, Declared, Defined, Signature, entry_named, is_taken}
-use Rattle.smt_terms.specs.Signature.{names_of, no_names, sort_names_of}
+use Rattle.smt_terms.specs.Freshness.{name_flaw}
+use Rattle.smt_terms.specs.Signature.{Entry, Signature, declared_named, names_of, no_names, sort_names_of}
 use Rattle.smt_terms.specs.SortTrees.{sort_named}
-use Rattle.smt_faults.specs.declared.term_fault.TermFault.{TermFault}
-use Rattle.smt_faults.specs.declared.term_fault.TermFault.TheVariants.{IllSorted, BoundTwice, NotFresh}
-
--- the entry, if a command declared it
-abbrev pub if_declared : Entry → Origin → Option Entry
-if_declared e (Declared command) = Some e
-if_declared e (Defined parameters body) = None
-
--- what a name was declared as
-abbrev pub declared_named : List Entry → List ℕ → Option Entry
-declared_named entries x = option_and_then (λ e. if_declared e e.origin) (entry_named entries x)
-
--- what is wrong with the name of an item: it is new among the items, and it is declared or else free
-abbrev pub name_fault : Signature → List Entry → List ℕ → Option TermFault
-name_fault script earlier x =
-    if is_some (entry_named earlier x) then Some BoundTwice
-    else if not (is_some (declared_named script.entries x)) && is_taken (names_of script) x then Some NotFresh
-    else None
+use Rattle.smt_faults.specs.declared.term_flaw.TermFlaw.{TermFlaw}
+use Rattle.smt_faults.specs.declared.term_flaw.TermFlaw.TheVariants.{IllSorted}
 
 -- a declared name keeps its rank
 abbrev pub has_rank_of : Option Entry → List Sort → Sort → Bool
@@ -44,20 +28,20 @@ items_before script earlier = record (no_names script.theories) { entries = earl
 -- what an item of this rank defines: the rank fits a declaration of its name, and its body has its sort over
 -- the earlier items and its parameters
 abbrev pub defined_as : Signature → List Entry → ItemForm → List (List ℕ × Sort) → Sort
-    → Result Entry TermFault
+    → Result Entry TermFlaw
 defined_as script earlier form parameters sort =
     if not (has_rank_of (declared_named script.entries form.name) (map (λ p. p.1) parameters) sort)
     then Err IllSorted
     else definition_in (names_of (items_before script earlier)) form.name parameters sort form.body
 
 -- what an item of these parts defines, or its first fault
-abbrev pub form_in : Signature → List Entry → ItemForm → Result Entry TermFault
+abbrev pub form_in : Signature → List Entry → ItemForm → Result Entry TermFlaw
 form_in script earlier form =
-    unless (name_fault script earlier form.name)
+    unless (name_flaw script earlier form.name)
     (result_and_then (parameters_named (sort_names_of script) [] form.parameters)
     (λ ps. result_and_then (sort_named (sort_names_of script) form.sort)
     (λ s. defined_as script earlier form ps s)))
 
 -- what an item of a model of the script's names defines behind the earlier items, or its first fault
-abbrev pub item_in : Signature → List Entry → Sexp → Result Entry TermFault
+abbrev pub item_in : Signature → List Entry → Sexp → Result Entry TermFlaw
 item_in script earlier tree = result_and_then (item_form tree) (λ form. form_in script earlier form)

@@ -1,6 +1,8 @@
 pub mod SortTrees
 pub mod Labels
 pub mod Signature
+pub mod Freshness
+pub mod Declarations
 pub mod Checking
 pub mod Definitions
 pub mod Assertions

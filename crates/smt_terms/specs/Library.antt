@@ -1,5 +1,5 @@
 -- What a library stands for: a signature, with its declarations and definitions, and terms by their numbers.
-use Rattle.std.specs.Prelude.{◌≡◌, ℕ, ◌+◌, List, [], ◌∷◌, ◌++◌, Bool, true, false, not, Option, Some, length}
+use Rattle.std.specs.Prelude.{◌≡◌, ℕ, ◌+◌, List, [], ◌∷◌, ◌++◌, Option, Some, length}
 use Rattle.std.specs.Prelude.{map, slice_get}
 use Rattle.smt_trees.specs.Sexp.{Sexp}
 use Rattle.smt_terms.specs.Contents.{Contents, Declaration, contents_of}
@@ -103,6 +103,10 @@ pub record Holds (c : Contents) (s : Signature) : Type 0 where
 
 abbrev pub StandsFor : Library → Signature → Type 0
 StandsFor library s = Holds (contents_of library) s
+
+-- whatever the library stood for, it stands for still
+abbrev pub IsUnchanged : (old new : Library) → Type 0
+IsUnchanged old new = (s : Signature) → StandsFor old s → StandsFor new s
 
 -- a library of the same theories
 abbrev pub HasTheoriesOf : Library → Library → Type 0

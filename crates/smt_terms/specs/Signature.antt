@@ -1,17 +1,13 @@
 -- SMT-LIB 2.6, sections 4.2.3 and 5.1: a signature: the theories, the abbreviations of sorts in force, and
 -- the names in force, with what they stand for, in the order in which they came.
 use Rattle.std.specs.List.{filter}
-use Rattle.std.specs.Prelude.{◌≡◌, ℕ, List, [], ◌∷◌, ◌++◌, Bool, Option, Some, None, Result, Ok, Err, is_some}
-use Rattle.std.specs.Prelude.{true, false, not, ◌||◌, map, bytes_eq, if◌then◌else◌}
-use Rattle.smt_trees.specs.Sexp.{Sexp, Sexps}
-use Rattle.smt_theory.specs.Operators.{is_plain_operator}
-use Rattle.smt_theory.specs.Words.{look_up, result_and_then}
+use Rattle.std.specs.Prelude.{◌≡◌, ℕ, List, [], ◌∷◌, ◌++◌, Bool, true, false, not, Option, Some, None}
+use Rattle.std.specs.Prelude.{option_and_then, map, bytes_eq, if◌then◌else◌}
+use Rattle.smt_trees.specs.Sexp.{Sexp}
 use Rattle.smt_theory.specs.declared.sort.Sort.{Sort}
 use Rattle.smt_theory.specs.declared.theories.Theories.{Theories}
 use Rattle.smt_terms.specs.Labels.{Labels, Refused, Given, Unread, with_labels}
-use Rattle.smt_terms.specs.SortTrees.{SortNames, sort_named, sorts_named}
-use Rattle.smt_faults.specs.declared.term_fault.TermFault.{TermFault}
-use Rattle.smt_faults.specs.declared.term_fault.TermFault.TheVariants.{NotFresh}
+use Rattle.smt_terms.specs.SortTrees.{SortNames}
 
 -- where a name comes from: from the command that declared it, or from a definition with parameters and a body
 pub data Origin : Type 0 where
@@ -106,29 +102,6 @@ abbrev pub KeepsRank : Entry → Option Entry → Type 0
 KeepsRank e None = ⊥
 KeepsRank e (Some d) = (d.parameters ≡ e.parameters) × (d.sort ≡ e.sort)
 
--- whether a name may not be given to something new: it stands for something, or is a plain operator of the
--- theories
-abbrev pub is_taken : Names → List ℕ → Bool
-is_taken names x = is_some (look_up names.ranks x) || is_plain_operator names.theories x
-
--- the rank that trees name: the sorts of parameters, and the sort of a result
-abbrev pub rank_named : SortNames → Sexps → Sexp → Result Rank TermFault
-rank_named sorts parameters tree =
-    result_and_then (sorts_named sorts parameters)
-    (λ ps. result_and_then (sort_named sorts tree) (λ s. Ok (record { parameters = ps; sort = s })))
-
--- a name declared by the command, of this rank
-abbrev pub declaration : List ℕ → ℕ → Rank → Entry
-declaration x command rank =
-    record { name = x; parameters = rank.parameters; sort = rank.sort; origin = Declared command }
-
--- what the declaration of a name with parameters and a result of these sorts brings, or its first fault
-abbrev pub declared_in : Signature → ℕ → List ℕ → Sexps → Sexp → Result Entry TermFault
-declared_in s command x parameters tree =
-    if is_taken (names_of s) x then Err NotFresh
-    else result_and_then (rank_named (sort_names_of s) parameters tree)
-    (λ rank. Ok (declaration x command rank))
-
 -- ---- what is declared, and what is defined
 
 -- whether a command declared it
@@ -143,3 +116,12 @@ declared_among entries = filter (λ e. is_declared e.origin) entries
 -- those that are defined, in order
 abbrev pub defined_among : List Entry → List Entry
 defined_among entries = filter (λ e. not (is_declared e.origin)) entries
+
+-- the entry, if a command declared it
+abbrev pub if_declared : Entry → Origin → Option Entry
+if_declared e (Declared command) = Some e
+if_declared e (Defined parameters body) = None
+
+-- what a name was declared as
+abbrev pub declared_named : List Entry → List ℕ → Option Entry
+declared_named entries x = option_and_then (λ e. if_declared e e.origin) (entry_named entries x)

@@ -1,5 +1,5 @@
--- SMT-LIB 2.6, sections 3.5 and 4.2.3: the sort that a tree names, or its first fault, and abbreviations of
--- sorts. Which sorts are not supported, and which fault is told, is this project's choice.
+-- SMT-LIB 2.6, section 3.5: the sort that a tree names, which may be an abbreviation (section 4.2.3), or its
+-- first fault. Which sorts are not supported, and which fault is told, is this project's choice.
 use Rattle.std.specs.Prelude.{ℕ, List, [], ◌∷◌, Bool, true, false, not, ◌||◌, Option, Some, None, is_some}
 use Rattle.std.specs.Prelude.{option_map, Result, Ok, Err, ok_or, bytes_eq, codes, if◌then◌else◌}
 use Rattle.std.specs.Str.Parse.{digits_value}
@@ -11,37 +11,36 @@ use Rattle.smt_theory.specs.declared.theories.Theories.{Theories}
 use Rattle.smt_theory.specs.Width.{width_of}
 use Rattle.smt_theory.specs.Words.{look_up, result_and_then}
 use Rattle.smt_forms.specs.Identifier.{all_indexes}
-use Rattle.smt_faults.specs.declared.term_fault.TermFault.{TermFault}
-use Rattle.smt_faults.specs.declared.term_fault.TermFault.TheVariants.{Form, Unsupported, Unknown, Index}
-use Rattle.smt_faults.specs.declared.term_fault.TermFault.TheVariants.{NotFresh}
+use Rattle.smt_faults.specs.declared.term_flaw.TermFlaw.{TermFlaw}
+use Rattle.smt_faults.specs.declared.term_flaw.TermFlaw.TheVariants.{Form, Unsupported, Unknown, Index}
 
-abbrev pub integers : Theories → Result Sort TermFault
+abbrev pub integers : Theories → Result Sort TermFlaw
 integers theories = if theories.ints then Ok Int else Err Unknown
 
 -- the sort of a symbol that abbreviates none
-abbrev pub sort_of_word : Theories → List ℕ → Result Sort TermFault
+abbrev pub sort_of_word : Theories → List ℕ → Result Sort TermFlaw
 sort_of_word theories name =
     if bytes_eq name (codes "Bool") then Ok Boolean else if bytes_eq name (codes "Int") then integers theories
     else if bytes_eq name (codes "Real") || bytes_eq name (codes "String") then Err Unsupported
     else Err Unknown
 
 -- the sort of a symbol, by what it abbreviates
-abbrev pub sort_of_symbol : Theories → List ℕ → Option Sort → Result Sort TermFault
+abbrev pub sort_of_symbol : Theories → List ℕ → Option Sort → Result Sort TermFlaw
 sort_of_symbol theories name None = sort_of_word theories name
 sort_of_symbol theories name (Some sort) = Ok sort
 
 -- bit vectors of a width that there may be, or none where the number of bits is out of range
-abbrev pub bit_vectors : Theories → Option ℕ → Result Sort TermFault
+abbrev pub bit_vectors : Theories → Option ℕ → Result Sort TermFlaw
 bit_vectors theories width = if theories.bits then ok_or (option_map Bits width) Index else Err Unknown
 
 -- the sort `(_ BitVec index ..)` of these indexes
-abbrev pub bit_vector_sort : Theories → Sexps → Result Sort TermFault
+abbrev pub bit_vector_sort : Theories → Sexps → Result Sort TermFlaw
 bit_vector_sort theories (Cons (Atom Numeral digits) Nil) =
     bit_vectors theories (width_of (digits_value 10 digits))
 bit_vector_sort theories _ = Err Form
 
 -- the sort `(_ symbol index ..)`, by what stands behind the `_`
-abbrev pub indexed_sort : Theories → Sexps → Result Sort TermFault
+abbrev pub indexed_sort : Theories → Sexps → Result Sort TermFlaw
 indexed_sort theories (Cons (Atom Symbol name) indexes) =
     if not (is_some (all_indexes indexes)) then Err Form
     else if bytes_eq name (codes "BitVec") then bit_vector_sort theories indexes else Err Unknown
@@ -52,7 +51,7 @@ is_some_tree Nil = false
 is_some_tree (Cons x xs) = true
 
 -- the sort that a list of these parts names
-abbrev pub sort_of_list : Theories → Sexps → Result Sort TermFault
+abbrev pub sort_of_list : Theories → Sexps → Result Sort TermFlaw
 sort_of_list theories (Cons (Reserved Underscore) parts) = indexed_sort theories parts
 sort_of_list theories (Cons (Atom Symbol name) args) =
     if bytes_eq name (codes "Array") then Err Unsupported else if is_some_tree args then Err Unknown
@@ -65,22 +64,13 @@ pub record SortNames : Type 0 where
   pub abbreviations : List (List ℕ × Sort)
 
 -- the sort that a tree names, or its first fault
-abbrev pub sort_named : SortNames → Sexp → Result Sort TermFault
+abbrev pub sort_named : SortNames → Sexp → Result Sort TermFlaw
 sort_named names (Atom Symbol name) = sort_of_symbol names.theories name (look_up names.abbreviations name)
 sort_named names (Items parts) = sort_of_list names.theories parts
 sort_named names _ = Err Form
 
 -- the sorts that trees name, in order, or the first fault
-abbrev pub sorts_named : SortNames → Sexps → Result (List Sort) TermFault
+abbrev pub sorts_named : SortNames → Sexps → Result (List Sort) TermFlaw
 sorts_named names Nil = Ok []
 sorts_named names (Cons x xs) =
     result_and_then (sort_named names x) (λ s. result_and_then (sorts_named names xs) (λ ss. Ok (s ∷ ss)))
-
--- whether a name may not be given to a new abbreviation: it is that of a sort, or abbreviates one
-abbrev pub is_sort_taken : SortNames → List ℕ → Bool
-is_sort_taken names x =
-    bytes_eq x (codes "Bool") || bytes_eq x (codes "Int") || is_some (look_up names.abbreviations x)
-
--- the sort that a new abbreviation stands for, or its first fault
-abbrev pub abbreviated_in : SortNames → List ℕ → Sexp → Result Sort TermFault
-abbreviated_in names x tree = if is_sort_taken names x then Err NotFresh else sort_named names tree

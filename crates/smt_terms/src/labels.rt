@@ -1,4 +1,4 @@
-//! The labels that the terms of an assertion gave so far.
+//! The labels that the terms of an assertion gave so far. This file does not say which names may be labels.
 
 ghost use Rattle.std.specs.Prelude.{◌≡◌, ◌++◌, ◌∷◌, [], map, bytes_eq, IfErr, OnOk};
 ghost use Rattle.smt_trees.specs.Tree.{sexp_of};

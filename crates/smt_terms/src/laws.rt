@@ -1,8 +1,7 @@
 //! What holds of the definitions that the contracts name. Nothing here does anything: each contract is a law.
 
-ghost use Rattle.std.specs.List.{All, Contains, flat_map};
-ghost use Rattle.std.specs.Prelude.{◌≡◌, ◌≢◌, ◌↔◌, ◌∷◌, ◌++◌, ℕ, List, Some, None, true, false, Ok, Err};
-ghost use Rattle.std.specs.Prelude.{bytes_eq, map};
+ghost use Rattle.std.specs.List.{All};
+ghost use Rattle.std.specs.Prelude.{◌≡◌, ◌≢◌, ◌↔◌, ◌∷◌, ◌++◌, ℕ, List, Some, None, true, false, Ok, bytes_eq};
 ghost use Rattle.smt_trees.specs.Sexp.{Sexp, Sexps};
 ghost use Rattle.smt_theory.specs.declared.sort.Sort.{Sort};
 ghost use Rattle.smt_terms.specs.Checking.{sort_in};
@@ -11,32 +10,17 @@ ghost use Rattle.smt_terms.specs.Contents.{Contents, Extends, IsBelow, IsWithin,
 ghost use Rattle.smt_terms.specs.Definitions.{defined_in};
 ghost use Rattle.smt_forms.specs.Labels.{labels_in};
 ghost use Rattle.smt_terms.specs.Library.{IsTermOf};
-ghost use Rattle.smt_terms.specs.Items.{declared_named, item_in};
-ghost use Rattle.smt_terms.specs.Signature.{Entry, KeepsRank, Names, Signature, declared_in, entry_named};
-ghost use Rattle.smt_terms.specs.Signature.{is_taken, names_of, sort_names_of};
-ghost use Rattle.smt_terms.specs.SortTrees.{SortNames, abbreviated_in};
+ghost use Rattle.smt_terms.specs.Items.{item_in};
+ghost use Rattle.smt_terms.specs.Declarations.{declared_in};
+ghost use Rattle.smt_terms.specs.Signature.{Entry, KeepsRank, Names, Signature, declared_named, entry_named};
+ghost use Rattle.smt_terms.specs.Signature.{names_of, sort_names_of};
+ghost use Rattle.smt_terms.specs.Freshness.{is_taken};
 ghost use Rattle.smt_terms.specs.WellSorted.{AreIntroduced, IsWellSorted, Keeps};
 ghost use Rattle.smt_terms.specs.Written.{AreLabelsOf, IsDeclaredAs, IsDefinedAs, IsPrintedAs};
 ghost use Rattle.smt_terms.specs.declared.library.TermId.{TermId};
 ghost use Rattle.smt_terms.specs.declared.library.marks.Mark.{Mark};
-ghost use Rattle.smt_faults.specs.declared.term_fault.TermFault.TheVariants.{Memory};
 
 use smt_theory::laws::sorts_are_compared;
-
-/// No definition answers that memory was refused.
-pub fn faults_are_no_memory()
-    ensures sorts { (names : Names) (scope : List (List ℕ × Sort)) (term : Sexp)
-        → sort_in names scope term ≡ Err Memory → ⊥ }
-    ensures abbreviations { (names : SortNames) (x : List ℕ) (sort : Sexp)
-        → abbreviated_in names x sort ≡ Err Memory → ⊥ }
-    ensures declarations { (s : Signature) (command : ℕ) (x : List ℕ) (parameters : Sexps) (sort : Sexp)
-        → declared_in s command x parameters sort ≡ Err Memory → ⊥ }
-    ensures definitions { (s : Signature) (x : List ℕ) (parameters : List (List ℕ × Sexp)) (sort body : Sexp)
-        → defined_in s x parameters sort body ≡ Err Memory → ⊥ }
-    ensures assertions { (names : Names) (term : Sexp) → asserted_in names term ≡ Err Memory → ⊥ }
-    ensures items { (script : Signature) (earlier : List Entry) (tree : Sexp)
-        → item_in script earlier tree ≡ Err Memory → ⊥ }
-{}
 
 /// What a definition brings is well sorted over the earlier names (SMT-LIB 2.6, sections 4.2.3 and 5.2), and
 /// has the name that was given, which stood for nothing and is no plain operator's.

@@ -12,17 +12,17 @@ mod assertions;
 mod binders;
 mod checker;
 mod definitions;
+mod freshness;
 mod items;
 mod marks;
-
-ghost use Rattle.std.specs.Prelude.{◌≡◌};
-ghost use Rattle.smt_theory.specs.Operators.{is_plain_operator};
+mod params;
+mod scope;
 
 use crate::labels::Labels;
 use crate::sorts::SortNames;
 use indexmap::IndexMap;
 use smt_faults::{Memory, TermFault};
-use smt_theory::{Sort, Theories, op_of};
+use smt_theory::{Sort, Theories};
 use smt_trees::Tree;
 use std::alloc::Global;
 
@@ -92,26 +92,25 @@ pub struct Library {
 }
 
 impl Library {
-    ghost use Rattle.std.specs.Prelude.{◌≡◌, ◌<◌, ◌∷◌, ◌++◌, ◌⊎◌, ◌||◌, List, [], map, is_some, length};
-    ghost use Rattle.std.specs.Prelude.{slice_get, option_copied, option_map, Some, None, Ok, Err};
-    ghost use Rattle.std.specs.Prelude.{MatchOption, MatchResult, OnOk, OnErr, IfOk, IfErr};
+    ghost use Rattle.std.specs.Prelude.{◌≡◌, ◌<◌, ◌∷◌, ◌++◌, [], map, slice_get, option_copied, option_map};
+    ghost use Rattle.std.specs.Prelude.{Some, None, Ok, Err, MatchOption, MatchResult, OnOk, OnErr, IfOk};
+    ghost use Rattle.std.specs.Prelude.{IfErr};
     ghost use Rattle.smt_trees.specs.Sexp.{Sexp};
     ghost use Rattle.smt_trees.specs.Tree.{sexp_of, sexps_of};
-    ghost use Rattle.smt_theory.specs.Operators.{is_plain_operator};
     ghost use Rattle.smt_theory.specs.Words.{look_up};
     ghost use Rattle.smt_terms.specs.Checking.{sort_in};
     ghost use Rattle.smt_terms.specs.Contents.{Extends, contents_of, declaration_view};
     ghost use Rattle.smt_terms.specs.Internal.LibraryView.{names_of_library, places_of_library, rank_of};
     ghost use Rattle.smt_terms.specs.Internal.LibraryView.{ranks_of_library, sort_names};
-    ghost use Rattle.smt_terms.specs.Library.{AreDefinitions, HasTheoriesOf, IsFound, IsTerm, StandsFor};
-    ghost use Rattle.smt_terms.specs.Library.{declarations_from, defined_among, definitions_of, name_count};
+    ghost use Rattle.smt_terms.specs.Library.{AreDefinitions, IsFound, IsTerm, IsUnchanged, StandsFor};
+    ghost use Rattle.smt_terms.specs.Library.{declarations_from};
+    ghost use Rattle.smt_terms.specs.Library.{defined_among, definitions_of, name_count};
     ghost use Rattle.smt_terms.specs.Signature as signature;
-    ghost use Rattle.smt_terms.specs.Signature.{Rank, Signature, declaration, declared_in, entry_named};
-    ghost use Rattle.smt_terms.specs.Signature.{is_taken, names_of, no_names, rank_named, sort_names_of};
+    ghost use Rattle.smt_terms.specs.Declarations.{abbreviated_in, declaration, declared_in, rank_named};
+    ghost use Rattle.smt_terms.specs.Signature.{Signature, entry_named, names_of, no_names, sort_names_of};
     ghost use Rattle.smt_terms.specs.Signature.{with_abbreviation, with_entry};
-    ghost use Rattle.smt_terms.specs.SortTrees.{abbreviated_in};
     ghost use Rattle.smt_theory.specs.declared.sort.Sort.{Sort};
-    ghost use Rattle.smt_faults.specs.declared.term_fault.TermFault.TheVariants.{Memory as OutOfMemory};
+    ghost use Rattle.smt_faults.specs.Outcome.{IsOutcome, Tells};
     ghost use Rattle.smt_terms.specs.declared.library.TermId as id;
 
     /// A library of these theories without names.
@@ -191,9 +190,8 @@ impl Library {
             × (declared_in s command name.now (sexps_of params.now) (sexp_of sort.now) ≡ Ok e)
             × StandsFor self.new (with_entry s e)) }
         ensures refused { IfErr result (λ fault. (s : Signature) → StandsFor self.old s
-            → (fault ≡ OutOfMemory) ⊎
-            (declared_in s command name.now (sexps_of params.now) (sexp_of sort.now) ≡ Err fault)) }
-        ensures unchanged { OnErr result ((s : Signature) → StandsFor self.old s → StandsFor self.new s) }
+            → Tells (declared_in s command name.now (sexps_of params.now) (sexp_of sort.now)) fault) }
+        ensures unchanged { OnErr result (IsUnchanged self.old self.new) }
         ensures grown { Extends (contents_of self.old) (contents_of self.new) }
     {
         if self.is_taken(name) {
@@ -212,9 +210,8 @@ impl Library {
             × (abbreviated_in (sort_names_of s) name.now (sexp_of sort.now) ≡ Ok found)
             × StandsFor self.new (with_abbreviation s name.now found)) }
         ensures refused { IfErr result (λ fault. (s : Signature) → StandsFor self.old s
-            → (fault ≡ OutOfMemory) ⊎
-            (abbreviated_in (sort_names_of s) name.now (sexp_of sort.now) ≡ Err fault)) }
-        ensures unchanged { OnErr result ((s : Signature) → StandsFor self.old s → StandsFor self.new s) }
+            → Tells (abbreviated_in (sort_names_of s) name.now (sexp_of sort.now)) fault) }
+        ensures unchanged { OnErr result (IsUnchanged self.old self.new) }
         ensures grown { Extends (contents_of self.old) (contents_of self.new) }
     {
         self.sorts.abbreviate(self.alloc, name, sort)
@@ -227,8 +224,8 @@ impl Library {
         ensures answer { (s : Signature) → StandsFor self.old s
             → MatchResult result (λ p. (sort_in (names_of s) [] (sexp_of term.now) ≡ Ok p.1)
             × IsTerm self.new p.0 (sexp_of term.now))
-            (λ fault. (fault ≡ OutOfMemory) ⊎ (sort_in (names_of s) [] (sexp_of term.now) ≡ Err fault)) }
-        ensures kept { (s : Signature) → StandsFor self.old s → StandsFor self.new s }
+            (λ fault. Tells (sort_in (names_of s) [] (sexp_of term.now)) fault) }
+        ensures kept { IsUnchanged self.old self.new }
         ensures grown { Extends (contents_of self.old) (contents_of self.new) }
     {
         let mut labels = Labels::refused(self.alloc);
@@ -247,7 +244,7 @@ impl Library {
     // Adds a copy of a term.
     pub(super) fn add_term(&mut self, term: &Tree) -> Result<TermId, Memory>
         ensures term { IfOk result (λ i. IsTerm self.new i (sexp_of term.now)) }
-        ensures kept { (s : Signature) → StandsFor self.old s → StandsFor self.new s }
+        ensures kept { IsUnchanged self.old self.new }
         ensures names { names_of_library self.new ≡ names_of_library self.old }
         ensures sorts { self.new.sorts ≡ self.old.sorts }
         ensures grown { Extends (contents_of self.old) (contents_of self.new) }
@@ -261,7 +258,7 @@ impl Library {
     // Adds a term.
     fn push_term(&mut self, term: Tree) -> Result<TermId, Memory>
         ensures term { IfOk result (λ i. IsTerm self.new i (sexp_of term)) }
-        ensures kept { (s : Signature) → StandsFor self.old s → StandsFor self.new s }
+        ensures kept { IsUnchanged self.old self.new }
         ensures names { names_of_library self.new ≡ names_of_library self.old }
         ensures sorts { self.new.sorts ≡ self.old.sorts }
         ensures grown { Extends (contents_of self.old) (contents_of self.new) }
@@ -318,27 +315,10 @@ impl Library {
         (name.as_slice(), entry)
     }
 
-    // Whether a name stands for something, or is a plain operator's.
-    pub(super) fn is_taken(&self, name: &[u8]) -> bool
-        ensures { result ≡ is_taken (names_of_library self.now) name.now }
-    {
-        self.is_in_force(name) || is_operator(self.sorts.theories, name)
-    }
-
-    fn is_in_force(&self, name: &[u8]) -> bool
-        ensures { result ≡ is_some (look_up (names_of_library self.now).ranks name.now) }
-    {
-        self.get(name).is_some()
-    }
-
     // A declaration by the command, as the next name.
     fn declaration(&self, command: u64, params: &[Tree], sort: &Tree) -> Result<Declared, TermFault>
-        ensures rank { MatchResult result
-            (λ d. rank_named (sort_names self.now.sorts) (sexps_of params.now) (sexp_of sort.now)
-            ≡ Ok (record { parameters = d.params.items; sort = d.result }))
-            (λ fault. (fault ≡ OutOfMemory)
-            ⊎ (rank_named (sort_names self.now.sorts) (sexps_of params.now) (sexp_of sort.now)
-            ≡ Err fault)) }
+        ensures rank { IsOutcome (λ d. record { parameters = d.params.items; sort = d.result })
+            (rank_named (sort_names self.now.sorts) (sexps_of params.now) (sexp_of sort.now)) result }
         ensures next { IfOk result (λ d. (d.command ≡ command) × (d.name ≡ name_count self.now)) }
     {
         let params = self.sorts.sorts_of(self.alloc, params)?;
@@ -360,7 +340,7 @@ impl Library {
             → StandsFor self.new (with_entry s
             (declaration name.now declared.command
             (record { parameters = declared.params.items; sort = declared.result })))) }
-        ensures unchanged { OnErr result ((s : Signature) → StandsFor self.old s → StandsFor self.new s) }
+        ensures unchanged { OnErr result (IsUnchanged self.old self.new) }
         ensures grown { Extends (contents_of self.old) (contents_of self.new) }
     {
         let entry = Entry {
@@ -397,10 +377,4 @@ impl Library {
         self.names.insert(key, entry)?;
         Ok(())
     }
-}
-
-fn is_operator(theories: Theories, name: &[u8]) -> bool
-    ensures { result ≡ is_plain_operator theories name.now }
-{
-    op_of(theories, name, &[]).is_ok()
 }

@@ -1,20 +1,22 @@
-//! The trees that name sorts, and abbreviations of sorts.
+//! The trees that name sorts, and abbreviations of sorts. This file knows no names of functions.
 
-ghost use Rattle.std.specs.Prelude.{◌≡◌, ◌⊎◌, ◌++◌, ◌∷◌, [], bytes_eq, Ok, Err, IfErr, MatchResult, OnErr};
-ghost use Rattle.std.specs.Prelude.{OnOk};
+ghost use Rattle.std.specs.Prelude.{◌≡◌, ◌++◌, ◌∷◌, [], bytes_eq, Ok, Err, IfErr, OnErr, OnOk};
 ghost use Rattle.std.specs.Str.Parse.{digits_value};
 ghost use Rattle.smt_trees.specs.Tree.{sexp_of, sexps_of};
+ghost use Rattle.smt_theory.specs.Sort.{is_same_sort};
 ghost use Rattle.smt_theory.specs.Width.{width_of};
 ghost use Rattle.std.specs.List.{IsDistinct};
 ghost use Rattle.std.proofs.Props.{props};
 ghost use Rattle.indexmap.specs.IndexMap.{keys};
 ghost use Rattle.smt_theory.specs.Words.{look_up};
-ghost use Rattle.smt_terms.specs.SortTrees.{abbreviated_in, is_sort_taken, sort_named, sorts_named};
-ghost use Rattle.smt_faults.specs.declared.term_fault.TermFault.TheVariants.{Memory};
+ghost use Rattle.smt_terms.specs.Freshness.{is_sort_taken};
+ghost use Rattle.smt_terms.specs.Declarations.{abbreviated_in};
+ghost use Rattle.smt_terms.specs.SortTrees.{sort_named, sorts_named};
+ghost use Rattle.smt_faults.specs.Outcome.{IsOutcome, Tells};
 ghost use Rattle.smt_terms.specs.SortTrees as sorts;
 
 use indexmap::IndexMap;
-use smt_faults::TermFault;
+use smt_faults::{TermFault, TermFlaw};
 use smt_forms::are_indexes;
 use smt_theory::{Sort, Theories, Width, number};
 use smt_trees::{Tree, Word, split_first};
@@ -26,7 +28,8 @@ use std::alloc::Global;
 pub(crate) struct SortNames {
     pub(crate) theories: Theories,
     pub(crate) abbreviations: IndexMap<Vec<u8>, Sort>,
-    ghost distinct: { IsDistinct (λ a b. bytes_eq a.items b.items) (keys abbreviations) } by { Prim.hlevel props },
+    ghost distinct: { IsDistinct (λ a b. bytes_eq a.items b.items)
+        (keys abbreviations) } by { Prim.hlevel props },
 }
 
 impl SortNames {
@@ -45,22 +48,20 @@ impl SortNames {
 
     /// The sort that a tree names, or what is wrong with it: out of form, a sort of the standard that is not
     /// supported, unknown, or bit vectors of a width out of range.
-    pub(crate) fn sort_of(&self, tree: &Tree) -> Result<Sort, TermFault>
+    pub(crate) fn sort_of(&self, tree: &Tree) -> Result<Sort, TermFlaw>
         ensures { result ≡ sort_named (sort_names self.now) (sexp_of tree.now) }
     {
         match tree {
             Tree::Symbol(name) => self.sort_of_symbol(name.as_slice()),
             Tree::List(parts) => sort_of_list(self.theories, parts.as_slice()),
-            _ => Err(TermFault::Form),
+            _ => Err(TermFlaw::Form),
         }
     }
 
     /// The sorts that trees name, in order, or the first fault.
     pub(crate) fn sorts_of(&self, alloc: Global, trees: &[Tree]) -> Result<Vec<Sort>, TermFault>
-        ensures { MatchResult result
-            (λ found. sorts_named (sort_names self.now) (sexps_of trees.now) ≡ Ok found.items)
-            (λ fault. (fault ≡ Memory)
-            ⊎ (sorts_named (sort_names self.now) (sexps_of trees.now) ≡ Err fault)) }
+        ensures { IsOutcome (λ found. found.items) (sorts_named (sort_names self.now) (sexps_of trees.now))
+            result }
     {
         let mut found = Vec::new(alloc);
         let mut left = trees;
@@ -83,8 +84,7 @@ impl SortNames {
             ((sort : Sort) × (abbreviated_in (sort_names self.old) name.now (sexp_of tree.now) ≡ Ok sort)
             × (abbreviations_of self.new ≡ abbreviations_of self.old ++ (name.now, sort) ∷ [])) }
         ensures refused { IfErr result
-            (λ fault. (fault ≡ Memory)
-            ⊎ (abbreviated_in (sort_names self.old) name.now (sexp_of tree.now) ≡ Err fault)) }
+            (λ fault. Tells (abbreviated_in (sort_names self.old) name.now (sexp_of tree.now)) fault) }
         ensures unchanged { OnErr result (abbreviations_of self.new ≡ abbreviations_of self.old) }
         ensures theories { self.new.theories ≡ self.old.theories }
     {
@@ -116,7 +116,7 @@ impl SortNames {
     }
 
     // The sort that a symbol names: what it abbreviates, or else the sort of that name.
-    fn sort_of_symbol(&self, name: &[u8]) -> Result<Sort, TermFault>
+    fn sort_of_symbol(&self, name: &[u8]) -> Result<Sort, TermFlaw>
         ensures { result ≡ sorts.sort_of_symbol (sort_names self.now).theories name.now
             (look_up (abbreviations_of self.now) name.now) }
     {
@@ -128,7 +128,7 @@ impl SortNames {
 }
 
 // The sort of a symbol that abbreviates none.
-fn sort_of_word(theories: Theories, name: &[u8]) -> Result<Sort, TermFault>
+fn sort_of_word(theories: Theories, name: &[u8]) -> Result<Sort, TermFlaw>
     ensures { result ≡ sorts.sort_of_word theories name.now }
 {
     if is_named(name, b"Bool") {
@@ -136,78 +136,78 @@ fn sort_of_word(theories: Theories, name: &[u8]) -> Result<Sort, TermFault>
     } else if is_named(name, b"Int") {
         integers(theories)
     } else if is_named(name, b"Real") || is_named(name, b"String") {
-        Err(TermFault::Unsupported)
+        Err(TermFlaw::Unsupported)
     } else {
-        Err(TermFault::Unknown)
+        Err(TermFlaw::Unknown)
     }
 }
 
-fn integers(theories: Theories) -> Result<Sort, TermFault>
+fn integers(theories: Theories) -> Result<Sort, TermFlaw>
     ensures { result ≡ sorts.integers theories }
 {
     if theories.ints {
         Ok(Sort::Int)
     } else {
-        Err(TermFault::Unknown)
+        Err(TermFlaw::Unknown)
     }
 }
 
 // The sort that a list of these parts names.
-fn sort_of_list(theories: Theories, parts: &[Tree]) -> Result<Sort, TermFault>
+fn sort_of_list(theories: Theories, parts: &[Tree]) -> Result<Sort, TermFlaw>
     ensures { result ≡ sorts.sort_of_list theories (sexps_of parts.now) }
 {
     match split_first(parts) {
         Some((Tree::Reserved(Word::Underscore), rest)) => indexed_sort(theories, rest),
         Some((Tree::Symbol(name), rest)) => {
             if is_named(name.as_slice(), b"Array") {
-                Err(TermFault::Unsupported)
+                Err(TermFlaw::Unsupported)
             } else if split_first(rest).is_some() {
-                Err(TermFault::Unknown)
+                Err(TermFlaw::Unknown)
             } else {
-                Err(TermFault::Form)
+                Err(TermFlaw::Form)
             }
         }
-        _ => Err(TermFault::Form),
+        _ => Err(TermFlaw::Form),
     }
 }
 
 // The sort `(_ symbol index ..)`, by what stands behind the `_`.
-fn indexed_sort(theories: Theories, parts: &[Tree]) -> Result<Sort, TermFault>
+fn indexed_sort(theories: Theories, parts: &[Tree]) -> Result<Sort, TermFlaw>
     ensures { result ≡ sorts.indexed_sort theories (sexps_of parts.now) }
 {
     let Some((Tree::Symbol(name), rest)) = split_first(parts) else {
-        return Err(TermFault::Form);
+        return Err(TermFlaw::Form);
     };
     if !are_indexes(rest) {
-        return Err(TermFault::Form);
+        return Err(TermFlaw::Form);
     }
     if is_named(name.as_slice(), b"BitVec") {
         bit_vector_sort(theories, rest)
     } else {
-        Err(TermFault::Unknown)
+        Err(TermFlaw::Unknown)
     }
 }
 
 // The sort `(_ BitVec index ..)`, by its indexes.
-fn bit_vector_sort(theories: Theories, indexes: &[Tree]) -> Result<Sort, TermFault>
+fn bit_vector_sort(theories: Theories, indexes: &[Tree]) -> Result<Sort, TermFlaw>
     ensures { result ≡ sorts.bit_vector_sort theories (sexps_of indexes.now) }
 {
     match split_first(indexes) {
         Some((Tree::Numeral(digits), rest)) if split_first(rest).is_none() => {
             bit_vectors(theories, numeral_width(digits.as_slice()))
         }
-        _ => Err(TermFault::Form),
+        _ => Err(TermFlaw::Form),
     }
 }
 
 /// Bit vectors of this width; `None` stands for a number of bits out of range.
-pub(crate) fn bit_vectors(theories: Theories, width: Option<Width>) -> Result<Sort, TermFault>
+pub(crate) fn bit_vectors(theories: Theories, width: Option<Width>) -> Result<Sort, TermFlaw>
     ensures { result ≡ sorts.bit_vectors theories width }
 {
     if theories.bits {
-        width.map(Sort::Bits).ok_or(TermFault::Index)
+        width.map(Sort::Bits).ok_or(TermFlaw::Index)
     } else {
-        Err(TermFault::Unknown)
+        Err(TermFlaw::Unknown)
     }
 }
 
@@ -220,6 +220,13 @@ fn numeral_width(digits: &[u8]) -> Option<Width>
     } else {
         None
     }
+}
+
+/// Whether two sorts are the same.
+pub(crate) fn are_equal(found: Sort, sort: Sort) -> bool
+    ensures { result ≡ is_same_sort found sort }
+{
+    found == sort
 }
 
 fn is_named(name: &[u8], word: &[u8]) -> bool

@@ -1,4 +1,5 @@
-//! Which reserved word some bytes spell.
+//! Which reserved word some bytes spell. Candidates are told by their length and first byte, as each symbol
+//! of a text is asked; this file knows no text.
 
 ghost use Rattle.std.specs.Prelude.{◌≡◌, ◌≢◌, MatchOption};
 ghost use Rattle.smt_text.specs.Internal.Machine as machine;

@@ -1,14 +1,19 @@
 -- What the dialogue so far keeps, and what it stands for: which pairs of commands and answers it accepted.
-use Rattle.std.specs.Prelude.{◌≡◌, ◌≤◌, ℕ, ◌+◌, List, [], ◌++◌, length, Bool, Option, None, if◌then◌else◌}
+use Rattle.std.specs.Prelude.{◌≡◌, ◌≤◌, ℕ, ◌+◌, List, [], ◌++◌, length, Bool, Option, None}
+use Rattle.std.specs.Prelude.{option_map, if◌then◌else◌}
+use Rattle.smt_trees.specs.Tree.{sexp_of}
+use Rattle.smt_trees.specs.declared.tree.Tree.{Tree}
 use Rattle.smt_script.specs.Command.{Command}
-use Rattle.smt_script.specs.Stack.{Numbered, fault_of_effect}
+use Rattle.smt_script.specs.CommandView.{command_view}
+use Rattle.smt_script.specs.declared.command.Command as code
+use Rattle.smt_script.specs.Stack.{Numbered, flaw_of_effect}
 use Rattle.smt_script.specs.StackView as stacks
 use Rattle.smt_script.specs.StackView.{last_of}
-use Rattle.smt_faults.specs.declared.command_fault.CommandFault.{CommandFault}
+use Rattle.smt_faults.specs.declared.command_flaw.CommandFlaw.{CommandFlaw}
 use Rattle.smt_script.specs.declared.stack.Stack.{Stack}
 use Rattle.smt_dialogue.specs.InForce.{signature_after}
 use Rattle.smt_dialogue.specs.Lines.{claims_after, lines_in}
-use Rattle.smt_dialogue.specs.Pairs.{Pair, answers_taken, checks_in, effective_commands}
+use Rattle.smt_dialogue.specs.Pairs.{Pair, answers_taken, checks_in, effective_commands, pair_of}
 use Rattle.smt_dialogue.specs.Internal.ChecksState.{ChecksState, checks_state, pending_lines}
 use Rattle.smt_dialogue.specs.declared.dialogue.Dialogue.{Dialogue}
 
@@ -20,14 +25,23 @@ pub record State : Type 0 where
   pub answers : ℕ
 
 abbrev pub state_of : Dialogue → State
-state_of d = record { stack = d.stack; checks = checks_state d.checks; commands = d.commands; answers = d.answers }
+state_of d = record {
+  stack = d.stack;
+  checks = checks_state d.checks;
+  commands = d.commands;
+  answers = d.answers;
+}
+
+-- the pair of a command and what it took of the answers
+abbrev pub answered : code.Command → Option Tree → Pair
+answered command answer = pair_of (command_view command) (option_map sexp_of answer)
 
 -- the fault of a command's effect, if it took effect
-abbrev pub fault_if : Bool → List Numbered → ℕ → Command → Option CommandFault
-fault_if effective before n command = if effective then fault_of_effect before n command else None
+abbrev pub flaw_if : Bool → List Numbered → ℕ → Command → Option CommandFlaw
+flaw_if effective before n command = if effective then flaw_of_effect before n command else None
 
--- the state fits these pairs: what it keeps is in force behind them, and whatever pairs come, the lines are those that are
--- decided and those of the check whose window has not ended
+-- the state fits these pairs: what it keeps is in force behind them, and whatever pairs come, the lines are
+-- those that are decided and those of the check whose window has not ended
 pub record StandsFor (s : State) (pairs : List Pair) : Type 0 where
   pub stack : stacks.StandsFor s.stack (effective_commands pairs)
   pub last : last_of s.stack ≤ s.commands
@@ -35,4 +49,6 @@ pub record StandsFor (s : State) (pairs : List Pair) : Type 0 where
   pub answers : s.answers ≡ answers_taken pairs
   pub checks : s.checks.count ≡ checks_in pairs
   pub lines : (closed : Bool) (after : List Pair)
-      → lines_in closed [] pairs after ≡ s.checks.lines ++ pending_lines closed s.checks.pending (signature_after pairs) (claims_after pairs) (length pairs + 1) after
+      → lines_in closed [] pairs after
+      ≡ s.checks.lines ++ pending_lines closed s.checks.pending (signature_after pairs)
+      (claims_after pairs) (length pairs + 1) after

@@ -10,7 +10,8 @@ use Rattle.smt_dialogue.specs.declared.unread_text.Further.{Further}
 use Rattle.smt_dialogue.specs.declared.unread_text.Further.TheVariants.{Tree, End}
 use Rattle.smt_dialogue.specs.declared.unread_text.UnreadText.{UnreadText}
 
--- these are the trees that are left of the text, and the fault behind them: what is read of all of it begins with those that were taken
+-- these are the trees that are left of the text, and the fault behind them: what is read of all of it begins
+-- with those that were taken
 pub record HasLeft (text : UnreadText) (trees : Sexps) (fault : Option TextFlaw) : Type 0 where
   pub fed : List ℕ
   pub taken : Sexps
@@ -25,7 +26,8 @@ pub record IsSound (text : UnreadText) : Type 0 where
 
 -- the tree is the first that was left, and the others are left now; or none was, and this fault
 abbrev pub ComesNext : Further → UnreadText → Sexps → Option TextFlaw → Type 0
-ComesNext (Tree tree) text trees fault = (later : Sexps) × (trees ≡ Cons (sexp_of tree) later) × HasLeft text later fault
+ComesNext (Tree tree) text trees fault =
+    (later : Sexps) × (trees ≡ Cons (sexp_of tree) later) × HasLeft text later fault
 ComesNext (End f) text trees fault = (trees ≡ Nil) × (fault ≡ f)
 
 -- how much is left to read, and to tell

@@ -5,12 +5,12 @@ use Rattle.smt_report.specs.LineText.{text_of_answer, text_of_claim}
 use Rattle.smt_report.specs.declared.line.Line.{Line}
 use Rattle.smt_report.specs.declared.line.Line.TheVariants.{Unchecked, Confirmed, NoModel, ItemFault, Lacks}
 use Rattle.smt_report.specs.declared.line.Line.TheVariants.{Refuted, NotDecided}
-use Rattle.smt_faults.specs.FaultText.{text_of_term_fault}
+use Rattle.smt_faults.specs.FlawText.{text_of_term_flaw}
 
 -- what a line on a model says of it
 abbrev pub text_of_finding : Line → List ℕ
-text_of_finding (ItemFault check command model item fault) =
-    codes "item " ++ (decimal item ++ (codes " " ++ text_of_term_fault fault))
+text_of_finding (ItemFault check command model item flaw) =
+    codes "item " ++ (decimal item ++ (codes " " ++ text_of_term_flaw flaw))
 text_of_finding (Lacks check command model declaration) =
     codes "lacks the symbol of command " ++ decimal declaration
 text_of_finding (Refuted check command model claim) = codes "refuted by the " ++ text_of_claim claim
@@ -26,8 +26,8 @@ abbrev pub text_of_outcome : Line → List ℕ
 text_of_outcome (Unchecked check command answer) = text_of_answer answer
 text_of_outcome (Confirmed check command) = codes "sat, confirmed"
 text_of_outcome (NoModel check command) = codes "sat, no model"
-text_of_outcome (ItemFault check command model item fault) =
-    model_and model (text_of_finding (ItemFault check command model item fault))
+text_of_outcome (ItemFault check command model item flaw) =
+    model_and model (text_of_finding (ItemFault check command model item flaw))
 text_of_outcome (Lacks check command model declaration) =
     model_and model (text_of_finding (Lacks check command model declaration))
 text_of_outcome (Refuted check command model claim) =

@@ -1,5 +1,7 @@
--- What a command did to a stack, before it was noted whether a logic may be set, whether `success` is printed, and that it was applied.
-use Rattle.std.specs.Prelude.{◌≡◌, ℕ, zero, suc, List, [], ◌∷◌, ◌++◌, ◌⊎◌, ◌||◌, None, Some, length, slice_get, take}
+-- What a command did to a stack, before it was noted whether a logic may be set, whether `success` is
+-- printed, and that it was applied.
+use Rattle.std.specs.Prelude.{◌≡◌, ℕ, zero, suc, List, [], ◌∷◌, ◌++◌, ◌⊎◌, ◌||◌, None, Some, length}
+use Rattle.std.specs.Prelude.{slice_get, take}
 use Rattle.smt_trees.specs.Sexp.{Sexp}
 use Rattle.smt_theory.specs.declared.theories.Theories.{Theories}
 use Rattle.smt_terms.specs.Contents.{Contents, Extends, IsBelow, IsWithin, contents_of, first_of}
@@ -9,48 +11,54 @@ use Rattle.smt_terms.specs.Signature.{no_names}
 use Rattle.smt_terms.specs.declared.library.TermId.{TermId}
 use Rattle.smt_terms.specs.declared.library.marks.Mark.{Mark}
 use Rattle.smt_script.specs.Command.{Command}
-use Rattle.smt_script.specs.Stack.{Numbered, fault_of_effect, is_exit, is_late_after, is_set_after, print_success_after}
-use Rattle.smt_script.specs.StackView.{StandsFor, last_of, start_of}
+use Rattle.smt_script.specs.Stack.{Numbered, flaw_of_effect, is_exit, is_late_after, is_set_after}
+use Rattle.smt_script.specs.Stack.{print_success_after}
+use Rattle.smt_script.specs.StackView.{StandsFor, last_of, initial_print_success_of}
 use Rattle.smt_faults.specs.declared.command_fault.CommandFault.{CommandFault}
-use Rattle.smt_faults.specs.declared.command_fault.CommandFault.TheVariants.{Memory}
+use Rattle.smt_faults.specs.Outcome.{TellsCommand}
 use Rattle.smt_script.specs.declared.stack.LogicState.{LogicState}
 use Rattle.smt_script.specs.declared.stack.levels.Level.{Level}
 use Rattle.smt_script.specs.declared.stack.Stack.{Stack}
 
 -- what is noted of the logic, once a command took effect
 abbrev pub logic_after : LogicState → Command → LogicState
-logic_after logic command = record { set = is_set_after logic.set command; late = is_late_after logic.late command }
+logic_after logic command =
+    record { set = is_set_after logic.set command; late = is_late_after logic.late command }
 
 -- what a mark counts, and each term, is the same in longer contents
 pub record ContentsAreKept : Type 0 where
-  pub first : (mark : Mark) (c d : Contents) → IsWithin mark c → Extends c d → first_of mark d ≡ first_of mark c
+  pub first : (mark : Mark) (c d : Contents) → IsWithin mark c → Extends c d
+      → first_of mark d ≡ first_of mark c
   pub within : (mark : Mark) (c d : Contents) → IsWithin mark c → Extends c d → IsWithin mark d
   pub terms : (c d : Contents) (i : TermId) (t : Sexp) → Extends c d → IsTermOf c i t → IsTermOf d i t
 
 -- the stack once this is noted
-abbrev pub noted : Command → Stack → Stack
-noted command stack = record stack {
+abbrev pub with_notes : Command → Stack → Stack
+with_notes command stack = record stack {
   logic = logic_after stack.logic command;
-  print_success = print_success_after stack.start stack.print_success command;
+  print_success = print_success_after stack.initial_print_success stack.print_success command;
   exited = stack.exited || is_exit command;
 }
 
 -- command n took effect, but for that note
 pub record HasEffect (old new : Stack) (n : ℕ) (command : Command) : Type 0 where
-  pub faultless : (commands : List Numbered) → StandsFor old commands → fault_of_effect commands n command ≡ None
-  pub stands : (commands : List Numbered) → StandsFor old commands → StandsFor (noted command new) (commands ++ record { number = n; command = command } ∷ [])
-  pub start : start_of new ≡ start_of old
+  pub faultless : (commands : List Numbered) → StandsFor old commands
+      → flaw_of_effect commands n command ≡ None
+  pub stands : (commands : List Numbered) → StandsFor old commands
+      → StandsFor (with_notes command new) (commands ++ record { number = n; command = command } ∷ [])
+  pub start : initial_print_success_of new ≡ initial_print_success_of old
 
 -- it was refused
 abbrev pub IsRefused : Stack → ℕ → Command → CommandFault → Type 0
 IsRefused old n command fault =
-    (commands : List Numbered) → StandsFor old commands → (fault ≡ Memory) ⊎ (fault_of_effect commands n command ≡ Some fault)
+    (commands : List Numbered) → StandsFor old commands
+    → TellsCommand (flaw_of_effect commands n command) fault
 
 -- nothing that was in force changed
 pub record IsUnchanged (old new : Stack) : Type 0 where
   pub stands : (commands : List Numbered) → StandsFor old commands → StandsFor new commands
   pub last : last_of new ≡ last_of old
-  pub start : start_of new ≡ start_of old
+  pub start : initial_print_success_of new ≡ initial_print_success_of old
 
 -- so many of one level
 abbrev pub copies : ℕ → Level → List Level
@@ -76,7 +84,7 @@ pub record IsCut (old new : Stack) (depth : ℕ) : Type 0 where
 pub record HasNotesOf (old new : Stack) : Type 0 where
   pub logic : new.logic ≡ old.logic
   pub print_success : new.print_success ≡ old.print_success
-  pub start : new.start ≡ old.start
+  pub start : new.initial_print_success ≡ old.initial_print_success
   pub exited : new.exited ≡ old.exited
   pub last : new.last ≡ old.last
 

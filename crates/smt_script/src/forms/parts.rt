@@ -1,4 +1,4 @@
-//! The trees behind the word of a command.
+//! The trees behind the word of a command, taken one after another. This file knows no command.
 
 ghost use Rattle.std.specs.Prelude.{◌≡◌, MatchOption};
 ghost use Rattle.smt_trees.specs.Sexp.{Nil, Cons, Sexp};
@@ -32,7 +32,8 @@ impl Parts {
 
     /// Takes the next tree.
     pub(crate) fn next(&mut self) -> Option<Tree>
-        ensures { MatchOption result ((parts_view self.old ≡ Nil) × (parts_view self.new ≡ Nil)) (λ tree. parts_view self.old ≡ Cons (sexp_of tree) (parts_view self.new)) }
+        ensures { MatchOption result ((parts_view self.old ≡ Nil) × (parts_view self.new ≡ Nil))
+            (λ tree. parts_view self.old ≡ Cons (sexp_of tree) (parts_view self.new)) }
     {
         self.left.next()
     }

@@ -1,4 +1,5 @@
-//! The shapes of what stands behind the words of commands.
+//! The shapes of what stands behind the words of commands: one symbol, a name and a sort, and so on. This
+//! file knows no command.
 
 ghost use Rattle.std.specs.Prelude.{◌≡◌, Some, None, option_map, if◌then◌else◌};
 ghost use Rattle.std.specs.Str.Parse.{digits_value};
@@ -88,7 +89,8 @@ fn tree_or_none(mut parts: Parts) -> Option<Option<Tree>>
 }
 
 pub(crate) fn keyword_and_value(mut parts: Parts) -> Option<(Bytes, Option<Tree>)>
-    ensures { option_map (λ p. (p.0, option_map sexp_of p.1)) result ≡ shapes.keyword_and_value (parts_view parts) }
+    ensures { option_map (λ p. (p.0, option_map sexp_of p.1)) result
+        ≡ shapes.keyword_and_value (parts_view parts) }
 {
     let Some(Tree::Keyword(keyword)) = parts.next() else {
         return None;
@@ -136,7 +138,8 @@ fn two_trees(mut parts: Parts) -> Option<(Tree, Tree)>
 }
 
 fn parameters_and_two(mut parts: Parts) -> Option<(Trees, Tree, Tree)>
-    ensures { option_map (λ p. (named_trees p.0, (sexp_of p.1, sexp_of p.2))) result ≡ shapes.parameters_and_two (parts_view parts) }
+    ensures { option_map (λ p. (named_trees p.0, (sexp_of p.1, sexp_of p.2))) result
+        ≡ shapes.parameters_and_two (parts_view parts) }
 {
     let Some(Tree::List(params)) = parts.next() else {
         return None;
@@ -150,7 +153,8 @@ fn parameters_and_two(mut parts: Parts) -> Option<(Trees, Tree, Tree)>
 
 /// A name, its parameters, the tree of its sort, and its body.
 pub(crate) fn name_and_definition(mut parts: Parts) -> Option<(Bytes, Trees, Tree, Tree)>
-    ensures { option_map (λ p. (p.0, (named_trees p.1, (sexp_of p.2, sexp_of p.3)))) result ≡ shapes.name_and_definition (parts_view parts) }
+    ensures { option_map (λ p. (p.0, (named_trees p.1, (sexp_of p.2, sexp_of p.3)))) result
+        ≡ shapes.name_and_definition (parts_view parts) }
 {
     let Some(Tree::Symbol(name)) = parts.next() else {
         return None;

@@ -1,4 +1,5 @@
-//! What each command does to what is in force.
+//! What each command does to what is in force, and the fault of its effect. What levels do stands in
+//! `levels`; this file knows no trees of commands.
 
 ghost use Rattle.std.specs.Prelude.{◌≡◌, ◌∷◌, ℕ, List, [], IfErr, OnOk, OnErr};
 ghost use Rattle.std.specs.Str.Parse.{digits_value};
@@ -6,18 +7,20 @@ ghost use Rattle.smt_trees.specs.Sexp.{Sexp};
 ghost use Rattle.smt_trees.specs.Tree.{sexp_of, sexps_of};
 ghost use Rattle.smt_forms.specs.Bindings.{named_trees};
 ghost use Rattle.smt_script.specs.Command as commands;
-ghost use Rattle.smt_script.specs.Command.{SetLogic, DeclareConst, DeclareFun, DefineFun, DefineSort, Assert, Push, Pop};
+ghost use Rattle.smt_script.specs.Command.{SetLogic, DeclareConst, DeclareFun, DefineFun, DefineSort, Assert};
+ghost use Rattle.smt_script.specs.Command.{Push, Pop};
 ghost use Rattle.smt_script.specs.CommandView.{command_view};
 ghost use Rattle.smt_script.specs.Stack as stack;
-ghost use Rattle.smt_script.specs.StackView.{last_of, start_of};
-ghost use Rattle.smt_script.specs.Internal.Effect.{ContentsAreKept, HasEffect, IsRefused, IsUnchanged, noted};
+ghost use Rattle.smt_script.specs.StackView.{last_of, initial_print_success_of};
+ghost use Rattle.smt_script.specs.Internal.Effect.{ContentsAreKept, HasEffect, IsRefused, IsUnchanged};
+ghost use Rattle.smt_script.specs.Internal.Effect.{with_notes};
 
 use crate::command::{Command, Kind};
 use crate::stack::{Assertion, LogicState, Stack, all_theories};
 use smt_faults::CommandFault;
 use smt_forms::params_of;
 use smt_terms::Library;
-use smt_terms::laws::{faults_are_no_memory, marks_are_kept, terms_are_kept};
+use smt_terms::laws::{marks_are_kept, terms_are_kept};
 use smt_theory::theories_of;
 use smt_trees::Tree;
 
@@ -71,22 +74,27 @@ impl Stack {
         }
     }
 
-    // Notes of a command that took effect whether a logic may be set, whether `success` is printed, and whether it was `exit`.
+    // Notes of a command that took effect whether a logic may be set, whether `success` is printed, and
+    // whether it was `exit`.
     pub(super) fn note(&mut self, command: &Command)
-        ensures { self.new ≡ noted (command_view command.now) self.old }
+        ensures { self.new ≡ with_notes (command_view command.now) self.old }
     {
         let kind = command.kind();
         self.logic = LogicState {
             set: is_set_after(self.logic.set, kind),
             late: is_late_after(self.logic.late, kind),
         };
-        self.print_success = print_success_after(self.start, self.print_success, kind);
+        self.print_success = print_success_after(
+            self.initial_print_success,
+            self.print_success,
+            kind,
+        );
         self.exited |= matches!(kind, Kind::Exit);
     }
 
     // Notes the same of an assertion.
     pub(super) fn note_assertion(&mut self)
-        ensures { (term : Sexp) → self.new ≡ noted (Assert term) self.old }
+        ensures { (term : Sexp) → self.new ≡ with_notes (Assert term) self.old }
     {
         self.logic.late = true;
     }
@@ -94,7 +102,8 @@ impl Stack {
     // A logic is set while nothing is in force and there are no levels.
     fn set_logic(&mut self, name: &[u8]) -> Result<(), CommandFault>
         ensures effect { OnOk result ((number : ℕ) → HasEffect self.old self.new number (SetLogic name.now)) }
-        ensures refused { IfErr result (λ fault. (number : ℕ) → IsRefused self.old number (SetLogic name.now) fault) }
+        ensures refused { IfErr result
+            (λ fault. (number : ℕ) → IsRefused self.old number (SetLogic name.now) fault) }
         ensures unchanged { OnErr result (IsUnchanged self.old self.new) }
     {
         if self.logic.is_fixed() {
@@ -108,11 +117,12 @@ impl Stack {
     }
 
     fn declare_const(&mut self, number: u64, name: &[u8], sort: &Tree) -> Result<(), CommandFault>
-        ensures effect { OnOk result (HasEffect self.old self.new number (DeclareConst name.now (sexp_of sort.now))) }
-        ensures refused { IfErr result (λ fault. IsRefused self.old number (DeclareConst name.now (sexp_of sort.now)) fault) }
+        ensures effect { OnOk result
+            (HasEffect self.old self.new number (DeclareConst name.now (sexp_of sort.now))) }
+        ensures refused { IfErr result
+            (λ fault. IsRefused self.old number (DeclareConst name.now (sexp_of sort.now)) fault) }
         ensures unchanged { OnErr result (IsUnchanged self.old self.new) }
     {
-        faults_are_no_memory();
         contents_are_kept();
         Ok(self.library.declare(number, name, &[], sort)?)
     }
@@ -124,11 +134,14 @@ impl Stack {
         params: &[Tree],
         sort: &Tree,
     ) -> Result<(), CommandFault>
-        ensures effect { OnOk result (HasEffect self.old self.new number (DeclareFun name.now (sexps_of params.now) (sexp_of sort.now))) }
-        ensures refused { IfErr result (λ fault. IsRefused self.old number (DeclareFun name.now (sexps_of params.now) (sexp_of sort.now)) fault) }
+        ensures effect { OnOk result
+            (HasEffect self.old self.new number
+            (DeclareFun name.now (sexps_of params.now) (sexp_of sort.now))) }
+        ensures refused { IfErr result
+            (λ fault. IsRefused self.old number
+            (DeclareFun name.now (sexps_of params.now) (sexp_of sort.now)) fault) }
         ensures unchanged { OnErr result (IsUnchanged self.old self.new) }
     {
-        faults_are_no_memory();
         contents_are_kept();
         Ok(self.library.declare(number, name, params, sort)?)
     }
@@ -140,22 +153,27 @@ impl Stack {
         sort: &Tree,
         body: &Tree,
     ) -> Result<(), CommandFault>
-        ensures effect { OnOk result ((number : ℕ) → HasEffect self.old self.new number (DefineFun name.now (named_trees (sexps_of params.now)) (sexp_of sort.now) (sexp_of body.now))) }
-        ensures refused { IfErr result (λ fault. (number : ℕ) → IsRefused self.old number (DefineFun name.now (named_trees (sexps_of params.now)) (sexp_of sort.now) (sexp_of body.now)) fault) }
+        ensures effect { OnOk result
+            ((number : ℕ) → HasEffect self.old self.new number
+            (DefineFun name.now (named_trees (sexps_of params.now)) (sexp_of sort.now) (sexp_of body.now))) }
+        ensures refused { IfErr result
+            (λ fault. (number : ℕ) → IsRefused self.old number
+            (DefineFun name.now (named_trees (sexps_of params.now)) (sexp_of sort.now) (sexp_of body.now))
+            fault) }
         ensures unchanged { OnErr result (IsUnchanged self.old self.new) }
     {
-        faults_are_no_memory();
         contents_are_kept();
         let params = params_of(self.alloc, params)?;
         Ok(self.library.define(name, params.as_slice(), sort, body)?)
     }
 
     fn define_sort(&mut self, name: &[u8], sort: &Tree) -> Result<(), CommandFault>
-        ensures effect { OnOk result ((number : ℕ) → HasEffect self.old self.new number (DefineSort name.now (sexp_of sort.now))) }
-        ensures refused { IfErr result (λ fault. (number : ℕ) → IsRefused self.old number (DefineSort name.now (sexp_of sort.now)) fault) }
+        ensures effect { OnOk result
+            ((number : ℕ) → HasEffect self.old self.new number (DefineSort name.now (sexp_of sort.now))) }
+        ensures refused { IfErr result
+            (λ fault. (number : ℕ) → IsRefused self.old number (DefineSort name.now (sexp_of sort.now)) fault) }
         ensures unchanged { OnErr result (IsUnchanged self.old self.new) }
     {
-        faults_are_no_memory();
         contents_are_kept();
         Ok(self.library.abbreviate(name, sort)?)
     }
@@ -175,7 +193,6 @@ impl Stack {
         ensures refused { IfErr result (λ fault. IsRefused self.old number (Assert (sexp_of term)) fault) }
         ensures unchanged { OnErr result (IsUnchanged self.old self.new) }
     {
-        faults_are_no_memory();
         contents_are_kept();
         let mark = self.library.mark();
         let term = self.library.assert(term)?;
@@ -215,12 +232,12 @@ fn is_late_after(late: bool, kind: Kind) -> bool
 }
 
 // Whether `success` is printed after a command of a kind, by whether it was at the start and before.
-fn print_success_after(start: bool, before: bool, kind: Kind) -> bool
-    ensures { result ≡ stack.print_success_by start before kind }
+fn print_success_after(initial: bool, before: bool, kind: Kind) -> bool
+    ensures { result ≡ stack.print_success_by initial before kind }
 {
     match kind {
         Kind::PrintSuccess { on } => on,
-        Kind::Reset => start,
+        Kind::Reset => initial,
         Kind::Logic | Kind::Setting | Kind::Change => before,
         Kind::Exit | Kind::Check | Kind::Model | Kind::Echo | Kind::Query => before,
     }

@@ -1,4 +1,5 @@
-//! Assertion levels (SMT-LIB 2.6, section 4.1.4).
+//! Assertion levels (SMT-LIB 2.6, sections 4.1.4 and 4.2.2), and what goes with them. This file knows no
+//! names: the library is cut to what it held.
 
 ghost use Rattle.std.specs.Prelude.{◌≡◌, ◌≤◌, ◌++◌, IfErr, MatchOption, OnErr, OnOk};
 ghost use Rattle.std.specs.Str.Parse.{digits_value};
@@ -25,12 +26,15 @@ impl Stack {
     ghost use Rattle.std.specs.Prelude.{◌<◌, ℕ, length};
     ghost use Rattle.smt_script.specs.Command.{Push, Pop};
     ghost use Rattle.smt_script.specs.Command as commands;
-    ghost use Rattle.smt_script.specs.Internal.Effect.{HasEffect, HasNotesOf, IsCut, IsRefused, IsUnchanged, NotesAll};
+    ghost use Rattle.smt_script.specs.Internal.Effect.{HasEffect, HasNotesOf, IsCut, IsRefused, IsUnchanged};
+    ghost use Rattle.smt_script.specs.Internal.Effect.{NotesAll};
 
     // Adds levels. What is in force came outside each of them.
     pub(super) fn push(&mut self, digits: &[u8]) -> Result<(), CommandFault>
-        ensures effect { OnOk result ((n : ℕ) → HasEffect self.old self.new n (Push (digits_value 10 digits.now))) }
-        ensures refused { IfErr result (λ fault. (n : ℕ) → IsRefused self.old n (Push (digits_value 10 digits.now)) fault) }
+        ensures effect { OnOk result
+            ((n : ℕ) → HasEffect self.old self.new n (Push (digits_value 10 digits.now))) }
+        ensures refused { IfErr result
+            (λ fault. (n : ℕ) → IsRefused self.old n (Push (digits_value 10 digits.now)) fault) }
         ensures unchanged { OnErr result (IsUnchanged self.old self.new) }
     {
         let Some(room) = LIMIT.checked_sub(self.levels.len()) else {
@@ -58,8 +62,10 @@ impl Stack {
 
     // Removes levels, and what came in them.
     pub(super) fn pop(&mut self, digits: &[u8]) -> Result<(), CommandFault>
-        ensures effect { OnOk result ((n : ℕ) → HasEffect self.old self.new n (Pop (digits_value 10 digits.now))) }
-        ensures refused { IfErr result (λ fault. (n : ℕ) → IsRefused self.old n (Pop (digits_value 10 digits.now)) fault) }
+        ensures effect { OnOk result
+            ((n : ℕ) → HasEffect self.old self.new n (Pop (digits_value 10 digits.now))) }
+        ensures refused { IfErr result
+            (λ fault. (n : ℕ) → IsRefused self.old n (Pop (digits_value 10 digits.now)) fault) }
         ensures unchanged { OnErr result (IsUnchanged self.old self.new) }
     {
         earlier_marks_are_kept();
@@ -100,7 +106,8 @@ impl Stack {
     // Removes all but the logic.
     pub(super) fn reset_assertions(&mut self) -> Result<(), CommandFault>
         ensures effect { OnOk result ((n : ℕ) → HasEffect self.old self.new n commands.ResetAssertions) }
-        ensures refused { IfErr result (λ fault. (n : ℕ) → IsRefused self.old n commands.ResetAssertions fault) }
+        ensures refused { IfErr result
+            (λ fault. (n : ℕ) → IsRefused self.old n commands.ResetAssertions fault) }
         ensures unchanged { OnErr result (IsUnchanged self.old self.new) }
     {
         self.library = Library::new(self.alloc, self.library.theories());
@@ -130,7 +137,8 @@ fn add_levels(levels: &mut Vec<Level>, count: usize, level: Level) -> Result<(),
 
 // The number that digits are, where it is no more than this.
 fn count_to(most: usize, digits: &[u8]) -> Option<usize>
-    ensures { MatchOption result (digits_value 10 digits.now ≤ most → ⊥) (λ n. (n ≡ digits_value 10 digits.now) × (n ≤ most)) }
+    ensures { MatchOption result (digits_value 10 digits.now ≤ most → ⊥)
+        (λ n. (n ≡ digits_value 10 digits.now) × (n ≤ most)) }
 {
     match number(10, digits) {
         Some(count) if count <= most as u128 => Some(count as usize),

@@ -1,4 +1,5 @@
-//! Assertions.
+//! Assertions: a term that is checked with its labels, which become names. Which level it stands at is not
+//! known here.
 
 ghost use Rattle.std.specs.Prelude.{◌≡◌, ◌⊎◌, ◌∷◌, ◌++◌, List, [], None, Ok, Err, map, IfErr, IfOk, OnErr};
 ghost use Rattle.std.specs.Prelude.{OnOk};
@@ -8,21 +9,21 @@ ghost use Rattle.smt_terms.specs.Assertions.{asserted_in};
 ghost use Rattle.smt_terms.specs.Contents.{Extends, contents_of};
 ghost use Rattle.smt_terms.specs.Internal.LabelsView.{AreNew, label_entry};
 ghost use Rattle.smt_terms.specs.Internal.LibraryView.{ranks_of_library};
-ghost use Rattle.smt_terms.specs.Library.{IsTerm, StandsFor};
+ghost use Rattle.smt_terms.specs.Library.{IsTerm, IsUnchanged, StandsFor};
 ghost use Rattle.smt_terms.specs.Signature as signature;
 ghost use Rattle.smt_terms.specs.Signature.{Signature, names_of, rank_of_entry, with_entries, with_entry};
-ghost use Rattle.smt_faults.specs.declared.term_fault.TermFault.TheVariants.{Memory as OutOfMemory};
+ghost use Rattle.smt_faults.specs.Outcome.{Tells};
 
 use crate::labels::{Label, Labels};
-use crate::library::items::are_equal;
 use crate::library::{Library, TermId};
+use crate::sorts::are_equal;
 use smt_faults::{Memory, TermFault};
 use smt_theory::Sort;
 use smt_trees::Tree;
 
 impl Library {
     /// Checks a term that is asserted, and adds the labels in it, which stand for their terms from then on
-    /// (SMT-LIB 2.6, sections 3.6.5 and 4.2.5): the number of the term. No term sees a label of its own
+    /// (SMT-LIB 2.6, sections 3.6.5 and 4.2.4): the number of the term. No term sees a label of its own
     /// assertion.
     ///
     /// Refused is a term with a fault, with the first; for a label that is a term that uses a variable bound
@@ -37,8 +38,8 @@ impl Library {
             × StandsFor self.new (with_entries s labels)) }
         ensures term { IfOk result (λ i. IsTerm self.new i (sexp_of term)) }
         ensures refused { IfErr result (λ fault. (s : Signature) → StandsFor self.old s
-            → (fault ≡ OutOfMemory) ⊎ (asserted_in (names_of s) (sexp_of term) ≡ Err fault)) }
-        ensures unchanged { OnErr result ((s : Signature) → StandsFor self.old s → StandsFor self.new s) }
+            → Tells (asserted_in (names_of s) (sexp_of term)) fault) }
+        ensures unchanged { OnErr result (IsUnchanged self.old self.new) }
         ensures grown { Extends (contents_of self.old) (contents_of self.new) }
     {
         let mut labels = Labels::new(self.alloc);
@@ -65,8 +66,8 @@ impl Library {
             × StandsFor self.new (with_entries s labels)) }
         ensures term { IfOk result (λ i. IsTerm self.new i (sexp_of term.now)) }
         ensures refused { IfErr result (λ fault. (s : Signature) → StandsFor self.old s
-            → (fault ≡ OutOfMemory) ⊎ (asserted_in (names_of s) (sexp_of term.now) ≡ Err fault)) }
-        ensures unchanged { OnErr result ((s : Signature) → StandsFor self.old s → StandsFor self.new s) }
+            → Tells (asserted_in (names_of s) (sexp_of term.now)) fault) }
+        ensures unchanged { OnErr result (IsUnchanged self.old self.new) }
         ensures grown { Extends (contents_of self.old) (contents_of self.new) }
     {
         let copy = term.copy(self.alloc)?;

@@ -1,25 +1,25 @@
-//! The sorts of terms that bind variables, and of annotated ones, whose labels are kept.
+//! The sorts of terms that bind variables, and of annotated ones, whose labels are kept. This file adds no
+//! name to a library.
 
-ghost use Rattle.std.specs.Prelude.{◌≡◌, ◌⊎◌, ◌∷◌, ◌||◌, [], true, None, Some, Ok, Err, map, MatchResult};
-ghost use Rattle.std.specs.Prelude.{OnOk};
+ghost use Rattle.std.specs.Prelude.{◌≡◌, ◌∷◌, [], true, None, Some, Ok, Err, map, MatchResult, OnOk};
 ghost use Rattle.smt_trees.specs.Sexp.{Cons, Items, Reserved};
 ghost use Rattle.smt_trees.specs.Tree.{sexp_of, sexps_of};
 ghost use Rattle.smt_trees.specs.declared.reserved.Word.TheVariants.{Bang, Let};
 ghost use Rattle.smt_forms.specs.Bindings as bindings;
 ghost use Rattle.smt_forms.specs.Bindings.{are_named_trees};
-ghost use Rattle.smt_terms.specs.Checking.{bound_in, fault_of_label, fault_of_labels, sort_in};
+ghost use Rattle.smt_terms.specs.Checking.{bound_in, flaw_of_label, flaw_of_labels, sort_in};
 ghost use Rattle.smt_forms.specs.Labels.{label_of_tree};
-ghost use Rattle.smt_terms.specs.Internal.LabelsView.{AreGiven, given_names, labels_view};
+ghost use Rattle.smt_terms.specs.Internal.Calls.{GivesLabels, HasSort};
+ghost use Rattle.smt_terms.specs.Internal.LabelsView.{AreGiven, labels_view};
 ghost use Rattle.smt_terms.specs.Internal.LibraryView.{names_for, names_of_library};
-ghost use Rattle.smt_forms.specs.Variables.{is_among};
-ghost use Rattle.smt_forms.specs.Labels.{labels_among, labels_in, labels_in_bindings};
-ghost use Rattle.smt_terms.specs.Signature.{is_taken, unlabelled};
+ghost use Rattle.smt_forms.specs.Labels.{labels_among, labels_in_bindings};
+ghost use Rattle.smt_terms.specs.Signature.{unlabelled};
 ghost use Rattle.smt_forms.specs.ScopeView.{scope_view};
-ghost use Rattle.smt_faults.specs.declared.term_fault.TermFault.TheVariants.{Memory};
+ghost use Rattle.smt_faults.specs.Outcome.{IsOutcome, TellsSome};
 
 use crate::labels::Labels;
 use crate::library::Library;
-use crate::scope::push_variable;
+use crate::library::scope::push_variable;
 use smt_faults::TermFault;
 use smt_forms::{
     Variable, are_attributes, are_named, find_variable, label_at, split_let, split_named,
@@ -38,15 +38,10 @@ impl Library {
         labels: &mut Labels,
         args: &'a [Tree],
     ) -> Result<Sort, TermFault>
-        ensures sort { MatchResult result
-            (λ sort. sort_in (names_for self.now (labels_view labels.old)) (scope_view scope.now)
-            (Items (Cons (Reserved Let) (sexps_of args.now))) ≡ Ok sort)
-            (λ fault. (fault ≡ Memory)
-            ⊎ (sort_in (names_for self.now (labels_view labels.old)) (scope_view scope.now)
-            (Items (Cons (Reserved Let) (sexps_of args.now))) ≡ Err fault)) }
-        ensures labels { OnOk result
-            (AreGiven (names_of_library self.now) labels.old labels.new
-            (labels_in (Items (Cons (Reserved Let) (sexps_of args.now))))) }
+        ensures sort { HasSort self.now labels.old scope.now
+            (Items (Cons (Reserved Let) (sexps_of args.now))) result }
+        ensures labels { GivesLabels self.now labels.old labels.new
+            (Items (Cons (Reserved Let) (sexps_of args.now))) result }
     {
         let Some((bindings, body)) = split_let(args) else {
             return Err(TermFault::Form);
@@ -68,12 +63,9 @@ impl Library {
         bindings: &'a [Tree],
     ) -> Result<Vec<Variable<'a, Sort>>, TermFault>
         requires { are_named_trees (sexps_of bindings.now) ≡ true }
-        ensures bound { MatchResult result
-            (λ bound. bound_in (names_for self.now (labels_view labels.old)) (scope_view scope.now) []
-            (sexps_of bindings.now) ≡ Ok (scope_view bound.items))
-            (λ fault. (fault ≡ Memory)
-            ⊎ (bound_in (names_for self.now (labels_view labels.old)) (scope_view scope.now) []
-            (sexps_of bindings.now) ≡ Err fault)) }
+        ensures bound { IsOutcome (λ bound. scope_view bound.items)
+            (bound_in (names_for self.now (labels_view labels.old)) (scope_view scope.now) []
+            (sexps_of bindings.now)) result }
         ensures labels { OnOk result
             (AreGiven (names_of_library self.now) labels.old labels.new
             (labels_in_bindings (sexps_of bindings.now))) }
@@ -100,15 +92,10 @@ impl Library {
         labels: &mut Labels,
         args: &'a [Tree],
     ) -> Result<Sort, TermFault>
-        ensures sort { MatchResult result
-            (λ sort. sort_in (names_for self.now (labels_view labels.old)) (scope_view scope.now)
-            (Items (Cons (Reserved Bang) (sexps_of args.now))) ≡ Ok sort)
-            (λ fault. (fault ≡ Memory)
-            ⊎ (sort_in (names_for self.now (labels_view labels.old)) (scope_view scope.now)
-            (Items (Cons (Reserved Bang) (sexps_of args.now))) ≡ Err fault)) }
-        ensures labels { OnOk result
-            (AreGiven (names_of_library self.now) labels.old labels.new
-            (labels_in (Items (Cons (Reserved Bang) (sexps_of args.now))))) }
+        ensures sort { HasSort self.now labels.old scope.now
+            (Items (Cons (Reserved Bang) (sexps_of args.now))) result }
+        ensures labels { GivesLabels self.now labels.old labels.new
+            (Items (Cons (Reserved Bang) (sexps_of args.now))) result }
     {
         let Some((term, attributes)) = split_first(args) else {
             return Err(TermFault::Form);
@@ -133,11 +120,11 @@ impl Library {
         requires { sort_in (unlabelled (names_of_library self.now)) (scope_view scope.now) (sexp_of term.now)
             ≡ Ok sort.now }
         ensures fault { MatchResult result
-            (λ _. fault_of_labels (names_for self.now (labels_view labels.old)) (scope_view scope.now)
+            (λ _. flaw_of_labels (names_for self.now (labels_view labels.old)) (scope_view scope.now)
             (sexp_of term.now) (labels_among (sexps_of attributes.now)) ≡ None)
-            (λ fault. (fault ≡ Memory)
-            ⊎ (fault_of_labels (names_for self.now (labels_view labels.old)) (scope_view scope.now)
-            (sexp_of term.now) (labels_among (sexps_of attributes.now)) ≡ Some fault)) }
+            (λ fault. TellsSome (flaw_of_labels (names_for self.now (labels_view labels.old))
+            (scope_view scope.now)
+            (sexp_of term.now) (labels_among (sexps_of attributes.now))) fault) }
         ensures labels { OnOk result
             (AreGiven (names_of_library self.now) labels.old labels.new
             (map (λ x. (x, sexp_of term.now)) (labels_among (sexps_of attributes.now)))) }
@@ -164,11 +151,11 @@ impl Library {
         requires { sort_in (unlabelled (names_of_library self.now)) (scope_view scope.now) (sexp_of term.now)
             ≡ Ok sort.now }
         ensures fault { MatchResult result
-            (λ _. fault_of_labels (names_for self.now (labels_view labels.old)) (scope_view scope.now)
+            (λ _. flaw_of_labels (names_for self.now (labels_view labels.old)) (scope_view scope.now)
             (sexp_of term.now) (label_of_tree (sexp_of tree.now) (sexps_of rest.now)) ≡ None)
-            (λ fault. (fault ≡ Memory)
-            ⊎ (fault_of_labels (names_for self.now (labels_view labels.old)) (scope_view scope.now)
-            (sexp_of term.now) (label_of_tree (sexp_of tree.now) (sexps_of rest.now)) ≡ Some fault)) }
+            (λ fault. TellsSome (flaw_of_labels (names_for self.now (labels_view labels.old))
+            (scope_view scope.now)
+            (sexp_of term.now) (label_of_tree (sexp_of tree.now) (sexps_of rest.now))) fault) }
         ensures labels { OnOk result
             (AreGiven (names_of_library self.now) labels.old labels.new
             (map (λ x. (x, sexp_of term.now)) (label_of_tree (sexp_of tree.now) (sexps_of rest.now)))) }
@@ -191,11 +178,11 @@ impl Library {
         requires { sort_in (unlabelled (names_of_library self.now)) (scope_view scope.now) (sexp_of term.now)
             ≡ Ok sort.now }
         ensures fault { MatchResult result
-            (λ _. fault_of_label (names_for self.now (labels_view labels.old)) (labels_view labels.old)
+            (λ _. flaw_of_label (names_for self.now (labels_view labels.old)) (labels_view labels.old)
             (scope_view scope.now) (sexp_of term.now) name.now ≡ None)
-            (λ fault. (fault ≡ Memory)
-            ⊎ (fault_of_label (names_for self.now (labels_view labels.old)) (labels_view labels.old)
-            (scope_view scope.now) (sexp_of term.now) name.now ≡ Some fault)) }
+            (λ fault. TellsSome (flaw_of_label (names_for self.now (labels_view labels.old))
+            (labels_view labels.old)
+            (scope_view scope.now) (sexp_of term.now) name.now) fault) }
         ensures labels { OnOk result
             (AreGiven (names_of_library self.now) labels.old labels.new ((name.now, sexp_of term.now) ∷ [])) }
     {
@@ -209,14 +196,6 @@ impl Library {
             return Err(TermFault::NotFresh);
         }
         Ok(labels.push(self.alloc, name, *sort, term)?)
-    }
-
-    // Whether a name is taken, or that of a label that was given.
-    fn is_in_use(&self, labels: &Labels, name: &[u8]) -> bool
-        ensures { result ≡ is_taken (names_of_library self.now) name.now
-            || is_among (given_names labels.now) name.now }
-    {
-        self.is_taken(name) || labels.is_given(name)
     }
 }
 

@@ -1,28 +1,29 @@
-//! The sort checker.
+//! The sort checker: the sort of a term, or its first flaw. This file adds no name to a library, and knows no
+//! values.
 
-ghost use Rattle.std.specs.Prelude.{◌≡◌, ◌⊎◌, ◌*◌, [], MatchResult, OnOk, length};
+ghost use Rattle.std.specs.Prelude.{◌≡◌, ◌*◌, OnOk, length};
 ghost use Rattle.smt_trees.specs.Sexp.{Items};
 ghost use Rattle.smt_trees.specs.Tree.{sexp_of, sexps_of};
 ghost use Rattle.smt_theory.specs.Ranks.{are_exactly};
 ghost use Rattle.smt_theory.specs.Width.{width_of};
 ghost use Rattle.smt_theory.specs.Words.{look_up};
 ghost use Rattle.smt_terms.specs.Checking as checking;
-ghost use Rattle.smt_terms.specs.Checking.{sort_in, sorts_in, sort_of_name};
-ghost use Rattle.smt_terms.specs.Internal.Calls.{names_variable};
+ghost use Rattle.smt_terms.specs.Checking.{sorts_in, sort_of_name};
+ghost use Rattle.smt_terms.specs.Internal.Calls.{GivesLabels, HasSort, names_variable};
 ghost use Rattle.smt_forms.specs.ScopeView.{scope_view};
 ghost use Rattle.smt_forms.specs.Identifier.{Plain};
 ghost use Rattle.smt_forms.specs.IdentifierView.{identifier_view};
 ghost use Rattle.smt_terms.specs.Internal.LabelsView.{AreGiven, labels_view};
 ghost use Rattle.smt_terms.specs.Internal.LibraryView.{names_for, names_of_library};
-ghost use Rattle.smt_forms.specs.Labels.{labels_in, labels_in_all};
+ghost use Rattle.smt_forms.specs.Labels.{labels_in_all};
 ghost use Rattle.smt_terms.specs.SortTrees.{bit_vectors, integers};
-ghost use Rattle.smt_faults.specs.declared.term_fault.TermFault.TheVariants.{Memory};
+ghost use Rattle.smt_faults.specs.Outcome.{IsOutcome};
 
 use crate::labels::Labels;
 use crate::library::{Entry, Library};
 use crate::sorts;
 use smallvec::SmallVec;
-use smt_faults::TermFault;
+use smt_faults::{TermFault, TermFlaw};
 use smt_forms::{
     Identifier, Variable, applied_identifier, find_variable, indexed_identifier, is_bang, is_let,
     is_underscore,
@@ -44,17 +45,11 @@ impl Library {
         labels: &mut Labels,
         term: &'a Tree,
     ) -> Result<Sort, TermFault>
-        ensures sort { MatchResult result
-            (λ sort. sort_in (names_for self.now (labels_view labels.old)) (scope_view scope.now)
-            (sexp_of term.now) ≡ Ok sort)
-            (λ fault. (fault ≡ Memory)
-            ⊎ (sort_in (names_for self.now (labels_view labels.old)) (scope_view scope.now)
-            (sexp_of term.now) ≡ Err fault)) }
-        ensures labels { OnOk result
-            (AreGiven (names_of_library self.now) labels.old labels.new (labels_in (sexp_of term.now))) }
+        ensures sort { HasSort self.now labels.old scope.now (sexp_of term.now) result }
+        ensures labels { GivesLabels self.now labels.old labels.new (sexp_of term.now) result }
     {
         match term {
-            Tree::Symbol(name) => self.sort_of_symbol(scope, name.as_slice()),
+            Tree::Symbol(name) => Ok(self.sort_of_symbol(scope, name.as_slice())?),
             _ => self.sort_of_other(scope, labels, term),
         }
     }
@@ -67,38 +62,32 @@ impl Library {
         labels: &mut Labels,
         term: &'a Tree,
     ) -> Result<Sort, TermFault>
-        ensures sort { MatchResult result
-            (λ sort. sort_in (names_for self.now (labels_view labels.old)) (scope_view scope.now)
-            (sexp_of term.now) ≡ Ok sort)
-            (λ fault. (fault ≡ Memory)
-            ⊎ (sort_in (names_for self.now (labels_view labels.old)) (scope_view scope.now)
-            (sexp_of term.now) ≡ Err fault)) }
-        ensures labels { OnOk result
-            (AreGiven (names_of_library self.now) labels.old labels.new (labels_in (sexp_of term.now))) }
+        ensures sort { HasSort self.now labels.old scope.now (sexp_of term.now) result }
+        ensures labels { GivesLabels self.now labels.old labels.new (sexp_of term.now) result }
     {
         match term {
-            Tree::Symbol(name) => self.sort_of_symbol(scope, name.as_slice()),
-            Tree::Numeral(_) => self.sort_of_numeral(),
+            Tree::Symbol(name) => Ok(self.sort_of_symbol(scope, name.as_slice())?),
+            Tree::Numeral(_) => Ok(self.sort_of_numeral()?),
             Tree::List(parts) => self.sort_of_list(scope, labels, parts),
-            Tree::Hex(digits) => self.sort_of_digits(4, digits.as_slice()),
-            Tree::Bin(digits) => self.sort_of_digits(1, digits.as_slice()),
+            Tree::Hex(digits) => Ok(self.sort_of_digits(4, digits.as_slice())?),
+            Tree::Bin(digits) => Ok(self.sort_of_digits(1, digits.as_slice())?),
             Tree::Decimal(_) | Tree::Text(_) => Err(TermFault::Unsupported),
             Tree::Keyword(_) | Tree::Reserved(_) => Err(TermFault::Form),
         }
     }
 
-    fn sort_of_numeral(&self) -> Result<Sort, TermFault>
+    fn sort_of_numeral(&self) -> Result<Sort, TermFlaw>
         ensures { result ≡ integers (names_of_library self.now).theories }
     {
         if self.sorts.theories.ints {
             Ok(Sort::Int)
         } else {
-            Err(TermFault::Unknown)
+            Err(TermFlaw::Unknown)
         }
     }
 
     // The sort of digits that stand for so many bits each.
-    fn sort_of_digits(&self, bits: u64, digits: &[u8]) -> Result<Sort, TermFault>
+    fn sort_of_digits(&self, bits: u64, digits: &[u8]) -> Result<Sort, TermFlaw>
         ensures { result ≡ bit_vectors (names_of_library self.now).theories
             (width_of (bits * length digits.now)) }
     {
@@ -113,21 +102,15 @@ impl Library {
         labels: &mut Labels,
         parts: &'a Trees,
     ) -> Result<Sort, TermFault>
-        ensures sort { MatchResult result
-            (λ sort. sort_in (names_for self.now (labels_view labels.old)) (scope_view scope.now)
-            (Items parts.now) ≡ Ok sort)
-            (λ fault. (fault ≡ Memory)
-            ⊎ (sort_in (names_for self.now (labels_view labels.old)) (scope_view scope.now)
-            (Items parts.now) ≡ Err fault)) }
-        ensures labels { OnOk result
-            (AreGiven (names_of_library self.now) labels.old labels.new (labels_in (Items parts.now))) }
+        ensures sort { HasSort self.now labels.old scope.now (Items parts.now) result }
+        ensures labels { GivesLabels self.now labels.old labels.new (Items parts.now) result }
     {
         let Some((head, args)) = split_first(parts.as_slice()) else {
             return Err(TermFault::Form);
         };
         if is_underscore(head) {
             let identifier = indexed_identifier(self.alloc, args)?;
-            return self.sort_applied(&identifier, &[]);
+            return Ok(self.sort_applied(&identifier, &[])?);
         }
         if is_let(head) {
             return self.sort_of_let(scope, labels, args);
@@ -137,7 +120,7 @@ impl Library {
         }
         let identifier = applied_identifier(self.alloc, head, args)?;
         let sorts = self.sorts_of(scope, labels, args)?;
-        self.sort_of_call(scope, &identifier, sorts.as_slice())
+        Ok(self.sort_of_call(scope, &identifier, sorts.as_slice())?)
     }
 
     // The sorts of terms, in order.
@@ -148,12 +131,9 @@ impl Library {
         labels: &mut Labels,
         terms: &'a [Tree],
     ) -> Result<SmallVec<Sort, FEW>, TermFault>
-        ensures sorts { MatchResult result
-            (λ sorts. sorts_in (names_for self.now (labels_view labels.old)) (scope_view scope.now)
-            (sexps_of terms.now) ≡ Ok sorts.items)
-            (λ fault. (fault ≡ Memory)
-            ⊎ (sorts_in (names_for self.now (labels_view labels.old)) (scope_view scope.now)
-            (sexps_of terms.now) ≡ Err fault)) }
+        ensures sorts { IsOutcome (λ sorts. sorts.items)
+            (sorts_in (names_for self.now (labels_view labels.old)) (scope_view scope.now)
+            (sexps_of terms.now)) result }
         ensures labels { OnOk result
             (AreGiven (names_of_library self.now) labels.old labels.new
             (labels_in_all (sexps_of terms.now))) }
@@ -170,7 +150,7 @@ impl Library {
 
     // The sort of a symbol alone: that of a variable, or else of a name or an operator without arguments.
     #[inline(always)]
-    fn sort_of_symbol(&self, scope: &[Variable<'_, Sort>], name: &[u8]) -> Result<Sort, TermFault>
+    fn sort_of_symbol(&self, scope: &[Variable<'_, Sort>], name: &[u8]) -> Result<Sort, TermFlaw>
         ensures { result ≡ checking.sort_of_symbol (names_of_library self.now) name.now
             (look_up (scope_view scope.now) name.now) }
     {
@@ -188,19 +168,19 @@ impl Library {
         scope: &[Variable<'_, Sort>],
         identifier: &Identifier<'_>,
         args: &[Sort],
-    ) -> Result<Sort, TermFault>
+    ) -> Result<Sort, TermFlaw>
         ensures { result ≡ checking.sort_of_call (names_of_library self.now) (scope_view scope.now)
             (identifier_view identifier.now) args.now }
     {
         if is_variable(scope, identifier) {
-            return Err(TermFault::IllSorted);
+            return Err(TermFlaw::IllSorted);
         }
         self.sort_applied(identifier, args)
     }
 
     // The sort of an identifier applied to arguments of these sorts.
     #[inline(always)]
-    fn sort_applied(&self, identifier: &Identifier<'_>, args: &[Sort]) -> Result<Sort, TermFault>
+    fn sort_applied(&self, identifier: &Identifier<'_>, args: &[Sort]) -> Result<Sort, TermFlaw>
         ensures { result ≡ checking.sort_applied (names_of_library self.now)
             (identifier_view identifier.now) args.now }
     {
@@ -214,7 +194,7 @@ impl Library {
 
     // The sort of a symbol that is no variable: a name in force, or else an operator.
     #[inline(always)]
-    fn sort_of_plain(&self, name: &[u8], args: &[Sort]) -> Result<Sort, TermFault>
+    fn sort_of_plain(&self, name: &[u8], args: &[Sort]) -> Result<Sort, TermFlaw>
         ensures { result ≡ checking.sort_applied (names_of_library self.now) (Plain name.now) args.now }
     {
         match self.get(name) {
@@ -225,26 +205,26 @@ impl Library {
 }
 
 // The sort of a name in force applied to arguments of these sorts.
-fn sort_of_entry(entry: &Entry, args: &[Sort]) -> Result<Sort, TermFault>
+fn sort_of_entry(entry: &Entry, args: &[Sort]) -> Result<Sort, TermFlaw>
     ensures { result ≡ sort_of_name
         (record { parameters = entry.now.parameters.items; sort = entry.now.sort }) args.now }
 {
     if are_same(entry.parameters.as_slice(), args) {
         Ok(entry.sort)
     } else {
-        Err(TermFault::IllSorted)
+        Err(TermFlaw::IllSorted)
     }
 }
 
 // The sort of an operator applied to arguments of these sorts.
 #[inline(always)]
-fn sort_of_operator(op: Result<Op, OpFault>, args: &[Sort]) -> Result<Sort, TermFault>
+fn sort_of_operator(op: Result<Op, OpFault>, args: &[Sort]) -> Result<Sort, TermFlaw>
     ensures { result ≡ checking.sort_of_operator op args.now }
 {
     match op {
-        Ok(op) => rank(op, args).ok_or(TermFault::IllSorted),
-        Err(OpFault::Unknown) => Err(TermFault::Unknown),
-        Err(OpFault::Index) => Err(TermFault::Index),
+        Ok(op) => rank(op, args).ok_or(TermFlaw::IllSorted),
+        Err(OpFault::Unknown) => Err(TermFlaw::Unknown),
+        Err(OpFault::Index) => Err(TermFlaw::Index),
     }
 }
 

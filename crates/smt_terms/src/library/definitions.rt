@@ -1,4 +1,5 @@
-//! Definitions of names.
+//! Definitions of names, by a script or by a model: the body is checked, and the name added. Whether a name
+//! is fresh is said in `freshness`.
 
 ghost use Rattle.std.specs.Prelude.{◌≡◌, ◌⊎◌, ◌∷◌, ◌++◌, [], None, Ok, Err, map, OnOk, OnErr, IfErr};
 ghost use Rattle.smt_trees.specs.Sexp.{Sexp};
@@ -7,17 +8,17 @@ ghost use Rattle.smt_theory.specs.Words.{look_up};
 ghost use Rattle.smt_terms.specs.Contents.{Extends, contents_of};
 ghost use Rattle.smt_terms.specs.Definitions.{defined_in, definition, definition_in};
 ghost use Rattle.smt_terms.specs.Internal.LibraryView.{names_of_library, ranks_of_library};
-ghost use Rattle.smt_terms.specs.Library.{IsTerm, StandsFor};
+ghost use Rattle.smt_terms.specs.Library.{IsTerm, IsUnchanged, StandsFor};
 ghost use Rattle.smt_forms.specs.ParamView.{param_view};
 ghost use Rattle.smt_forms.specs.ScopeView.{scope_view};
 ghost use Rattle.smt_terms.specs.Signature as signature;
 ghost use Rattle.smt_terms.specs.Signature.{Signature, names_of, with_entry};
-ghost use Rattle.smt_faults.specs.declared.term_fault.TermFault.TheVariants.{Memory as OutOfMemory};
+ghost use Rattle.smt_faults.specs.Outcome.{Tells};
 
-use crate::definitions::{named_parameters, sorted_params, sorts_of_variables};
 use crate::labels::Labels;
-use crate::library::items::are_equal;
+use crate::library::params::{named_parameters, sorted_params, sorts_of_variables};
 use crate::library::{Definition, Entry, Found, Library, TermId};
+use crate::sorts::are_equal;
 use smt_faults::{Memory, TermFault};
 use smt_forms::{Param, Variable};
 use smt_theory::Sort;
@@ -44,10 +45,9 @@ impl Library {
             × (defined_in s name.now (map param_view params.now) (sexp_of sort.now) (sexp_of body.now) ≡ Ok e)
             × StandsFor self.new (with_entry s e)) }
         ensures refused { IfErr result (λ fault. (s : Signature) → StandsFor self.old s
-            → (fault ≡ OutOfMemory) ⊎
-            (defined_in s name.now (map param_view params.now) (sexp_of sort.now) (sexp_of body.now)
-            ≡ Err fault)) }
-        ensures unchanged { OnErr result ((s : Signature) → StandsFor self.old s → StandsFor self.new s) }
+            → Tells (defined_in s name.now (map param_view params.now) (sexp_of sort.now) (sexp_of body.now))
+            fault) }
+        ensures unchanged { OnErr result (IsUnchanged self.old self.new) }
         ensures grown { Extends (contents_of self.old) (contents_of self.new) }
     {
         if self.is_taken(name) {
@@ -73,10 +73,9 @@ impl Library {
             × (definition_in (names_of s) name.now (scope_view parameters.now) sort (sexp_of body.now) ≡ Ok e)
             × StandsFor self.new (with_entry s e)) }
         ensures refused { IfErr result (λ fault. (s : Signature) → StandsFor self.old s
-            → (fault ≡ OutOfMemory) ⊎
-            (definition_in (names_of s) name.now (scope_view parameters.now) sort (sexp_of body.now)
-            ≡ Err fault)) }
-        ensures unchanged { OnErr result ((s : Signature) → StandsFor self.old s → StandsFor self.new s) }
+            → Tells (definition_in (names_of s) name.now (scope_view parameters.now) sort (sexp_of body.now))
+            fault) }
+        ensures unchanged { OnErr result (IsUnchanged self.old self.new) }
         ensures grown { Extends (contents_of self.old) (contents_of self.new) }
         ensures sorts { self.new.sorts ≡ self.old.sorts }
     {
@@ -106,7 +105,7 @@ impl Library {
             ≡ ranks_of_library self.old
             ++ (name.now, record { parameters = map (λ p. p.1) (scope_view parameters.now); sort = sort })
             ∷ []) }
-        ensures unchanged { OnErr result ((s : Signature) → StandsFor self.old s → StandsFor self.new s) }
+        ensures unchanged { OnErr result (IsUnchanged self.old self.new) }
         ensures grown { Extends (contents_of self.old) (contents_of self.new) }
         ensures sorts { self.new.sorts ≡ self.old.sorts }
     {

@@ -1,26 +1,24 @@
-//! Items of models.
+//! Items of models: what an item may define beside the names of a script. This file knows no values, and not
+//! which names a model lacks.
 
-ghost use Rattle.std.specs.Prelude.{◌≡◌, ◌⊎◌, ◌&&◌, map, not, is_some, option_map, None, Some, Ok, Err};
-ghost use Rattle.std.specs.Prelude.{MatchResult, OnOk, OnErr, IfErr, IfOk};
-ghost use Rattle.smt_trees.specs.Sexp.{Sexp};
-ghost use Rattle.smt_trees.specs.Tree.{sexp_of, sexps_of};
+ghost use Rattle.std.specs.Prelude.{◌≡◌, ◌&&◌, map, option_map, None, Some, Ok, Err, OnOk, OnErr, IfErr};
+ghost use Rattle.std.specs.Prelude.{IfOk};
+ghost use Rattle.smt_trees.specs.Tree.{sexp_of};
 ghost use Rattle.smt_theory.specs.Ranks.{are_exactly};
 ghost use Rattle.smt_theory.specs.Sort.{is_same_sort};
-ghost use Rattle.smt_theory.specs.Words.{look_up};
 ghost use Rattle.smt_terms.specs.Contents.{Extends, contents_of};
-ghost use Rattle.smt_terms.specs.Internal.LibraryView.{names_of_library, rank_of};
-ghost use Rattle.smt_terms.specs.Items.{declared_named, has_rank_of, item_in, name_fault};
-ghost use Rattle.smt_terms.specs.Library.{HasTheoriesOf, IsTerm, StandsFor};
+ghost use Rattle.smt_terms.specs.Internal.LibraryView.{rank_of};
+ghost use Rattle.smt_terms.specs.Items.{has_rank_of, item_in};
+ghost use Rattle.smt_terms.specs.Library.{HasTheoriesOf, IsUnchanged, StandsFor};
 ghost use Rattle.smt_forms.specs.ScopeView.{scope_view};
 ghost use Rattle.smt_terms.specs.Signature as signature;
-ghost use Rattle.smt_terms.specs.Signature.{Signature, is_taken, names_of, no_names, rank_of_entry};
-ghost use Rattle.smt_terms.specs.Signature.{with_entry};
-ghost use Rattle.smt_terms.specs.SortTrees.{sort_named};
-ghost use Rattle.smt_faults.specs.declared.term_fault.TermFault.TheVariants.{Memory as OutOfMemory};
+ghost use Rattle.smt_terms.specs.Signature.{Signature, declared_named, no_names, rank_of_entry, with_entry};
+ghost use Rattle.smt_faults.specs.Outcome.{Tells};
 
-use crate::definitions::{sorted_params_of, sorts_of_variables};
 use crate::library::checker::are_same;
+use crate::library::params::{sorted_params_of, sorts_of_variables};
 use crate::library::{Entry, Found, Library};
+use crate::sorts::are_equal;
 use smt_faults::{Memory, TermFault};
 use smt_forms::{Variable, item_form};
 use smt_theory::Sort;
@@ -56,8 +54,8 @@ impl Library {
             × StandsFor self.new (with_entry m e)) }
         ensures refused { IfErr result
             (λ fault. (s m : Signature) → StandsFor script.now s → StandsFor self.old m
-            → (fault ≡ OutOfMemory) ⊎ (item_in s m.entries (sexp_of item.now) ≡ Err fault)) }
-        ensures unchanged { OnErr result ((m : Signature) → StandsFor self.old m → StandsFor self.new m) }
+            → Tells (item_in s m.entries (sexp_of item.now)) fault) }
+        ensures unchanged { OnErr result (IsUnchanged self.old self.new) }
         ensures grown { Extends (contents_of self.old) (contents_of self.new) }
         ensures theories { HasTheoriesOf self.new script.now }
     {
@@ -87,39 +85,8 @@ impl Library {
         Ok(script.keeps_rank(name, sorts.as_slice(), sort))
     }
 
-    // Refuses a name that an earlier item has, and one that the script does not declare and that is taken.
-    fn check_name(&self, script: &Library, name: &[u8]) -> Result<(), TermFault>
-        ensures fault { (s m : Signature) → StandsFor script.now s → StandsFor self.now m
-            → MatchResult result (λ _. name_fault s m.entries name.now ≡ None)
-            (λ fault. name_fault s m.entries name.now ≡ Some fault) }
-        ensures absent { OnOk result (look_up (names_of_library self.now).ranks name.now ≡ None) }
-    {
-        if self.is_in_force(name) {
-            return Err(TermFault::BoundTwice);
-        }
-        if script.is_unfit(name) {
-            return Err(TermFault::NotFresh);
-        }
-        Ok(())
-    }
-
-    // Whether no item may have this name: it is taken, and not declared.
-    fn is_unfit(&self, name: &[u8]) -> bool
-        ensures { (s : Signature) → StandsFor self.now s
-            → result ≡ not (is_some (declared_named s.entries name.now)) && is_taken (names_of s) name.now }
-    {
-        !self.is_declared(name) && self.is_taken(name)
-    }
-
-    fn is_declared(&self, name: &[u8]) -> bool
-        ensures { (s : Signature) → StandsFor self.now s
-            → result ≡ is_some (declared_named s.entries name.now) }
-    {
-        self.get_declared(name).is_some()
-    }
-
     // What a name stands for, if a command declared it.
-    fn get_declared(&self, name: &[u8]) -> Option<&Entry>
+    pub(super) fn get_declared(&self, name: &[u8]) -> Option<&Entry>
         ensures { (s : Signature) → StandsFor self.now s
             → option_map (λ e. rank_of e.now) result
             ≡ option_map rank_of_entry (declared_named s.entries name.now) }
@@ -151,10 +118,4 @@ fn has_rank(entry: &Entry, parameters: &[Sort], sort: Sort) -> bool
         && is_same_sort entry.now.sort sort }
 {
     are_same(entry.parameters.as_slice(), parameters) && are_equal(entry.sort, sort)
-}
-
-pub(super) fn are_equal(found: Sort, sort: Sort) -> bool
-    ensures { result ≡ is_same_sort found sort }
-{
-    found == sort
 }

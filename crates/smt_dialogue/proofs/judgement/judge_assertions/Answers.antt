@@ -4,29 +4,42 @@ use Rattle.smt_values.specs.Element.{Truth}
 use Rattle.smt_values.specs.KnownOperations.{is_known}
 use Rattle.smt_terms.specs.Contents.{contents_of}
 use Rattle.smt_eval.specs.Structure.{structure_of}
-use Rattle.smt_dialogue.proofs.JudgementLemmas.{judged_from, left-none, left-open, left-opened, left-true, terms_left}
+use Rattle.smt_dialogue.proofs.JudgementLemmas.{judged_from, left-none, left-open, left-opened, left-true}
+use Rattle.smt_dialogue.proofs.JudgementLemmas.{terms_left}
 use Rattle.smt_dialogue.specs.Judgement.{open_or_confirmed}
 use Rattle.smt_dialogue.proofs.judgement.judge_assertions.Goals as goal
 
 pub loop-assertion-preserved-in-Some-true : goal.loop-assertion-preserved-in-Some-true
 loop-assertion-preserved-in-Some-true c = record {
-  terms = terms_left (contents_of c.args.library.now) c.loop-assertion.left.now c.in-Some.rest.now c.in-Some.assertion.now c.in-Some.ensures.cases.0 c.loop-assertion.invariant.terms;
+  terms = terms_left (contents_of c.args.library.now)
+      c.loop-assertion.left.now c.in-Some.rest.now c.in-Some.assertion.now c.in-Some.ensures.cases.0
+      c.loop-assertion.invariant.terms;
   judged = λ script definitions all stands holds assertions.
       let s = structure_of script definitions in
-      left-true (contents_of c.args.library.now) c.loop-assertion.left.now c.in-Some.rest.now c.in-Some.assertion.now s c.loop-assertion.first_open (judged_from s std.None all) c.in-Some.ensures.cases.0
-      (λ t term. sym (c.in_ok-eval.ensures script definitions t stands holds term) ∙ c.in-Some-true.ensures ∙ ap (λ b. Some (Truth b)) c.in-Some-true.field-0-test)
+      left-true (contents_of c.args.library.now)
+      c.loop-assertion.left.now c.in-Some.rest.now c.in-Some.assertion.now s c.loop-assertion.first_open
+      (judged_from s std.None all) c.in-Some.ensures.cases.0
+      (λ t term. sym (c.in_ok-eval.ensures script definitions t stands holds term) ∙ c.in-Some-true.ensures
+      ∙ ap (λ b. Some (Truth b)) c.in-Some-true.field-0-test)
       (c.loop-assertion.invariant.judged script definitions all stands holds assertions);
 }
 
 pub loop-assertion-preserved : goal.loop-assertion-preserved
 loop-assertion-preserved c = record {
-  terms = terms_left (contents_of c.args.library.now) c.loop-assertion.left.now c.in-Some.rest.now c.in-Some.assertion.now c.in-Some.ensures.cases.0 c.loop-assertion.invariant.terms;
+  terms = terms_left (contents_of c.args.library.now)
+      c.loop-assertion.left.now c.in-Some.rest.now c.in-Some.assertion.now c.in-Some.ensures.cases.0
+      c.loop-assertion.invariant.terms;
   judged = λ script definitions all stands holds assertions.
       let s = structure_of script definitions in
-      left-open (contents_of c.args.library.now) c.loop-assertion.left.now c.in-Some.rest.now c.in-Some.assertion.now s c.loop-assertion.first_open (judged_from s std.None all) c.in-Some.ensures.cases.0
+      left-open (contents_of c.args.library.now)
+      c.loop-assertion.left.now c.in-Some.rest.now c.in-Some.assertion.now s c.loop-assertion.first_open
+      (judged_from s std.None all) c.in-Some.ensures.cases.0
       (λ t term.
-      let known = c.in_ok-eval.ensures script definitions t stands holds term in
-      (ap (is_known std.false) (sym known) ∙ c.in-None.ensures.0, ap (is_known std.true) (sym known) ∙ c.in-None.ensures.1))
+      let known = c.in_ok-eval.ensures script definitions t stands holds term in (
+        ap (is_known std.false) (sym known) ∙ c.in-None.ensures.0,
+        ap (is_known std.true) (sym known)
+            ∙ c.in-None.ensures.1,
+      ))
       c.if-is_none.ensures
       (c.loop-assertion.invariant.judged script definitions all stands holds assertions);
 }
@@ -35,23 +48,34 @@ pub returns-in-Some-first_open : goal.returns-in-Some-first_open
 returns-in-Some-first_open c = λ script definitions all stands holds assertions.
     let s = structure_of script definitions in
     sym (ap open_or_confirmed c.in-Some-first_open.is)
-    ∙ left-none (contents_of c.args.library.now) c.loop-assertion.left.now s c.loop-assertion.first_open (judged_from s std.None all) c.in_default.ensures.cases (c.loop-assertion.invariant.judged script definitions all stands holds assertions)
+    ∙ left-none (contents_of c.args.library.now) c.loop-assertion.left.now s c.loop-assertion.first_open
+    (judged_from s std.None all) c.in_default.ensures.cases
+    (c.loop-assertion.invariant.judged script definitions all stands holds assertions)
 
 pub returns-in-None-first_open : goal.returns-in-None-first_open
 returns-in-None-first_open c = λ script definitions all stands holds assertions.
     let s = structure_of script definitions in
     sym (ap open_or_confirmed c.in-None-first_open.is)
-    ∙ left-none (contents_of c.args.library.now) c.loop-assertion.left.now s c.loop-assertion.first_open (judged_from s std.None all) c.in_default.ensures.cases (c.loop-assertion.invariant.judged script definitions all stands holds assertions)
+    ∙ left-none (contents_of c.args.library.now) c.loop-assertion.left.now s c.loop-assertion.first_open
+    (judged_from s std.None all) c.in_default.ensures.cases
+    (c.loop-assertion.invariant.judged script definitions all stands holds assertions)
 
 pub loop-assertion-preserved-then-is_none : goal.loop-assertion-preserved-then-is_none
 loop-assertion-preserved-then-is_none c = record {
-  terms = terms_left (contents_of c.args.library.now) c.loop-assertion.left.now c.in-Some.rest.now c.in-Some.assertion.now c.in-Some.ensures.cases.0 c.loop-assertion.invariant.terms;
+  terms = terms_left (contents_of c.args.library.now)
+      c.loop-assertion.left.now c.in-Some.rest.now c.in-Some.assertion.now c.in-Some.ensures.cases.0
+      c.loop-assertion.invariant.terms;
   judged = λ script definitions all stands holds assertions.
       let s = structure_of script definitions in
-      left-opened (contents_of c.args.library.now) c.loop-assertion.left.now c.in-Some.rest.now c.in-Some.assertion.now s c.loop-assertion.first_open (judged_from s std.None all) c.in-Some.ensures.cases.0
+      left-opened (contents_of c.args.library.now)
+      c.loop-assertion.left.now c.in-Some.rest.now c.in-Some.assertion.now s c.loop-assertion.first_open
+      (judged_from s std.None all) c.in-Some.ensures.cases.0
       (λ t term.
-      let known = c.in_ok-eval.ensures script definitions t stands holds term in
-      (ap (is_known std.false) (sym known) ∙ c.in-None.ensures.0, ap (is_known std.true) (sym known) ∙ c.in-None.ensures.1))
+      let known = c.in_ok-eval.ensures script definitions t stands holds term in (
+        ap (is_known std.false) (sym known) ∙ c.in-None.ensures.0,
+        ap (is_known std.true) (sym known)
+            ∙ c.in-None.ensures.1,
+      ))
       c.if-is_none.ensures
       (c.loop-assertion.invariant.judged script definitions all stands holds assertions);
 }

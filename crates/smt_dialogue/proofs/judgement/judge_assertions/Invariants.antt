@@ -13,8 +13,12 @@ use Rattle.smt_dialogue.proofs.judgement.judge_assertions.Given as goal
 abbrev pub invariant-loop-assertion : goal.invariant-loop-assertion
 invariant-loop-assertion l = record {
   terms : (rest : List stacks.Assertion) × AreAssertions (contents_of l.library) l.left rest;
-  judged : (script definitions : Signature) (all : List stacks.Assertion) → libraries.StandsFor l.library script → IsInterpretation l.interpretation script definitions → AreAssertions (contents_of l.library) l.assertions all
-      → (rest : List stacks.Assertion) × AreAssertions (contents_of l.library) l.left rest × (judged_from (structure_of script definitions) l.first_open rest ≡ judged_from (structure_of script definitions) None all);
+  judged : (script definitions : Signature) (all : List stacks.Assertion)
+      → libraries.StandsFor l.library script → IsInterpretation l.interpretation script definitions
+      → AreAssertions (contents_of l.library) l.assertions all
+      → (rest : List stacks.Assertion) × AreAssertions (contents_of l.library) l.left rest
+      × (judged_from (structure_of script definitions) l.first_open rest
+      ≡ judged_from (structure_of script definitions) None all);
 }
 
 abbrev pub decreases-loop-assertion : goal.decreases-loop-assertion

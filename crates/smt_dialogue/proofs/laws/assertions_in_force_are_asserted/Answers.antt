@@ -1,4 +1,5 @@
-use Rattle.smt_dialogue.proofs.AssertedLemmas.{asserted_from, asserted_here, asserted_in_force, asserted_stays}
+use Rattle.smt_dialogue.proofs.AssertedLemmas.{asserted_from, asserted_here, asserted_in_force}
+use Rattle.smt_dialogue.proofs.AssertedLemmas.{asserted_stays}
 use Rattle.smt_dialogue.proofs.laws.assertions_in_force_are_asserted.Goals as goal
 
 pub returns-clause-found : goal.returns-clause-found

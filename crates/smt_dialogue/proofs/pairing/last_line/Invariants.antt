@@ -1,10 +1,11 @@
--- the turns so far took up pairs, whatever is left of the script; what is left of the answers, and their fault
+-- the turns so far took up pairs, whatever is left of the script; what is left of the answers, and their
+-- fault
 use Rattle.std.proofs.Common.{◌≡◌, ◌+◌, ◌-◌, Option, length}
 use Rattle.smt_text.specs.Reader.{bytes_fed}
 use Rattle.smt_trees.specs.Sexp.{Sexps}
 use Rattle.smt_trees.specs.Tree.{sexps_of}
 use Rattle.smt_faults.specs.declared.text_flaw.TextFlaw.{TextFlaw}
-use Rattle.smt_script.specs.StackView.{start_of}
+use Rattle.smt_script.specs.StackView.{initial_print_success_of}
 use Rattle.smt_dialogue.specs.Internal.DialogueState.{state_of}
 use Rattle.smt_dialogue.specs.Internal.ReadText.{text_view}
 use Rattle.smt_dialogue.specs.Internal.UnreadText.{HasLeft, IsSound}
@@ -15,8 +16,9 @@ abbrev pub invariant-loop-tree : goal.invariant-loop-tree
 invariant-loop-tree l = record {
   sound : IsSound l.script;
   goes_on : (trees : Sexps) (fault : Option TextFlaw) → HasLeft l.fn.script trees fault
-      → GoesOn (start_of l.fn.dialogue.stack) (state_of l.dialogue) l.script trees (text_view l.fn.answers) (sexps_of l.answers.trees.items) fault;
-  start : start_of l.dialogue.stack ≡ start_of l.fn.dialogue.stack;
+      → GoesOn (initial_print_success_of l.fn.dialogue.stack) (state_of l.dialogue) l.script trees (text_view l.fn.answers)
+      (sexps_of l.answers.trees.items) fault;
+  start : initial_print_success_of l.dialogue.stack ≡ initial_print_success_of l.fn.dialogue.stack;
   answers_fault : l.answers.fault ≡ l.fn.answers.fault;
 }
 

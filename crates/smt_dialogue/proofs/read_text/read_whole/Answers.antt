@@ -7,5 +7,12 @@ use Rattle.smt_dialogue.proofs.read_text.read_whole.Goals as goal
 
 pub loop-tree-preserved : goal.loop-tree-preserved
 loop-tree-preserved c =
-    let pushed : sexps_of c.push_back.new.self.items ≡ append (sexps_of c.loop-tree.trees.items) (Cons (sexp_of c.in-Tree.tree) Nil) = ap sexps_of c.in_ok-push_back-in-Tree.ensures.items ∙ sexps_of-append c.loop-tree.trees.items (c.in-Tree.tree ∷ []) in
-    (subst (λ (taken : Sexps). StandsFor c.next.new.self c.args.bytes.now taken) (sym pushed) (c.in-Tree.ensures.stands c.args.bytes.now (sexps_of c.loop-tree.trees.items) c.loop-tree.invariant.0), c.in-Tree.ensures.finished ∙ c.loop-tree.invariant.1)
+    let pushed : sexps_of c.push_back.new.self.items
+    ≡ append (sexps_of c.loop-tree.trees.items) (Cons (sexp_of c.in-Tree.tree) Nil) =
+    ap sexps_of c.in_ok-push_back-in-Tree.ensures.items
+    ∙ sexps_of-append c.loop-tree.trees.items (c.in-Tree.tree ∷ []) in (
+      subst (λ (taken : Sexps). StandsFor c.next.new.self c.args.bytes.now taken) (sym pushed)
+          (c.in-Tree.ensures.stands c.args.bytes.now (sexps_of c.loop-tree.trees.items)
+          c.loop-tree.invariant.0),
+      c.in-Tree.ensures.finished ∙ c.loop-tree.invariant.1,
+    )

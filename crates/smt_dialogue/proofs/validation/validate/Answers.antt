@@ -20,14 +20,19 @@ returns-clause-report c =
     let script = whole_text s.0 s.1 in
     let answers = text_view c.in_ok-answers.answers in
     let script_read : IsRead true c.args.script.now script = record { told_so = refl; reads = s.2 } in
-    let answers_read : IsRead true c.args.answers.now answers = record { told_so = refl; reads = c.in_ok-answers.ensures } in
-    let judged = subst (λ (b : Bool). IfOk c.judge_all.result (λ r. IsJudged b script answers r.lines.items r.verdict)) c.new.ensures.start (c.judge_all.ensures s.0 s.1 (c.new-script.ensures.left s.0 s.1 s.2)) in
-    report_answer c.judge_all.result c.args.options c.args.script.now c.args.answers.now script answers script_read answers_read judged
+    let answers_read : IsRead true c.args.answers.now answers =
+    record { told_so = refl; reads = c.in_ok-answers.ensures } in
+    let judged = subst (λ (b : Bool). IfOk c.judge_all.result
+    (λ r. IsJudged b script answers r.lines.items r.verdict)) c.new.ensures.start
+    (c.judge_all.ensures s.0 s.1 (c.new-script.ensures.left s.0 s.1 s.2)) in
+    report_answer c.judge_all.result c.args.options c.args.script.now c.args.answers.now script answers
+    script_read answers_read judged
 
 pub returns-clause-verdict : goal.returns-clause-verdict
 returns-clause-verdict c =
     let s = c.every_text_reads.ensures.some limit true c.args.script.now in
-    verdict_answer c.judge_all.result _ (whole_text s.0 s.1) (text_view c.in_ok-answers.answers) (c.judge_all.ensures s.0 s.1 (c.new-script.ensures.left s.0 s.1 s.2))
+    verdict_answer c.judge_all.result _ (whole_text s.0 s.1) (text_view c.in_ok-answers.answers)
+    (c.judge_all.ensures s.0 s.1 (c.new-script.ensures.left s.0 s.1 s.2))
 
 pub returns-clause-valid : goal.returns-clause-valid
 returns-clause-valid c =
@@ -35,10 +40,24 @@ returns-clause-valid c =
     let script = whole_text s.0 s.1 in
     let answers = text_view c.in_ok-answers.answers in
     let script_read : IsRead true c.args.script.now script = record { told_so = refl; reads = s.2 } in
-    let answers_read : IsRead true c.args.answers.now answers = record { told_so = refl; reads = c.in_ok-answers.ensures } in
-    let judged = subst (λ (b : Bool). IfOk c.judge_all.result (λ r. IsJudged b script answers r.lines.items r.verdict)) c.new.ensures.start (c.judge_all.ensures s.0 s.1 (c.new-script.ensures.left s.0 s.1 s.2)) in
-    valid_answer (record { complete = c.models_are_complete.ensures; known = c.known_values_are_true.ensures; introduced = c.names_in_force_are_introduced.ensures; structures = c.models_give_structures.ensures; stand = c.assertions_in_force_stand.ensures.stands; found = c.assertions_in_force_stand.ensures.found })
-    c.one_forest.ensures.one c.judge_all.result c.args.options c.args.script.now c.args.answers.now script answers script_read answers_read judged
+    let answers_read : IsRead true c.args.answers.now answers =
+    record { told_so = refl; reads = c.in_ok-answers.ensures } in
+    let judged = subst (λ (b : Bool). IfOk c.judge_all.result
+    (λ r. IsJudged b script answers r.lines.items r.verdict)) c.new.ensures.start
+    (c.judge_all.ensures s.0 s.1 (c.new-script.ensures.left s.0 s.1 s.2)) in
+    valid_answer (record {
+      complete = c.models_are_complete.ensures;
+      known =
+          c.known_values_are_true.ensures;
+      introduced = c.names_in_force_are_introduced.ensures;
+      structures =
+          c.models_give_structures.ensures;
+      stand = c.assertions_in_force_stand.ensures.stands;
+      found =
+          c.assertions_in_force_stand.ensures.found;
+    })
+    c.one_forest.ensures.one c.judge_all.result c.args.options c.args.script.now c.args.answers.now script
+    answers script_read answers_read judged
 
 pub returns-clause-invalid : goal.returns-clause-invalid
 returns-clause-invalid c =
@@ -46,7 +65,21 @@ returns-clause-invalid c =
     let script = whole_text s.0 s.1 in
     let answers = text_view c.in_ok-answers.answers in
     let script_read : IsRead true c.args.script.now script = record { told_so = refl; reads = s.2 } in
-    let answers_read : IsRead true c.args.answers.now answers = record { told_so = refl; reads = c.in_ok-answers.ensures } in
-    let judged = subst (λ (b : Bool). IfOk c.judge_all.result (λ r. IsJudged b script answers r.lines.items r.verdict)) c.new.ensures.start (c.judge_all.ensures s.0 s.1 (c.new-script.ensures.left s.0 s.1 s.2)) in
-    invalid_answer (record { complete = c.models_are_complete.ensures; known = c.known_values_are_true.ensures; introduced = c.names_in_force_are_introduced.ensures; structures = c.models_give_structures.ensures; stand = c.assertions_in_force_stand.ensures.stands; found = c.assertions_in_force_stand.ensures.found })
-    c.judge_all.result c.args.options c.args.script.now c.args.answers.now script answers script_read answers_read judged
+    let answers_read : IsRead true c.args.answers.now answers =
+    record { told_so = refl; reads = c.in_ok-answers.ensures } in
+    let judged = subst (λ (b : Bool). IfOk c.judge_all.result
+    (λ r. IsJudged b script answers r.lines.items r.verdict)) c.new.ensures.start
+    (c.judge_all.ensures s.0 s.1 (c.new-script.ensures.left s.0 s.1 s.2)) in
+    invalid_answer (record {
+      complete = c.models_are_complete.ensures;
+      known =
+          c.known_values_are_true.ensures;
+      introduced = c.names_in_force_are_introduced.ensures;
+      structures =
+          c.models_give_structures.ensures;
+      stand = c.assertions_in_force_stand.ensures.stands;
+      found =
+          c.assertions_in_force_stand.ensures.found;
+    })
+    c.judge_all.result c.args.options c.args.script.now c.args.answers.now script answers script_read
+    answers_read judged

@@ -1,7 +1,7 @@
-use Rattle.std.proofs.Common.{◌≡◌, ℕ, List, Option, Some, None, MatchOption, slice_get}
+use Rattle.std.proofs.Common.{◌≡◌, ℕ, List, Option, Some, None}
 use Rattle.smt_terms.specs.Library.{defined_among}
-use Rattle.smt_terms.specs.Signature.{Entry, Signature, entry_named}
-use Rattle.smt_eval.specs.Internal.Evaluation.{Evaluates}
+use Rattle.smt_terms.specs.Signature.{Signature, entry_named}
+use Rattle.smt_eval.specs.Internal.Evaluation.{Evaluates, IsPlaceOf}
 use Rattle.smt_eval.specs.declared.definitions.Definitions.{Definitions}
 use Rattle.smt_eval.proofs.PlaceLemmas.{of_model, of_neither}
 use Rattle.smt_eval.proofs.definitions.place_in_structure.Goals as goal
@@ -14,10 +14,7 @@ returns-in-Some c = λ d e.
 -- what is found in the script, where the model has no definition of the name
 found_in_script : (over : Definitions) (d : Signature) (e : Evaluates over d) (x : List ℕ) (r : Option ℕ)
     → entry_named (defined_among e.definitions.entries) x ≡ None
-    → MatchOption r (entry_named (defined_among e.script.entries) x ≡ None)
-    (λ place. (f : Entry) × (slice_get d.entries place ≡ Some f) × (f.name ≡ x))
-    → MatchOption r (entry_named d.entries x ≡ None)
-    (λ place. (f : Entry) × (slice_get d.entries place ≡ Some f) × (f.name ≡ x))
+    → IsPlaceOf x (defined_among e.script.entries) d.entries r → IsPlaceOf x d.entries d.entries r
 found_in_script over d e x None other h = of_neither over d e x other h
 found_in_script over d e x (Some place) other h = h
 

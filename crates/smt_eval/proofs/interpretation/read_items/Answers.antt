@@ -1,11 +1,11 @@
-use Rattle.std.proofs.Common.{◌≡◌, ◌⊎◌, ◌+◌, [], ◌∷◌, ◌++◌, List, drop, Result, Err, ap, sym, ◌∙◌, subst}
+use Rattle.std.proofs.Common.{◌+◌, [], ◌∷◌, ◌++◌, List, drop, Result, ap, sym, ◌∙◌, subst}
 use Rattle.smt_trees.specs.Tree.{sexp_of, sexps_of}
 use Rattle.smt_terms.specs.Items.{items_before}
 use Rattle.smt_terms.specs.Signature.{Entry}
-use Rattle.smt_eval.specs.Internal.ItemFault.{fault_of_item}
+use Rattle.smt_eval.specs.Internal.ItemFault.{model_fault_of_item}
 use Rattle.smt_eval.specs.Model.{items_from}
-use Rattle.smt_eval.specs.declared.interpretation.ModelFault.{ModelFault}
-use Rattle.smt_eval.specs.declared.interpretation.ModelFault.TheVariants.{Memory as OutOfMemory}
+use Rattle.smt_eval.specs.ModelFaults.{TellsModel}
+use Rattle.smt_eval.specs.declared.model_fault.ModelFlaw.{ModelFlaw}
 use Rattle.smt_eval.proofs.ReadLemmas.{all_dropped, item_refused, item_taken, items_at}
 use Rattle.smt_eval.proofs.interpretation.read_items.Goals as goal
 
@@ -18,12 +18,11 @@ returns-in-Err c = λ s stands.
     in
     let refused = item_refused s i.0 (n + 1) (sexp_of c.index-items-index.result)
     (sexps_of (drop (n + 1) c.args.items.now)) (sexps_of (drop n c.args.items.now)) c.in-Err.fault at
-    (c.faults_are_no_memory.ensures.items s i.0 (sexp_of c.index-items-index.result))
     (c.in-Err.ensures.refused s (items_before s i.0) stands i.1) in
-    let all : Result (List Entry) ModelFault = items_from s [] 1 (sexps_of c.args.items.now) in
-    subst (λ (f : ModelFault). (f ≡ OutOfMemory) ⊎ (all ≡ Err f)) (sym c.item_fault.ensures)
-    (subst (λ (r : Result (List Entry) ModelFault). (fault_of_item (n + 1) c.in-Err.fault ≡ OutOfMemory)
-    ⊎ (r ≡ Err (fault_of_item (n + 1) c.in-Err.fault))) (sym i.2) refused)
+    let all : Result (List Entry) ModelFlaw = items_from s [] 1 (sexps_of c.args.items.now) in
+    subst (TellsModel all) (sym c.item_fault.ensures)
+    (subst (λ (r : Result (List Entry) ModelFlaw). TellsModel r (model_fault_of_item (n + 1) c.in-Err.fault))
+    (sym i.2) refused)
 
 pub loop-index-preserved : goal.loop-index-preserved
 loop-index-preserved c = record {

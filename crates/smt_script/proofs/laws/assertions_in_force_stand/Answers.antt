@@ -12,7 +12,8 @@ returns c = record {
       (among.0, among.1, among.2 ∙ ap (λ (e : Command). among.0 ++ (assertions_by d.number e ++ among.1)) is);
   found = λ commands first last a h.
       let b = part_found (λ (b : Brought). b.assertions) commands a (first, last, h) in
-      let own = asserted_itself b.command.number b.command.command a (assertion_or_not b.command.number b.command.command) b.among in
+      let own = asserted_itself b.command.number b.command.command a
+      (assertion_or_not b.command.number b.command.command) b.among in
       (b.earlier, b.command, b.stands, own.0, own.1);
   ordered = brought_in_order (λ (b : Brought). b.assertions);
 }

@@ -14,13 +14,17 @@ pub returns-clause-late : goal.returns-clause-late
 returns-clause-late c = late_since
 
 pub returns-clause-names : goal.returns-clause-names
-returns-clause-names c = λ cs set late. (unfixed_is_empty cs (neither (is_logic_set cs) (is_too_late cs) set late)).0.entries
+returns-clause-names c =
+    λ cs set late. (unfixed_is_empty cs (neither (is_logic_set cs) (is_too_late cs) set late)).0.entries
 
 pub returns-clause-abbreviations : goal.returns-clause-abbreviations
-returns-clause-abbreviations c = λ cs set late. (unfixed_is_empty cs (neither (is_logic_set cs) (is_too_late cs) set late)).0.abbreviations
+returns-clause-abbreviations c =
+    λ cs set late. (unfixed_is_empty cs (neither (is_logic_set cs) (is_too_late cs) set late)).0.abbreviations
 
 pub returns-clause-assertions : goal.returns-clause-assertions
-returns-clause-assertions c = λ cs set late. (unfixed_is_empty cs (neither (is_logic_set cs) (is_too_late cs) set late)).0.assertions
+returns-clause-assertions c =
+    λ cs set late. (unfixed_is_empty cs (neither (is_logic_set cs) (is_too_late cs) set late)).0.assertions
 
 pub returns-clause-levels : goal.returns-clause-levels
-returns-clause-levels c = λ cs set late. (unfixed_is_empty cs (neither (is_logic_set cs) (is_too_late cs) set late)).1
+returns-clause-levels c =
+    λ cs set late. (unfixed_is_empty cs (neither (is_logic_set cs) (is_too_late cs) set late)).1

@@ -1,4 +1,4 @@
-use Rattle.smt_terms.specs.Items.{declared_named}
+use Rattle.smt_terms.specs.Signature.{declared_named}
 use Rattle.smt_terms.proofs.ItemSortLemmas.{IsItem-taken, KeepsRank-tested, fit_is_free}
 use Rattle.smt_terms.proofs.laws.items_are_well_sorted.Goals as goal
 

@@ -8,7 +8,8 @@ use Rattle.smt_dialogue.proofs.unread_text.UnreadText.next.Given as goal
 abbrev pub invariant-loop-tree : goal.invariant-loop-tree
 invariant-loop-tree l = record {
   sound : IsSound l.self;
-  left : (trees : Sexps) (fault : Option TextFlaw) → HasLeft l.initial.self trees fault → HasLeft l.self trees fault;
+  left : (trees : Sexps) (fault : Option TextFlaw) → HasLeft l.initial.self trees fault
+      → HasLeft l.self trees fault;
 }
 
 abbrev pub decreases-loop-tree : goal.decreases-loop-tree

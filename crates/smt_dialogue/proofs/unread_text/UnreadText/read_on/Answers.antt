@@ -10,10 +10,12 @@ pub returns-else-is_empty-clause-left : goal.returns-else-is_empty-clause-left
 returns-else-is_empty-clause-left c = λ trees fault h.
     let piece = c.split_at.result.0.now in
     let left = c.split_at.result.1.now in
-    let parts = parts_whole c.args.self.now.left.now piece left c.min.result c.split_at.ensures.front c.split_at.ensures.back in
+    let parts = parts_whole c.args.self.now.left.now piece left c.min.result c.split_at.ensures.front
+    c.split_at.ensures.back in
     record {
       fed = h.fed ++ piece;
       taken = h.taken;
       stands = c.feed.ensures.stands h.fed h.taken h.stands;
-      reads = subst (λ text. Reads limit true text (append h.taken trees) fault) (sym (append_assoc h.fed piece left ∙ ap (λ xs. h.fed ++ xs) parts)) h.reads;
+      reads = subst (λ text. Reads limit true text (append h.taken trees) fault)
+          (sym (append_assoc h.fed piece left ∙ ap (λ xs. h.fed ++ xs) parts)) h.reads;
     }

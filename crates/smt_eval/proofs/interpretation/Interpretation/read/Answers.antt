@@ -1,4 +1,4 @@
-use Rattle.std.proofs.Common.{ℕ, inr, [], Option, ap, sym, ◌∙◌}
+use Rattle.std.proofs.Common.{ℕ, inr, refl, [], Option, ap, sym, ◌∙◌}
 use Rattle.smt_trees.specs.Tree.{sexps_of}
 use Rattle.smt_terms.specs.Items.{items_before}
 use Rattle.smt_eval.specs.Internal.Evaluation.{HaveStructure}
@@ -10,10 +10,13 @@ use Rattle.smt_eval.proofs.interpretation.Interpretation.read.Goals as goal
 pub returns-in-Some : goal.returns-in-Some
 returns-in-Some c = λ s stands.
     let read = c.in_ok-definitions.ensures s stands in
-    inr (model_whole s c.args.model.now (sexps_of c.items.result.now) read.0
-    (c.items.ensures ∙ ap items_of c.as_slice.ensures) read.1
-    ∙ ap (λ (o : Option ℕ). complete_or o (items_before s read.0))
-    (sym (c.in-Some.ensures s (items_before s read.0) stands read.2)))
+    inr (
+      refl,
+      model_whole s c.args.model.now (sexps_of c.items.result.now) read.0
+          (c.items.ensures ∙ ap items_of c.as_slice.ensures) read.1
+          ∙ ap (λ (o : Option ℕ). complete_or o (items_before s read.0))
+          (sym (c.in-Some.ensures s (items_before s read.0) stands read.2)),
+    )
 
 pub values_of-requires : goal.values_of-requires
 values_of-requires c =

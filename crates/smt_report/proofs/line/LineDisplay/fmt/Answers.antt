@@ -1,7 +1,7 @@
 -- What a line on a check says behind the check is its outcome.
 use Rattle.std.proofs.Common.{◌≡◌, ◌++◌, ◌⊎◌, inl, inr, ℕ, refl}
 use Rattle.std.specs.Prelude.{codes}
-use Rattle.smt_faults.specs.declared.term_fault.TermFault.{TermFault}
+use Rattle.smt_faults.specs.declared.term_flaw.TermFlaw.{TermFlaw}
 use Rattle.smt_report.specs.LineText.{check_line, text_of}
 use Rattle.smt_report.specs.Internal.CheckText.{text_of_outcome}
 use Rattle.smt_report.specs.declared.claim.Claim.{Claim}
@@ -16,7 +16,7 @@ abbrev IsCheckLine : Line → ℕ → ℕ → Type 0
 IsCheckLine line k n = ((x : CheckAnswer) × (line ≡ Unchecked k n x))
     ⊎ ((line ≡ Confirmed k n)
     ⊎ ((line ≡ NoModel k n) ⊎
-    (((x : ℕ) × (y : ℕ) × (z : TermFault) × (line ≡ ItemFault k n x y z))
+    (((x : ℕ) × (y : ℕ) × (z : TermFlaw) × (line ≡ ItemFault k n x y z))
     ⊎ (((x : ℕ) × (y : ℕ) × (line ≡ Lacks k n x y))
     ⊎ (((x : ℕ) × (y : Claim) × (line ≡ Refuted k n x y))
     ⊎ ((x : ℕ) × (y : Claim) × (line ≡ NotDecided k n x y)))))))

@@ -3,4 +3,6 @@ use Rattle.smt_script.proofs.EffectLemmas.{numbered_stands}
 use Rattle.smt_script.proofs.stack.Stack.apply.Goals as goal
 
 pub returns-clause-applied : goal.returns-clause-applied
-returns-clause-applied c = numbered_stands c.args.self.now c.take_effect.new.self c.note.new.self c.args.number (command_view c.args.command.now) c.in_ok-take_effect.ensures.effect c.note.ensures
+returns-clause-applied c =
+    numbered_stands c.args.self.now c.take_effect.new.self c.note.new.self c.args.number
+    (command_view c.args.command.now) c.in_ok-take_effect.ensures.effect c.note.ensures

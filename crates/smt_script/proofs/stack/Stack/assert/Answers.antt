@@ -16,22 +16,28 @@ returns-in_err-term-clause-refused c =
     rw p.1
     (λ cs h.
     let s = signature_in_force cs in
-    refused_by (asserted_in (names_of s) term) c.in_err-term.field-0.0 p.0
-    (c.faults_are_no_memory.ensures.assertions (names_of s) term) p.2 (c.in_err-term.ensures.refused s h.library))
+    refused_by (asserted_in (names_of s) term) c.in_err-term.field-0.0 p.0 p.2
+    (c.in_err-term.ensures.refused s h.library))
 
 pub returns-in_err-term-clause-unchanged : goal.returns-in_err-term-clause-unchanged
 returns-in_err-term-clause-unchanged c =
     let p = err_from_is_err_and c.from_residual.result c.from_residual.ensures.1 in
-    rw p.1 (unchanged_by c.contents_are_kept.ensures c.args.self.now c.assert.new.self c.args.self.now.assertions c.in_err-term.ensures.unchanged c.in_err-term.ensures.grown refl)
+    rw p.1 (unchanged_by c.contents_are_kept.ensures c.args.self.now c.assert.new.self
+    c.args.self.now.assertions c.in_err-term.ensures.unchanged c.in_err-term.ensures.grown refl)
 
 pub returns-in-Ok-clause-effect : goal.returns-in-Ok-clause-effect
 returns-in-Ok-clause-effect c =
-    assert_effect c.contents_are_kept.ensures c.args.self.now c.assert.new.self c.push.new.self (record { command = c.args.number; term = c.in_ok-term.term }) (sexp_of c.args.term)
+    assert_effect c.contents_are_kept.ensures c.args.self.now c.assert.new.self c.push.new.self
+    (record { command = c.args.number; term = c.in_ok-term.term }) (sexp_of c.args.term)
     c.in_ok-term.ensures.asserted c.in_ok-term.ensures.term c.in_ok-term.ensures.grown c.in-Ok.ensures.items
 
 pub returns-in-Err-clause-unchanged : goal.returns-in-Err-clause-unchanged
 returns-in-Err-clause-unchanged c =
     let before = contents_of c.args.self.now.library in
     let after = contents_of c.assert.new.self in
-    let same = c.cut.ensures ∙ c.contents_are_kept.ensures.first c.mark-mark.result before after c.mark-mark.ensures.within c.in_ok-term.ensures.grown ∙ c.mark-mark.ensures.all in
-    unchanged_by c.contents_are_kept.ensures c.args.self.now c.cut.new.self c.push.new.self (λ s stands. subst (λ (x : Contents). Holds x s) (sym same) stands) (subst (λ (x : Contents). Extends before x) (sym same) (extends_itself before)) c.in-Err.ensures.items
+    let same = c.cut.ensures
+    ∙ c.contents_are_kept.ensures.first c.mark-mark.result before after c.mark-mark.ensures.within
+    c.in_ok-term.ensures.grown ∙ c.mark-mark.ensures.all in
+    unchanged_by c.contents_are_kept.ensures c.args.self.now c.cut.new.self c.push.new.self
+    (λ s stands. subst (λ (x : Contents). Holds x s) (sym same) stands)
+    (subst (λ (x : Contents). Extends before x) (sym same) (extends_itself before)) c.in-Err.ensures.items

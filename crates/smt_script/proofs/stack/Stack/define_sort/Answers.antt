@@ -2,7 +2,7 @@ use Rattle.std.proofs.Common.{refl}
 use Rattle.std.proofs.lemmas.Result.{err_from_is_err_and}
 use Rattle.smt_trees.specs.Tree.{sexp_of}
 use Rattle.smt_terms.specs.Signature.{sort_names_of}
-use Rattle.smt_terms.specs.SortTrees.{abbreviated_in}
+use Rattle.smt_terms.specs.Declarations.{abbreviated_in}
 use Rattle.smt_script.specs.Stack.{signature_in_force}
 use Rattle.smt_script.proofs.EffectLemmas.{define_sort_effect, refused_by, unchanged_by}
 use Rattle.smt_script.proofs.stack.Stack.define_sort.Goals as goal
@@ -15,14 +15,17 @@ returns-in_err-abbreviate-clause-refused c =
     rw p.1
     (λ n cs h.
     let s = signature_in_force cs in
-    refused_by (abbreviated_in (sort_names_of s) name sort) c.in_err-abbreviate.field-0.0 p.0
-    (c.faults_are_no_memory.ensures.abbreviations (sort_names_of s) name sort) p.2 (c.in_err-abbreviate.ensures.refused s h.library))
+    refused_by (abbreviated_in (sort_names_of s) name sort) c.in_err-abbreviate.field-0.0 p.0 p.2
+    (c.in_err-abbreviate.ensures.refused s h.library))
 
 pub returns-in_err-abbreviate-clause-unchanged : goal.returns-in_err-abbreviate-clause-unchanged
 returns-in_err-abbreviate-clause-unchanged c =
     let p = err_from_is_err_and c.from_residual.result c.from_residual.ensures.1 in
-    rw p.1 (unchanged_by c.contents_are_kept.ensures c.args.self.now c.abbreviate.new.self c.args.self.now.assertions c.in_err-abbreviate.ensures.unchanged c.in_err-abbreviate.ensures.grown refl)
+    rw p.1 (unchanged_by c.contents_are_kept.ensures c.args.self.now c.abbreviate.new.self
+    c.args.self.now.assertions c.in_err-abbreviate.ensures.unchanged c.in_err-abbreviate.ensures.grown
+    refl)
 
 pub returns-clause-effect : goal.returns-clause-effect
 returns-clause-effect c = λ n.
-    define_sort_effect c.contents_are_kept.ensures c.args.self.now c.abbreviate.new.self n c.args.name.now (sexp_of c.args.sort.now) c.in_ok-abbreviate.ensures.abbreviated c.in_ok-abbreviate.ensures.grown
+    define_sort_effect c.contents_are_kept.ensures c.args.self.now c.abbreviate.new.self n c.args.name.now
+    (sexp_of c.args.sort.now) c.in_ok-abbreviate.ensures.abbreviated c.in_ok-abbreviate.ensures.grown

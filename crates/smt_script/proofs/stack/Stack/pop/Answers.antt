@@ -11,13 +11,17 @@ returns-then-count-gt0-clause-effect c =
     let same = c.in-Some.ensures.0 in
     let most = c.in-Some.ensures.1 in
     let depth = c.len-depth.ensures in
-    let sum : (c.len-depth.result - c.in-Some.count) + digits_value 10 c.args.digits.now ≡ length c.args.self.now.levels.items = omega arith in
+    let sum : (c.len-depth.result - c.in-Some.count) + digits_value 10 c.args.digits.now
+    ≡ length c.args.self.now.levels.items = omega arith in
     let law = c.earlier_marks_are_kept.ensures in
-    pop_effect (record { first = law.first; within = law.within }) c.args.self.now c.cut_to.new.self (digits_value 10 c.args.digits.now) (c.len-depth.result - c.in-Some.count) c.cut_to.ensures.cut sum notes.logic notes.print_success notes.exited notes.start
+    pop_effect (record { first = law.first; within = law.within }) c.args.self.now c.cut_to.new.self
+    (digits_value 10 c.args.digits.now) (c.len-depth.result - c.in-Some.count)
+    c.cut_to.ensures.cut sum notes.logic notes.print_success notes.exited notes.start
 
 pub returns-else-count-gt0-clause-effect : goal.returns-else-count-gt0-clause-effect
 returns-else-count-gt0-clause-effect c =
     let same = c.in-Some.ensures.0 in
     let none = c.if-count-gt0.false in
     let zero : digits_value 10 c.args.digits.now ≡ 0 = omega arith in
-    subst (λ (m : ℕ). (n : ℕ) → HasEffect c.args.self.now c.args.self.now n (Pop m)) (sym zero) (pop_none c.args.self.now)
+    subst (λ (m : ℕ). (n : ℕ) → HasEffect c.args.self.now c.args.self.now n (Pop m)) (sym zero)
+    (pop_none c.args.self.now)

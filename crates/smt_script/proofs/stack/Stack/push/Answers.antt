@@ -6,7 +6,8 @@ use Rattle.smt_script.proofs.LevelLemmas.{levels_unchanged, push_effect}
 use Rattle.smt_script.proofs.stack.Stack.push.Goals as goal
 
 pub returns-in_default-add_levels-clause-unchanged : goal.returns-in_default-add_levels-clause-unchanged
-returns-in_default-add_levels-clause-unchanged c = levels_unchanged c.args.self.now c.add_levels.new.levels c.in_default-add_levels.ensures.unchanged
+returns-in_default-add_levels-clause-unchanged c =
+    levels_unchanged c.args.self.now c.add_levels.new.levels c.in_default-add_levels.ensures.unchanged
 
 pub returns-clause-effect : goal.returns-clause-effect
 returns-clause-effect c =
@@ -16,5 +17,6 @@ returns-clause-effect c =
     let room = c.in-Some.ensures in
     let len = c.len.ensures in
     let fits : length old + digits_value 10 c.args.digits.now ≤ limit = omega arith in
-    push_effect c.args.self.now c.add_levels.new.levels c.level-level.result (digits_value 10 c.args.digits.now) c.level-level.ensures
+    push_effect c.args.self.now c.add_levels.new.levels c.level-level.result
+    (digits_value 10 c.args.digits.now) c.level-level.ensures
     (c.in-Ok.ensures.added ∙ ap (λ (n : ℕ). old ++ copies n c.level-level.result) same) fits

@@ -8,9 +8,16 @@ use Rattle.smt_script.proofs.stack.Stack.reset_assertions.Goals as goal
 
 pub returns-clause-effect : goal.returns-clause-effect
 returns-clause-effect c =
-    reset_assertions_effect c.args.self.now (record c.args.self.now { library = c.new.result; assertions = c.truncate.new.self; levels = c.truncate-2.new.self })
+    reset_assertions_effect c.args.self.now
+    (record c.args.self.now {
+      library = c.new.result;
+      assertions = c.truncate.new.self;
+      levels =
+          c.truncate-2.new.self;
+    })
     (λ cs h. record {
-      library = subst (λ (t : Theories). library.StandsFor c.new.result (no_names t)) (c.theories.ensures (signature_in_force cs) h.library) c.new.ensures;
+      library = subst (λ (t : Theories). library.StandsFor c.new.result (no_names t))
+          (c.theories.ensures (signature_in_force cs) h.library) c.new.ensures;
       assertions = c.truncate.ensures.items;
       levels = c.truncate-2.ensures.items;
     }) refl refl refl refl

@@ -12,12 +12,15 @@ returns-in_ok-assert-in-Assert-clause-applied c = λ cs h.
     let made = c.note_assertion.new.self in
     let n = c.args.number in
     let assertion = Assert (sexp_of c.in-Assert.term) in
-    subst (λ (command : Command). StandsFor (record made { last = n }) (cs ++ record { number = n; command = command } ∷ [])) (sym (ap command_view c.in-Assert.is))
-    (numbered_stands c.args.self.now c.assert.new.self made n assertion c.in_ok-assert-in-Assert.ensures.effect (c.note_assertion.ensures (sexp_of c.in-Assert.term)) cs h)
+    subst (λ (command : Command). StandsFor (record made { last = n })
+    (cs ++ record { number = n; command = command } ∷ [])) (sym (ap command_view c.in-Assert.is))
+    (numbered_stands c.args.self.now c.assert.new.self made n assertion
+    c.in_ok-assert-in-Assert.ensures.effect (c.note_assertion.ensures (sexp_of c.in-Assert.term)) cs h)
 
 pub returns-in_ok-assert-in-Assert-clause-start : goal.returns-in_ok-assert-in-Assert-clause-start
 returns-in_ok-assert-in-Assert-clause-start c =
-    ap (λ (s : Stack). s.start) (c.note_assertion.ensures (sexp_of c.in-Assert.term)) ∙ c.in_ok-assert-in-Assert.ensures.effect.start
+    ap (λ (s : Stack). s.initial_print_success) (c.note_assertion.ensures (sexp_of c.in-Assert.term))
+    ∙ c.in_ok-assert-in-Assert.ensures.effect.start
 
 pub returns-in_default : goal.returns-in_default
 returns-in_default c = search rules

@@ -2,7 +2,8 @@ use Rattle.std.proofs.Common.{◌≡◌, ℕ, List, Result, Ok, Err, IfErr, OnOk
 use Rattle.std.specs.Str.Parse.{digits_value}
 use Rattle.smt_trees.specs.Tree.{sexp_of, sexps_of}
 use Rattle.smt_forms.specs.Bindings.{named_trees}
-use Rattle.smt_script.specs.Command.{Command, DefineFun, DefineSort, Pop, Push, Reset, ResetAssertions, SetLogic, effect_of}
+use Rattle.smt_script.specs.Command.{Command, DefineFun, DefineSort, Pop, Push, Reset, ResetAssertions}
+use Rattle.smt_script.specs.Command.{SetLogic, effect_of}
 use Rattle.smt_script.specs.CommandView.{command_view}
 use Rattle.smt_script.specs.Internal.Effect.{HasEffect, IsRefused}
 use Rattle.smt_faults.specs.declared.command_fault.CommandFault.{CommandFault}
@@ -10,73 +11,111 @@ use Rattle.smt_script.specs.declared.stack.Stack.{Stack}
 use Rattle.smt_script.proofs.EffectLemmas.{idle_effect, no_effect_is_idle}
 use Rattle.smt_script.proofs.stack.Stack.take_effect.Goals as goal
 
-refused_at : (r : Result (Unit {0}) CommandFault) (old : Stack) (given command : Command) (n : ℕ) → command ≡ given
-    → IfErr r (λ fault. (number : ℕ) → IsRefused old number given fault) → IfErr r (λ fault. IsRefused old n command fault)
+refused_at : (r : Result (Unit {0}) CommandFault) (old : Stack) (given command : Command) (n : ℕ)
+    → command ≡ given
+    → IfErr r (λ fault. (number : ℕ) → IsRefused old number given fault)
+    → IfErr r (λ fault. IsRefused old n command fault)
 refused_at (Ok x) old given command n e h = tt
 refused_at (Err fault) old given command n e h = rw e (h n)
 
-effect_at : (r : Result (Unit {0}) CommandFault) (old new : Stack) (given command : Command) (n : ℕ) → command ≡ given
+effect_at : (r : Result (Unit {0}) CommandFault) (old new : Stack) (given command : Command) (n : ℕ)
+    → command ≡ given
     → OnOk r ((number : ℕ) → HasEffect old new number given) → OnOk r (HasEffect old new n command)
 effect_at (Ok x) old new given command n e h = rw e (h n)
 effect_at (Err fault) old new given command n e h = tt
 
 pub returns-in-SetLogic-clause-effect : goal.returns-in-SetLogic-clause-effect
 returns-in-SetLogic-clause-effect c =
-    effect_at c.set_logic.result c.args.self.now c.set_logic.new.self (SetLogic c.as_slice.result.now) (command_view c.args.command.now) c.args.number
-    (ap command_view c.in-SetLogic.is ∙ ap (λ (x : List ℕ). SetLogic x) (sym c.as_slice.ensures)) c.set_logic.ensures.effect
+    effect_at c.set_logic.result c.args.self.now c.set_logic.new.self (SetLogic c.as_slice.result.now)
+    (command_view c.args.command.now) c.args.number
+    (ap command_view c.in-SetLogic.is ∙ ap (λ (x : List ℕ). SetLogic x) (sym c.as_slice.ensures))
+    c.set_logic.ensures.effect
 
 pub returns-in-SetLogic-clause-refused : goal.returns-in-SetLogic-clause-refused
 returns-in-SetLogic-clause-refused c =
-    refused_at c.set_logic.result c.args.self.now (SetLogic c.as_slice.result.now) (command_view c.args.command.now) c.args.number
-    (ap command_view c.in-SetLogic.is ∙ ap (λ (x : List ℕ). SetLogic x) (sym c.as_slice.ensures)) c.set_logic.ensures.refused
+    refused_at c.set_logic.result c.args.self.now (SetLogic c.as_slice.result.now)
+    (command_view c.args.command.now) c.args.number
+    (ap command_view c.in-SetLogic.is ∙ ap (λ (x : List ℕ). SetLogic x) (sym c.as_slice.ensures))
+    c.set_logic.ensures.refused
 
 pub returns-in-DefineFun-clause-effect : goal.returns-in-DefineFun-clause-effect
 returns-in-DefineFun-clause-effect c =
-    effect_at c.define.result c.args.self.now c.define.new.self (DefineFun c.as_slice-in-DefineFun.result.now (named_trees (sexps_of c.as_slice-in-DefineFun-2.result.now)) (sexp_of c.in-DefineFun.sort) (sexp_of c.in-DefineFun.body)) (command_view c.args.command.now) c.args.number
+    effect_at c.define.result c.args.self.now c.define.new.self
+    (DefineFun c.as_slice-in-DefineFun.result.now
+    (named_trees (sexps_of c.as_slice-in-DefineFun-2.result.now)) (sexp_of c.in-DefineFun.sort)
+    (sexp_of c.in-DefineFun.body)) (command_view c.args.command.now) c.args.number
     (ap command_view c.in-DefineFun.is
-    ∙ ap (λ ps. DefineFun c.in-DefineFun.name (named_trees ps) (sexp_of c.in-DefineFun.sort) (sexp_of c.in-DefineFun.body)) (sym c.as_slice-in-DefineFun-2.ensures)
-    ∙ ap (λ x. DefineFun x (named_trees (sexps_of c.as_slice-in-DefineFun-2.result.now)) (sexp_of c.in-DefineFun.sort) (sexp_of c.in-DefineFun.body)) (sym c.as_slice-in-DefineFun.ensures)) c.define.ensures.effect
+    ∙ ap (λ ps. DefineFun c.in-DefineFun.name (named_trees ps) (sexp_of c.in-DefineFun.sort)
+    (sexp_of c.in-DefineFun.body)) (sym c.as_slice-in-DefineFun-2.ensures)
+    ∙ ap (λ x. DefineFun x (named_trees (sexps_of c.as_slice-in-DefineFun-2.result.now))
+    (sexp_of c.in-DefineFun.sort) (sexp_of c.in-DefineFun.body)) (sym c.as_slice-in-DefineFun.ensures))
+    c.define.ensures.effect
 
 pub returns-in-DefineFun-clause-refused : goal.returns-in-DefineFun-clause-refused
 returns-in-DefineFun-clause-refused c =
-    refused_at c.define.result c.args.self.now (DefineFun c.as_slice-in-DefineFun.result.now (named_trees (sexps_of c.as_slice-in-DefineFun-2.result.now)) (sexp_of c.in-DefineFun.sort) (sexp_of c.in-DefineFun.body)) (command_view c.args.command.now) c.args.number
+    refused_at c.define.result c.args.self.now
+    (DefineFun c.as_slice-in-DefineFun.result.now
+    (named_trees (sexps_of c.as_slice-in-DefineFun-2.result.now)) (sexp_of c.in-DefineFun.sort)
+    (sexp_of c.in-DefineFun.body)) (command_view c.args.command.now) c.args.number
     (ap command_view c.in-DefineFun.is
-    ∙ ap (λ ps. DefineFun c.in-DefineFun.name (named_trees ps) (sexp_of c.in-DefineFun.sort) (sexp_of c.in-DefineFun.body)) (sym c.as_slice-in-DefineFun-2.ensures)
-    ∙ ap (λ x. DefineFun x (named_trees (sexps_of c.as_slice-in-DefineFun-2.result.now)) (sexp_of c.in-DefineFun.sort) (sexp_of c.in-DefineFun.body)) (sym c.as_slice-in-DefineFun.ensures)) c.define.ensures.refused
+    ∙ ap (λ ps. DefineFun c.in-DefineFun.name (named_trees ps) (sexp_of c.in-DefineFun.sort)
+    (sexp_of c.in-DefineFun.body)) (sym c.as_slice-in-DefineFun-2.ensures)
+    ∙ ap (λ x. DefineFun x (named_trees (sexps_of c.as_slice-in-DefineFun-2.result.now))
+    (sexp_of c.in-DefineFun.sort) (sexp_of c.in-DefineFun.body)) (sym c.as_slice-in-DefineFun.ensures))
+    c.define.ensures.refused
 
 pub returns-in-DefineSort-clause-effect : goal.returns-in-DefineSort-clause-effect
 returns-in-DefineSort-clause-effect c =
-    effect_at c.define_sort.result c.args.self.now c.define_sort.new.self (DefineSort c.as_slice-in-DefineSort.result.now (sexp_of c.in-DefineSort.sort)) (command_view c.args.command.now) c.args.number
-    (ap command_view c.in-DefineSort.is ∙ ap (λ (x : List ℕ). DefineSort x (sexp_of c.in-DefineSort.sort)) (sym c.as_slice-in-DefineSort.ensures)) c.define_sort.ensures.effect
+    effect_at c.define_sort.result c.args.self.now c.define_sort.new.self
+    (DefineSort c.as_slice-in-DefineSort.result.now (sexp_of c.in-DefineSort.sort))
+    (command_view c.args.command.now) c.args.number
+    (ap command_view c.in-DefineSort.is
+    ∙ ap (λ (x : List ℕ). DefineSort x (sexp_of c.in-DefineSort.sort))
+    (sym c.as_slice-in-DefineSort.ensures)) c.define_sort.ensures.effect
 
 pub returns-in-DefineSort-clause-refused : goal.returns-in-DefineSort-clause-refused
 returns-in-DefineSort-clause-refused c =
-    refused_at c.define_sort.result c.args.self.now (DefineSort c.as_slice-in-DefineSort.result.now (sexp_of c.in-DefineSort.sort)) (command_view c.args.command.now) c.args.number
-    (ap command_view c.in-DefineSort.is ∙ ap (λ (x : List ℕ). DefineSort x (sexp_of c.in-DefineSort.sort)) (sym c.as_slice-in-DefineSort.ensures)) c.define_sort.ensures.refused
+    refused_at c.define_sort.result c.args.self.now
+    (DefineSort c.as_slice-in-DefineSort.result.now (sexp_of c.in-DefineSort.sort))
+    (command_view c.args.command.now) c.args.number
+    (ap command_view c.in-DefineSort.is
+    ∙ ap (λ (x : List ℕ). DefineSort x (sexp_of c.in-DefineSort.sort))
+    (sym c.as_slice-in-DefineSort.ensures)) c.define_sort.ensures.refused
 
 pub returns-in-Push-clause-effect : goal.returns-in-Push-clause-effect
 returns-in-Push-clause-effect c =
-    effect_at c.push.result c.args.self.now c.push.new.self (Push (digits_value 10 c.as_slice-in-Push.result.now)) (command_view c.args.command.now) c.args.number
-    (ap command_view c.in-Push.is ∙ ap (λ (x : List ℕ). Push (digits_value 10 x)) (sym c.as_slice-in-Push.ensures)) c.push.ensures.effect
+    effect_at c.push.result c.args.self.now c.push.new.self
+    (Push (digits_value 10 c.as_slice-in-Push.result.now)) (command_view c.args.command.now) c.args.number
+    (ap command_view c.in-Push.is
+    ∙ ap (λ (x : List ℕ). Push (digits_value 10 x)) (sym c.as_slice-in-Push.ensures))
+    c.push.ensures.effect
 
 pub returns-in-Push-clause-refused : goal.returns-in-Push-clause-refused
 returns-in-Push-clause-refused c =
-    refused_at c.push.result c.args.self.now (Push (digits_value 10 c.as_slice-in-Push.result.now)) (command_view c.args.command.now) c.args.number
-    (ap command_view c.in-Push.is ∙ ap (λ (x : List ℕ). Push (digits_value 10 x)) (sym c.as_slice-in-Push.ensures)) c.push.ensures.refused
+    refused_at c.push.result c.args.self.now (Push (digits_value 10 c.as_slice-in-Push.result.now))
+    (command_view c.args.command.now) c.args.number
+    (ap command_view c.in-Push.is
+    ∙ ap (λ (x : List ℕ). Push (digits_value 10 x)) (sym c.as_slice-in-Push.ensures))
+    c.push.ensures.refused
 
 pub returns-in-Pop-clause-effect : goal.returns-in-Pop-clause-effect
 returns-in-Pop-clause-effect c =
-    effect_at c.pop.result c.args.self.now c.pop.new.self (Pop (digits_value 10 c.as_slice-in-Pop.result.now)) (command_view c.args.command.now) c.args.number
-    (ap command_view c.in-Pop.is ∙ ap (λ (x : List ℕ). Pop (digits_value 10 x)) (sym c.as_slice-in-Pop.ensures)) c.pop.ensures.effect
+    effect_at c.pop.result c.args.self.now c.pop.new.self (Pop (digits_value 10 c.as_slice-in-Pop.result.now))
+    (command_view c.args.command.now) c.args.number
+    (ap command_view c.in-Pop.is
+    ∙ ap (λ (x : List ℕ). Pop (digits_value 10 x)) (sym c.as_slice-in-Pop.ensures)) c.pop.ensures.effect
 
 pub returns-in-Pop-clause-refused : goal.returns-in-Pop-clause-refused
 returns-in-Pop-clause-refused c =
-    refused_at c.pop.result c.args.self.now (Pop (digits_value 10 c.as_slice-in-Pop.result.now)) (command_view c.args.command.now) c.args.number
-    (ap command_view c.in-Pop.is ∙ ap (λ (x : List ℕ). Pop (digits_value 10 x)) (sym c.as_slice-in-Pop.ensures)) c.pop.ensures.refused
+    refused_at c.pop.result c.args.self.now (Pop (digits_value 10 c.as_slice-in-Pop.result.now))
+    (command_view c.args.command.now) c.args.number
+    (ap command_view c.in-Pop.is
+    ∙ ap (λ (x : List ℕ). Pop (digits_value 10 x)) (sym c.as_slice-in-Pop.ensures)) c.pop.ensures.refused
 
 pub returns-in-Reset-clause-effect : goal.returns-in-Reset-clause-effect
 returns-in-Reset-clause-effect c =
-    effect_at c.reset.result c.args.self.now c.reset.new.self Reset (command_view c.args.command.now) c.args.number
+    effect_at c.reset.result c.args.self.now c.reset.new.self Reset (command_view c.args.command.now)
+    c.args.number
     (ap command_view c.in-Reset.is) c.reset.ensures.effect
 
 pub returns-in-Reset-clause-refused : goal.returns-in-Reset-clause-refused
@@ -86,12 +125,14 @@ returns-in-Reset-clause-refused c =
 
 pub returns-in-ResetAssertions-clause-effect : goal.returns-in-ResetAssertions-clause-effect
 returns-in-ResetAssertions-clause-effect c =
-    effect_at c.reset_assertions.result c.args.self.now c.reset_assertions.new.self ResetAssertions (command_view c.args.command.now) c.args.number
+    effect_at c.reset_assertions.result c.args.self.now c.reset_assertions.new.self ResetAssertions
+    (command_view c.args.command.now) c.args.number
     (ap command_view c.in-ResetAssertions.is) c.reset_assertions.ensures.effect
 
 pub returns-in-ResetAssertions-clause-refused : goal.returns-in-ResetAssertions-clause-refused
 returns-in-ResetAssertions-clause-refused c =
-    refused_at c.reset_assertions.result c.args.self.now ResetAssertions (command_view c.args.command.now) c.args.number
+    refused_at c.reset_assertions.result c.args.self.now ResetAssertions (command_view c.args.command.now)
+    c.args.number
     (ap command_view c.in-ResetAssertions.is) c.reset_assertions.ensures.refused
 
 pub returns-in-Exit-clause-effect : goal.returns-in-Exit-clause-effect
@@ -102,32 +143,38 @@ returns-in-Exit-clause-effect c =
 pub returns-in-CheckSat-clause-effect : goal.returns-in-CheckSat-clause-effect
 returns-in-CheckSat-clause-effect c =
     idle_effect c.contents_are_kept.ensures c.args.self.now c.args.number (command_view c.args.command.now)
-    (no_effect_is_idle (command_view c.args.command.now) (ap (λ d. effect_of (command_view d)) c.in-CheckSat.is))
+    (no_effect_is_idle (command_view c.args.command.now)
+    (ap (λ d. effect_of (command_view d)) c.in-CheckSat.is))
 
 pub returns-in-GetModel-clause-effect : goal.returns-in-GetModel-clause-effect
 returns-in-GetModel-clause-effect c =
     idle_effect c.contents_are_kept.ensures c.args.self.now c.args.number (command_view c.args.command.now)
-    (no_effect_is_idle (command_view c.args.command.now) (ap (λ d. effect_of (command_view d)) c.in-GetModel.is))
+    (no_effect_is_idle (command_view c.args.command.now)
+    (ap (λ d. effect_of (command_view d)) c.in-GetModel.is))
 
 pub returns-in-SetPrintSuccess-clause-effect : goal.returns-in-SetPrintSuccess-clause-effect
 returns-in-SetPrintSuccess-clause-effect c =
     idle_effect c.contents_are_kept.ensures c.args.self.now c.args.number (command_view c.args.command.now)
-    (no_effect_is_idle (command_view c.args.command.now) (ap (λ d. effect_of (command_view d)) c.in-SetPrintSuccess.is))
+    (no_effect_is_idle (command_view c.args.command.now)
+    (ap (λ d. effect_of (command_view d)) c.in-SetPrintSuccess.is))
 
 pub returns-in-SetGlobalDeclarations-clause-effect : goal.returns-in-SetGlobalDeclarations-clause-effect
 returns-in-SetGlobalDeclarations-clause-effect c =
     idle_effect c.contents_are_kept.ensures c.args.self.now c.args.number (command_view c.args.command.now)
-    (no_effect_is_idle (command_view c.args.command.now) (ap (λ d. effect_of (command_view d)) c.in-SetGlobalDeclarations.is))
+    (no_effect_is_idle (command_view c.args.command.now)
+    (ap (λ d. effect_of (command_view d)) c.in-SetGlobalDeclarations.is))
 
 pub returns-in-SetOption-clause-effect : goal.returns-in-SetOption-clause-effect
 returns-in-SetOption-clause-effect c =
     idle_effect c.contents_are_kept.ensures c.args.self.now c.args.number (command_view c.args.command.now)
-    (no_effect_is_idle (command_view c.args.command.now) (ap (λ d. effect_of (command_view d)) c.in-SetOption.is))
+    (no_effect_is_idle (command_view c.args.command.now)
+    (ap (λ d. effect_of (command_view d)) c.in-SetOption.is))
 
 pub returns-in-SetInfo-clause-effect : goal.returns-in-SetInfo-clause-effect
 returns-in-SetInfo-clause-effect c =
     idle_effect c.contents_are_kept.ensures c.args.self.now c.args.number (command_view c.args.command.now)
-    (no_effect_is_idle (command_view c.args.command.now) (ap (λ d. effect_of (command_view d)) c.in-SetInfo.is))
+    (no_effect_is_idle (command_view c.args.command.now)
+    (ap (λ d. effect_of (command_view d)) c.in-SetInfo.is))
 
 pub returns-in-Echo-clause-effect : goal.returns-in-Echo-clause-effect
 returns-in-Echo-clause-effect c =

@@ -12,5 +12,7 @@ loop-left-preserved c =
     let sum = i.1 in (
       suc i.0,
       omega arith,
-      c.in-Ok.ensures.items ∙ ap (λ (l : List Level). l ++ c.args.level ∷ []) i.2 ∙ append_assoc old (copies i.0 c.args.level) (c.args.level ∷ []) ∙ ap (λ (l : List Level). old ++ l) (copies_push i.0 c.args.level),
+      c.in-Ok.ensures.items ∙ ap (λ (l : List Level). l ++ c.args.level ∷ []) i.2
+          ∙ append_assoc old (copies i.0 c.args.level) (c.args.level ∷ [])
+          ∙ ap (λ (l : List Level). old ++ l) (copies_push i.0 c.args.level),
     )

@@ -1,10 +1,10 @@
-use Rattle.std.proofs.Common.{[], ◌∷◌, length, ap, sym, ◌∙◌, arith}
+use Rattle.std.proofs.Common.{[], Ok, ◌∷◌, length, ap, sym, ◌∙◌, arith}
 use Rattle.std.proofs.lemmas.List.{length-append, map-append}
 use Rattle.std.proofs.lemmas.Result.{err_from_is_err_and}
 use Rattle.smt_trees.specs.Sexp.{Cons, Items, count, weight_all}
 use Rattle.smt_trees.specs.Tree.{sexp_of, sexps_of}
 use Rattle.smt_forms.specs.Bindings.{are_named_trees}
-use Rattle.smt_terms.specs.Checking.{sort_in, sort_of_call}
+use Rattle.smt_terms.specs.Checking.{sort_in}
 use Rattle.smt_forms.specs.IdentifierView.{identifier_view}
 use Rattle.smt_terms.specs.Internal.LabelsView.{labels_view}
 use Rattle.smt_terms.specs.Internal.LibraryView.{names_for, names_of_library}
@@ -13,11 +13,11 @@ use Rattle.smt_forms.specs.ScopeView.{scope_view}
 use Rattle.smt_terms.specs.Signature.{unlabelled}
 use Rattle.smt_terms.proofs.BinderLemmas.{annotated, bang_in, bound_in-next, fault_of_annotated}
 use Rattle.smt_terms.proofs.BinderLemmas.{fault_of_annotation, fault_of_bindings, let_in, let_of_body}
-use Rattle.smt_terms.proofs.CheckerLemmas.{applied_ok, bang_head, carried, fault_of_args, let_head}
+use Rattle.smt_terms.proofs.CheckerLemmas.{bang_head, carried, fault_of_args, let_head}
 use Rattle.smt_terms.proofs.CheckerLemmas.{count-trees, sorts_behind-next, sorts_behind-start, told}
 use Rattle.smt_terms.proofs.KeptLemmas.{Keeps-unlabelled, kept-sort}
-use Rattle.smt_terms.proofs.LabelLemmas.{AreGivenOf-next, AreGivenOf-none, call_without_labels, given_by_args}
-use Rattle.smt_terms.proofs.LabelLemmas.{names_behind}
+use Rattle.smt_terms.proofs.LabelLemmas.{AreGivenOf-next, AreGivenOf-none, given_by_args}
+use Rattle.smt_terms.proofs.LabelLemmas.{called, names_behind}
 use Rattle.smt_terms.proofs.library.Library.+check.Goals as goal
 
 pub sorts_of-sort_of-requires : goal.sorts_of-sort_of-requires
@@ -59,21 +59,33 @@ sort_of_list-returns-in_err-sorts-clause-sort t c =
 
 pub sort_of_list-returns-clause-sort : goal.sort_of_list-returns-clause-sort
 sort_of_list-returns-clause-sort t c =
-    let names = names_for c.args.self.now (labels_view c.args.labels.now) in
-    let scope = scope_view c.args.scope.now in
-    let f = identifier_view c.in_ok-identifier-2.identifier in
-    told c.sort_of_call.result (sort_in names scope (Items c.args.parts.now))
-    (applied_ok names scope (sexp_of c.in-Some.head.now)
-    (sexps_of c.in-Some.args.now) c.args.parts.now f c.in_ok-sorts.sorts.items
-    (sym c.as_slice.ensures ∙ c.in-Some.ensures)
+    called c.args.self.now (labels_view c.args.labels.now) (scope_view c.args.scope.now)
+    (sexp_of c.in-Some.head.now) (sexps_of c.in-Some.args.now) c.args.parts.now
+    (identifier_view c.in_ok-identifier-2.identifier) c.in_ok-sorts.sorts.items c.as_slice-2.result.now
+    _ (sym c.as_slice.ensures ∙ c.in-Some.ensures)
     (record {
       no_index = sym c.if-is_underscore.ensures;
       no_let = sym c.if-is_let.ensures;
       no_bang = sym c.if-is_bang.ensures;
-    }) c.in_ok-identifier-2.ensures c.in_ok-sorts.ensures.sorts
-    ∙ ap (λ ss. sort_of_call names scope f ss)
-    (sym c.as_slice-2.ensures) ∙ call_without_labels c.args.self.now
-    (labels_view c.args.labels.now) scope f c.as_slice-2.result.now ∙ sym c.sort_of_call.ensures)
+    }) c.in_ok-identifier-2.ensures c.in_ok-sorts.ensures.sorts c.as_slice-2.ensures c.in_ok-sort_of_call.ensures
+
+pub sort_of_list-returns-in_err-sort_of_call-clause-sort :
+    goal.sort_of_list-returns-in_err-sort_of_call-clause-sort
+sort_of_list-returns-in_err-sort_of_call-clause-sort t c =
+    let p = err_from_is_err_and c.from_residual-in_err-sort_of_call.result
+    c.from_residual-in_err-sort_of_call.ensures.1 in
+    rw p.1
+    (told _ c.in_err-sort_of_call.field-0.0 p.0
+    (called c.args.self.now (labels_view c.args.labels.now) (scope_view c.args.scope.now)
+    (sexp_of c.in-Some.head.now) (sexps_of c.in-Some.args.now) c.args.parts.now
+    (identifier_view c.in_ok-identifier-2.identifier) c.in_ok-sorts.sorts.items c.as_slice-2.result.now
+    c.sort_of_call.result (sym c.as_slice.ensures ∙ c.in-Some.ensures)
+    (record {
+      no_index = sym c.if-is_underscore.ensures;
+      no_let = sym c.if-is_let.ensures;
+      no_bang = sym c.if-is_bang.ensures;
+    }) c.in_ok-identifier-2.ensures c.in_ok-sorts.ensures.sorts c.as_slice-2.ensures
+    c.sort_of_call.ensures ∙ c.in_err-sort_of_call.was) p.2)
 
 pub sorts_of-loop-term-preserved : goal.sorts_of-loop-term-preserved
 sorts_of-loop-term-preserved t c =
@@ -220,7 +232,7 @@ sort_of_annotated-returns-clause-sort t c =
 
 pub sort_of_list-returns-clause-labels : goal.sort_of_list-returns-clause-labels
 sort_of_list-returns-clause-labels t c =
-    given_by_args c.sort_of_call.result (names_of_library c.args.self.now) c.args.labels.now
+    given_by_args (Ok c.in_ok-sort_of_call.field-0) (names_of_library c.args.self.now) c.args.labels.now
     c.sorts_of.new.labels (sexp_of c.in-Some.head.now) (sexps_of c.in-Some.args.now) c.args.parts.now
     (sym c.as_slice.ensures ∙ c.in-Some.ensures) (sym c.if-is_underscore.ensures) (sym c.if-is_let.ensures)
     (sym c.if-is_bang.ensures) c.in_ok-sorts.ensures.labels

@@ -4,7 +4,7 @@ use Rattle.smt_trees.specs.Tree.{sexp_of}
 use Rattle.smt_terms.specs.Contents.{contents_of}
 use Rattle.smt_terms.specs.Internal.LibraryView.{abbreviations_of, sort_names}
 use Rattle.smt_terms.specs.Signature.{sort_names_of}
-use Rattle.smt_terms.specs.SortTrees.{abbreviated_in}
+use Rattle.smt_terms.specs.Declarations.{abbreviated_in}
 use Rattle.smt_terms.proofs.ContentsLemmas.{more_abbreviations, nothing_more}
 use Rattle.smt_terms.proofs.DefinitionLemmas.{same_fault}
 use Rattle.smt_terms.proofs.ItemLemmas.{sorts_as}

@@ -2,7 +2,7 @@ use Rattle.std.proofs.Common.{ap, ◌∙◌}
 use Rattle.std.proofs.lemmas.Result.{IfErr-weaker, on_ok_weaker}
 use Rattle.smt_trees.specs.Tree.{sexp_of}
 use Rattle.smt_terms.specs.Definitions.{definition_in}
-use Rattle.smt_forms.specs.ItemView.{form_of}
+use Rattle.smt_forms.specs.ItemView.{item_view}
 use Rattle.smt_terms.specs.Items.{item_in}
 use Rattle.smt_forms.specs.ScopeView.{scope_view}
 use Rattle.smt_terms.specs.Signature.{names_of}
@@ -13,7 +13,7 @@ use Rattle.smt_terms.proofs.library.Library.define_item.Goals as goal
 pub returns-clause-defined : goal.returns-clause-defined
 returns-clause-defined c =
     let tree = sexp_of c.args.item.now in
-    let form = form_of c.in_ok-form.form in
+    let form = item_view c.in_ok-form.form in
     let ps = scope_view c.in_ok-parameters.parameters.items in
     let rs = scope_view c.as_slice-2.result.now in
     let sort = c.in_ok-sort.sort in
@@ -23,7 +23,7 @@ returns-clause-defined c =
       more.0,
       item_step c.args.self.now c.args.script.now s m tree form ps (scope_view c.as_slice.result.now) rs sort
           c.in_ok-has_declared_rank.field-0 c.requires stands items c.in_ok-form.ensures
-          (c.in_ok-check_name.ensures.fault s m stands items) c.in_ok-parameters.ensures c.in_ok-sort.ensures
+          (c.in_ok-check_name.ensures.flaw s m stands items) c.in_ok-parameters.ensures c.in_ok-sort.ensures
           (c.in_ok-has_declared_rank.ensures s stands) c.if-not-branch.false
           (ap scope_view c.as_slice.ensures.value)
           (ap scope_view c.as_slice-2.ensures.value)
@@ -35,7 +35,7 @@ returns-clause-defined c =
 pub returns-clause-refused : goal.returns-clause-refused
 returns-clause-refused c =
     let tree = sexp_of c.args.item.now in
-    let form = form_of c.in_ok-form.form in
+    let form = item_view c.in_ok-form.form in
     let ps = scope_view c.in_ok-parameters.parameters.items in
     let rs = scope_view c.as_slice-2.result.now in
     let sort = c.in_ok-sort.sort in
@@ -44,7 +44,7 @@ returns-clause-refused c =
     same_fault (definition_in (names_of m) form.name rs sort form.body) (item_in s m.entries tree) fault
     (item_step c.args.self.now c.args.script.now s m tree form ps (scope_view c.as_slice.result.now) rs sort
     c.in_ok-has_declared_rank.field-0 c.requires stands items c.in_ok-form.ensures
-    (c.in_ok-check_name.ensures.fault s m stands items) c.in_ok-parameters.ensures c.in_ok-sort.ensures
+    (c.in_ok-check_name.ensures.flaw s m stands items) c.in_ok-parameters.ensures c.in_ok-sort.ensures
     (c.in_ok-has_declared_rank.ensures s stands) c.if-not-branch.false
     (ap scope_view c.as_slice.ensures.value)
     (ap scope_view c.as_slice-2.ensures.value)) (refused m items))

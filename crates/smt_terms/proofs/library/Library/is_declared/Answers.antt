@@ -1,7 +1,6 @@
 use Rattle.std.proofs.Common.{◌∙◌}
 use Rattle.smt_terms.specs.Internal.LibraryView.{rank_of}
-use Rattle.smt_terms.specs.Items.{declared_named}
-use Rattle.smt_terms.specs.Signature.{rank_of_entry}
+use Rattle.smt_terms.specs.Signature.{declared_named, rank_of_entry}
 use Rattle.smt_terms.proofs.NameLookUps.{same_some}
 use Rattle.smt_terms.proofs.library.Library.is_declared.Goals as goal
 

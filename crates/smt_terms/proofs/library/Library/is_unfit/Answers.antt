@@ -1,5 +1,5 @@
 use Rattle.std.proofs.Common.{not, ap, ◌∙◌}
-use Rattle.smt_terms.specs.Signature.{is_taken}
+use Rattle.smt_terms.specs.Freshness.{is_taken}
 use Rattle.smt_terms.proofs.ItemLemmas.{names_as}
 use Rattle.smt_terms.proofs.NameLookUps.{and_else, and_then}
 use Rattle.smt_terms.proofs.library.Library.is_unfit.Goals as goal

@@ -1,6 +1,6 @@
 use Rattle.std.proofs.Common.{Some, None, ◌∙◌}
 use Rattle.smt_terms.specs.Internal.LibraryView.{rank_of}
-use Rattle.smt_terms.specs.Items.{declared_named}
+use Rattle.smt_terms.specs.Signature.{declared_named}
 use Rattle.smt_terms.proofs.ItemLemmas.{keeps}
 use Rattle.smt_terms.proofs.library.Library.keeps_rank.Goals as goal
 

@@ -2,7 +2,7 @@ use Rattle.std.proofs.Common.{Err, cond, ap, sym, ◌∙◌}
 use Rattle.smt_trees.specs.Tree.{sexp_of}
 use Rattle.smt_terms.specs.Internal.LibraryView.{sort_names}
 use Rattle.smt_terms.specs.SortTrees.{sort_named}
-use Rattle.smt_faults.specs.declared.term_fault.TermFault.TheVariants.{NotFresh}
+use Rattle.smt_faults.specs.declared.term_flaw.TermFlaw.TheVariants.{NotFresh}
 use Rattle.smt_terms.proofs.LibraryLemmas.{goes_last}
 use Rattle.smt_terms.proofs.SortLemmas.{not_abbreviated}
 use Rattle.smt_terms.proofs.sorts.SortNames.abbreviate.Goals as goal

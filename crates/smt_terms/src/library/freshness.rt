@@ -1,0 +1,77 @@
+//! Which new names are fresh: of declarations and definitions, of labels, and of the items of models. What a
+//! name will stand for is not known here, nor which names abbreviate sorts or are bound within a term.
+
+ghost use Rattle.std.specs.Prelude.{◌≡◌, ◌||◌, is_some, None, Some, Ok, Err, MatchResult, OnOk};
+ghost use Rattle.smt_theory.specs.Operators.{is_plain_operator};
+ghost use Rattle.smt_theory.specs.Words.{look_up};
+ghost use Rattle.smt_terms.specs.Freshness.{is_label_taken, is_taken, is_taken_undeclared, name_flaw};
+ghost use Rattle.smt_terms.specs.Internal.LabelsView.{given_names};
+ghost use Rattle.smt_terms.specs.Internal.LibraryView.{names_of_library};
+ghost use Rattle.smt_terms.specs.Library.{StandsFor};
+ghost use Rattle.smt_terms.specs.Signature.{Signature, declared_named};
+
+use crate::labels::Labels;
+use crate::library::Library;
+use smt_faults::TermFlaw;
+use smt_theory::{Theories, op_of};
+
+impl Library {
+    // Whether a name stands for something, or is a plain operator's.
+    pub(super) fn is_taken(&self, name: &[u8]) -> bool
+        ensures { result ≡ is_taken (names_of_library self.now) name.now }
+    {
+        self.has_entry(name) || is_operator(self.sorts.theories, name)
+    }
+
+    // Whether a name stands for something.
+    fn has_entry(&self, name: &[u8]) -> bool
+        ensures { result ≡ is_some (look_up (names_of_library self.now).ranks name.now) }
+    {
+        self.get(name).is_some()
+    }
+
+    // Whether a name is taken, or that of a label that was given.
+    pub(super) fn is_in_use(&self, labels: &Labels, name: &[u8]) -> bool
+        ensures { result ≡ is_label_taken (names_of_library self.now) (given_names labels.now) name.now }
+    {
+        self.is_taken(name) || labels.is_given(name)
+    }
+
+    // Refuses a name that an earlier item has, and one that the script does not declare and that is taken.
+    pub(super) fn check_name(&self, script: &Library, name: &[u8]) -> Result<(), TermFlaw>
+        ensures flaw { (s m : Signature) → StandsFor script.now s → StandsFor self.now m
+            → MatchResult result (λ _. name_flaw s m.entries name.now ≡ None)
+            (λ flaw. name_flaw s m.entries name.now ≡ Some flaw) }
+        ensures absent { OnOk result (look_up (names_of_library self.now).ranks name.now ≡ None) }
+    {
+        if self.has_entry(name) {
+            return Err(TermFlaw::BoundTwice);
+        }
+        if script.is_unfit(name) {
+            return Err(TermFlaw::NotFresh);
+        }
+        Ok(())
+    }
+
+    // Whether no item may have this name: it is taken, and not declared.
+    fn is_unfit(&self, name: &[u8]) -> bool
+        ensures { (s : Signature) → StandsFor self.now s → result ≡ is_taken_undeclared s name.now }
+    {
+        !self.is_declared(name) && self.is_taken(name)
+    }
+
+    // Whether a command declared the name.
+    fn is_declared(&self, name: &[u8]) -> bool
+        ensures { (s : Signature) → StandsFor self.now s
+            → result ≡ is_some (declared_named s.entries name.now) }
+    {
+        self.get_declared(name).is_some()
+    }
+}
+
+// Whether a name is a plain operator's of the theories.
+fn is_operator(theories: Theories, name: &[u8]) -> bool
+    ensures { result ≡ is_plain_operator theories name.now }
+{
+    op_of(theories, name, &[]).is_ok()
+}
