@@ -1,9 +1,12 @@
 -- Places of names, one more name or one fewer at the end.
-use Rattle.std.proofs.Common.{◌≡◌, ℕ, zero, suc, ◌+◌, ◌-◌, ◌<◌, ◌≤◌, Bool, true, false, cond, List, [], ◌∷◌, ◌++◌}
-use Rattle.std.proofs.Common.{length, drop, take, Option, Some, None, refl, ap, sym, ◌∙◌, arith, add-zero, Bor, get_or, Result, Ok, Err}
+use Rattle.std.proofs.Common.{◌≡◌, ℕ, zero, suc, ◌+◌, ◌-◌, ◌<◌, ◌≤◌, Bool, true, false, cond, List, [], ◌∷◌}
+use Rattle.std.proofs.Common.{◌++◌}
+use Rattle.std.proofs.Common.{length, drop, take, Option, Some, None, refl, ap, sym, ◌∙◌, arith, add-zero}
+use Rattle.std.proofs.Common.{Bor, get_or, Result, Ok, Err}
 use Rattle.std.proofs.Common.{OnOk, OnErr}
 use Rattle.std.proofs.Common.{append_assoc, append-nil}
-use Rattle.std.proofs.lemmas.List.{drop-append-le, drop_all, length-drop, length-take, length-append, take_more}
+use Rattle.std.proofs.lemmas.List.{drop-append-le, drop_all, length-drop, length-take, length-append}
+use Rattle.std.proofs.lemmas.List.{take_more}
 use Rattle.std.proofs.lemmas.List.{take-append-drop}
 use Rattle.std.proofs.lemmas.Option.{none-some}
 use Rattle.std.proofs.lemmas.Cmp.{nat_list_eq_equiv}

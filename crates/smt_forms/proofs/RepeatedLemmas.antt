@@ -20,7 +20,8 @@ Names = List (List ℕ)
 pub among-place : (at : ℕ) (xs : Names) (name : List ℕ) → is_some (place_from at xs name) ≡ is_among xs name
 among-place at [] name = refl
 among-place at (x ∷ xs) name =
-    by (bytes_eq name x) (place_from (suc at) xs name) ∙ ap (λ b. bytes_eq name x || b) (among-place (suc at) xs name)
+    by (bytes_eq name x) (place_from (suc at) xs name)
+    ∙ ap (λ b. bytes_eq name x || b) (among-place (suc at) xs name)
   where
     by : (b : Bool) (o : Option ℕ) → is_some (option_or o (cond b (Some at) None)) ≡ b || is_some o
     by true None = refl

@@ -1,6 +1,7 @@
 -- Names with what stands for each, the last first: one more, fewer, and what stands for a name.
 use Rattle.std.proofs.Common.{◌≡◌, ℕ, zero, suc, ◌-◌, Bool, true, false, cond, List, [], ◌∷◌, ◌++◌, length}
-use Rattle.std.proofs.Common.{drop, take, Option, Some, None, Result, Ok, Err, OnErr, refl, ap, sym, ◌∙◌, arith, subst}
+use Rattle.std.proofs.Common.{drop, take, Option, Some, None, Result, Ok, Err, OnErr, refl, ap, sym, ◌∙◌}
+use Rattle.std.proofs.Common.{arith, subst}
 use Rattle.std.proofs.Common.{append_assoc}
 use Rattle.std.proofs.lemmas.List.{drop-append-le, drop_all, length-append}
 use Rattle.std.specs.List.{slice_get}
@@ -43,13 +44,35 @@ first-take zero xs vs h =
 first-take (suc n) [] [] h = sym (drop_all (0 - suc n) [] (omega arith))
 first-take (suc n) [] (w ∷ ws) h = absurd (omega arith)
 first-take (suc n) (y ∷ ys) [] h = absurd (omega arith)
-first-take (suc n) (y ∷ ys) (w ∷ ws) h =
-    let inner = innermost_first ys ws in
-    let last = (y, w) ∷ [] in
-    let fewer : length inner - n ≡ length (inner ++ last) - suc n = omega (arith, length-append inner last) in
-    ap (λ ps. ps ++ last) (first-take n ys ws (omega arith))
-    ∙ sym (drop-append-le (length inner - n) inner last (omega arith))
-    ∙ ap (λ k. drop k (inner ++ last)) fewer
+first-take {V} (suc n) (y ∷ ys) (w ∷ ws) h =
+    let inner : List (List ℕ × V) = innermost_first ys ws in
+    let outer : List (List ℕ × V) = (y, w) ∷ [] in
+    let fewer : length inner - n ≡ length (inner ++ outer) - suc n =
+    omega (arith, length-append inner outer) in
+    ap (λ ps. ps ++ outer) (first-take n ys ws (omega arith))
+    ∙ sym (drop-append-le (length inner - n) inner outer (omega arith))
+    ∙ ap (λ k. drop k (inner ++ outer)) fewer
+
+pub first-cut : {V : Type 0} (n : ℕ) (xs ys : Names) (vs ws : List V) → length vs ≡ length xs
+    → ys ≡ take n xs → ws ≡ take n vs
+    → innermost_first ys ws ≡ drop (length (innermost_first xs vs) - n) (innermost_first xs vs)
+first-cut n xs ys vs ws h names values =
+    ap (λ us. innermost_first ys us) values ∙ ap (λ us. innermost_first us (take n vs)) names
+    ∙ first-take n xs vs h
+
+pub first-pushed : {V : Type 0} (xs ys : Names) (vs us ws : List V) (x : List ℕ) (v : V)
+    → length vs ≡ length xs → ys ≡ xs ++ x ∷ [] → us ≡ vs → ws ≡ us ++ v ∷ []
+    → innermost_first ys ws ≡ (x, v) ∷ innermost_first xs vs
+first-pushed xs ys vs us ws x v h names room values =
+    ap (λ ts. innermost_first ys ts) values
+    ∙ ap (λ ts. innermost_first ys (ts ++ v ∷ [])) room
+    ∙ ap (λ ts. innermost_first ts (vs ++ v ∷ [])) names
+    ∙ first-push xs vs x v h
+
+pub first-same : {V : Type 0} (xs ys : Names) (vs ws : List V) → ys ≡ xs → ws ≡ vs
+    → innermost_first ys ws ≡ innermost_first xs vs
+first-same xs ys vs ws names values =
+    ap (λ us. innermost_first ys us) values ∙ ap (λ us. innermost_first us vs) names
 
 -- ## What stands for a name
 
@@ -99,14 +122,16 @@ tied {V} ws (v ∷ vs) (x ∷ xs) name h =
     let inner = subst (λ (us : List V). Tied (slice_get us) (look_up (innermost_first xs vs) name)
     (place_from (length (ws ++ v ∷ [])) xs name)) (append_assoc ws (v ∷ []) vs)
     (tied (ws ++ v ∷ []) vs xs name (omega arith)) in
-    let there = subst (λ (k : ℕ). Tied at (look_up (innermost_first xs vs) name) (place_from k xs name)) next inner in
+    let there = subst (λ (k : ℕ). Tied at (look_up (innermost_first xs vs) name) (place_from k xs name))
+    next inner in
     subst (λ (o : Option V). Tied at o (place_from (length ws) (x ∷ xs) name))
     (sym (look_up-append (innermost_first xs vs) ((x, v) ∷ []) name))
     (tied-or at (look_up (innermost_first xs vs) name) (look_up ((x, v) ∷ []) name)
     (place_from (suc (length ws)) xs name) (if bytes_eq name x then Some (length ws) else None) there
     (outer (bytes_eq name x)))
   where
-    outer : (b : Bool) → Tied (slice_get (ws ++ v ∷ vs)) (cond b (Some v) None) (cond b (Some (length ws)) None)
+    outer : (b : Bool)
+        → Tied (slice_get (ws ++ v ∷ vs)) (cond b (Some v) None) (cond b (Some (length ws)) None)
     outer true = at-seam ws v vs
     outer false = tt
 

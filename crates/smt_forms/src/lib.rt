@@ -5,8 +5,9 @@
 //! `applied_identifier` answers what a list applies to its arguments, or what is wrong with its form. So for
 //! `((_ extract 3 0) x)`, by its head and what stands behind it, it answers the identifier `extract` with two
 //! indexes, whose operator `Identifier::operator` finds; and for `(let)` that it is out of form. `split_let`
-//! and `split_named` take the parts of a `let` and of its bindings, and `find_variable` the innermost
-//! variable of a name.
+//! and `split_named` take the parts of a `let` and of its bindings. `find_variable` finds the innermost
+//! variable of a name in a list; a `Scope` does so in time that hardly grows with how many there are, and a
+//! `NameSet` says whether a name came before.
 #![tactic(auto)]
 
 mod attributes;

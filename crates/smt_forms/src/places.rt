@@ -77,6 +77,7 @@ impl<'a> Places<'a> {
             self.names.push(Placed { name, hidden: None })?;
             return Ok(());
         }
+        // Nothing is refused behind the map's own want of memory, which leaves all as it was.
         self.names.reserve(1)?;
         let hidden = self.last.insert(name, place)?;
         self.names.push(Placed { name, hidden })?;
@@ -103,6 +104,7 @@ impl<'a> Places<'a> {
         }
         match gone.hidden {
             Some(place) => {
+                // The map has the name, so that this takes no memory.
                 let _ = self.last.insert(gone.name, place);
             }
             None => {

@@ -38,7 +38,7 @@ impl<'a, V: Copy> Scope<'a, V> {
         self.values.len()
     }
 
-    /// What stands for the innermost variable of this name, which is without bars; `None` where there is none.
+    /// What stands for the innermost variable of this name, without bars; `None` where there is none.
     pub fn find(&self, name: &[u8]) -> Option<V>
         ensures { result ≡ look_up (scope_of self.now) name.now }
     {

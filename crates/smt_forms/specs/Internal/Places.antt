@@ -12,7 +12,8 @@ use Rattle.smt_forms.specs.declared.places.Placed.{Placed}
 -- the place of the last of these names that is this one, where the first of them stands at this place
 abbrev pub place_from : ℕ → List (List ℕ) → List ℕ → Option ℕ
 place_from at [] name = None
-place_from at (x ∷ xs) name = option_or (place_from (suc at) xs name) (if bytes_eq name x then Some at else None)
+place_from at (x ∷ xs) name =
+    option_or (place_from (suc at) xs name) (if bytes_eq name x then Some at else None)
 
 abbrev pub names_of : List Placed → List (List ℕ)
 names_of names = map (λ n. n.name.now) names

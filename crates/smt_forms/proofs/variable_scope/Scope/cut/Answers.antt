@@ -1,12 +1,9 @@
-use Rattle.std.proofs.Common.{take, ap, ◌∙◌}
-use Rattle.smt_forms.specs.ScopeOf.{innermost_first, scope_of}
-use Rattle.smt_forms.proofs.ScopeLemmas.{first-take}
+use Rattle.smt_forms.specs.ScopeOf.{scope_of}
+use Rattle.smt_forms.proofs.ScopeLemmas.{first-cut}
 use Rattle.smt_forms.proofs.variable_scope.Scope.cut.Goals as goal
 
 pub returns : goal.returns
 unfolding scope_of
 returns g c =
-    let self = c.args.self.now in
-    ap (λ vs. innermost_first c.cut.new.self vs) c.truncate.ensures.items
-    ∙ ap (λ xs. innermost_first xs (take c.args.len self.values.items)) c.cut.ensures
-    ∙ first-take c.args.len self.places self.values.items self.paired
+    first-cut c.args.len c.args.self.now.places c.cut.new.self c.args.self.now.values.items
+    c.truncate.new.self.items c.args.self.now.paired c.cut.ensures c.truncate.ensures.items
