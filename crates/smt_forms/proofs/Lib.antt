@@ -3,3 +3,6 @@ mod IdentifierLemmas
 pub mod HeadLemmas
 pub mod UsesLemmas
 pub mod PartLemmas
+pub mod PlaceLemmas
+pub mod ScopeLemmas
+pub mod RepeatedLemmas

@@ -1,1 +1,2 @@
 pub mod Attributes
+pub mod Places

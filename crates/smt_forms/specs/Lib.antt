@@ -5,8 +5,11 @@ pub mod IdentifierView
 pub mod ItemForm
 pub mod ItemView
 pub mod Labels
+pub mod NamesIn
 pub mod ParamView
 pub mod Parts
+pub mod Repeated
+pub mod ScopeOf
 pub mod ScopeView
 pub mod Variables
 pub mod Internal

@@ -1,11 +1,12 @@
 //! What holds of the definitions that the contracts name. Nothing here does anything: each contract is a law.
 
-ghost use Rattle.std.specs.List.{Contains, flat_map};
-ghost use Rattle.std.specs.Prelude.{◌≡◌, ◌↔◌, ◌++◌, ℕ, List, map, true};
+ghost use Rattle.std.specs.List.{AllPairs, Contains, flat_map};
+ghost use Rattle.std.specs.Prelude.{◌≡◌, ◌≢◌, ◌↔◌, ◌++◌, ℕ, List, [], None, map, true};
 ghost use Rattle.smt_trees.specs.Sexp.{Sexp, Sexps, Nil};
 ghost use Rattle.smt_theory.specs.declared.sort.Sort.{Sort};
 ghost use Rattle.smt_forms.specs.Labels.{labels_in};
 ghost use Rattle.smt_forms.specs.Parts.{IsLabelled, OccursFree, own_labels, parts_of};
+ghost use Rattle.smt_forms.specs.Repeated.{repeated_behind};
 ghost use Rattle.smt_forms.specs.Variables.{uses_variable};
 ghost use Rattle.smt_forms.specs.Bindings.{AreAttributes, are_attributes};
 
@@ -30,4 +31,9 @@ pub fn labels_are_annotations()
 pub fn used_variables_occur_free()
     ensures { (scope : List (List ℕ × Sort)) (term : Sexp) → (uses_variable scope term ≡ true)
         ↔ ((x : List ℕ) × Contains (map (λ v. v.0) scope) x × OccursFree x term) }
+{}
+
+/// No name is found repeated exactly where no two are the same.
+pub fn none_repeated_where_all_differ()
+    ensures { (names : List (List ℕ)) → (repeated_behind [] names ≡ None) ↔ AllPairs (λ x y. x ≢ y) names }
 {}

@@ -5,8 +5,9 @@
 //! `applied_identifier` answers what a list applies to its arguments, or what is wrong with its form. So for
 //! `((_ extract 3 0) x)`, by its head and what stands behind it, it answers the identifier `extract` with two
 //! indexes, whose operator `Identifier::operator` finds; and for `(let)` that it is out of form. `split_let`
-//! and `split_named` take the parts of a `let` and of its bindings, and `find_variable` the innermost
-//! variable of a name.
+//! and `split_named` take the parts of a `let` and of its bindings. `find_variable` finds the innermost
+//! variable of a name in a list; a `Scope` does so in time that hardly grows with how many there are, and a
+//! `NameSet` says whether a name came before.
 #![tactic(auto)]
 
 mod attributes;
@@ -15,8 +16,12 @@ mod heads;
 mod identifier;
 mod items;
 pub mod laws;
+mod name_set;
 mod params;
+mod places;
+mod repeated;
 mod scope;
+mod variable_scope;
 mod variables;
 
 pub use attributes::{are_attributes, label_at};
@@ -24,6 +29,9 @@ pub use bindings::{are_named, split_let, split_named};
 pub use heads::{is_bang, is_let, is_underscore};
 pub use identifier::{Identifier, applied_identifier, are_indexes, indexed_identifier};
 pub use items::{ItemForm, item_form};
+pub use name_set::NameSet;
 pub use params::{Param, params_of};
+pub use repeated::{first_repeated, first_repeated_param};
 pub use scope::{Variable, find_variable};
+pub use variable_scope::Scope;
 pub use variables::uses_variable;

@@ -99,7 +99,7 @@ abbrev labelled_in : Names → Scope → Sexps → Sexp → Sort → Result Sort
 labelled_in names scope attributes term sort =
     unless (flaw_of_labels (behind (labels_in term) names) scope term (labels_among attributes)) (Ok sort)
 
-bang_with_parts : (names : Names) (scope : Scope) (args attributes : Sexps) (term : Sexp) (b : Bool)
+pub bang_with_parts : (names : Names) (scope : Scope) (args attributes : Sexps) (term : Sexp) (b : Bool)
     → args ≡ Cons term attributes → are_attributes attributes ≡ b
     → bang_in names scope args
     ≡ cond b (result_and_then (sort_in names scope term) (labelled_in names scope attributes term))

@@ -88,7 +88,7 @@ pub of_ok : {A : Type 0} (x y : A) (r : Result A TermFlaw) → r ≡ Ok x → r 
 of_ok x y r h i = cc
 
 -- bindings bring variables of their names
-bound-names : (names : Names) (scope bound : Scope) (bs : Sexps) (vs : Scope)
+pub bound-names : (names : Names) (scope bound : Scope) (bs : Sexps) (vs : Scope)
     → bound_in names scope bound bs ≡ Ok vs → names_in vs ≡ names_in bound ++ map (λ b. b.0) (named_trees bs)
 bound-names names scope bound Nil vs h =
     ap names_in (of_ok vs bound (Ok bound) h refl) ∙ sym (append-nil (names_in bound))

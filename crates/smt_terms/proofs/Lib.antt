@@ -20,3 +20,4 @@ pub mod DefinitionLemmas
 pub mod DefinitionSortLemmas
 pub mod ItemSortLemmas
 pub mod WrittenLemmas
+pub mod DraftLemmas

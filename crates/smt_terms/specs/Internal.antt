@@ -1,3 +1,4 @@
 pub mod LibraryView
 pub mod LabelsView
 pub mod Calls
+pub mod DraftView

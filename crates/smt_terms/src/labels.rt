@@ -1,15 +1,15 @@
 //! The labels that the terms of an assertion gave so far. This file does not say which names may be labels.
 
-ghost use Rattle.std.specs.Prelude.{◌≡◌, ◌++◌, ◌∷◌, [], map, bytes_eq, IfErr, OnOk};
-ghost use Rattle.smt_trees.specs.Tree.{sexp_of};
-ghost use Rattle.smt_terms.specs.Internal.LabelsView.{given_names, given_terms, labels_view};
-ghost use Rattle.smt_terms.specs.Labels as spec;
-ghost use Rattle.smt_forms.specs.Variables.{is_among};
+ghost use Rattle.std.specs.Prelude.{◌≡◌, map};
+ghost use Rattle.std.proofs.Props.{props};
+ghost use Rattle.smt_forms.specs.NamesIn.{names_in};
 
 use smt_faults::Memory;
+use smt_forms::NameSet;
 use smt_theory::Sort;
 use smt_trees::Tree;
 use std::alloc::Global;
+use std::mem;
 
 /// A label: its name, without bars, and the term that it names, with its sort.
 #[derive(Drop)]
@@ -21,12 +21,20 @@ pub(crate) struct Label {
 
 /// The labels that were given so far, in order, or that none may be.
 #[derive(Drop)]
-pub(crate) struct Labels {
+pub(crate) struct Labels<'a> {
     pub(crate) refused: bool,
     pub(crate) given: Vec<Label>,
+    pub(crate) names: NameSet<'a>,
+    ghost named: { names_in names ≡ map (λ l. l.name.items) given.items } by { Prim.hlevel props },
 }
 
-impl Labels {
+impl<'a> Labels<'a> {
+    ghost use Rattle.std.specs.Prelude.{◌≡◌, ◌++◌, ◌∷◌, [], OnOk};
+    ghost use Rattle.smt_trees.specs.Tree.{sexp_of};
+    ghost use Rattle.smt_terms.specs.Internal.LabelsView.{given_names, labels_view};
+    ghost use Rattle.smt_terms.specs.Labels as spec;
+    ghost use Rattle.smt_forms.specs.Variables.{is_among};
+
     /// None yet.
     pub(crate) fn new(alloc: Global) -> Self
         ensures view { labels_view result ≡ spec.Given [] }
@@ -35,6 +43,7 @@ impl Labels {
         Labels {
             refused: false,
             given: Vec::new(alloc),
+            names: NameSet::new(alloc),
         }
     }
 
@@ -46,6 +55,7 @@ impl Labels {
         Labels {
             refused: true,
             given: Vec::new(alloc),
+            names: NameSet::new(alloc),
         }
     }
 
@@ -60,14 +70,22 @@ impl Labels {
     pub(crate) fn is_given(&self, name: &[u8]) -> bool
         ensures { result ≡ is_among (given_names self.now) name.now }
     {
-        has_name(self.given.as_slice(), name)
+        self.names.contains(name)
+    }
+
+    /// The labels that were given, of which none is left.
+    pub(crate) fn take_given(&mut self, alloc: Global) -> Vec<Label>
+        ensures { result.items ≡ self.old.given.items }
+    {
+        let labels = mem::replace(self, Labels::new(alloc));
+        labels.given
     }
 
     /// Adds a label of a term of this sort.
     pub(crate) fn push(
         &mut self,
         alloc: Global,
-        name: &[u8],
+        name: &'a [u8],
         sort: Sort,
         term: &Tree,
     ) -> Result<(), Memory>
@@ -76,27 +94,18 @@ impl Labels {
             × (l.sort ≡ sort) × (sexp_of l.body ≡ sexp_of term.now)) }
         ensures refuses { self.new.refused ≡ self.old.refused }
     {
-        let name = Vec::from_slice(alloc, name)?;
-        let body = term.copy(alloc)?;
-        self.given.push(Label { name, sort, body })?;
-        Ok(())
-    }
-}
-
-// Whether one of these labels has the name.
-fn has_name(labels: &[Label], name: &[u8]) -> bool
-    ensures { result ≡ is_among (map (λ l. l.name.items) labels.now) name.now }
-{
-    for label in labels {
-        if is_same(name, label.name.as_slice()) {
-            return true;
+        let label = Label {
+            name: Vec::from_slice(alloc, name)?,
+            sort,
+            body: term.copy(alloc)?,
+        };
+        self.given.push(label)?;
+        match self.names.insert(name) {
+            Ok(()) => Ok(()),
+            Err(memory) => {
+                let _ = self.given.pop();
+                Err(memory)
+            }
         }
     }
-    false
-}
-
-fn is_same(name: &[u8], other: &[u8]) -> bool
-    ensures { result ≡ bytes_eq name.now other.now }
-{
-    name == other
 }

@@ -12,6 +12,7 @@ mod assertions;
 mod binders;
 mod checker;
 mod definitions;
+mod draft;
 mod freshness;
 mod items;
 mod marks;
@@ -19,6 +20,7 @@ mod params;
 mod scope;
 
 use crate::labels::Labels;
+use crate::library::draft::Draft;
 use crate::sorts::SortNames;
 use indexmap::IndexMap;
 use smt_faults::{Memory, TermFault};
@@ -228,9 +230,9 @@ impl Library {
         ensures kept { IsUnchanged self.old self.new }
         ensures grown { Extends (contents_of self.old) (contents_of self.new) }
     {
-        let mut labels = Labels::refused(self.alloc);
-        let sort = self.sort_of(&[], &mut labels, term)?;
-        Ok((self.add_term(term)?, sort))
+        let mut draft = Draft::new(self.alloc, Labels::refused(self.alloc));
+        let checked = self.sort_of(&mut draft, term)?;
+        Ok((self.add_term(term)?, checked.sort))
     }
 
     /// The term of this number, which is one of this library.

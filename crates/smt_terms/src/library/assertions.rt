@@ -15,6 +15,7 @@ ghost use Rattle.smt_terms.specs.Signature.{Signature, names_of, rank_of_entry, 
 ghost use Rattle.smt_faults.specs.Outcome.{Tells};
 
 use crate::labels::{Label, Labels};
+use crate::library::draft::Draft;
 use crate::library::{Library, TermId};
 use crate::sorts::are_equal;
 use smt_faults::{Memory, TermFault};
@@ -42,13 +43,15 @@ impl Library {
         ensures unchanged { OnErr result (IsUnchanged self.old self.new) }
         ensures grown { Extends (contents_of self.old) (contents_of self.new) }
     {
-        let mut labels = Labels::new(self.alloc);
-        let sort = self.sort_of(&[], &mut labels, &term)?;
-        if !are_equal(sort, Sort::Bool) {
+        let mut draft = Draft::new(self.alloc, Labels::new(self.alloc));
+        let checked = self.sort_of(&mut draft, &term)?;
+        if !are_equal(checked.sort, Sort::Bool) {
             return Err(TermFault::IllSorted);
         }
+        let given = draft.labels.take_given(self.alloc);
+        drop(draft);
         let mark = self.mark();
-        match self.add_assertion(labels.given.as_slice(), term) {
+        match self.add_assertion(given.as_slice(), term) {
             Ok(term) => Ok(term),
             Err(Memory) => {
                 self.cut(mark);

@@ -1,30 +1,28 @@
 //! The sorts of terms that bind variables, and of annotated ones, whose labels are kept. This file adds no
 //! name to a library.
 
-ghost use Rattle.std.specs.Prelude.{◌≡◌, ◌∷◌, [], true, None, Some, Ok, Err, map, MatchResult, OnOk};
+ghost use Rattle.std.specs.Prelude.{◌≡◌, ◌∷◌, [], true, map, IfOk, OnOk};
 ghost use Rattle.smt_trees.specs.Sexp.{Cons, Items, Reserved};
 ghost use Rattle.smt_trees.specs.Tree.{sexp_of, sexps_of};
 ghost use Rattle.smt_trees.specs.declared.reserved.Word.TheVariants.{Bang, Let};
 ghost use Rattle.smt_forms.specs.Bindings as bindings;
 ghost use Rattle.smt_forms.specs.Bindings.{are_named_trees};
-ghost use Rattle.smt_terms.specs.Checking.{bound_in, flaw_of_label, flaw_of_labels, sort_in};
-ghost use Rattle.smt_forms.specs.Labels.{label_of_tree};
-ghost use Rattle.smt_terms.specs.Internal.Calls.{GivesLabels, HasSort};
+ghost use Rattle.smt_forms.specs.Labels.{label_of_tree, labels_among, labels_in_bindings};
+ghost use Rattle.smt_forms.specs.ScopeView.{scope_view};
+ghost use Rattle.smt_terms.specs.Checking.{bound_in};
+ghost use Rattle.smt_terms.specs.Internal.Calls.{GivesLabels, HasSort, IsSortedUnlessOpen, SeesTheSame};
+ghost use Rattle.smt_terms.specs.Internal.Calls.{TellsOfLabel, TellsOfLabels, has_labels};
+ghost use Rattle.smt_terms.specs.Internal.DraftView.{IsPlaced, are_open_bindings, is_open, seen_by, sorts_seen};
 ghost use Rattle.smt_terms.specs.Internal.LabelsView.{AreGiven, labels_view};
 ghost use Rattle.smt_terms.specs.Internal.LibraryView.{names_for, names_of_library};
-ghost use Rattle.smt_forms.specs.Labels.{labels_among, labels_in_bindings};
-ghost use Rattle.smt_terms.specs.Signature.{unlabelled};
-ghost use Rattle.smt_forms.specs.ScopeView.{scope_view};
-ghost use Rattle.smt_faults.specs.Outcome.{IsOutcome, TellsSome};
+ghost use Rattle.smt_faults.specs.Outcome.{IsOutcome};
 
 use crate::labels::Labels;
 use crate::library::Library;
+use crate::library::draft::{Checked, Draft};
 use crate::library::scope::push_variable;
 use smt_faults::TermFault;
-use smt_forms::{
-    Variable, are_attributes, are_named, find_variable, label_at, split_let, split_named,
-    uses_variable,
-};
+use smt_forms::{NameSet, Variable, are_attributes, are_named, label_at, split_let, split_named};
 use smt_theory::Sort;
 use smt_trees::{Tree, split_first};
 
@@ -34,14 +32,16 @@ impl Library {
     #[cycle(check)]
     pub(super) fn sort_of_let<'a>(
         &self,
-        scope: &[Variable<'a, Sort>],
-        labels: &mut Labels,
+        draft: &mut Draft<'a>,
         args: &'a [Tree],
-    ) -> Result<Sort, TermFault>
-        ensures sort { HasSort self.now labels.old scope.now
+    ) -> Result<Checked, TermFault>
+        requires { IsPlaced (seen_by draft.old) draft.old.base }
+        ensures sort { HasSort self.now draft.old (Items (Cons (Reserved Let) (sexps_of args.now))) result }
+        ensures labels { GivesLabels self.now draft.old draft.new
             (Items (Cons (Reserved Let) (sexps_of args.now))) result }
-        ensures labels { GivesLabels self.now labels.old labels.new
-            (Items (Cons (Reserved Let) (sexps_of args.now))) result }
+        ensures kept { OnOk result (SeesTheSame draft.old draft.new) }
+        ensures open { IfOk result (λ c. c.is_open
+            ≡ is_open draft.old (Items (Cons (Reserved Let) (sexps_of args.now)))) }
     {
         let Some((bindings, body)) = split_let(args) else {
             return Err(TermFault::Form);
@@ -49,38 +49,51 @@ impl Library {
         if !are_bindings(bindings) {
             return Err(TermFault::Form);
         }
-        let mut inner = self.bound_by(scope, labels, bindings)?;
-        inner.extend_from_slice(scope)?;
-        self.sort_of(inner.as_slice(), labels, body)
+        let outer = draft.scope.len();
+        let (bound, is_open) = self.bound_by(draft, bindings)?;
+        draft.bind(bound.as_slice())?;
+        let checked = self.sort_of(draft, body)?;
+        draft.scope.cut(outer);
+        Ok(Checked {
+            sort: checked.sort,
+            is_open: is_open | checked.is_open,
+        })
     }
 
-    // The variables that bindings bring, with the sorts of their terms, which do not see these variables.
+    // The variables that bindings bring, with the sorts of their terms, which do not see these variables; and
+    // whether one of the terms uses a variable that stands outside.
     #[cycle(check)]
     fn bound_by<'a>(
         &self,
-        scope: &[Variable<'a, Sort>],
-        labels: &mut Labels,
+        draft: &mut Draft<'a>,
         bindings: &'a [Tree],
-    ) -> Result<Vec<Variable<'a, Sort>>, TermFault>
-        requires { are_named_trees (sexps_of bindings.now) ≡ true }
-        ensures bound { IsOutcome (λ bound. scope_view bound.items)
-            (bound_in (names_for self.now (labels_view labels.old)) (scope_view scope.now) []
+    ) -> Result<(Vec<Variable<'a, Sort>>, bool), TermFault>
+        requires placed { IsPlaced (seen_by draft.old) draft.old.base }
+        requires named { are_named_trees (sexps_of bindings.now) ≡ true }
+        ensures bound { IsOutcome (λ found. scope_view found.0.items)
+            (bound_in (names_for self.now (labels_view draft.old.labels)) (sorts_seen draft.old) []
             (sexps_of bindings.now)) result }
         ensures labels { OnOk result
-            (AreGiven (names_of_library self.now) labels.old labels.new
+            (AreGiven (names_of_library self.now) draft.old.labels draft.new.labels
             (labels_in_bindings (sexps_of bindings.now))) }
+        ensures kept { OnOk result (SeesTheSame draft.old draft.new) }
+        ensures open { IfOk result (λ found. found.1 ≡ are_open_bindings draft.old (sexps_of bindings.now)) }
     {
+        let mut names = NameSet::new(self.alloc);
         let mut bound = Vec::new(self.alloc);
+        let mut is_open = false;
         let mut left = bindings;
         while let Some((name, term, rest)) = split_named(left) {
-            if find_variable(bound.as_slice(), name).is_some() {
+            if names.contains(name) {
                 return Err(TermFault::BoundTwice);
             }
-            let value = self.sort_of(scope, labels, term)?;
-            push_variable(&mut bound, name, value)?;
+            let checked = self.sort_of(draft, term)?;
+            names.insert(name)?;
+            push_variable(&mut bound, name, checked.sort)?;
+            is_open |= checked.is_open;
             left = rest;
         }
-        Ok(bound)
+        Ok((bound, is_open))
     }
 
     // The sort of an annotated term (SMT-LIB 2.6, section 3.6.5), by what stands behind the `!`: that of the
@@ -88,14 +101,16 @@ impl Library {
     #[cycle(check)]
     pub(super) fn sort_of_annotated<'a>(
         &self,
-        scope: &[Variable<'a, Sort>],
-        labels: &mut Labels,
+        draft: &mut Draft<'a>,
         args: &'a [Tree],
-    ) -> Result<Sort, TermFault>
-        ensures sort { HasSort self.now labels.old scope.now
+    ) -> Result<Checked, TermFault>
+        requires { IsPlaced (seen_by draft.old) draft.old.base }
+        ensures sort { HasSort self.now draft.old (Items (Cons (Reserved Bang) (sexps_of args.now))) result }
+        ensures labels { GivesLabels self.now draft.old draft.new
             (Items (Cons (Reserved Bang) (sexps_of args.now))) result }
-        ensures labels { GivesLabels self.now labels.old labels.new
-            (Items (Cons (Reserved Bang) (sexps_of args.now))) result }
+        ensures kept { OnOk result (SeesTheSame draft.old draft.new) }
+        ensures open { IfOk result (λ c. c.is_open
+            ≡ is_open draft.old (Items (Cons (Reserved Bang) (sexps_of args.now)))) }
     {
         let Some((term, attributes)) = split_first(args) else {
             return Err(TermFault::Form);
@@ -103,99 +118,110 @@ impl Library {
         if !are_attributes(attributes) {
             return Err(TermFault::Form);
         }
-        let sort = self.sort_of(scope, labels, term)?;
-        self.give_labels(scope, labels, term, &sort, attributes)?;
-        Ok(sort)
+        if has_label(attributes) {
+            self.sort_of_labelled(draft, term, attributes)
+        } else {
+            self.sort_of(draft, term)
+        }
     }
 
-    // Gives the labels among attributes to a term of this sort, in order, or answers their first fault.
-    fn give_labels(
+    // The sort of a term whose attributes give it a label: it may use no variable that stands outside it.
+    #[cycle(check)]
+    fn sort_of_labelled<'a>(
         &self,
-        scope: &[Variable<'_, Sort>],
-        labels: &mut Labels,
+        draft: &mut Draft<'a>,
+        term: &'a Tree,
+        attributes: &'a [Tree],
+    ) -> Result<Checked, TermFault>
+        requires placed { IsPlaced (seen_by draft.old) draft.old.base }
+        requires form { bindings.are_attributes (sexps_of attributes.now) ≡ true }
+        requires labelled { has_labels (labels_among (sexps_of attributes.now)) ≡ true }
+        ensures sort { HasSort self.now draft.old
+            (Items (Cons (Reserved Bang) (Cons (sexp_of term.now) (sexps_of attributes.now)))) result }
+        ensures labels { GivesLabels self.now draft.old draft.new
+            (Items (Cons (Reserved Bang) (Cons (sexp_of term.now) (sexps_of attributes.now)))) result }
+        ensures kept { OnOk result (SeesTheSame draft.old draft.new) }
+        ensures open { IfOk result (λ c. c.is_open ≡ is_open draft.old
+            (Items (Cons (Reserved Bang) (Cons (sexp_of term.now) (sexps_of attributes.now))))) }
+    {
+        let base = draft.base;
+        draft.base = draft.scope.len();
+        let checked = self.sort_of(draft, term)?;
+        self.give_labels(&mut draft.labels, term, &checked, attributes)?;
+        draft.base = base;
+        Ok(Checked {
+            sort: checked.sort,
+            is_open: false,
+        })
+    }
+
+    // Gives the labels among attributes to a term that was checked, in order, or answers their first fault.
+    fn give_labels<'a>(
+        &self,
+        labels: &mut Labels<'a>,
         term: &Tree,
-        sort: &Sort,
-        attributes: &[Tree],
+        checked: &Checked,
+        attributes: &'a [Tree],
     ) -> Result<(), TermFault>
-        requires { sort_in (unlabelled (names_of_library self.now)) (scope_view scope.now) (sexp_of term.now)
-            ≡ Ok sort.now }
-        ensures fault { MatchResult result
-            (λ _. flaw_of_labels (names_for self.now (labels_view labels.old)) (scope_view scope.now)
-            (sexp_of term.now) (labels_among (sexps_of attributes.now)) ≡ None)
-            (λ fault. TellsSome (flaw_of_labels (names_for self.now (labels_view labels.old))
-            (scope_view scope.now)
-            (sexp_of term.now) (labels_among (sexps_of attributes.now))) fault) }
+        requires { IsSortedUnlessOpen self.now checked.now (sexp_of term.now) }
+        ensures fault { TellsOfLabels (names_for self.now (labels_view labels.old)) checked.now.is_open
+            (sexp_of term.now) (labels_among (sexps_of attributes.now)) result }
         ensures labels { OnOk result
             (AreGiven (names_of_library self.now) labels.old labels.new
             (map (λ x. (x, sexp_of term.now)) (labels_among (sexps_of attributes.now)))) }
     {
         let mut left = attributes;
         while let Some((tree, rest)) = split_first(left) {
-            self.give_label_at(scope, labels, term, sort, tree, rest)?;
+            self.give_label_at(labels, term, checked, tree, rest)?;
             left = rest;
         }
         Ok(())
     }
 
-    // Gives a term of this sort the label that a tree with what stands behind it is, if it is one, or answers
-    // its fault.
-    fn give_label_at(
+    // Gives a term that was checked the label that a tree with what stands behind it is, if it is one, or
+    // answers its fault.
+    fn give_label_at<'a>(
         &self,
-        scope: &[Variable<'_, Sort>],
-        labels: &mut Labels,
+        labels: &mut Labels<'a>,
         term: &Tree,
-        sort: &Sort,
-        tree: &Tree,
-        rest: &[Tree],
+        checked: &Checked,
+        tree: &'a Tree,
+        rest: &'a [Tree],
     ) -> Result<(), TermFault>
-        requires { sort_in (unlabelled (names_of_library self.now)) (scope_view scope.now) (sexp_of term.now)
-            ≡ Ok sort.now }
-        ensures fault { MatchResult result
-            (λ _. flaw_of_labels (names_for self.now (labels_view labels.old)) (scope_view scope.now)
-            (sexp_of term.now) (label_of_tree (sexp_of tree.now) (sexps_of rest.now)) ≡ None)
-            (λ fault. TellsSome (flaw_of_labels (names_for self.now (labels_view labels.old))
-            (scope_view scope.now)
-            (sexp_of term.now) (label_of_tree (sexp_of tree.now) (sexps_of rest.now))) fault) }
+        requires { IsSortedUnlessOpen self.now checked.now (sexp_of term.now) }
+        ensures fault { TellsOfLabels (names_for self.now (labels_view labels.old)) checked.now.is_open
+            (sexp_of term.now) (label_of_tree (sexp_of tree.now) (sexps_of rest.now)) result }
         ensures labels { OnOk result
             (AreGiven (names_of_library self.now) labels.old labels.new
             (map (λ x. (x, sexp_of term.now)) (label_of_tree (sexp_of tree.now) (sexps_of rest.now)))) }
     {
         match label_at(tree, rest) {
-            Some(name) => self.give_label(scope, labels, term, sort, name),
+            Some(name) => self.give_label(labels, term, checked, name),
             None => Ok(()),
         }
     }
 
-    // Gives a label to a term of this sort, or answers its fault.
-    fn give_label(
+    // Gives a label to a term that was checked, or answers its fault.
+    fn give_label<'a>(
         &self,
-        scope: &[Variable<'_, Sort>],
-        labels: &mut Labels,
+        labels: &mut Labels<'a>,
         term: &Tree,
-        sort: &Sort,
-        name: &[u8],
+        checked: &Checked,
+        name: &'a [u8],
     ) -> Result<(), TermFault>
-        requires { sort_in (unlabelled (names_of_library self.now)) (scope_view scope.now) (sexp_of term.now)
-            ≡ Ok sort.now }
-        ensures fault { MatchResult result
-            (λ _. flaw_of_label (names_for self.now (labels_view labels.old)) (labels_view labels.old)
-            (scope_view scope.now) (sexp_of term.now) name.now ≡ None)
-            (λ fault. TellsSome (flaw_of_label (names_for self.now (labels_view labels.old))
-            (labels_view labels.old)
-            (scope_view scope.now) (sexp_of term.now) name.now) fault) }
+        requires { IsSortedUnlessOpen self.now checked.now (sexp_of term.now) }
+        ensures fault { TellsOfLabel (names_for self.now (labels_view labels.old)) (labels_view labels.old)
+            checked.now.is_open (sexp_of term.now) name.now result }
         ensures labels { OnOk result
             (AreGiven (names_of_library self.now) labels.old labels.new ((name.now, sexp_of term.now) ∷ [])) }
     {
-        if labels.are_refused() {
-            return Err(TermFault::Label);
-        }
-        if uses_variable(self.alloc, scope, term)? {
+        if labels.are_refused() || checked.is_open {
             return Err(TermFault::Label);
         }
         if self.is_in_use(labels, name) {
             return Err(TermFault::NotFresh);
         }
-        Ok(labels.push(self.alloc, name, *sort, term)?)
+        Ok(labels.push(self.alloc, name, checked.sort, term)?)
     }
 }
 
@@ -204,4 +230,18 @@ fn are_bindings(trees: &[Tree]) -> bool
     ensures { result ≡ bindings.are_bindings (sexps_of trees.now) }
 {
     split_first(trees).is_some() && are_named(trees)
+}
+
+// Whether one of these attributes is a label.
+fn has_label(attributes: &[Tree]) -> bool
+    ensures { result ≡ has_labels (labels_among (sexps_of attributes.now)) }
+{
+    let mut left = attributes;
+    while let Some((tree, rest)) = split_first(left) {
+        if label_at(tree, rest).is_some() {
+            return true;
+        }
+        left = rest;
+    }
+    false
 }

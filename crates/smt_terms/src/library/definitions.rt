@@ -16,6 +16,7 @@ ghost use Rattle.smt_terms.specs.Signature.{Signature, names_of, with_entry};
 ghost use Rattle.smt_faults.specs.Outcome.{Tells};
 
 use crate::labels::Labels;
+use crate::library::draft::Draft;
 use crate::library::params::{named_parameters, sorted_params, sorts_of_variables};
 use crate::library::{Definition, Entry, Found, Library, TermId};
 use crate::sorts::are_equal;
@@ -79,8 +80,9 @@ impl Library {
         ensures grown { Extends (contents_of self.old) (contents_of self.new) }
         ensures sorts { self.new.sorts ≡ self.old.sorts }
     {
-        let mut labels = Labels::refused(self.alloc);
-        if !are_equal(self.sort_of(parameters, &mut labels, body)?, sort) {
+        let mut draft = Draft::new(self.alloc, Labels::refused(self.alloc));
+        draft.bind(parameters)?;
+        if !are_equal(self.sort_of(&mut draft, body)?.sort, sort) {
             return Err(TermFault::IllSorted);
         }
         let body = self.add_term(body)?;

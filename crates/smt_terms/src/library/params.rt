@@ -12,7 +12,7 @@ ghost use Rattle.smt_faults.specs.Outcome.{IsOutcome};
 use crate::library::scope::push_variable;
 use crate::sorts::SortNames;
 use smt_faults::{Memory, TermFault};
-use smt_forms::{Param, Variable, find_variable, params_of};
+use smt_forms::{NameSet, Param, Variable, params_of};
 use smt_theory::Sort;
 use smt_trees::Tree;
 use std::alloc::Global;
@@ -28,12 +28,13 @@ pub(super) fn sorted_params<'a>(
         (parameters_named (sort_names sorts.now) [] (map param_view params.now)) result }
 {
     let mut variables = Vec::new(alloc);
-    push_sorted(&mut variables, sorts, params)?;
+    push_sorted(alloc, &mut variables, sorts, params)?;
     Ok(variables)
 }
 
 // Puts the variables that parameters are into a vector that has none.
 fn push_sorted<'a>(
+    alloc: Global,
     variables: &mut Vec<Variable<'a, Sort>>,
     sorts: &SortNames,
     params: &[Param<'a>],
@@ -42,11 +43,13 @@ fn push_sorted<'a>(
     ensures { IsOutcome (λ _. scope_view variables.new.items)
         (parameters_named (sort_names sorts.now) [] (map param_view params.now)) result }
 {
+    let mut names = NameSet::new(alloc);
     for param in params {
         let value = sorts.sort_of(param.sort)?;
-        if find_variable(variables.as_slice(), param.name).is_some() {
+        if names.contains(param.name) {
             return Err(TermFault::BoundTwice);
         }
+        names.insert(param.name)?;
         push_variable(variables, param.name, value)?;
     }
     Ok(())

@@ -1,53 +1,319 @@
-use Rattle.std.proofs.Common.{[], Ok, ◌∷◌, length, ap, sym, ◌∙◌, arith}
+use Rattle.std.proofs.Common.{◌++◌, [], Ok, ◌∷◌, length, map, refl, ap, sym, subst}
+use Rattle.std.proofs.Common.{◌∙◌, arith, inr, append-nil}
 use Rattle.std.proofs.lemmas.List.{length-append, map-append}
 use Rattle.std.proofs.lemmas.Result.{err_from_is_err_and}
-use Rattle.smt_trees.specs.Sexp.{Cons, Items, count, weight_all}
+use Rattle.smt_trees.specs.Sexp.{Cons, Items, Reserved, count, weight_all}
 use Rattle.smt_trees.specs.Tree.{sexp_of, sexps_of}
+use Rattle.smt_trees.specs.declared.reserved.Word.TheVariants.{Bang}
 use Rattle.smt_forms.specs.Bindings.{are_named_trees}
-use Rattle.smt_terms.specs.Checking.{sort_in}
 use Rattle.smt_forms.specs.IdentifierView.{identifier_view}
-use Rattle.smt_terms.specs.Internal.LabelsView.{labels_view}
-use Rattle.smt_terms.specs.Internal.LibraryView.{names_for, names_of_library}
-use Rattle.smt_forms.specs.Labels.{labels_in, labels_in_all, labels_in_bindings}
+use Rattle.smt_forms.specs.Labels.{labels_among, labels_in, labels_in_all, labels_in_bindings}
 use Rattle.smt_forms.specs.ScopeView.{scope_view}
+use Rattle.smt_forms.specs.Variables.{is_among}
+use Rattle.smt_terms.specs.Checking.{sort_in, sort_of_call}
+use Rattle.smt_terms.specs.Internal.Calls.{HasSort}
+use Rattle.smt_terms.specs.Internal.DraftView.{IsPlaced, are_open, are_open_bindings, is_open, seen_by, sorts_seen}
+use Rattle.smt_terms.specs.Internal.LabelsView.{AreGiven, labels_view}
+use Rattle.smt_terms.specs.Internal.LibraryView.{names_for, names_of_library}
 use Rattle.smt_terms.specs.Signature.{unlabelled}
-use Rattle.smt_terms.proofs.BinderLemmas.{annotated, bang_in, bound_in-next, fault_of_annotated}
+use Rattle.smt_terms.proofs.BinderLemmas.{annotated, bang_in, bound_in-fault, bound_in-next, bound_in-twice}
 use Rattle.smt_terms.proofs.BinderLemmas.{fault_of_annotation, fault_of_bindings, let_in, let_of_body}
-use Rattle.smt_terms.proofs.CheckerLemmas.{bang_head, carried, fault_of_args, let_head}
+use Rattle.smt_terms.proofs.CheckerLemmas.{bang_head, fault_of_args, let_head}
 use Rattle.smt_terms.proofs.CheckerLemmas.{count-trees, sorts_behind-next, sorts_behind-start, told}
+use Rattle.smt_terms.proofs.ClosedLemmas.{bound-names, closed}
+use Rattle.smt_terms.proofs.DraftLemmas.{among, annotated_alone, bound_sorts, carried_open, carried_sort}
+use Rattle.smt_terms.proofs.DraftLemmas.{closed_by_labels, closed_within, kept_on, no_labels, open_args}
+use Rattle.smt_terms.proofs.DraftLemmas.{open_kept, open_let, open_whole, opened_next, placed_kept}
+use Rattle.smt_terms.proofs.DraftLemmas.{placed_more, sorts_kept, tells_same}
 use Rattle.smt_terms.proofs.KeptLemmas.{Keeps-unlabelled, kept-sort}
 use Rattle.smt_terms.proofs.LabelLemmas.{AreGivenOf-next, AreGivenOf-none, given_by_args}
-use Rattle.smt_terms.proofs.LabelLemmas.{called, names_behind}
+use Rattle.smt_terms.proofs.LabelLemmas.{called, names_behind, on_ok}
 use Rattle.smt_terms.proofs.library.Library.+check.Goals as goal
 
-pub sorts_of-sort_of-requires : goal.sorts_of-sort_of-requires
-sorts_of-sort_of-requires t c = (omega (arith, ap weight_all c.in-Some.ensures), tt)
+pub bound_by-returns-then-contains-clause-bound : goal.bound_by-returns-then-contains-clause-bound
+bound_by-returns-then-contains-clause-bound t c =
+    let x = c.in-Some.name.now in
+    inr (c.loop-name.invariant.answer
+    ∙ bound_in-twice (names_for c.args.self.now (labels_view c.loop-name.draft.labels))
+    (sorts_seen c.args.draft.now) (scope_view c.loop-name.bound.items) x (sexp_of c.in-Some.term.now)
+    (sexps_of c.in-Some.rest.now) (sexps_of c.loop-name.left.now) c.in-Some.ensures
+    (sym (among (scope_view c.loop-name.bound.items) x)
+    ∙ ap (λ xs. is_among xs x) (sym c.loop-name.invariant.names)
+    ∙ sym c.contains.ensures ∙ c.if-contains.true))
+
+pub bound_by-returns-in_err-checked-clause-bound : goal.bound_by-returns-in_err-checked-clause-bound
+bound_by-returns-in_err-checked-clause-bound t c =
+    let p = err_from_is_err_and c.from_residual.result c.from_residual.ensures.1 in
+    let x = c.in-Some.name.now in
+    let names = names_for c.args.self.now (labels_view c.loop-name.draft.labels) in
+    rw (p.1, p.2)
+    (tells_same _ _ _ c.loop-name.invariant.answer
+    (bound_in-fault names (sorts_seen c.args.draft.now) (scope_view c.loop-name.bound.items) x
+    (sexp_of c.in-Some.term.now) (sexps_of c.in-Some.rest.now) (sexps_of c.loop-name.left.now) _
+    c.in-Some.ensures
+    (sym (among (scope_view c.loop-name.bound.items) x)
+    ∙ ap (λ xs. is_among xs x) (sym c.loop-name.invariant.names)
+    ∙ sym c.contains.ensures ∙ c.if-contains.false)
+    (tells_same _ _ _ (ap (λ vs. sort_in names vs (sexp_of c.in-Some.term.now))
+    (sym (sorts_kept c.args.draft.now c.loop-name.draft c.loop-name.invariant.kept)))
+    c.in_err-checked.ensures.sort)))
+
+pub bound_by-loop-name-preserved : goal.bound_by-loop-name-preserved
+bound_by-loop-name-preserved t c =
+    let names = names_of_library c.args.self.now in
+    let term = sexp_of c.in-Some.term.now in
+    let x = c.in-Some.name.now in
+    let here = names_for c.args.self.now (labels_view c.loop-name.draft.labels) in
+    record {
+      answer = c.loop-name.invariant.answer
+          ∙ bound_in-next here
+          (names_for c.args.self.now (labels_view c.sort_of.new.draft.labels)) (sorts_seen c.args.draft.now)
+          (scope_view c.loop-name.bound.items)
+          (scope_view c.push_variable.new.variables.items) x term
+          (sexps_of c.in-Some.rest.now) (sexps_of c.loop-name.left.now) c.in_ok-checked.checked.sort
+          (names_behind c.args.self.now names c.loop-name.draft.labels c.sort_of.new.draft.labels
+          (labels_in term) c.in_ok-checked.ensures.labels) c.in-Some.ensures
+          (sym (among (scope_view c.loop-name.bound.items) x)
+          ∙ ap (λ xs. is_among xs x) (sym c.loop-name.invariant.names)
+          ∙ sym c.contains.ensures ∙ c.if-contains.false)
+          (ap (λ vs. sort_in here vs term)
+          (sym (sorts_kept c.args.draft.now c.loop-name.draft c.loop-name.invariant.kept))
+          ∙ c.in_ok-checked.ensures.sort) c.in_ok-push_variable.ensures;
+      given = AreGivenOf-next names c.args.draft.now.labels c.loop-name.draft.labels c.sort_of.new.draft.labels
+          (labels_in_bindings (sexps_of c.args.bindings.now))
+          (labels_in_bindings (sexps_of c.loop-name.left.now)) (labels_in term)
+          (labels_in_bindings (sexps_of c.in-Some.rest.now)) c.loop-name.invariant.given
+          (ap labels_in_bindings c.in-Some.ensures) c.in_ok-checked.ensures.labels;
+      kept = kept_on c.args.draft.now c.loop-name.draft c.sort_of.new.draft c.loop-name.invariant.kept
+          c.in_ok-checked.ensures.kept;
+      opened = opened_next (are_open_bindings c.args.draft.now (sexps_of c.args.bindings.now))
+          c.loop-name.is_open c.in_ok-checked.checked.is_open (is_open c.args.draft.now term)
+          (are_open_bindings c.args.draft.now (sexps_of c.in-Some.rest.now))
+          (are_open_bindings c.args.draft.now (sexps_of c.loop-name.left.now)) c.loop-name.invariant.opened
+          (ap (are_open_bindings c.args.draft.now) c.in-Some.ensures)
+          (c.in_ok-checked.ensures.open
+          ∙ open_kept c.args.draft.now c.loop-name.draft c.loop-name.invariant.kept term);
+      names = c.in_ok-insert.ensures.pushed
+          ∙ ap (λ xs. xs ++ x ∷ []) c.loop-name.invariant.names
+          ∙ sym (map-append (λ v. v.0) (scope_view c.loop-name.bound.items) ((x, c.in_ok-checked.checked.sort) ∷ []))
+          ∙ ap (λ vs. map (λ v. v.0) vs) (sym c.in_ok-push_variable.ensures);
+      named = sym (ap are_named_trees c.in-Some.ensures) ∙ c.loop-name.invariant.named;
+      lighter = omega (arith, ap weight_all c.in-Some.ensures, c.loop-name.invariant.lighter);
+    }
+
+pub sort_of_annotated-returns-then-has_label-clause-sort :
+    goal.sort_of_annotated-returns-then-has_label-clause-sort
+sort_of_annotated-returns-then-has_label-clause-sort t c =
+    subst (λ ts. HasSort c.args.self.now c.args.draft.now (Items (Cons (Reserved Bang) ts))
+    c.sort_of_labelled.result) (sym c.in-Some.ensures) c.sort_of_labelled.ensures.sort
+
+pub sort_of_annotated-returns-then-has_label-clause-open :
+    goal.sort_of_annotated-returns-then-has_label-clause-open
+sort_of_annotated-returns-then-has_label-clause-open t c =
+    carried_open c.sort_of_labelled.result _ _
+    (ap (λ ts. is_open c.args.draft.now (Items (Cons (Reserved Bang) ts))) c.in-Some.ensures)
+    c.sort_of_labelled.ensures.open
+
+pub sort_of_annotated-returns-else-has_label-clause-sort :
+    goal.sort_of_annotated-returns-else-has_label-clause-sort
+sort_of_annotated-returns-else-has_label-clause-sort t c =
+    carried_sort c.sort_of.result _ _
+    (annotated_alone (names_for c.args.self.now (labels_view c.args.draft.now.labels))
+    (sorts_seen c.args.draft.now) (sexps_of c.args.args.now) (sexps_of c.in-Some.attributes.now)
+    (sexp_of c.in-Some.term.now) c.in-Some.ensures
+    (sym c.are_attributes.ensures ∙ c.if-not-are_attributes.false)
+    (sym c.has_label.ensures ∙ c.if-has_label.false)) c.sort_of.ensures.sort
+
+pub sort_of_annotated-returns-else-has_label-clause-labels :
+    goal.sort_of_annotated-returns-else-has_label-clause-labels
+sort_of_annotated-returns-else-has_label-clause-labels t c =
+    let term = sexp_of c.in-Some.term.now in
+    let none =
+    no_labels (labels_among (sexps_of c.in-Some.attributes.now)) (sym c.has_label.ensures ∙ c.if-has_label.false)
+    in
+    let names = names_of_library c.args.self.now in
+    on_ok c.sort_of.result (AreGiven names c.args.draft.now.labels c.sort_of.new.draft.labels (labels_in term))
+    (AreGiven names c.args.draft.now.labels c.sort_of.new.draft.labels
+    (labels_in (Items (Cons (Reserved Bang) (sexps_of c.args.args.now)))))
+    (subst (AreGiven names c.args.draft.now.labels c.sort_of.new.draft.labels)
+    (sym (ap (λ ts. labels_in (Items (Cons (Reserved Bang) ts))) c.in-Some.ensures
+    ∙ ap (λ xs. labels_in term ++ map (λ x. (x, term)) xs) none ∙ append-nil (labels_in term))))
+    c.sort_of.ensures.labels
+
+pub sort_of_annotated-returns-else-has_label-clause-open :
+    goal.sort_of_annotated-returns-else-has_label-clause-open
+sort_of_annotated-returns-else-has_label-clause-open t c =
+    carried_open c.sort_of.result _ _
+    (ap (λ ts. is_open c.args.draft.now (Items (Cons (Reserved Bang) ts))) c.in-Some.ensures)
+    c.sort_of.ensures.open
+
+pub sort_of_labelled-give_labels-requires : goal.sort_of_labelled-give_labels-requires
+sort_of_labelled-give_labels-requires t c = λ closed_term.
+    let names = names_for c.args.self.now (labels_view c.args.draft.now.labels) in
+    let term = sexp_of c.args.term.now in
+    closed (unlabelled names) (sorts_seen c.args.draft.now) term c.in_ok-checked.checked.sort refl
+    (sym (open_whole (seen_by c.args.draft.now) c.len-draft.result c.len-draft.ensures term)
+    ∙ sym c.in_ok-checked.ensures.open ∙ closed_term)
+    (kept-sort names (unlabelled names) (Keeps-unlabelled names) (sorts_seen c.args.draft.now)
+    term c.in_ok-checked.checked.sort c.in_ok-checked.ensures.sort)
+
+pub sort_of_labelled-returns-in_err-give_labels-clause-sort :
+    goal.sort_of_labelled-returns-in_err-give_labels-clause-sort
+sort_of_labelled-returns-in_err-give_labels-clause-sort t c =
+    let p =
+    err_from_is_err_and c.from_residual-in_err-give_labels.result
+    c.from_residual-in_err-give_labels.ensures.1 in
+    let term = sexp_of c.args.term.now in
+    rw (p.1, p.2)
+    (fault_of_annotation (names_for c.args.self.now (labels_view c.args.draft.now.labels))
+    (names_for c.args.self.now (labels_view c.sort_of.new.draft.labels)) (sorts_seen c.args.draft.now)
+    (Cons term (sexps_of c.args.attributes.now)) (sexps_of c.args.attributes.now)
+    term c.in_ok-checked.checked.sort _
+    (names_behind c.args.self.now (names_of_library c.args.self.now) c.args.draft.now.labels
+    c.sort_of.new.draft.labels (labels_in term) c.in_ok-checked.ensures.labels) refl
+    c.requires.form c.in_ok-checked.ensures.sort
+    (c.in_err-give_labels.ensures.fault (sorts_seen c.args.draft.now)
+    (sym (open_whole (seen_by c.args.draft.now) c.len-draft.result c.len-draft.ensures term)
+    ∙ sym c.in_ok-checked.ensures.open)))
+
+pub sort_of_labelled-returns-clause-sort : goal.sort_of_labelled-returns-clause-sort
+sort_of_labelled-returns-clause-sort t c =
+    let term = sexp_of c.args.term.now in
+    annotated (names_for c.args.self.now (labels_view c.args.draft.now.labels))
+    (names_for c.args.self.now (labels_view c.sort_of.new.draft.labels)) (sorts_seen c.args.draft.now)
+    (Cons term (sexps_of c.args.attributes.now)) (sexps_of c.args.attributes.now)
+    term c.in_ok-checked.checked.sort
+    (names_behind c.args.self.now (names_of_library c.args.self.now) c.args.draft.now.labels
+    c.sort_of.new.draft.labels (labels_in term) c.in_ok-checked.ensures.labels) refl
+    c.requires.form c.in_ok-checked.ensures.sort
+    (c.in_ok-give_labels.ensures.fault (sorts_seen c.args.draft.now)
+    (sym (open_whole (seen_by c.args.draft.now) c.len-draft.result c.len-draft.ensures term)
+    ∙ sym c.in_ok-checked.ensures.open))
+
+pub sort_of_labelled-returns-clause-open : goal.sort_of_labelled-returns-clause-open
+sort_of_labelled-returns-clause-open t c =
+    let term = sexp_of c.args.term.now in
+    sym (closed_within (seen_by c.args.draft.now) c.args.draft.now.base term
+    (closed_by_labels c.args.self.now c.sort_of.new.draft.labels (sorts_seen c.args.draft.now) term
+    (labels_among (sexps_of c.args.attributes.now)) c.requires.labelled
+    (c.in_ok-give_labels.ensures.fault (sorts_seen c.args.draft.now)
+    (sym (open_whole (seen_by c.args.draft.now) c.len-draft.result c.len-draft.ensures term)
+    ∙ sym c.in_ok-checked.ensures.open))))
+
+-- ---- lets
+
+pub sort_of_let-returns-in_err-bound-clause-sort : goal.sort_of_let-returns-in_err-bound-clause-sort
+sort_of_let-returns-in_err-bound-clause-sort t c =
+    let p = err_from_is_err_and c.from_residual.result c.from_residual.ensures.1 in
+    rw (p.1, p.2)
+    (fault_of_bindings (names_for c.args.self.now (labels_view c.args.draft.now.labels))
+    (sorts_seen c.args.draft.now) (sexps_of c.args.args.now) (sexps_of c.in-Some.bindings.now)
+    (sexp_of c.in-Some.body.now) _ c.in-Some.ensures
+    (sym c.are_bindings.ensures ∙ c.if-not-are_bindings.false) c.in_err-bound.ensures.bound)
+
+pub sort_of_let-sort_of-requires : goal.sort_of_let-sort_of-requires
+sort_of_let-sort_of-requires t c =
+    let mid = c.bound_by.new.draft in (
+      omega (arith, ap weight_all c.in-Some.ensures),
+      subst (λ n. IsPlaced (seen_by c.bind.new.self) n) (sym c.bind.ensures.base)
+          (placed_more mid.base (scope_view c.as_slice.result.now) (seen_by mid) (seen_by c.bind.new.self)
+          (placed_kept c.args.draft.now mid c.in_ok-bound.ensures.kept c.requires) c.in_ok-bind.ensures.bound),
+    )
+
+pub sort_of_let-returns-in_err-checked-clause-sort : goal.sort_of_let-returns-in_err-checked-clause-sort
+sort_of_let-returns-in_err-checked-clause-sort t c =
+    let p =
+    err_from_is_err_and c.from_residual-in_err-checked.result c.from_residual-in_err-checked.ensures.1 in
+    let names = names_for c.args.self.now (labels_view c.args.draft.now.labels) in
+    let mid = c.bound_by.new.draft in
+    let inner = c.bind.new.self in
+    let bound = scope_view c.as_slice.result.now in
+    rw (p.1, p.2)
+    (tells_same _ _ _
+    (let_of_body names (names_for c.args.self.now (labels_view inner.labels)) (sorts_seen c.args.draft.now)
+    (sorts_seen inner) bound (sexps_of c.args.args.now) (sexps_of c.in-Some.bindings.now)
+    (sexp_of c.in-Some.body.now)
+    (ap (λ ls. names_for c.args.self.now (labels_view ls)) c.bind.ensures.labels
+    ∙ names_behind c.args.self.now (names_of_library c.args.self.now) c.args.draft.now.labels mid.labels
+    (labels_in_bindings (sexps_of c.in-Some.bindings.now)) c.in_ok-bound.ensures.labels) c.in-Some.ensures
+    (sym c.are_bindings.ensures ∙ c.if-not-are_bindings.false)
+    (c.in_ok-bound.ensures.bound ∙ ap (λ vs. Ok (scope_view vs)) (sym c.as_slice.ensures.value))
+    (bound_sorts (length (seen_by mid)) bound (sorts_seen c.args.draft.now) (seen_by mid) (seen_by inner)
+    c.in_ok-bind.ensures.bound (sorts_kept c.args.draft.now mid c.in_ok-bound.ensures.kept)))
+    c.in_err-checked.ensures.sort)
+
+pub sort_of_let-returns-clause-sort : goal.sort_of_let-returns-clause-sort
+sort_of_let-returns-clause-sort t c =
+    let names = names_for c.args.self.now (labels_view c.args.draft.now.labels) in
+    let mid = c.bound_by.new.draft in
+    let inner = c.bind.new.self in
+    let bound = scope_view c.as_slice.result.now in
+    let_of_body names (names_for c.args.self.now (labels_view inner.labels)) (sorts_seen c.args.draft.now)
+    (sorts_seen inner) bound (sexps_of c.args.args.now) (sexps_of c.in-Some.bindings.now)
+    (sexp_of c.in-Some.body.now)
+    (ap (λ ls. names_for c.args.self.now (labels_view ls)) c.bind.ensures.labels
+    ∙ names_behind c.args.self.now (names_of_library c.args.self.now) c.args.draft.now.labels mid.labels
+    (labels_in_bindings (sexps_of c.in-Some.bindings.now)) c.in_ok-bound.ensures.labels) c.in-Some.ensures
+    (sym c.are_bindings.ensures ∙ c.if-not-are_bindings.false)
+    (c.in_ok-bound.ensures.bound ∙ ap (λ vs. Ok (scope_view vs)) (sym c.as_slice.ensures.value))
+    (bound_sorts (length (seen_by mid)) bound (sorts_seen c.args.draft.now) (seen_by mid) (seen_by inner)
+    c.in_ok-bind.ensures.bound (sorts_kept c.args.draft.now mid c.in_ok-bound.ensures.kept))
+    ∙ c.in_ok-checked.ensures.sort
+
+pub sort_of_let-returns-clause-open : goal.sort_of_let-returns-clause-open
+sort_of_let-returns-clause-open t c =
+    let names = names_for c.args.self.now (labels_view c.args.draft.now.labels) in
+    let bindings = sexps_of c.in-Some.bindings.now in
+    let bound = scope_view c.as_slice.result.now in
+    open_let c.args.draft.now c.bound_by.new.draft c.bind.new.self bindings (sexps_of c.args.args.now)
+    (sexp_of c.in-Some.body.now) bound c.in_ok-bound.is_open c.in_ok-checked.checked.is_open
+    c.in_ok-bound.ensures.kept c.requires.within c.in_ok-bind.ensures.bound c.bind.ensures.base
+    (bound-names names (sorts_seen c.args.draft.now) [] bindings bound
+    (c.in_ok-bound.ensures.bound ∙ ap (λ vs. Ok (scope_view vs)) (sym c.as_slice.ensures.value)))
+    c.in-Some.ensures c.in_ok-bound.ensures.open c.in_ok-checked.ensures.open
+
+-- ---- lists
 
 pub sort_of_list-returns-then-is_let-clause-sort : goal.sort_of_list-returns-then-is_let-clause-sort
 sort_of_list-returns-then-is_let-clause-sort t c =
-    let names = names_for c.args.self.now (labels_view c.args.labels.now) in
-    let scope = scope_view c.args.scope.now in
-    carried c.sort_of_let.result (let_in names scope (sexps_of c.in-Some.args.now))
+    let names = names_for c.args.self.now (labels_view c.args.draft.now.labels) in
+    let scope = sorts_seen c.args.draft.now in
+    carried_sort c.sort_of_let.result (let_in names scope (sexps_of c.in-Some.args.now))
     (sort_in names scope (Items c.args.parts.now))
     (ap (λ ps. sort_in names scope (Items ps))
     (sym c.as_slice.ensures ∙ c.in-Some.ensures ∙ ap (λ h. Cons h (sexps_of c.in-Some.args.now))
     (let_head (sexp_of c.in-Some.head.now) (sym c.if-is_let.ensures)))) c.sort_of_let.ensures.sort
 
+pub sort_of_list-returns-then-is_let-clause-open : goal.sort_of_list-returns-then-is_let-clause-open
+sort_of_list-returns-then-is_let-clause-open t c =
+    carried_open c.sort_of_let.result _ _
+    (ap (λ ps. is_open c.args.draft.now (Items ps))
+    (sym c.as_slice.ensures ∙ c.in-Some.ensures ∙ ap (λ h. Cons h (sexps_of c.in-Some.args.now))
+    (let_head (sexp_of c.in-Some.head.now) (sym c.if-is_let.ensures)))) c.sort_of_let.ensures.open
+
 pub sort_of_list-returns-then-is_bang-clause-sort : goal.sort_of_list-returns-then-is_bang-clause-sort
 sort_of_list-returns-then-is_bang-clause-sort t c =
-    let names = names_for c.args.self.now (labels_view c.args.labels.now) in
-    let scope = scope_view c.args.scope.now in
-    carried c.sort_of_annotated.result (bang_in names scope (sexps_of c.in-Some.args.now))
+    let names = names_for c.args.self.now (labels_view c.args.draft.now.labels) in
+    let scope = sorts_seen c.args.draft.now in
+    carried_sort c.sort_of_annotated.result (bang_in names scope (sexps_of c.in-Some.args.now))
     (sort_in names scope (Items c.args.parts.now))
     (ap (λ ps. sort_in names scope (Items ps))
     (sym c.as_slice.ensures ∙ c.in-Some.ensures ∙ ap (λ h. Cons h (sexps_of c.in-Some.args.now))
     (bang_head (sexp_of c.in-Some.head.now) (sym c.if-is_bang.ensures)))) c.sort_of_annotated.ensures.sort
 
+pub sort_of_list-returns-then-is_bang-clause-open : goal.sort_of_list-returns-then-is_bang-clause-open
+sort_of_list-returns-then-is_bang-clause-open t c =
+    carried_open c.sort_of_annotated.result _ _
+    (ap (λ ps. is_open c.args.draft.now (Items ps))
+    (sym c.as_slice.ensures ∙ c.in-Some.ensures ∙ ap (λ h. Cons h (sexps_of c.in-Some.args.now))
+    (bang_head (sexp_of c.in-Some.head.now) (sym c.if-is_bang.ensures)))) c.sort_of_annotated.ensures.open
+
 pub sort_of_list-returns-in_err-sorts-clause-sort : goal.sort_of_list-returns-in_err-sorts-clause-sort
 sort_of_list-returns-in_err-sorts-clause-sort t c =
     let p = err_from_is_err_and c.from_residual-in_err-sorts.result c.from_residual-in_err-sorts.ensures.1 in
     rw (p.1, p.2)
-    (fault_of_args (names_for c.args.self.now (labels_view c.args.labels.now)) (scope_view c.args.scope.now)
+    (fault_of_args (names_for c.args.self.now (labels_view c.args.draft.now.labels))
+    (sorts_seen c.args.draft.now)
     (sexp_of c.in-Some.head.now) (sexps_of c.in-Some.args.now) c.args.parts.now
     (identifier_view c.in_ok-identifier-2.identifier) _
     (sym c.as_slice.ensures ∙ c.in-Some.ensures)
@@ -57,26 +323,13 @@ sort_of_list-returns-in_err-sorts-clause-sort t c =
       no_bang = sym c.if-is_bang.ensures;
     }) c.in_ok-identifier-2.ensures c.in_err-sorts.ensures.sorts)
 
-pub sort_of_list-returns-clause-sort : goal.sort_of_list-returns-clause-sort
-sort_of_list-returns-clause-sort t c =
-    called c.args.self.now (labels_view c.args.labels.now) (scope_view c.args.scope.now)
-    (sexp_of c.in-Some.head.now) (sexps_of c.in-Some.args.now) c.args.parts.now
-    (identifier_view c.in_ok-identifier-2.identifier) c.in_ok-sorts.sorts.items c.as_slice-2.result.now
-    _ (sym c.as_slice.ensures ∙ c.in-Some.ensures)
-    (record {
-      no_index = sym c.if-is_underscore.ensures;
-      no_let = sym c.if-is_let.ensures;
-      no_bang = sym c.if-is_bang.ensures;
-    }) c.in_ok-identifier-2.ensures c.in_ok-sorts.ensures.sorts c.as_slice-2.ensures c.in_ok-sort_of_call.ensures
-
-pub sort_of_list-returns-in_err-sort_of_call-clause-sort :
-    goal.sort_of_list-returns-in_err-sort_of_call-clause-sort
-sort_of_list-returns-in_err-sort_of_call-clause-sort t c =
-    let p = err_from_is_err_and c.from_residual-in_err-sort_of_call.result
-    c.from_residual-in_err-sort_of_call.ensures.1 in
+pub sort_of_list-returns-in_err-sort-clause-sort : goal.sort_of_list-returns-in_err-sort-clause-sort
+sort_of_list-returns-in_err-sort-clause-sort t c =
+    let p = err_from_is_err_and c.from_residual-in_err-sort.result c.from_residual-in_err-sort.ensures.1 in
+    let d = c.args.draft.now in
     rw p.1
-    (told _ c.in_err-sort_of_call.field-0.0 p.0
-    (called c.args.self.now (labels_view c.args.labels.now) (scope_view c.args.scope.now)
+    (told _ c.in_err-sort.field-0.0 p.0
+    (called c.args.self.now (labels_view d.labels) (sorts_seen d)
     (sexp_of c.in-Some.head.now) (sexps_of c.in-Some.args.now) c.args.parts.now
     (identifier_view c.in_ok-identifier-2.identifier) c.in_ok-sorts.sorts.items c.as_slice-2.result.now
     c.sort_of_call.result (sym c.as_slice.ensures ∙ c.in-Some.ensures)
@@ -85,25 +338,82 @@ sort_of_list-returns-in_err-sort_of_call-clause-sort t c =
       no_let = sym c.if-is_let.ensures;
       no_bang = sym c.if-is_bang.ensures;
     }) c.in_ok-identifier-2.ensures c.in_ok-sorts.ensures.sorts c.as_slice-2.ensures
-    c.sort_of_call.ensures ∙ c.in_err-sort_of_call.was) p.2)
+    (c.sort_of_call.ensures
+    ∙ ap (λ vs. sort_of_call (names_of_library c.args.self.now) vs
+    (identifier_view c.in_ok-identifier-2.identifier) c.as_slice-2.result.now)
+    (sorts_kept d c.sorts_of.new.draft c.in_ok-sorts.ensures.kept)) ∙ c.in_err-sort.was) p.2)
+
+pub sort_of_list-returns-clause-sort : goal.sort_of_list-returns-clause-sort
+sort_of_list-returns-clause-sort t c =
+    let d = c.args.draft.now in
+    called c.args.self.now (labels_view d.labels) (sorts_seen d)
+    (sexp_of c.in-Some.head.now) (sexps_of c.in-Some.args.now) c.args.parts.now
+    (identifier_view c.in_ok-identifier-2.identifier) c.in_ok-sorts.sorts.items c.as_slice-2.result.now
+    _ (sym c.as_slice.ensures ∙ c.in-Some.ensures)
+    (record {
+      no_index = sym c.if-is_underscore.ensures;
+      no_let = sym c.if-is_let.ensures;
+      no_bang = sym c.if-is_bang.ensures;
+    }) c.in_ok-identifier-2.ensures c.in_ok-sorts.ensures.sorts c.as_slice-2.ensures
+    (c.in_ok-sort.ensures
+    ∙ ap (λ vs. sort_of_call (names_of_library c.args.self.now) vs
+    (identifier_view c.in_ok-identifier-2.identifier) c.as_slice-2.result.now)
+    (sorts_kept d c.sorts_of.new.draft c.in_ok-sorts.ensures.kept))
+
+pub sort_of_list-returns-clause-labels : goal.sort_of_list-returns-clause-labels
+sort_of_list-returns-clause-labels t c =
+    given_by_args (Ok c.in_ok-sort.sort) (names_of_library c.args.self.now) c.args.draft.now.labels
+    c.sorts_of.new.draft.labels (sexp_of c.in-Some.head.now) (sexps_of c.in-Some.args.now) c.args.parts.now
+    (sym c.as_slice.ensures ∙ c.in-Some.ensures) (sym c.if-is_underscore.ensures) (sym c.if-is_let.ensures)
+    (sym c.if-is_bang.ensures) c.in_ok-sorts.ensures.labels
+
+pub sort_of_list-returns-clause-open : goal.sort_of_list-returns-clause-open
+sort_of_list-returns-clause-open t c =
+    c.in_ok-sorts.ensures.open
+    ∙ sym (open_args c.args.draft.now (sexp_of c.in-Some.head.now) (sexps_of c.in-Some.args.now)
+    c.args.parts.now (sym c.as_slice.ensures ∙ c.in-Some.ensures)
+    (record {
+      no_index = sym c.if-is_underscore.ensures;
+      no_let = sym c.if-is_let.ensures;
+      no_bang = sym c.if-is_bang.ensures;
+    }))
+
+-- ---- arguments
+
+pub sorts_of-sort_of-requires : goal.sorts_of-sort_of-requires
+sorts_of-sort_of-requires t c = (
+  omega (arith, ap weight_all c.in-Some.ensures, c.loop-term.invariant.lighter),
+  placed_kept c.args.draft.now c.loop-term.draft c.loop-term.invariant.kept c.requires,
+)
 
 pub sorts_of-loop-term-preserved : goal.sorts_of-loop-term-preserved
 sorts_of-loop-term-preserved t c =
     let names = names_of_library c.args.self.now in
+    let d = c.args.draft.now in
+    let here = names_for c.args.self.now (labels_view c.loop-term.draft.labels) in
     let term = sexp_of c.in-Some.term.now in
     record {
       answer = c.loop-term.invariant.answer
-          ∙ sorts_behind-next (names_for c.args.self.now (labels_view c.loop-term.labels))
-          (names_for c.args.self.now (labels_view c.sort_of.new.labels))
-          (scope_view c.args.scope.now) c.loop-term.sorts.items c.push_reserved.new.self.items term
-          (sexps_of c.in-Some.rest.now) (sexps_of c.loop-term.left.now) c.in_ok-sort_of.field-0
-          (names_behind c.args.self.now names c.loop-term.labels c.sort_of.new.labels
-          (labels_in term) c.in_ok-sort_of.ensures.labels) c.in-Some.ensures c.in_ok-sort_of.ensures.sort
+          ∙ sorts_behind-next here
+          (names_for c.args.self.now (labels_view c.sort_of.new.draft.labels))
+          (sorts_seen d) c.loop-term.sorts.items c.push_reserved.new.self.items term
+          (sexps_of c.in-Some.rest.now) (sexps_of c.loop-term.left.now) c.in_ok-checked.checked.sort
+          (names_behind c.args.self.now names c.loop-term.draft.labels c.sort_of.new.draft.labels
+          (labels_in term) c.in_ok-checked.ensures.labels) c.in-Some.ensures
+          (ap (λ vs. sort_in here vs term) (sym (sorts_kept d c.loop-term.draft c.loop-term.invariant.kept))
+          ∙ c.in_ok-checked.ensures.sort)
           c.push_reserved.ensures.items;
-      given = AreGivenOf-next names c.args.labels.now c.loop-term.labels c.sort_of.new.labels
+      given = AreGivenOf-next names d.labels c.loop-term.draft.labels c.sort_of.new.draft.labels
           (labels_in_all (sexps_of c.args.terms.now)) (labels_in_all (sexps_of c.loop-term.left.now))
           (labels_in term) (labels_in_all (sexps_of c.in-Some.rest.now))
-          c.loop-term.invariant.given (ap labels_in_all c.in-Some.ensures) c.in_ok-sort_of.ensures.labels;
+          c.loop-term.invariant.given (ap labels_in_all c.in-Some.ensures) c.in_ok-checked.ensures.labels;
+      kept = kept_on d c.loop-term.draft c.sort_of.new.draft c.loop-term.invariant.kept
+          c.in_ok-checked.ensures.kept;
+      opened = opened_next (are_open d (sexps_of c.args.terms.now)) c.loop-term.is_open
+          c.in_ok-checked.checked.is_open (is_open d term) (are_open d (sexps_of c.in-Some.rest.now))
+          (are_open d (sexps_of c.loop-term.left.now)) c.loop-term.invariant.opened
+          (ap (are_open d) c.in-Some.ensures)
+          (c.in_ok-checked.ensures.open ∙ open_kept d c.loop-term.draft c.loop-term.invariant.kept term);
       lighter = omega (arith, ap weight_all c.in-Some.ensures, c.loop-term.invariant.lighter);
       room = omega (
         arith,
@@ -113,7 +423,7 @@ sorts_of-loop-term-preserved t c =
             c.push_reserved.ensures.items,
         c.push_reserved.ensures.capacity,
         length-append
-            c.loop-term.sorts.items (c.in_ok-sort_of.field-0 ∷ []),
+            c.loop-term.sorts.items (c.in_ok-checked.checked.sort ∷ []),
       );
     }
 
@@ -122,9 +432,11 @@ sorts_of-loop-term-init t c =
     let terms = sexps_of c.args.terms.now in
     let none = c.in_ok-reserve.ensures.items ∙ c.new-sorts.ensures.items in
     record {
-      answer = sorts_behind-start (names_for c.args.self.now (labels_view c.args.labels.now))
-          (scope_view c.args.scope.now) c.reserve.new.self.items terms none;
-      given = AreGivenOf-none (names_of_library c.args.self.now) c.args.labels.now (labels_in_all terms);
+      answer = sorts_behind-start (names_for c.args.self.now (labels_view c.args.draft.now.labels))
+          (sorts_seen c.args.draft.now) c.reserve.new.self.items terms none;
+      given = AreGivenOf-none (names_of_library c.args.self.now) c.args.draft.now.labels (labels_in_all terms);
+      kept = record { variables = refl; base = refl };
+      opened = refl;
       lighter = omega arith;
       room = omega (arith, c.in_ok-reserve.ensures.ok, count-trees c.args.terms.now);
     }
@@ -132,107 +444,3 @@ sorts_of-loop-term-init t c =
 pub sorts_of-push_reserved-requires : goal.sorts_of-push_reserved-requires
 sorts_of-push_reserved-requires t c =
     (omega arith, omega (arith, ap count c.in-Some.ensures, c.loop-term.invariant.room))
-
-pub bound_by-loop-name-preserved : goal.bound_by-loop-name-preserved
-bound_by-loop-name-preserved t c =
-    let names = names_of_library c.args.self.now in
-    let term = sexp_of c.in-Some.term.now in
-    record {
-      answer = c.loop-name.invariant.answer
-          ∙ bound_in-next (names_for c.args.self.now (labels_view c.loop-name.labels))
-          (names_for c.args.self.now (labels_view c.sort_of.new.labels)) (scope_view c.args.scope.now)
-          (scope_view c.loop-name.bound.items)
-          (scope_view c.push_variable.new.variables.items) c.in-Some.name.now term
-          (sexps_of c.in-Some.rest.now) (sexps_of c.loop-name.left.now) c.in_ok-value.value
-          (names_behind c.args.self.now names c.loop-name.labels c.sort_of.new.labels
-          (labels_in term) c.in_ok-value.ensures.labels) c.in-Some.ensures
-          (grind (
-            arith,
-            c.as_slice.ensures.value,
-            c.find_variable.ensures,
-            c.is_some.ensures,
-            c.if-is_some.false,
-          )) c.in_ok-value.ensures.sort c.in_ok-push_variable.ensures;
-      given = AreGivenOf-next names c.args.labels.now c.loop-name.labels c.sort_of.new.labels
-          (labels_in_bindings (sexps_of c.args.bindings.now))
-          (labels_in_bindings (sexps_of c.loop-name.left.now)) (labels_in term)
-          (labels_in_bindings (sexps_of c.in-Some.rest.now)) c.loop-name.invariant.given
-          (ap labels_in_bindings c.in-Some.ensures) c.in_ok-value.ensures.labels;
-      named = sym (ap are_named_trees c.in-Some.ensures) ∙ c.loop-name.invariant.named;
-      lighter = omega (arith, ap weight_all c.in-Some.ensures, c.loop-name.invariant.lighter);
-    }
-
-pub sort_of_let-returns-in_err-inner-clause-sort : goal.sort_of_let-returns-in_err-inner-clause-sort
-sort_of_let-returns-in_err-inner-clause-sort t c =
-    let p = err_from_is_err_and c.from_residual.result c.from_residual.ensures.1 in
-    rw (p.1, p.2)
-    (fault_of_bindings (names_for c.args.self.now (labels_view c.args.labels.now))
-    (scope_view c.args.scope.now) (sexps_of c.args.args.now) (sexps_of c.in-Some.bindings.now)
-    (sexp_of c.in-Some.body.now) _ c.in-Some.ensures
-    (sym c.are_bindings.ensures ∙ c.if-not-are_bindings.false) c.in_err-inner.ensures.bound)
-
-pub sort_of_let-returns-clause-sort : goal.sort_of_let-returns-clause-sort
-sort_of_let-returns-clause-sort t c =
-    let names = names_for c.args.self.now (labels_view c.args.labels.now) in
-    let later = names_for c.args.self.now (labels_view c.bound_by.new.labels) in
-    let scope = scope_view c.args.scope.now in
-    let bound = scope_view c.in_ok-inner.inner.items in
-    let inner = scope_view c.as_slice.result.now in
-    carried c.sort_of.result (sort_in later inner (sexp_of c.in-Some.body.now))
-    (let_in names scope (sexps_of c.args.args.now))
-    (let_of_body names later scope inner bound (sexps_of c.args.args.now) (sexps_of c.in-Some.bindings.now)
-    (sexp_of c.in-Some.body.now)
-    (names_behind c.args.self.now (names_of_library c.args.self.now) c.args.labels.now c.bound_by.new.labels
-    (labels_in_bindings (sexps_of c.in-Some.bindings.now)) c.in_ok-inner.ensures.labels) c.in-Some.ensures
-    (sym c.are_bindings.ensures ∙ c.if-not-are_bindings.false) c.in_ok-inner.ensures.bound
-    (ap scope_view (c.as_slice.ensures.value ∙ c.in_ok-extend_from_slice.ensures.items) ∙ map-append _
-    c.in_ok-inner.inner.items c.args.scope.now)) c.sort_of.ensures.sort
-
-pub sort_of_annotated-returns-in_err-sort-clause-sort : goal.sort_of_annotated-returns-in_err-sort-clause-sort
-sort_of_annotated-returns-in_err-sort-clause-sort t c =
-    let p = err_from_is_err_and c.from_residual.result c.from_residual.ensures.1 in
-    rw (p.1, p.2)
-    (fault_of_annotated (names_for c.args.self.now (labels_view c.args.labels.now))
-    (scope_view c.args.scope.now) (sexps_of c.args.args.now) (sexps_of c.in-Some.attributes.now)
-    (sexp_of c.in-Some.term.now) _ c.in-Some.ensures
-    (sym c.are_attributes.ensures ∙ c.if-not-are_attributes.false) c.in_err-sort.ensures.sort)
-
-pub sort_of_annotated-give_labels-requires : goal.sort_of_annotated-give_labels-requires
-sort_of_annotated-give_labels-requires t c =
-    let names = names_for c.args.self.now (labels_view c.args.labels.now) in
-    kept-sort names (unlabelled names) (Keeps-unlabelled names) (scope_view c.args.scope.now)
-    (sexp_of c.in-Some.term.now) c.in_ok-sort.sort c.in_ok-sort.ensures.sort
-
-pub sort_of_annotated-returns-in_err-give_labels-clause-sort :
-    goal.sort_of_annotated-returns-in_err-give_labels-clause-sort
-sort_of_annotated-returns-in_err-give_labels-clause-sort t c =
-    let p =
-    err_from_is_err_and c.from_residual-in_err-give_labels.result
-    c.from_residual-in_err-give_labels.ensures.1 in
-    rw (p.1, p.2)
-    (fault_of_annotation (names_for c.args.self.now (labels_view c.args.labels.now))
-    (names_for c.args.self.now (labels_view c.sort_of.new.labels)) (scope_view c.args.scope.now)
-    (sexps_of c.args.args.now) (sexps_of c.in-Some.attributes.now)
-    (sexp_of c.in-Some.term.now) c.in_ok-sort.sort _
-    (names_behind c.args.self.now (names_of_library c.args.self.now) c.args.labels.now c.sort_of.new.labels
-    (labels_in (sexp_of c.in-Some.term.now)) c.in_ok-sort.ensures.labels) c.in-Some.ensures
-    (sym c.are_attributes.ensures ∙ c.if-not-are_attributes.false) c.in_ok-sort.ensures.sort
-    c.in_err-give_labels.ensures.fault)
-
-pub sort_of_annotated-returns-clause-sort : goal.sort_of_annotated-returns-clause-sort
-sort_of_annotated-returns-clause-sort t c =
-    annotated (names_for c.args.self.now (labels_view c.args.labels.now))
-    (names_for c.args.self.now (labels_view c.sort_of.new.labels)) (scope_view c.args.scope.now)
-    (sexps_of c.args.args.now) (sexps_of c.in-Some.attributes.now)
-    (sexp_of c.in-Some.term.now) c.in_ok-sort.sort
-    (names_behind c.args.self.now (names_of_library c.args.self.now) c.args.labels.now c.sort_of.new.labels
-    (labels_in (sexp_of c.in-Some.term.now)) c.in_ok-sort.ensures.labels) c.in-Some.ensures
-    (sym c.are_attributes.ensures ∙ c.if-not-are_attributes.false) c.in_ok-sort.ensures.sort
-    c.in_ok-give_labels.ensures.fault
-
-pub sort_of_list-returns-clause-labels : goal.sort_of_list-returns-clause-labels
-sort_of_list-returns-clause-labels t c =
-    given_by_args (Ok c.in_ok-sort_of_call.field-0) (names_of_library c.args.self.now) c.args.labels.now
-    c.sorts_of.new.labels (sexp_of c.in-Some.head.now) (sexps_of c.in-Some.args.now) c.args.parts.now
-    (sym c.as_slice.ensures ∙ c.in-Some.ensures) (sym c.if-is_underscore.ensures) (sym c.if-is_let.ensures)
-    (sym c.if-is_bang.ensures) c.in_ok-sorts.ensures.labels

@@ -1,45 +1,53 @@
-use Rattle.std.proofs.Common.{◌≡◌, ◌+◌, ◌*◌, ◌≤◌, [], true}
+use Rattle.std.proofs.Common.{◌≡◌, ◌+◌, ◌*◌, ◌≤◌, ◌||◌, [], true, map}
 use Rattle.smallvec.specs.SmallVec.{HasRoomFor}
 use Rattle.smt_trees.specs.Sexp.{count, weight, weight_all}
 use Rattle.smt_trees.specs.Tree.{sexp_of, sexps_of}
 use Rattle.smt_forms.specs.Bindings.{are_named_trees}
+use Rattle.smt_forms.specs.Labels.{labels_in_all, labels_in_bindings}
+use Rattle.smt_forms.specs.NamesIn.{names_in}
+use Rattle.smt_forms.specs.ScopeView.{scope_view}
 use Rattle.smt_terms.specs.Checking.{bound_in, sorts_in}
+use Rattle.smt_terms.specs.Internal.Calls.{SeesTheSame}
+use Rattle.smt_terms.specs.Internal.DraftView.{are_open, are_open_bindings, sorts_seen}
 use Rattle.smt_terms.specs.Internal.LabelsView.{labels_view}
 use Rattle.smt_terms.specs.Internal.LibraryView.{names_for, names_of_library}
-use Rattle.smt_forms.specs.Labels.{labels_in_all, labels_in_bindings}
-use Rattle.smt_forms.specs.ScopeView.{scope_view}
 use Rattle.smt_terms.proofs.CheckerLemmas.{sorts_behind}
 use Rattle.smt_terms.proofs.LabelLemmas.{AreGivenOf}
 use Rattle.smt_terms.proofs.library.Library.+check.Given as goal
 
 abbrev pub decreases-sort_of : goal.decreases-sort_of
-decreases-sort_of l = 3 * weight (sexp_of l.term.now) + 1
+decreases-sort_of l = 4 * weight (sexp_of l.term.now) + 1
 
 abbrev pub decreases-sort_of_other : goal.decreases-sort_of_other
-decreases-sort_of_other l = 3 * weight (sexp_of l.term.now)
+decreases-sort_of_other l = 4 * weight (sexp_of l.term.now)
 
 abbrev pub decreases-sort_of_list : goal.decreases-sort_of_list
-decreases-sort_of_list l = 3 * weight_all l.parts.now + 2
+decreases-sort_of_list l = 4 * weight_all l.parts.now + 3
 
 abbrev pub decreases-sort_of_let : goal.decreases-sort_of_let
-decreases-sort_of_let l = 3 * weight_all (sexps_of l.args.now) + 2
+decreases-sort_of_let l = 4 * weight_all (sexps_of l.args.now) + 3
 
 abbrev pub decreases-sort_of_annotated : goal.decreases-sort_of_annotated
-decreases-sort_of_annotated l = 3 * weight_all (sexps_of l.args.now) + 2
+decreases-sort_of_annotated l = 4 * weight_all (sexps_of l.args.now) + 3
+
+abbrev pub decreases-sort_of_labelled : goal.decreases-sort_of_labelled
+decreases-sort_of_labelled l = 4 * weight (sexp_of l.term.now) + 2
 
 abbrev pub decreases-sorts_of : goal.decreases-sorts_of
-decreases-sorts_of l = 3 * weight_all (sexps_of l.terms.now) + 2
+decreases-sorts_of l = 4 * weight_all (sexps_of l.terms.now) + 2
 
 abbrev pub decreases-bound_by : goal.decreases-bound_by
-decreases-bound_by l = 3 * weight_all (sexps_of l.bindings.now) + 2
+decreases-bound_by l = 4 * weight_all (sexps_of l.bindings.now) + 2
 
 abbrev pub invariant-sorts_of-loop-term : goal.invariant-sorts_of-loop-term
 invariant-sorts_of-loop-term l = record {
-  answer : sorts_in (names_for l.self (labels_view l.fn.labels)) (scope_view l.scope) (sexps_of l.terms)
-      ≡ sorts_behind (names_for l.self (labels_view l.labels)) (scope_view l.scope) l.sorts.items
+  answer : sorts_in (names_for l.self (labels_view l.fn.draft.labels)) (sorts_seen l.fn.draft) (sexps_of l.terms)
+      ≡ sorts_behind (names_for l.self (labels_view l.draft.labels)) (sorts_seen l.fn.draft) l.sorts.items
       (sexps_of l.left);
-  given : AreGivenOf (names_of_library l.self) l.fn.labels l.labels (labels_in_all (sexps_of l.terms))
-      (labels_in_all (sexps_of l.left));
+  given : AreGivenOf (names_of_library l.self) l.fn.draft.labels l.draft.labels
+      (labels_in_all (sexps_of l.terms)) (labels_in_all (sexps_of l.left));
+  kept : SeesTheSame l.fn.draft l.draft;
+  opened : are_open l.fn.draft (sexps_of l.terms) ≡ (l.is_open || are_open l.fn.draft (sexps_of l.left));
   lighter : weight_all (sexps_of l.left) ≤ weight_all (sexps_of l.terms);
   room : HasRoomFor l.sorts (count (sexps_of l.left));
 }
@@ -49,11 +57,16 @@ decreases-sorts_of-loop-term l = weight_all (sexps_of l.left)
 
 abbrev pub invariant-bound_by-loop-name : goal.invariant-bound_by-loop-name
 invariant-bound_by-loop-name l = record {
-  answer : bound_in (names_for l.self (labels_view l.fn.labels)) (scope_view l.scope) [] (sexps_of l.bindings)
-      ≡ bound_in (names_for l.self (labels_view l.labels)) (scope_view l.scope) (scope_view l.bound.items)
-      (sexps_of l.left);
-  given : AreGivenOf (names_of_library l.self) l.fn.labels l.labels (labels_in_bindings (sexps_of l.bindings))
-      (labels_in_bindings (sexps_of l.left));
+  answer : bound_in (names_for l.self (labels_view l.fn.draft.labels)) (sorts_seen l.fn.draft) []
+      (sexps_of l.bindings)
+      ≡ bound_in (names_for l.self (labels_view l.draft.labels)) (sorts_seen l.fn.draft)
+      (scope_view l.bound.items) (sexps_of l.left);
+  given : AreGivenOf (names_of_library l.self) l.fn.draft.labels l.draft.labels
+      (labels_in_bindings (sexps_of l.bindings)) (labels_in_bindings (sexps_of l.left));
+  kept : SeesTheSame l.fn.draft l.draft;
+  opened : are_open_bindings l.fn.draft (sexps_of l.bindings)
+      ≡ (l.is_open || are_open_bindings l.fn.draft (sexps_of l.left));
+  names : names_in l.names ≡ map (λ v. v.0) (scope_view l.bound.items);
   named : are_named_trees (sexps_of l.left) ≡ true;
   lighter : weight_all (sexps_of l.left) ≤ weight_all (sexps_of l.bindings);
 }

@@ -1,8 +1,10 @@
-use Rattle.std.proofs.Common.{map, sym, subst, ◌∙◌, rules}
+use Rattle.std.proofs.Common.{ap, map, sym, subst, ◌∙◌, rules}
 use Rattle.smt_trees.specs.Tree.{sexp_of}
+use Rattle.smt_terms.specs.Checking.{sort_in}
 use Rattle.smt_terms.specs.Contents.{Extends, contents_of}
-use Rattle.smt_terms.specs.Internal.LabelsView.{AreNew, label_entry}
-use Rattle.smt_terms.specs.Internal.LibraryView.{ranks_of_library}
+use Rattle.smt_terms.specs.Internal.DraftView.{sorts_of}
+use Rattle.smt_terms.specs.Internal.LabelsView.{AreNew, label_entry, labels_view}
+use Rattle.smt_terms.specs.Internal.LibraryView.{names_for, ranks_of_library}
 use Rattle.smt_terms.specs.Library.{StandsFor}
 use Rattle.smt_terms.specs.Signature.{with_entries}
 use Rattle.smt_terms.proofs.AssertionLemmas.{asserted_by, given_are_new, undone}
@@ -11,20 +13,30 @@ use Rattle.smt_terms.proofs.library.Library.assert.Goals as goal
 
 pub add_assertion-requires : goal.add_assertion-requires
 add_assertion-requires c =
-    subst (λ ls. AreNew (ranks_of_library c.args.self.now) ls) (sym c.as_slice.ensures.value)
-    (given_are_new c.args.self.now c.new-labels.result c.sort_of.new.labels
-    (sexp_of c.args.term) c.in_ok-sort.sort c.new-labels.ensures.view c.new-labels.ensures.given
-    c.in_ok-sort.ensures.sort c.in_ok-sort.ensures.labels)
+    let old = c.new-draft.result.labels in
+    let same = c.new-draft.ensures.labels in
+    subst (λ ls. AreNew (ranks_of_library c.args.self.now) ls)
+    (sym (c.as_slice.ensures.value ∙ c.take_given-given.ensures))
+    (given_are_new c.args.self.now old c.sort_of.new.draft.labels
+    (sexp_of c.args.term) c.in_ok-checked.checked.sort (ap labels_view same ∙ c.new.ensures.view)
+    (ap (λ ls. ls.given.items) same ∙ c.new.ensures.given)
+    (ap (λ vs. sort_in (names_for c.args.self.now (labels_view old)) (sorts_of vs) (sexp_of c.args.term))
+    (sym c.new-draft.ensures.variables) ∙ c.in_ok-checked.ensures.sort) c.in_ok-checked.ensures.labels)
 
 pub returns-in-Ok-clause-asserted : goal.returns-in-Ok-clause-asserted
-returns-in-Ok-clause-asserted c = λ s stands. (
-  map label_entry c.sort_of.new.labels.given.items,
-  asserted_by c.args.self.now s c.new-labels.result c.sort_of.new.labels (sexp_of c.args.term)
-      c.in_ok-sort.sort stands c.new-labels.ensures.view c.new-labels.ensures.given c.in_ok-sort.ensures.sort
-      (sym c.are_equal.ensures ∙ c.if-not-are_equal.false) c.in_ok-sort.ensures.labels,
-  subst (λ ls. StandsFor c.add_assertion.new.self (with_entries s (map label_entry ls)))
-      c.as_slice.ensures.value (c.in-Ok.ensures.added s stands),
-)
+returns-in-Ok-clause-asserted c = λ s stands.
+    let old = c.new-draft.result.labels in
+    let same = c.new-draft.ensures.labels in (
+      map label_entry c.sort_of.new.draft.labels.given.items,
+      asserted_by c.args.self.now s old c.sort_of.new.draft.labels (sexp_of c.args.term)
+          c.in_ok-checked.checked.sort stands (ap labels_view same ∙ c.new.ensures.view)
+          (ap (λ ls. ls.given.items) same ∙ c.new.ensures.given)
+          (ap (λ vs. sort_in (names_for c.args.self.now (labels_view old)) (sorts_of vs) (sexp_of c.args.term))
+          (sym c.new-draft.ensures.variables) ∙ c.in_ok-checked.ensures.sort)
+          (sym c.are_equal.ensures ∙ c.if-not-are_equal.false) c.in_ok-checked.ensures.labels,
+      subst (λ ls. StandsFor c.add_assertion.new.self (with_entries s (map label_entry ls)))
+          (c.as_slice.ensures.value ∙ c.take_given-given.ensures) (c.in-Ok.ensures.added s stands),
+    )
 
 pub returns-clause-grown : goal.returns-clause-grown
 returns-clause-grown c =

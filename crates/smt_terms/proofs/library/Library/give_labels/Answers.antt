@@ -6,7 +6,6 @@ use Rattle.smt_forms.specs.Labels.{label_of_tree}
 use Rattle.smt_terms.specs.Internal.LabelsView.{labels_view}
 use Rattle.smt_terms.specs.Internal.LibraryView.{names_for, names_of_library}
 use Rattle.smt_forms.specs.Labels.{labels_among}
-use Rattle.smt_forms.specs.ScopeView.{scope_view}
 use Rattle.smt_terms.proofs.LabelLemmas.{AreGivenOf-next, carried_fault, faults-fault, faults-next}
 use Rattle.smt_terms.proofs.LabelLemmas.{labels_among-first, names_behind, with_term}
 use Rattle.smt_terms.proofs.library.Library.give_labels.Goals as goal
@@ -14,14 +13,14 @@ use Rattle.smt_terms.proofs.library.Library.give_labels.Goals as goal
 pub returns-in_err-give_label_at-clause-fault : goal.returns-in_err-give_label_at-clause-fault
 returns-in_err-give_label_at-clause-fault c =
     let p = err_from_is_err_and c.from_residual.result c.from_residual.ensures.1 in
-    rw (p.1, p.2)
-    (carried_fault _ _ _ c.loop-tree.invariant.fault
-    (faults-fault (names_for c.args.self.now (labels_view c.loop-tree.labels)) (scope_view c.args.scope.now)
+    λ scope used. rw (p.1, p.2)
+    (carried_fault _ _ _ (c.loop-tree.invariant.fault scope used)
+    (faults-fault (names_for c.args.self.now (labels_view c.loop-tree.labels)) scope
     (sexp_of c.args.term.now) (labels_among (sexps_of c.loop-tree.left.now))
     (label_of_tree (sexp_of c.in-Some.tree.now) (sexps_of c.in-Some.rest.now))
     (labels_among (sexps_of c.in-Some.rest.now)) _
     (ap labels_among c.in-Some.ensures ∙ labels_among-first (sexp_of c.in-Some.tree.now)
-    (sexps_of c.in-Some.rest.now)) c.in_err-give_label_at.ensures.fault))
+    (sexps_of c.in-Some.rest.now)) (c.in_err-give_label_at.ensures.fault scope used)))
 
 pub loop-tree-preserved : goal.loop-tree-preserved
 loop-tree-preserved c =
@@ -33,13 +32,13 @@ loop-tree-preserved c =
     ap labels_among c.in-Some.ensures ∙ labels_among-first (sexp_of c.in-Some.tree.now)
     (sexps_of c.in-Some.rest.now) in
     record {
-      fault = c.loop-tree.invariant.fault
+      fault = λ scope used. c.loop-tree.invariant.fault scope used
           ∙ faults-next (names_for c.args.self.now (labels_view c.loop-tree.labels))
           (names_for c.args.self.now (labels_view c.give_label_at.new.labels))
-          (scope_view c.args.scope.now) term (labels_among (sexps_of c.loop-tree.left.now)) xs ys
+          scope term (labels_among (sexps_of c.loop-tree.left.now)) xs ys
           (names_behind c.args.self.now names c.loop-tree.labels c.give_label_at.new.labels
           (with_term term xs) c.in_ok-give_label_at.ensures.labels) split
-          c.in_ok-give_label_at.ensures.fault;
+          (c.in_ok-give_label_at.ensures.fault scope used);
       given = AreGivenOf-next names c.args.labels.now c.loop-tree.labels c.give_label_at.new.labels
           (with_term term (labels_among (sexps_of c.args.attributes.now)))
           (with_term term (labels_among (sexps_of c.loop-tree.left.now)))

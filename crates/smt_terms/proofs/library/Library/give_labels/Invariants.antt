@@ -1,19 +1,21 @@
-use Rattle.std.proofs.Common.{◌≡◌}
+use Rattle.std.proofs.Common.{◌≡◌, ℕ, List}
 use Rattle.smt_trees.specs.Sexp.{weight_all}
 use Rattle.smt_trees.specs.Tree.{sexp_of, sexps_of}
+use Rattle.smt_theory.specs.declared.sort.Sort.{Sort}
 use Rattle.smt_terms.specs.Checking.{flaw_of_labels}
 use Rattle.smt_terms.specs.Internal.LabelsView.{labels_view}
 use Rattle.smt_terms.specs.Internal.LibraryView.{names_for, names_of_library}
 use Rattle.smt_forms.specs.Labels.{labels_among}
-use Rattle.smt_forms.specs.ScopeView.{scope_view}
+use Rattle.smt_forms.specs.Variables.{uses_variable}
 use Rattle.smt_terms.proofs.LabelLemmas.{AreGivenOf, with_term}
 use Rattle.smt_terms.proofs.library.Library.give_labels.Given as goal
 
 abbrev pub invariant-loop-tree : goal.invariant-loop-tree
 invariant-loop-tree l = record {
-  fault : flaw_of_labels (names_for l.self (labels_view l.fn.labels)) (scope_view l.scope) (sexp_of l.term)
+  fault : (scope : List (List ℕ × Sort)) → uses_variable scope (sexp_of l.term) ≡ l.checked.is_open
+      → flaw_of_labels (names_for l.self (labels_view l.fn.labels)) scope (sexp_of l.term)
       (labels_among (sexps_of l.attributes))
-      ≡ flaw_of_labels (names_for l.self (labels_view l.labels)) (scope_view l.scope) (sexp_of l.term)
+      ≡ flaw_of_labels (names_for l.self (labels_view l.labels)) scope (sexp_of l.term)
       (labels_among (sexps_of l.left));
   given : AreGivenOf (names_of_library l.self) l.fn.labels l.labels
       (with_term (sexp_of l.term) (labels_among (sexps_of l.attributes)))

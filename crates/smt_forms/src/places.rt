@@ -1,0 +1,134 @@
+//! Names in the order in which they came, and the place of the last of each. This file knows nothing of what
+//! a name stands for.
+
+ghost use Rattle.std.specs.Prelude.{◌≡◌, ◌∷◌, ◌++◌, ◌-◌, [], length, take, OnErr, OnOk, bytes_eq};
+ghost use Rattle.smt_forms.specs.Internal.Places.{names_of, place_from};
+
+use smt_faults::Memory;
+use std::alloc::Global;
+use std::collections::BTreeMap;
+use std::marker::Model;
+
+// How many names are compared one after another. Those behind them stand in the map.
+const FEW: usize = 8;
+
+// Names, of which a later one hides those before it that are the same. A contract sees their list.
+#[derive(Drop)]
+pub struct Places<'a> {
+    names: Vec<Placed<'a>>,
+    last: BTreeMap<&'a [u8], usize>,
+}
+
+// A name, and the place that it hides in the map.
+#[derive(Clone, Copy)]
+pub struct Placed<'a> {
+    name: &'a [u8],
+    hidden: Option<usize>,
+}
+
+impl<'a> Model for Places<'a> {
+    ghost use Rattle.std.specs.Prelude.{ℕ, List};
+    ghost use Rattle.smt_forms.specs.Internal.Places.{IsIndexed, names_of};
+    ghost use Rattle.smt_forms.specs.declared.places.TheConstants.{FEW};
+
+    ghost Value = { List (List ℕ) };
+
+    ghost view = { λ p. names_of p.names.items };
+
+    ghost invariant = { λ p. IsIndexed FEW p.names.items p.last };
+}
+
+impl<'a> Places<'a> {
+    pub fn new(alloc: Global) -> Self
+        ensures { result ≡ [] }
+    {
+        Places {
+            names: Vec::new(alloc),
+            last: BTreeMap::new(alloc),
+        }
+    }
+
+    pub fn len(&self) -> usize
+        ensures { result ≡ length self.now }
+    {
+        self.names.len()
+    }
+
+    // The place, from 0, of the last name that is this one.
+    pub fn find(&self, name: &[u8]) -> Option<usize>
+        ensures { result ≡ place_from 0 self.now name.now }
+    {
+        let names = self.names.as_slice();
+        if names.len() <= FEW {
+            return find_last(names, name);
+        }
+        match self.last.get(name).copied() {
+            Some(place) => Some(place),
+            None => find_last(&names[..FEW], name),
+        }
+    }
+
+    pub fn push(&mut self, name: &'a [u8]) -> Result<(), Memory>
+        ensures pushed { OnOk result (self.new ≡ self.old ++ name.now ∷ []) }
+        ensures unchanged { OnErr result (self.new ≡ self.old) }
+    {
+        let place = self.names.len();
+        if place < FEW {
+            self.names.push(Placed { name, hidden: None })?;
+            return Ok(());
+        }
+        // Nothing is refused behind the map's own want of memory, which leaves all as it was.
+        self.names.reserve(1)?;
+        let hidden = self.last.insert(name, place)?;
+        self.names.push(Placed { name, hidden })?;
+        Ok(())
+    }
+
+    // Leaves the first `len` names.
+    pub fn cut(&mut self, len: usize)
+        ensures { self.new ≡ take len self.old }
+    {
+        while self.len() > len {
+            self.pop();
+        }
+    }
+
+    fn pop(&mut self)
+        ensures { self.new ≡ take (length self.old - 1) self.old }
+    {
+        let Some(gone) = self.names.pop() else {
+            return;
+        };
+        if self.names.len() < FEW {
+            return;
+        }
+        match gone.hidden {
+            Some(place) => {
+                // The map has the name, so that this takes no memory.
+                let _ = self.last.insert(gone.name, place);
+            }
+            None => {
+                self.last.remove(gone.name);
+            }
+        }
+    }
+}
+
+fn find_last(names: &[Placed<'_>], name: &[u8]) -> Option<usize>
+    ensures { result ≡ place_from 0 (names_of names.now) name.now }
+{
+    let mut left = names.len();
+    while left > 0 {
+        left -= 1;
+        if is_same(name, names[left].name) {
+            return Some(left);
+        }
+    }
+    None
+}
+
+fn is_same(name: &[u8], other: &[u8]) -> bool
+    ensures { result ≡ bytes_eq name.now other.now }
+{
+    name == other
+}
