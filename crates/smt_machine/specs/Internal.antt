@@ -1,0 +1,4 @@
+pub mod Steps
+pub mod States
+pub mod Tasks
+pub mod Costs

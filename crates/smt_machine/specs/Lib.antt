@@ -1,0 +1,4 @@
+pub mod Nodes
+pub mod Given
+pub mod Tables
+pub mod Internal

@@ -1,0 +1,14 @@
+//! Evaluation of numbered nodes by one loop over a stack of its own.
+#![tactic(auto)]
+
+pub mod laws;
+mod machine;
+mod step;
+mod tables;
+mod task;
+mod term_id;
+
+pub use machine::Machine;
+pub use smt_faults::Memory;
+pub use tables::Tables;
+pub use term_id::TermId;

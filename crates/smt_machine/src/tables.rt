@@ -1,0 +1,29 @@
+//! The nodes that a machine evaluates. Stand-in.
+ghost use Rattle.std.specs.Prelude.{◌≡◌, MatchOption, None, Some, option_map, slice_get};
+ghost use Rattle.smt_machine.specs.Internal.Steps.{step_view};
+ghost use Rattle.smt_machine.specs.Tables.{nodes_of};
+
+use crate::step::Step;
+
+#[derive(Clone, Copy)]
+pub struct Tables<'a> {
+    steps: &'a [Step<'a>],
+}
+
+impl<'a> Tables<'a> {
+    pub(crate) fn node(&self, number: usize) -> Option<Step<'a>>
+        ensures { option_map step_view result ≡ slice_get (nodes_of self.now) number }
+    {
+        match item_at(self.steps, number) {
+            Some(step) => Some(*step),
+            None => None,
+        }
+    }
+}
+
+fn item_at<T>(items: &[T], index: usize) -> Option<&T>
+    ensures { MatchOption result (slice_get items.now index ≡ None)
+        (λ x. slice_get items.now index ≡ Some x.now) }
+{
+    items.get(index)
+}
