@@ -1,2 +1,3 @@
 pub mod GivenLemmas
 pub mod RunLemmas
+pub mod StateLemmas

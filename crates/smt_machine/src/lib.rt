@@ -1,6 +1,8 @@
 //! Evaluation of numbered nodes by one loop over a stack of its own.
 #![tactic(auto)]
 
+mod evaluation;
+mod items;
 pub mod laws;
 mod machine;
 mod step;

@@ -3,6 +3,7 @@ ghost use Rattle.std.specs.Prelude.{◌≡◌, MatchOption, None, Some, option_m
 ghost use Rattle.smt_machine.specs.Internal.Steps.{step_view};
 ghost use Rattle.smt_machine.specs.Tables.{nodes_of};
 
+use crate::items::item_at;
 use crate::step::Step;
 
 #[derive(Clone, Copy)]
@@ -19,11 +20,4 @@ impl<'a> Tables<'a> {
             None => None,
         }
     }
-}
-
-fn item_at<T>(items: &[T], index: usize) -> Option<&T>
-    ensures { MatchOption result (slice_get items.now index ≡ None)
-        (λ x. slice_get items.now index ≡ Some x.now) }
-{
-    items.get(index)
 }

@@ -1,7 +1,9 @@
 //! What is left to do for a machine. This file knows no stack.
 
-ghost use Rattle.std.specs.Prelude.{◌≡◌};
+ghost use Rattle.std.specs.Prelude.{◌≡◌, ◌+◌};
 ghost use Rattle.smt_machine.specs.Internal.Tasks.{part_task};
+
+use crate::term_id::TermId;
 
 /// A task; nodes are by their numbers.
 #[derive(Clone, Copy)]
@@ -22,7 +24,7 @@ pub(crate) enum Task {
 
 /// The task that leaves the value of a part of a node.
 #[inline(always)]
-pub(crate) fn task_of(number: usize, part: usize) -> Task
+pub(crate) fn part_of(number: usize, part: usize) -> Task
     ensures { result ≡ part_task number part }
 {
     if part < number {
@@ -30,4 +32,12 @@ pub(crate) fn task_of(number: usize, part: usize) -> Task
     } else {
         Task::Open
     }
+}
+
+/// The task that leaves the value of a part by its number in a table, whose numbers are `shift` higher.
+#[inline(always)]
+pub(crate) fn task_of(number: usize, shift: usize, id: TermId) -> Task
+    ensures { result ≡ part_task number (shift + id) }
+{
+    part_of(number, shift.saturating_add(id.number()))
 }

@@ -1,5 +1,5 @@
 -- The machine's stacks of values as a contract sees them, and what is done to them.
-use Rattle.std.specs.Prelude.{ℕ, ◌-◌, List, [], ◌∷◌, ◌++◌, Option, length, take, drop, min}
+use Rattle.std.specs.Prelude.{ℕ, ◌-◌, List, [], ◌∷◌, ◌++◌, Option, None, length, take, drop, min}
 use Rattle.smt_values.specs.Element.{Element, known_elements}
 use Rattle.smt_machine.specs.Nodes.{Frame}
 use Rattle.smt_machine.specs.declared.machine.Machine.{Machine}
@@ -33,6 +33,15 @@ with_value v s = record { values = s.values ++ v ∷ []; frames = s.frames; base
 -- the last k values give way to one
 abbrev pub with_last : ℕ → Option Element → State → State
 with_last k v s = record { values = before_last k s.values ++ v ∷ []; frames = s.frames; base = s.base }
+
+-- without the last k values
+abbrev pub without_last : ℕ → State → State
+without_last k s = record { values = before_last k s.values; frames = s.frames; base = s.base }
+
+-- the first of values, which is open where there is none
+abbrev pub first_of : List (Option Element) → Option Element
+first_of [] = None
+first_of (v ∷ vs) = v
 
 -- what is left of the frames begins at `base` again
 abbrev pub with_frames : ℕ → ℕ → State → State

@@ -1,6 +1,9 @@
 -- What a task does to the machine's state, in one step, and what a stack of tasks does.
 use Rattle.std.specs.Prelude.{ℕ, ◌+◌, ◌*◌, ◌<◌, ◌≤◌, ◌≡◌, List, [], ◌∷◌, ◌++◌, Option, Some, None, length, nat_lt}
 use Rattle.std.specs.Prelude.{slice_get, if◌then◌else◌}
+use Rattle.smt_theory.specs.declared.op.CoreOp.TheVariants.{Ite}
+use Rattle.smt_theory.specs.declared.op.Op.{Op}
+use Rattle.smt_theory.specs.declared.op.Op.TheVariants.{Core}
 use Rattle.smt_values.specs.Element.{Element}
 use Rattle.smt_values.specs.KnownOperations.{known_choice, known_step}
 use Rattle.smt_machine.specs.Given.{given}
@@ -24,15 +27,20 @@ finished nodes i (Some (Call body args)) s =
 finished nodes i (Some (Let values body)) s = with_last (length values)
     (part i (given nodes) (frame_of s ++ last_of (length values) s.values) body) s
 
+-- the numbers of two branches behind a condition
+abbrev pub branches_of : List ℕ → Option (ℕ × ℕ)
+branches_of (condition ∷ a ∷ b ∷ []) = Some (a, b)
+branches_of _ = None
+
 -- the choice between nodes, when the value of the condition is the last
-abbrev pub chosen_of : List Node → ℕ → List ℕ → State → State
-chosen_of nodes i (condition ∷ a ∷ b ∷ []) s = with_last 1
+abbrev pub chosen_between : List Node → ℕ → Option (ℕ × ℕ) → State → State
+chosen_between nodes i None s = s
+chosen_between nodes i (Some (a, b)) s = with_last 1
     (known_choice (last_of 1 s.values
     ++ part i (given nodes) (frame_of s) a ∷ part i (given nodes) (frame_of s) b ∷ [])) s
-chosen_of nodes i _ s = s
 
 abbrev pub chosen : List Node → ℕ → Option Node → State → State
-chosen nodes i (Some (Apply op args)) s = chosen_of nodes i args s
+chosen nodes i (Some (Apply op args)) s = chosen_between nodes i (branches_of args) s
 chosen nodes i _ s = s
 
 abbrev pub run : List Node → Task → State → State
@@ -58,14 +66,19 @@ abbrev pub visits : ℕ → List ℕ → List Task
 visits i [] = []
 visits i (j ∷ js) = visits i js ++ part_task i j ∷ []
 
+-- the operator with these arguments is a choice that has this condition
+abbrev pub IsChoice : Op → (args condition : List ℕ) → Type 0
+IsChoice op args condition = (c : ℕ) × (a : ℕ) × (b : ℕ)
+    × (op ≡ Core Ite) × (args ≡ c ∷ a ∷ b ∷ []) × (condition ≡ c ∷ [])
+
 -- ---- the measure
 
-abbrev pub choice_cost : ℕ → (ℕ → ℕ) → List ℕ → ℕ
-choice_cost i c (condition ∷ a ∷ b ∷ []) = part_cost i c a + part_cost i c b
-choice_cost i c _ = 0
+abbrev pub branches_cost : ℕ → (ℕ → ℕ) → Option (ℕ × ℕ) → ℕ
+branches_cost i c None = 0
+branches_cost i c (Some (a, b)) = part_cost i c a + part_cost i c b
 
 abbrev pub chosen_cost : ℕ → (ℕ → ℕ) → Option Node → ℕ
-chosen_cost i c (Some (Apply op args)) = choice_cost i c args
+chosen_cost i c (Some (Apply op args)) = branches_cost i c (branches_of args)
 chosen_cost i c _ = 0
 
 -- three for each node that is visited, and up to two for what is done with it besides
@@ -84,23 +97,22 @@ work nodes (t ∷ ts) = task_work nodes t + work nodes ts
 -- ---- a step of the machine
 
 -- the innermost frame begins within the frames
-abbrev pub IsBased : Machine → Type 0
-IsBased m = m.base ≤ length m.frames.items
+abbrev pub IsBased : State → Type 0
+IsBased s = s.base ≤ length s.frames
 
 -- a machine has the tasks of another, and this state
 pub record IsAt (s : State) (before after : Machine) : Type 0 where
   pub tasks : after.tasks.items ≡ before.tasks.items
   pub state : state_of after ≡ s
 
--- a machine has the state of another, and more tasks
-pub record IsPlanned (more : List Task) (before after : Machine) : Type 0 where
+-- a machine has more tasks than another, and this state
+pub record IsPlanned (more : List Task) (s : State) (before after : Machine) : Type 0 where
   pub tasks : after.tasks.items ≡ before.tasks.items ++ more
-  pub state : state_of after ≡ state_of before
-  pub based : IsBased before → IsBased after
+  pub state : state_of after ≡ s
 
 -- a machine has done a task that was taken off already: what is left to do leads to the same, and is less
 pub record IsStep (nodes : List Node) (task : Task) (before after : Machine) : Type 0 where
   pub answer : run_all nodes after.tasks.items (state_of after)
       ≡ run_all nodes before.tasks.items (run nodes task (state_of before))
-  pub based : IsBased after
+  pub based : IsBased (state_of after)
   pub falls : work nodes after.tasks.items < work nodes before.tasks.items + task_work nodes task

@@ -1,0 +1,181 @@
+//! Evaluation of nodes, one task after another. This file knows no stack.
+
+ghost use Rattle.std.specs.Prelude.{◌≡◌, ◌+◌, ◌∷◌, [], ℕ, IfOk, IfSome, IsTrue, List, MatchOption, None, Option, Some, length};
+ghost use Rattle.std.specs.Prelude.{option_map, slice_get};
+ghost use Rattle.smt_theory.specs.declared.op.CoreOp.TheVariants.{Ite};
+ghost use Rattle.smt_theory.specs.declared.op.Op.{Op};
+ghost use Rattle.smt_theory.specs.declared.op.Op.TheVariants.{Core};
+ghost use Rattle.smt_values.specs.Element.{known_element};
+ghost use Rattle.smt_values.specs.KnownOperations.{known_truth};
+ghost use Rattle.smt_machine.specs.Given.{given};
+ghost use Rattle.smt_machine.specs.Internal.States.{state_of};
+ghost use Rattle.smt_machine.specs.Internal.Steps.{numbers_of};
+ghost use Rattle.smt_machine.specs.Internal.Tasks.{IsAt, IsBased, IsChoice, IsStep, branches_of};
+ghost use Rattle.smt_machine.specs.Nodes.{Apply, Node};
+ghost use Rattle.smt_machine.specs.Tables.{nodes_of};
+ghost use Rattle.smt_machine.specs.declared.task.Task.TheVariants.{Choose, Finish, Visit};
+
+use crate::machine::Machine;
+use crate::step::{Parts, Step};
+use crate::tables::Tables;
+use crate::task::{Task, task_of};
+use crate::term_id::TermId;
+use smt_faults::Memory;
+use smt_theory::{CoreOp, Op};
+use smt_values::Value;
+
+impl Machine {
+    // Does a task that was taken off.
+    #[inline(always)]
+    fn act(&mut self, tables: &Tables<'_>, task: Task) -> Result<(), Memory>
+        requires { IsBased (state_of self.old) }
+        ensures { IfOk result (λ _. IsStep (nodes_of tables.now) task self.old self.new) }
+    {
+        match task {
+            Task::Visit(number) => self.visit(tables, number),
+            Task::Open => self.leave(None),
+            Task::Finish(number) => self.finish(tables, number),
+            Task::Choose(number) => self.choose(tables, number),
+            Task::Return(base) => {
+                self.leave_frame(base);
+                Ok(())
+            }
+            Task::Unbind(len) => {
+                self.unbind(len);
+                Ok(())
+            }
+        }
+    }
+
+    // Leaves the value of a node, or plans what has to come before.
+    #[inline(always)]
+    fn visit(&mut self, tables: &Tables<'_>, number: usize) -> Result<(), Memory>
+        requires { IsBased (state_of self.old) }
+        ensures { IfOk result (λ _. IsStep (nodes_of tables.now) (Visit number) self.old self.new) }
+    {
+        match tables.node(number) {
+            Some(Step::Known(value)) => self.leave(value),
+            Some(Step::Slot(place)) => {
+                let value = self.value_at(place);
+                self.leave(value)
+            }
+            Some(Step::Apply(op, args)) => self.visit_args(number, &op, args),
+            Some(Step::Call(_, args)) => self.plan(Task::Finish(number), number, args),
+            Some(Step::Let(values, _)) => self.plan(Task::Finish(number), number, values),
+            None => self.leave(None),
+        }
+    }
+
+    // Plans an operator behind its arguments, and a choice behind its condition alone.
+    #[inline(always)]
+    fn visit_args(&mut self, number: usize, op: &Op, args: Parts<'_>) -> Result<(), Memory>
+        requires { IsBased (state_of self.old) }
+        ensures { IfOk result (λ _. (nodes : List Node)
+            → Some (Apply op.now (numbers_of args.entry)) ≡ slice_get nodes number
+            → IsStep nodes (Visit number) self.old self.new) }
+    {
+        match condition_of(op, args) {
+            Some(condition) => self.plan(Task::Choose(number), number, condition),
+            None => self.plan(Task::Finish(number), number, args),
+        }
+    }
+
+    // Goes on with a node whose arguments are the last values.
+    #[inline(always)]
+    fn finish(&mut self, tables: &Tables<'_>, number: usize) -> Result<(), Memory>
+        requires { IsBased (state_of self.old) }
+        ensures { IfOk result (λ _. IsStep (nodes_of tables.now) (Finish number) self.old self.new) }
+    {
+        match tables.node(number) {
+            Some(Step::Apply(op, args)) => self.operate(op, args.ids.len()),
+            Some(Step::Call(body, args)) => self.enter(number, body, args.ids.len()),
+            Some(Step::Let(values, body)) => self.bind(number, body, values.ids.len()),
+            Some(Step::Known(_)) => Ok(()),
+            Some(Step::Slot(_)) => Ok(()),
+            None => Ok(()),
+        }
+    }
+
+    // Goes on with a choice whose condition is the last value.
+    #[inline(always)]
+    fn choose(&mut self, tables: &Tables<'_>, number: usize) -> Result<(), Memory>
+        requires { IsBased (state_of self.old) }
+        ensures { IfOk result (λ _. IsStep (nodes_of tables.now) (Choose number) self.old self.new) }
+    {
+        match tables.node(number) {
+            Some(Step::Apply(op, args)) => self.choose_among(number, &op, args),
+            Some(Step::Call(_, _)) => Ok(()),
+            Some(Step::Let(_, _)) => Ok(()),
+            Some(Step::Known(_)) => Ok(()),
+            Some(Step::Slot(_)) => Ok(()),
+            None => Ok(()),
+        }
+    }
+
+    #[inline(always)]
+    fn choose_among(&mut self, number: usize, op: &Op, args: Parts<'_>) -> Result<(), Memory>
+        requires { IsBased (state_of self.old) }
+        ensures { IfOk result (λ _. (nodes : List Node)
+            → Some (Apply op.now (numbers_of args.entry)) ≡ slice_get nodes number
+            → IsStep nodes (Choose number) self.old self.new) }
+    {
+        match branches(args) {
+            Some((first, second)) => {
+                let condition = self.take_last();
+                match truth(&condition) {
+                    Some(true) => self.plan_part(task_of(number, args.shift, first)),
+                    Some(false) => self.plan_part(task_of(number, args.shift, second)),
+                    None => self.leave(None),
+                }
+            }
+            None => Ok(()),
+        }
+    }
+}
+
+// The condition alone, where an operator with its arguments is a choice.
+#[inline(always)]
+fn condition_of<'a>(op: &Op, args: Parts<'a>) -> Option<Parts<'a>>
+    ensures { IfSome result (λ condition.
+        IsChoice op.now (numbers_of args.entry) (numbers_of condition)) }
+{
+    if is_choice(op) && args.ids.len() == 3 {
+        Some(Parts {
+            ids: &args.ids[..1],
+            shift: args.shift,
+        })
+    } else {
+        None
+    }
+}
+
+// Whether an operator is `ite`.
+#[inline(always)]
+fn is_choice(op: &Op) -> bool
+    ensures { IsTrue result → op.now ≡ Core Ite }
+{
+    matches!(op, Op::Core(CoreOp::Ite))
+}
+
+// The branches behind a condition.
+#[inline(always)]
+fn branches(args: Parts<'_>) -> Option<(TermId, TermId)>
+    ensures { option_map (λ p. (args.entry.shift + p.0, args.entry.shift + p.1)) result
+        ≡ branches_of (numbers_of args.entry) }
+{
+    match args.ids {
+        [_, first, second] => Some((*first, *second)),
+        _ => None,
+    }
+}
+
+// The truth value that a value is.
+#[inline(always)]
+fn truth(value: &Option<Value>) -> Option<bool>
+    ensures { result ≡ known_truth (known_element value.now) }
+{
+    match value {
+        Some(Value::Bool(truth)) => Some(*truth),
+        _ => None,
+    }
+}
