@@ -1,9 +1,9 @@
 -- What stacks of tasks lead to, and how much is left to do.
 use Rattle.std.proofs.Common.{◌≡◌, ℕ, zero, suc, ◌+◌, ◌-◌, ◌*◌, ◌<◌, ◌≤◌, Bool, true, false, cond, List, [], ◌∷◌}
 use Rattle.std.proofs.Common.{◌++◌, length, map, take, drop, min, slice_get, Option, Some, None, refl, ap, sym, ◌∙◌}
-use Rattle.std.proofs.Common.{subst, arith, nat_lt, append_assoc, append_nil, length-append}
+use Rattle.std.proofs.Common.{subst, arith, nat_lt, append_assoc, append-nil, length-append}
 use Rattle.std.proofs.Math.Seq.{drop-append_seam}
-use Rattle.std.proofs.lemmas.List.{length-map, drop-append-le, take-append-le, take_all}
+use Rattle.std.proofs.lemmas.List.{length-map, drop-append-le, map-append, take-append-le, take_all}
 use Rattle.smt_theory.specs.declared.op.CoreOp.TheVariants.{Ite}
 use Rattle.smt_theory.specs.declared.op.Op.{Op}
 use Rattle.smt_theory.specs.declared.op.Op.TheVariants.{Core}
@@ -59,7 +59,7 @@ pub run_visits : (nodes : List Node) (i : ℕ) (js : List ℕ) (s : State)
     → run_all nodes (visits i js) s ≡ with_values (parts i (given nodes) (frame_of s) js) s
 run_visits nodes i [] s =
     ap (λ xs. let r : State = record { values = xs; frames = s.frames; base = s.base } in r)
-    (sym (append_nil s.values))
+    (sym (append-nil s.values))
 run_visits nodes i (j ∷ js) s =
     run_all-append nodes (visits i js) (part_task i j ∷ []) s
     ∙ ap (run_all nodes (visits i js)) (run_part nodes i j s)
@@ -157,7 +157,7 @@ pub settled : (nodes : List Node) (task : Task) (before after : Machine)
     → 0 < task_work nodes task
     → IsStep nodes task before after
 settled nodes task before after is based less =
-    grown nodes task before after [] (is.tasks ∙ sym (append_nil before.tasks.items)) is.state
+    grown nodes task before after [] (is.tasks ∙ sym (append-nil before.tasks.items)) is.state
     (let P : State → Type 0 = λ s. IsBased s in subst P (sym is.state) based) less
 
 pub planned : (nodes : List Node) (task : Task) (before after : Machine) (more : List Task) (s : State)
@@ -212,3 +212,17 @@ visit_planned nodes i n before after at compound is based =
     (let firsts = work_visits nodes i (first_parts n) in
     let first = ap (first_cost i (cost nodes)) (sym at) ∙ first_cost_is i (cost nodes) n in
     omega (arith, firsts, first, cost_law nodes i))
+
+-- ---- the loop that plans visits, from the last part on
+
+pub plan_next : (i : ℕ) (f : ℕ → ℕ) (left rest : List ℕ) (last : ℕ) (t : Task) (all before after : List Task)
+    → left ≡ rest ++ last ∷ [] → t ≡ part_task i (f last)
+    → all ≡ before ++ visits i (map f left) → after ≡ before ++ t ∷ []
+    → all ≡ after ++ visits i (map f rest)
+plan_next i f left rest last t all before after split task is more =
+    is ∙ ap (λ xs. before ++ visits i (map f xs)) split
+    ∙ ap (λ xs. before ++ visits i xs) (map-append f rest (last ∷ []))
+    ∙ ap (λ ts. before ++ ts) (visits-last i (map f rest) (f last))
+    ∙ ap (λ k. before ++ (k ∷ visits i (map f rest))) (sym task)
+    ∙ sym (append_assoc before (t ∷ []) (visits i (map f rest)))
+    ∙ ap (λ ts. ts ++ visits i (map f rest)) (sym more)

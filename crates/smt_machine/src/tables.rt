@@ -16,8 +16,20 @@ impl<'a> Tables<'a> {
         ensures { option_map step_view result ≡ slice_get (nodes_of self.now) number }
     {
         match item_at(self.steps, number) {
-            Some(step) => Some(*step),
+            Some(step) => Some(copied(step)),
             None => None,
         }
+    }
+}
+
+fn copied<'a>(step: &Step<'a>) -> Step<'a>
+    ensures { step_view result ≡ step_view step.now }
+{
+    match step {
+        Step::Known(value) => Step::Known(*value),
+        Step::Slot(place) => Step::Slot(*place),
+        Step::Apply(op, args) => Step::Apply(*op, *args),
+        Step::Call(body, args) => Step::Call(*body, *args),
+        Step::Let(values, body) => Step::Let(*values, *body),
     }
 }
