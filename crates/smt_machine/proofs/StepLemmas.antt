@@ -11,13 +11,14 @@ use Rattle.smt_theory.specs.declared.op.Op.TheVariants.{Core}
 use Rattle.smt_values.specs.Element.{Element}
 use Rattle.smt_values.specs.KnownOperations.{known_choice, known_step, known_truth}
 use Rattle.smt_machine.proofs.GivenLemmas.{given_law, cost_law}
-use Rattle.smt_machine.proofs.RunLemmas.{made_of_last, planned, run_part, run_visits, settled, work_part}
-use Rattle.smt_machine.proofs.RunLemmas.{work_visits, with_values}
+use Rattle.smt_machine.proofs.RunLemmas.{made_of_last, planned, run_all-append, run_part, run_visits, settled}
+use Rattle.smt_machine.proofs.RunLemmas.{work-append, work_part, work_visits, with_values}
 use Rattle.smt_machine.specs.Given.{given}
 use Rattle.smt_machine.specs.Internal.Costs.{cost, first_cost, last_cost, part_cost, parts_cost}
 use Rattle.smt_machine.specs.Internal.States.{State, before_last, first_of, frame_of, last_of, state_of}
 use Rattle.smt_machine.specs.Internal.States.{with_frames, with_last, with_moved, with_value, without_last}
-use Rattle.smt_machine.specs.Internal.Tasks.{IsAt, IsBased, IsChoice, IsPlanned, IsStep, branches_cost, branches_of}
+use Rattle.smt_machine.specs.Internal.Tasks.{IsAt, IsBased, IsBegun, IsChoice, IsPlanned, IsRunning, IsStep}
+use Rattle.smt_machine.specs.Internal.Tasks.{branches_cost, branches_of, empty_state}
 use Rattle.smt_machine.specs.Internal.Tasks.{chosen, chosen_between, chosen_cost, finished, part_task, run, run_all, task_work, visits, work}
 use Rattle.smt_machine.specs.Nodes.{Frame, Node, Known, Slot, Apply, Call, Let, node_value, part, parts}
 use Rattle.smt_machine.specs.declared.machine.Machine.{Machine}
@@ -242,3 +243,51 @@ bound_step nodes i n body values before after at count is based =
     ∙ ap (λ m. finished nodes i m s) at)
     (omega (arith, length-append s.frames (last_of n s.values)))
     (let last = ap (last_cost i (cost nodes)) (sym at) in omega (arith, last, work_part nodes i body))
+
+-- ---- the loop
+
+pub started : (nodes : List Node) (i : ℕ) (m : Machine) → IsBegun (Visit i) m
+    → IsRunning nodes (given nodes i []) m
+started nodes i m begun =
+    let B : State → Type 0 = λ z. IsBased z in
+    record {
+      answer = ap (λ ts. run_all nodes ts (state_of m)) begun.tasks ∙ ap (run nodes (Visit i)) begun.state;
+      based = let here : IsBased empty_state = omega arith in subst B (sym begun.state) here;
+    }
+
+-- with a task that is taken off
+pub taken_based : (nodes : List Node) (v : Option Element) (before middle : Machine) → IsRunning nodes v before
+    → state_of middle ≡ state_of before → IsBased (state_of middle)
+taken_based nodes v before middle running state =
+    let B : State → Type 0 = λ z. IsBased z in subst B (sym state) running.based
+
+pub turned : (nodes : List Node) (v : Option Element) (task : Task) (before middle after : Machine)
+    → IsRunning nodes v before
+    → state_of middle ≡ state_of before → before.tasks.items ≡ middle.tasks.items ++ task ∷ []
+    → IsStep nodes task middle after
+    → IsRunning nodes v after
+turned nodes v task before middle after running state tasks step = record {
+  answer = step.answer
+      ∙ ap (λ s. run_all nodes middle.tasks.items (run nodes task s)) state
+      ∙ sym (run_all-append nodes middle.tasks.items (task ∷ []) (state_of before))
+      ∙ ap (λ ts. run_all nodes ts (state_of before)) (sym tasks)
+      ∙ running.answer;
+  based = step.based;
+}
+
+pub turned_less : (nodes : List Node) (task : Task) (before middle after : Machine)
+    → before.tasks.items ≡ middle.tasks.items ++ task ∷ []
+    → IsStep nodes task middle after
+    → work nodes after.tasks.items < work nodes before.tasks.items
+turned_less nodes task before middle after tasks step =
+    let e = ap (work nodes) tasks in
+    omega (arith, e, work-append nodes middle.tasks.items (task ∷ []), step.falls)
+
+pub ended : (nodes : List Node) (v w : Option Element) (before middle : Machine)
+    → IsRunning nodes v before
+    → before.tasks.items ≡ [] → state_of middle ≡ state_of before
+    → w ≡ first_of (last_of 1 (state_of middle).values)
+    → w ≡ v
+ended nodes v w before middle running tasks state is =
+    is ∙ ap (λ s. first_of (last_of 1 s.values))
+    (state ∙ sym (ap (λ ts. run_all nodes ts (state_of before)) tasks) ∙ running.answer)

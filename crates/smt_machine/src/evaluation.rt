@@ -25,6 +25,25 @@ use smt_theory::{CoreOp, Op};
 use smt_values::Value;
 
 impl Machine {
+    /// What is known of the value of a closed term of the script, whatever was evaluated before. Refused is
+    /// only the growth of the machine's stacks.
+    pub fn eval(&mut self, tables: Tables<'_>, term: TermId) -> Result<Option<Value>, Memory>
+        ensures { IfOk result (λ v. known_element v ≡ given (nodes_of tables.entry) term []) }
+    {
+        self.run(&tables, term.number())
+    }
+
+    // What is known of the value of a closed node.
+    fn run(&mut self, tables: &Tables<'_>, root: usize) -> Result<Option<Value>, Memory>
+        ensures { IfOk result (λ v. known_element v ≡ given (nodes_of tables.now) root []) }
+    {
+        self.begin(Task::Visit(root))?;
+        while let Some(task) = self.take_task() {
+            self.act(tables, task)?;
+        }
+        Ok(self.take_last())
+    }
+
     // Does a task that was taken off.
     #[inline(always)]
     fn act(&mut self, tables: &Tables<'_>, task: Task) -> Result<(), Memory>

@@ -7,7 +7,7 @@ ghost use Rattle.smt_machine.specs.Internal.States.{before_last, first_of, frame
 ghost use Rattle.smt_machine.specs.Internal.States.{with_frames, with_last, with_moved, with_value};
 ghost use Rattle.smt_machine.specs.Internal.States.{without_last};
 ghost use Rattle.smt_machine.specs.Internal.Steps.{numbers_of};
-ghost use Rattle.smt_machine.specs.Internal.Tasks.{IsAt, IsPlanned, part_task, visits};
+ghost use Rattle.smt_machine.specs.Internal.Tasks.{IsAt, IsBegun, IsPlanned, part_task, visits};
 ghost use Rattle.smt_machine.specs.Nodes.{at_place};
 ghost use Rattle.smt_machine.specs.declared.task.Task.TheVariants.{Return, Unbind};
 
@@ -37,6 +37,28 @@ impl Machine {
             base: 0,
             tasks: Vec::new(alloc),
         }
+    }
+
+    /// Empty stacks but for one task.
+    pub(crate) fn begin(&mut self, task: Task) -> Result<(), Memory>
+        ensures { IfOk result (λ _. IsBegun task self.new) }
+    {
+        self.values.clear();
+        self.frames.clear();
+        self.base = 0;
+        self.tasks.clear();
+        self.tasks.push(task)?;
+        Ok(())
+    }
+
+    /// The last task, which is taken off.
+    #[inline(always)]
+    pub(crate) fn take_task(&mut self) -> Option<Task>
+        ensures state { state_of self.new ≡ state_of self.old }
+        ensures tasks { MatchOption result ((self.old.tasks.items ≡ []) × (self.new.tasks.items ≡ []))
+            (λ task. self.old.tasks.items ≡ self.new.tasks.items ++ task ∷ []) }
+    {
+        self.tasks.pop()
     }
 
     /// One more value.

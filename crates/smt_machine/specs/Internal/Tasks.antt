@@ -100,6 +100,14 @@ work nodes (t ∷ ts) = task_work nodes t + work nodes ts
 abbrev pub IsBased : State → Type 0
 IsBased s = s.base ≤ length s.frames
 
+abbrev pub empty_state : State
+empty_state = record { values = []; frames = []; base = 0 }
+
+-- a machine has one task, and nothing else
+pub record IsBegun (task : Task) (m : Machine) : Type 0 where
+  pub tasks : m.tasks.items ≡ task ∷ []
+  pub state : state_of m ≡ empty_state
+
 -- a machine has the tasks of another, and this state
 pub record IsAt (s : State) (before after : Machine) : Type 0 where
   pub tasks : after.tasks.items ≡ before.tasks.items
@@ -116,3 +124,8 @@ pub record IsStep (nodes : List Node) (task : Task) (before after : Machine) : T
       ≡ run_all nodes before.tasks.items (run nodes task (state_of before))
   pub based : IsBased (state_of after)
   pub falls : work nodes after.tasks.items < work nodes before.tasks.items + task_work nodes task
+
+-- a machine is on its way to one value, and nothing else
+pub record IsRunning (nodes : List Node) (v : Option Element) (m : Machine) : Type 0 where
+  pub answer : run_all nodes m.tasks.items (state_of m) ≡ with_value v empty_state
+  pub based : IsBased (state_of m)
