@@ -1,3 +1,4 @@
+pub mod StandIn
 pub mod Nodes
 pub mod Given
 pub mod Tables

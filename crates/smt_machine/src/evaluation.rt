@@ -9,14 +9,14 @@ ghost use Rattle.smt_values.specs.Element.{known_element};
 ghost use Rattle.smt_values.specs.KnownOperations.{known_truth};
 ghost use Rattle.smt_machine.specs.Given.{given};
 ghost use Rattle.smt_machine.specs.Internal.States.{state_of};
-ghost use Rattle.smt_machine.specs.Internal.Steps.{numbers_of};
+ghost use Rattle.smt_machine.specs.Internal.Steps.{number_of, numbers_of};
 ghost use Rattle.smt_machine.specs.Internal.Tasks.{IsAt, IsBased, IsChoice, IsStep, branches_of};
 ghost use Rattle.smt_machine.specs.Nodes.{Apply, Node};
-ghost use Rattle.smt_machine.specs.Tables.{nodes_of};
+ghost use Rattle.smt_machine.specs.Tables.{model_count, nodes_of};
 ghost use Rattle.smt_machine.specs.declared.task.Task.TheVariants.{Choose, Finish, Visit};
 
 use crate::machine::Machine;
-use crate::step::{Parts, Step};
+use crate::step::{Part, Parts, Step};
 use crate::tables::Tables;
 use crate::task::{Task, task_of};
 use crate::term_id::TermId;
@@ -28,9 +28,14 @@ impl Machine {
     /// What is known of the value of a closed term of the script, whatever was evaluated before. Refused is
     /// only the growth of the machine's stacks.
     pub fn eval(&mut self, tables: Tables<'_>, term: TermId) -> Result<Option<Value>, Memory>
-        ensures { IfOk result (λ v. known_element v ≡ given (nodes_of tables.entry) term []) }
+        ensures { IfOk result (λ v. known_element v
+            ≡ given (nodes_of tables.entry) (model_count tables.entry + term) []) }
     {
-        self.run(&tables, term.number())
+        match tables.shift().checked_add(term.number()) {
+            Some(root) => self.run(&tables, root),
+            // So many nodes have no place in memory.
+            None => Err(Memory),
+        }
     }
 
     // What is known of the value of a closed node.
@@ -142,8 +147,8 @@ impl Machine {
             Some((first, second)) => {
                 let condition = self.take_last();
                 match truth(&condition) {
-                    Some(true) => self.plan_part(task_of(number, args.shift, first)),
-                    Some(false) => self.plan_part(task_of(number, args.shift, second)),
+                    Some(true) => self.plan_part(task_of(number, first)),
+                    Some(false) => self.plan_part(task_of(number, second)),
                     None => self.leave(None),
                 }
             }
@@ -178,12 +183,12 @@ fn is_choice(op: &Op) -> bool
 
 // The branches behind a condition.
 #[inline(always)]
-fn branches(args: Parts<'_>) -> Option<(TermId, TermId)>
-    ensures { option_map (λ p. (args.entry.shift + p.0, args.entry.shift + p.1)) result
-        ≡ branches_of (numbers_of args.entry) }
+fn branches(args: Parts<'_>) -> Option<(Part, Part)>
+    ensures { option_map (λ p. (number_of p.0, number_of p.1)) result ≡ branches_of (numbers_of args.entry) }
 {
+    let shift = args.shift;
     match args.ids {
-        [_, first, second] => Some((*first, *second)),
+        [_, first, second] => Some((Part { id: *first, shift }, Part { id: *second, shift })),
         _ => None,
     }
 }

@@ -6,14 +6,14 @@ ghost use Rattle.smt_values.specs.KnownOperations.{known_step};
 ghost use Rattle.smt_machine.specs.Internal.States.{before_last, first_of, frame_of, last_of, state_of};
 ghost use Rattle.smt_machine.specs.Internal.States.{with_frames, with_last, with_moved, with_value};
 ghost use Rattle.smt_machine.specs.Internal.States.{without_last};
-ghost use Rattle.smt_machine.specs.Internal.Steps.{numbers_of};
+ghost use Rattle.smt_machine.specs.Internal.Steps.{number_of, numbers_of};
 ghost use Rattle.smt_machine.specs.Internal.Tasks.{IsAt, IsBegun, IsPlanned, part_task, visits};
 ghost use Rattle.smt_machine.specs.Nodes.{at_place};
 ghost use Rattle.smt_machine.specs.declared.task.Task.TheVariants.{Return, Unbind};
 
 use crate::items::{items_from, lesser};
-use crate::step::Parts;
-use crate::task::{Task, part_of, task_of};
+use crate::step::{Part, Parts};
+use crate::task::{Task, task_of};
 use smt_faults::Memory;
 use smt_theory::Op;
 use smt_values::{Value, apply};
@@ -118,7 +118,11 @@ impl Machine {
         self.tasks.push(task)?;
         let mut left = parts.ids;
         while let Some((last, rest)) = left.split_last() {
-            self.tasks.push(task_of(number, parts.shift, *last))?;
+            let part = Part {
+                id: *last,
+                shift: parts.shift,
+            };
+            self.tasks.push(task_of(number, part))?;
             left = rest;
         }
         Ok(())
@@ -135,8 +139,8 @@ impl Machine {
 
     /// The last values become a frame of their own for a body.
     #[inline(always)]
-    pub(crate) fn enter(&mut self, number: usize, body: usize, count: usize) -> Result<(), Memory>
-        ensures { IfOk result (λ _. IsPlanned (Return (state_of self.old).base ∷ part_task number body ∷ [])
+    pub(crate) fn enter(&mut self, number: usize, body: Part, count: usize) -> Result<(), Memory>
+        ensures { IfOk result (λ _. IsPlanned (Return (state_of self.old).base ∷ part_task number (number_of body) ∷ [])
             (with_moved (length (state_of self.old).frames) count (state_of self.old)) self.old self.new) }
     {
         self.tasks.push(Task::Return(self.base))?;
@@ -146,9 +150,9 @@ impl Machine {
 
     /// The last values become the end of the frame for a body.
     #[inline(always)]
-    pub(crate) fn bind(&mut self, number: usize, body: usize, count: usize) -> Result<(), Memory>
+    pub(crate) fn bind(&mut self, number: usize, body: Part, count: usize) -> Result<(), Memory>
         ensures { IfOk result (λ _.
-            IsPlanned (Unbind (length (state_of self.old).frames) ∷ part_task number body ∷ [])
+            IsPlanned (Unbind (length (state_of self.old).frames) ∷ part_task number (number_of body) ∷ [])
             (with_moved (state_of self.old).base count (state_of self.old)) self.old self.new) }
     {
         let len = self.frames.as_slice().len();
@@ -162,11 +166,11 @@ impl Machine {
     fn move_last(
         &mut self,
         number: usize,
-        body: usize,
+        body: Part,
         base: usize,
         count: usize,
     ) -> Result<(), Memory>
-        ensures { IfOk result (λ _. IsPlanned (part_task number body ∷ [])
+        ensures { IfOk result (λ _. IsPlanned (part_task number (number_of body) ∷ [])
             (with_moved base count (state_of self.old)) self.old self.new) }
     {
         let values = self.values.as_slice();
@@ -174,7 +178,7 @@ impl Machine {
         self.frames.extend_from_slice(items_from(values, start))?;
         self.values.truncate(start);
         self.base = base;
-        self.tasks.push(part_of(number, body))?;
+        self.tasks.push(task_of(number, body))?;
         Ok(())
     }
 

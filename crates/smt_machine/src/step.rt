@@ -1,10 +1,10 @@
-//! A node as the machine fetches it, and the numbers of its parts. This file knows no table.
+//! A node as the machine fetches it, and its parts. This file knows no table.
 
 use crate::term_id::TermId;
 use smt_theory::Op;
 use smt_values::Value;
 
-/// A node, with numbers in the whole of the tables.
+/// A node, whose parts are nodes of both tables.
 #[derive(Clone, Copy)]
 pub(crate) enum Step<'a> {
     Known(Option<Value>),
@@ -12,12 +12,19 @@ pub(crate) enum Step<'a> {
     Slot(usize),
     Apply(Op, Parts<'a>),
     /// A body in the frame of its arguments alone.
-    Call(usize, Parts<'a>),
+    Call(Part, Parts<'a>),
     /// Values that are added to the frame for a body.
-    Let(Parts<'a>, usize),
+    Let(Parts<'a>, Part),
 }
 
-/// The numbers of parts: those of `ids`, each `shift` higher.
+/// A node by its number in a table, where the numbers of both tables are `shift` higher.
+#[derive(Clone, Copy)]
+pub(crate) struct Part {
+    pub(crate) id: TermId,
+    pub(crate) shift: usize,
+}
+
+/// Nodes by their numbers in a table, where the numbers of both tables are `shift` higher.
 #[derive(Clone, Copy)]
 pub(crate) struct Parts<'a> {
     pub(crate) ids: &'a [TermId],

@@ -1,9 +1,10 @@
 //! What is left to do for a machine. This file knows no stack.
 
-ghost use Rattle.std.specs.Prelude.{◌≡◌, ◌+◌};
+ghost use Rattle.std.specs.Prelude.{◌≡◌};
+ghost use Rattle.smt_machine.specs.Internal.Steps.{number_of};
 ghost use Rattle.smt_machine.specs.Internal.Tasks.{part_task};
 
-use crate::term_id::TermId;
+use crate::step::Part;
 
 /// A task; nodes are by their numbers.
 #[derive(Clone, Copy)]
@@ -22,22 +23,15 @@ pub(crate) enum Task {
     Unbind(usize),
 }
 
-/// The task that leaves the value of a part of a node.
+/// The task that leaves the value of a part of a node; of a number that is too large, an open one.
 #[inline(always)]
-pub(crate) fn part_of(number: usize, part: usize) -> Task
-    ensures { result ≡ part_task number part }
+pub(crate) fn task_of(number: usize, part: Part) -> Task
+    ensures { result ≡ part_task number (number_of part) }
 {
+    let part = part.shift.saturating_add(part.id.number());
     if part < number {
         Task::Visit(part)
     } else {
         Task::Open
     }
-}
-
-/// The task that leaves the value of a part by its number in a table, whose numbers are `shift` higher.
-#[inline(always)]
-pub(crate) fn task_of(number: usize, shift: usize, id: TermId) -> Task
-    ensures { result ≡ part_task number (shift + id) }
-{
-    part_of(number, shift.saturating_add(id.number()))
 }

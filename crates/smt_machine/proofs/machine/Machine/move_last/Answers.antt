@@ -14,7 +14,7 @@ returns c =
     let new : c.extend_from_slice.new.self.items ≡ frames ++ drop start items =
         c.in_ok-extend_from_slice.ensures.items ∙ ap (λ xs. frames ++ xs) sees in
     record {
-      tasks = c.in_ok-push.ensures.items ∙ ap (λ t. c.args.self.now.tasks.items ++ t ∷ []) c.part_of.ensures;
+      tasks = c.in_ok-push.ensures.items ∙ ap (λ t. c.args.self.now.tasks.items ++ t ∷ []) c.task_of.ensures;
       state = states_same _ _ _ _ _ _
           (ap known_elements c.truncate.ensures.items ∙ sym (before_known items c.args.count start from))
           (ap known_elements new ∙ moved frames items c.args.count start from) refl;

@@ -1,7 +1,7 @@
 use Rattle.std.proofs.Common.{◌∙◌, None, Some, ap, refl, sym}
 use Rattle.smt_values.specs.Element.{known_element}
 use Rattle.smt_machine.specs.Internal.States.{frame_of, state_of}
-use Rattle.smt_machine.specs.Internal.Steps.{numbers_of, step_view}
+use Rattle.smt_machine.specs.Internal.Steps.{number_of, numbers_of, step_view}
 use Rattle.smt_machine.specs.Nodes.{Known, Slot, Call, Let}
 use Rattle.smt_machine.specs.Tables.{nodes_of}
 use Rattle.smt_machine.proofs.RunLemmas.{visit_planned, visited}
@@ -24,13 +24,13 @@ returns-in-Some-Slot c = if_done c.leave-in-Some-Slot.result c.leave-in-Some-Slo
 pub returns-in-Some-Call : goal.returns-in-Some-Call
 returns-in-Some-Call c = if_done c.plan.result c.plan.ensures
     (λ is. visit_planned (nodes_of c.args.tables.now) c.args.number
-    (Call c.in-Some-Call.field-0-0 (numbers_of c.in-Some-Call.args)) c.args.self.now c.plan.new.self
+    (Call (number_of c.in-Some-Call.field-0-0) (numbers_of c.in-Some-Call.args)) c.args.self.now c.plan.new.self
     (sym (ap (λ x. Some (step_view x)) c.in-Some-Call.field-0-is) ∙ c.in-Some-Call.ensures) tt is c.requires)
 
 pub returns-in-Some-Let : goal.returns-in-Some-Let
 returns-in-Some-Let c = if_done c.plan-in-Some-Let.result c.plan-in-Some-Let.ensures
     (λ is. visit_planned (nodes_of c.args.tables.now) c.args.number
-    (Let (numbers_of c.in-Some-Let.values) c.in-Some-Let.field-0-1) c.args.self.now c.plan-in-Some-Let.new.self
+    (Let (numbers_of c.in-Some-Let.values) (number_of c.in-Some-Let.field-0-1)) c.args.self.now c.plan-in-Some-Let.new.self
     (sym (ap (λ x. Some (step_view x)) c.in-Some-Let.field-0-is) ∙ c.in-Some-Let.ensures) tt is c.requires)
 
 pub returns-in-None : goal.returns-in-None

@@ -1,0 +1,3 @@
+pub mod Node
+pub mod NodeView
+pub mod Nodes
