@@ -1,0 +1,5 @@
+pub mod OutcomeLemmas
+pub mod PlaceLemmas
+pub mod RowLemmas
+pub mod SoundLemmas
+pub mod TableLemmas

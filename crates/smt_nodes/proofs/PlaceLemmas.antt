@@ -1,0 +1,69 @@
+-- Lists by places, as they grow and are cut. Nothing here knows a row.
+use Rattle.std.proofs.Common.{◌≡◌, ◌≤◌, ◌<◌, ◌+◌, ◌-◌, ◌⊎◌, inl, inr, ℕ, zero, suc, List, [], ◌∷◌, ◌++◌, length}
+use Rattle.std.proofs.Common.{take, drop, map, slice_get, get_or, Some, refl, ap, sym, ◌∙◌, arith}
+use Rattle.std.proofs.lemmas.List.{drop-append-le, get_or_append_left, get_or_default, length-append, length-drop}
+use Rattle.std.proofs.lemmas.List.{take-append-drop, take-append-le}
+use Rattle.smt_nodes.specs.Internal.Lists.{before}
+
+-- the second is the first, and perhaps more behind
+abbrev pub Goes : {A : Type 0} → List A → List A → Type 0
+Goes {A} xs ys = (more : List A) × (ys ≡ xs ++ more)
+
+-- what stands at a place stays there
+pub get_kept : {A : Type 0} (xs more : List A) (i : ℕ) (x : A) → slice_get xs i ≡ Some x
+    → slice_get (xs ++ more) i ≡ Some x
+get_kept [] more i x h = cc
+get_kept (y ∷ ys) more zero x h = h
+get_kept (y ∷ ys) more (suc i) x h = get_kept ys more i x h
+
+-- what stands at a place with one more behind stood there, or is that one
+pub get_pushed : {A : Type 0} (xs : List A) (y : A) (i : ℕ) (x : A) → slice_get (xs ++ y ∷ []) i ≡ Some x
+    → (slice_get xs i ≡ Some x) ⊎ ((i ≡ length xs) × (y ≡ x))
+get_pushed [] y zero x h = inr (refl, cc)
+get_pushed [] y (suc i) x h = cc
+get_pushed (z ∷ zs) y zero x h = inl h
+get_pushed {A = A} (z ∷ zs) y (suc i) x h = by (get_pushed zs y i x h)
+  where
+    by : (slice_get zs i ≡ Some x) ⊎ ((i ≡ length zs) × (y ≡ x))
+        → (slice_get zs i ≡ Some x) ⊎ ((suc i ≡ suc (length zs)) × (y ≡ x))
+    by (inl g) = inl g
+    by (inr (e, g)) = inr (ap (λ n. suc n) e, g)
+
+-- what stands among the first so many stands among all
+pub get_taken : {A : Type 0} (n : ℕ) (xs : List A) (i : ℕ) (x : A) → slice_get (take n xs) i ≡ Some x
+    → slice_get xs i ≡ Some x
+get_taken {A = A} n xs i x h =
+    ap (λ (ys : List A). slice_get ys i) (sym (take-append-drop n xs)) ∙ get_kept (take n xs) (drop n xs) i x h
+
+-- functions that agree on what stands in a list
+pub map_same : {A B : Type 0} (f g : A → B) (xs : List A)
+    → ((i : ℕ) (x : A) → slice_get xs i ≡ Some x → f x ≡ g x) → map f xs ≡ map g xs
+map_same f g [] h = refl
+map_same f g (x ∷ xs) h =
+    let first : f x ≡ g x = h 0 x refl in
+    let rest : map f xs ≡ map g xs = map_same f g xs (λ i y at. h (suc i) y at) in
+    cc
+
+-- so many up to an end stay as more comes behind
+pub before_kept : {A : Type 0} (n end : ℕ) (xs ys : List A) → end ≤ length xs → Goes xs ys
+    → before n end ys ≡ before n end xs
+before_kept {A = A} n end xs ys within (more, is) =
+    let start : end - n ≤ length xs = omega arith in
+    let rest : end - (end - n) ≤ length (drop (end - n) xs) = omega (arith, length-drop (end - n) xs) in
+    ap (λ (zs : List A). before n end zs) is
+    ∙ ap (λ (zs : List A). take (end - (end - n)) zs) (drop-append-le (end - n) xs more start)
+    ∙ take-append-le (end - (end - n)) (drop (end - n) xs) more rest
+
+-- what is read at a place stays, whatever stands for none
+pub read_kept : {A : Type 0} (xs ys : List A) (i : ℕ) (d e : A) → i < length xs → Goes xs ys
+    → get_or ys i d ≡ get_or xs i e
+read_kept {A = A} xs ys i d e within (more, is) =
+    ap (λ (zs : List A). get_or zs i d) is ∙ get_or_append_left xs more d i within
+    ∙ get_or_default xs i d e within
+
+-- a list that grows is no shorter
+pub longer : {A : Type 0} (xs ys : List A) → Goes xs ys → length xs ≤ length ys
+longer {A = A} xs ys (more, is) =
+    let len : length ys ≡ length xs + length more =
+    ap (λ (zs : List A). length zs) is ∙ length-append xs more in
+    omega (arith, len)

@@ -1,0 +1,3 @@
+pub mod PlainOp
+pub mod Lists
+pub mod Rows

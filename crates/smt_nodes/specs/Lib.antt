@@ -1,0 +1,4 @@
+pub mod Node
+pub mod NodeView
+pub mod Nodes
+pub mod Internal

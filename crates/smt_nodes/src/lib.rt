@@ -1,0 +1,24 @@
+//! Terms that are checked, as numbered nodes in one flat table. This crate knows no names, no trees and no
+//! values, and asks nothing of a node: its numbers and places mean what the layer above has them mean.
+//!
+//! `Nodes::push` adds a node and answers its number, `Nodes::get` answers the node of a number, and
+//! `Nodes::cut` leaves the first so many. So `(+ x 1)`, where `x` is the first variable in scope:
+//!
+//! ```text
+//! let x = nodes.push(Node::Slot(0), Sort::Int)?;                            // 0
+//! let one = nodes.push(Node::Numeral(b"1"), Sort::Int)?;                    // 1
+//! let sum = nodes.push(Node::Apply { op: plus, args: &[x, one] }, Sort::Int)?;
+//! nodes.get(sum.number())                                                   // Some(Node::Apply { .. })
+//! ```
+#![tactic(auto)]
+
+mod node;
+mod op;
+mod rows;
+mod table;
+mod tables;
+mod term_id;
+
+pub use node::Node;
+pub use table::Nodes;
+pub use term_id::TermId;

@@ -1,0 +1,25 @@
+//! Nodes, as a caller writes and reads them. This file does not know how a table holds them.
+
+use crate::term_id::TermId;
+use smt_theory::Op;
+
+/// A node of a term (SMT-LIB 2.6, section 3.6). Its parts are nodes, by their numbers.
+#[derive(Clone, Copy)]
+pub enum Node<'a> {
+    /// A numeral, by its decimal digits.
+    Numeral(&'a [u8]),
+    /// A hexadecimal literal, by its digits.
+    Hex(&'a [u8]),
+    /// A binary literal, by its digits.
+    Bin(&'a [u8]),
+    /// A variable: a place of the frame, from 0.
+    Slot(usize),
+    /// An operator of a theory, with its arguments.
+    Apply { op: Op, args: &'a [TermId] },
+    /// A declared name, by its place among these, from 0, with its arguments.
+    Declared { place: usize, args: &'a [TermId] },
+    /// A defined name, by its place among these, from 0, with its arguments.
+    Defined { place: usize, args: &'a [TermId] },
+    /// A `let`: the values of its variables, and its body.
+    Let { values: &'a [TermId], body: TermId },
+}

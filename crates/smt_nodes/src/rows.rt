@@ -1,0 +1,43 @@
+//! The rows of a table as they are stored. What is long lies in lists behind them, of which this file knows
+//! only how far they reach.
+
+use crate::op::PlainOp;
+use crate::term_id::TermId;
+use smt_theory::Sort;
+
+/// How much of each list belongs to a row and those before it.
+#[derive(Clone, Copy)]
+pub(crate) struct Ends {
+    pub(crate) parts: u32,
+    pub(crate) digits: u32,
+    pub(crate) ops: u32,
+}
+
+/// A node with the counts of its digits or arguments, which end where the row ends.
+#[derive(Clone, Copy)]
+pub(crate) enum Stored {
+    /// So many digits; likewise the next two.
+    Numeral(u32),
+    Hex(u32),
+    Bin(u32),
+    Slot(u32),
+    /// An operator, and so many arguments.
+    Plain(PlainOp, u32),
+    /// The place of an operator among those with numbers, and so many arguments.
+    Numbered(u32, u32),
+    /// A place, and so many arguments; likewise the next.
+    Declared(u32, u32),
+    Defined(u32, u32),
+    /// So many values, and the body.
+    Let(u32, TermId),
+    /// The node of the row of this number, with so many annotations round it.
+    Same(u32, u32),
+}
+
+/// A row.
+#[derive(Clone, Copy)]
+pub(crate) struct StoredRow {
+    pub(crate) stored: Stored,
+    pub(crate) sort: Sort,
+    pub(crate) ends: Ends,
+}

@@ -1,0 +1,203 @@
+//! The table of nodes. This file knows no term: it asks nothing of what a node says.
+
+ghost use Rattle.std.proofs.Props.{props};
+ghost use Rattle.std.specs.Prelude.{◌≡◌, IfOk};
+ghost use Rattle.smt_nodes.specs.Internal.Lists.{lists_of};
+ghost use Rattle.smt_nodes.specs.Internal.Rows.{IsSound, annotated, around_of, last_ends};
+
+use crate::node::Node;
+use crate::rows::{Ends, Stored, StoredRow};
+use crate::tables::{Tables, narrow};
+use crate::term_id::TermId;
+use smt_faults::Memory;
+use smt_theory::Sort;
+use std::alloc::Global;
+
+/// Nodes by their numbers, from 0, in the order in which they came: each with its sort, and with how many
+/// annotations without a label stand directly round it (`!`, SMT-LIB 2.6, section 3.6.5). At most 2^32 - 1
+/// nodes, and as many arguments and digits in all.
+#[derive(Drop)]
+pub struct Nodes {
+    rows: Vec<StoredRow>,
+    tables: Tables,
+    ghost sound: { IsSound rows.items (lists_of tables) } by { Prim.hlevel props },
+}
+
+impl Nodes {
+    ghost use Rattle.std.specs.Prelude.{ℕ, ◌≡◌, ◌<◌, ◌≤◌, ◌∷◌, ◌++◌, ◌+◌, [], length, take, slice_get};
+    ghost use Rattle.std.specs.Prelude.{Some, option_map, IfOk, OnOk, OnErr};
+    ghost use Rattle.smt_nodes.specs.Node.{Row};
+    ghost use Rattle.smt_nodes.specs.NodeView.{node_view};
+    ghost use Rattle.smt_nodes.specs.Nodes.{rows_of};
+    ghost use Rattle.smt_nodes.specs.Internal.Lists.{IsHeld, lengths, rows_in};
+    ghost use Rattle.smt_nodes.specs.Internal.Rows.{row_view, source};
+
+    /// A table without nodes.
+    pub fn new(alloc: Global) -> Nodes
+        ensures { rows_of result ≡ [] }
+    {
+        Nodes {
+            rows: Vec::new(alloc),
+            tables: Tables::new(alloc),
+        }
+    }
+
+    /// How many nodes there are.
+    pub fn len(&self) -> usize
+        ensures { result ≡ length (rows_of self.now) }
+    {
+        self.rows.len()
+    }
+
+    /// The node of a number; `None` from the length on.
+    pub fn get(&self, number: usize) -> Option<Node<'_>>
+        ensures { option_map node_view result
+            ≡ option_map (λ row. row.node) (slice_get (rows_of self.now) number) }
+    {
+        match self.row(number) {
+            Some(row) => Some(self.node(row)),
+            None => None,
+        }
+    }
+
+    /// The sort of the node of a number; `None` from the length on.
+    pub fn sort(&self, number: usize) -> Option<Sort>
+        ensures { result ≡ option_map (λ row. row.sort) (slice_get (rows_of self.now) number) }
+    {
+        match self.row(number) {
+            Some(row) => Some(row.sort),
+            None => None,
+        }
+    }
+
+    /// How many annotations without a label stand directly round the node of a number; `None` from the length
+    /// on.
+    pub fn around(&self, number: usize) -> Option<usize>
+        ensures { result ≡ option_map (λ row. row.around) (slice_get (rows_of self.now) number) }
+    {
+        match self.row(number) {
+            Some(row) => Some(around(row.stored) as usize),
+            None => None,
+        }
+    }
+
+    /// Adds a node of a sort, without annotations round it, and answers its number. If memory is refused, no
+    /// node is added.
+    pub fn push(&mut self, node: &Node<'_>, sort: Sort) -> Result<TermId, Memory>
+        ensures pushed { OnOk result (rows_of self.new
+            ≡ rows_of self.old ++ (record { node = node_view node.now; sort = sort; around = 0 }) ∷ []) }
+        ensures number { IfOk result (λ id. id ≡ length (rows_of self.old)) }
+        ensures unchanged { OnErr result (rows_of self.new ≡ rows_of self.old) }
+    {
+        let stored = self.tables.store(node)?;
+        self.push_row(stored, sort)
+    }
+
+    /// Adds the node of a number once more, with one annotation more round it, and answers the new number. If
+    /// memory is refused, no node is added. The cost does not grow with the node's arguments.
+    pub fn annotate(&mut self, id: TermId) -> Result<TermId, Memory>
+        requires { id < length (rows_of self.old) }
+        ensures pushed { OnOk result ((row : Row) × (slice_get (rows_of self.old) id ≡ Some row)
+            × (rows_of self.new ≡ rows_of self.old ++ (record row { around = row.around + 1 }) ∷ [])) }
+        ensures number { IfOk result (λ new. new ≡ length (rows_of self.old)) }
+        ensures unchanged { OnErr result (rows_of self.new ≡ rows_of self.old) }
+    {
+        let row = self.rows.as_slice()[id.number()];
+        let stored = annotated(id, row.stored)?;
+        self.push_row(stored, row.sort)
+    }
+
+    /// Leaves the first so many nodes, at the cost of what goes.
+    pub fn cut(&mut self, count: usize)
+        ensures { rows_of self.new ≡ take count (rows_of self.old) }
+    {
+        self.rows.truncate(count);
+        let ends = last_ends(self.rows.as_slice());
+        self.tables.truncate(ends);
+    }
+
+    // Adds a row behind lists that hold what it stores, and answers its number.
+    fn push_row(&mut self, stored: Stored, sort: Sort) -> Result<TermId, Memory>
+        requires held { IsHeld (lengths (lists_of self.old.tables)) stored }
+        requires below { rows_in stored ≤ length self.old.rows.items }
+        ensures pushed { OnOk result (self.new.rows.items ≡ self.old.rows.items
+            ++ (record { stored = stored; sort = sort; ends = lengths (lists_of self.old.tables) }) ∷ []) }
+        ensures number { IfOk result (λ id. id ≡ length self.old.rows.items) }
+        ensures unchanged { OnErr result (self.new.rows.items ≡ self.old.rows.items) }
+        ensures tables { self.new.tables ≡ self.old.tables }
+    {
+        let number = narrow(self.rows.len())?;
+        let ends = self.tables.ends()?;
+        self.rows.push(StoredRow { stored, sort, ends })?;
+        Ok(TermId::new(number))
+    }
+
+    // The row of a number.
+    fn row(&self, number: usize) -> Option<StoredRow>
+        ensures { result ≡ slice_get self.now.rows.items number }
+    {
+        match self.rows.as_slice().get(number) {
+            Some(row) => Some(*row),
+            None => None,
+        }
+    }
+
+    // The row that holds the node of a row.
+    fn source(&self, row: StoredRow) -> StoredRow
+        ensures { result ≡ source self.now.rows.items row }
+    {
+        match row.stored {
+            Stored::Same(number, _) => match self.row(number as usize) {
+                Some(found) => found,
+                None => row,
+            },
+            _ => row,
+        }
+    }
+
+    // The node of a row.
+    fn node(&self, row: StoredRow) -> Node<'_>
+        requires { (i : ℕ) × (slice_get self.now.rows.items i ≡ Some row) }
+        ensures { node_view result ≡ (row_view self.now.rows.items (lists_of self.now.tables) row).node }
+    {
+        let source = self.source(row);
+        self.tables.node(source.ends, source.stored)
+    }
+}
+
+// How many annotations stand round the node of a row.
+fn around(stored: Stored) -> u32
+    ensures { result ≡ around_of stored }
+{
+    match stored {
+        Stored::Same(_, around) => around,
+        _ => 0,
+    }
+}
+
+// The node of a row of this number, with one annotation more round it.
+fn annotated(id: TermId, stored: Stored) -> Result<Stored, Memory>
+    ensures { IfOk result (λ s. s ≡ annotated id stored) }
+{
+    match stored {
+        Stored::Same(number, around) => match around.checked_add(1) {
+            Some(more) => Ok(Stored::Same(number, more)),
+            None => Err(Memory),
+        },
+        _ => Ok(Stored::Same(id.raw(), 1)),
+    }
+}
+
+// How far the last row reaches.
+fn last_ends(rows: &[StoredRow]) -> Ends
+    ensures { result ≡ last_ends rows.now }
+{
+    match rows.last() {
+        Some(row) => row.ends,
+        None => Ends {
+            parts: 0,
+            digits: 0,
+            ops: 0,
+        },
+    }
+}
