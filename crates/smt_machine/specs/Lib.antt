@@ -1,4 +1,3 @@
-pub mod StandIn
 pub mod Nodes
 pub mod Given
 pub mod Tables

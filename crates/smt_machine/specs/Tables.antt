@@ -3,8 +3,8 @@
 use Rattle.std.specs.Prelude.{ℕ, ◌+◌, List, [], ◌++◌, Option, Some, None, length, map, option_map, slice_get}
 use Rattle.smt_values.specs.Literals.{bin_element, hex_element, numeral_element}
 use Rattle.smt_machine.specs.Nodes as machine
-use Rattle.smt_machine.specs.StandIn.Node.{Node, Numeral, Hexadecimal, Binary, Slot, Apply, Declared, Defined, Let}
-use Rattle.smt_machine.specs.StandIn.Nodes.{rows_of}
+use Rattle.smt_nodes.specs.Node.{Node, Numeral, Hexadecimal, Binary, Slot, Apply, Declared, Defined, Let}
+use Rattle.smt_nodes.specs.Nodes.{rows_of}
 use Rattle.smt_machine.specs.declared.tables.Tables.{Tables}
 
 -- numbers of a table whose nodes stand behind so many others

@@ -19,7 +19,7 @@ use crate::machine::Machine;
 use crate::step::{Part, Parts, Step};
 use crate::tables::Tables;
 use crate::task::{Task, task_of};
-use crate::term_id::TermId;
+use smt_nodes::TermId;
 use smt_faults::Memory;
 use smt_theory::{CoreOp, Op};
 use smt_values::Value;

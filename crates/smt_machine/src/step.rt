@@ -1,6 +1,6 @@
 //! A node as the machine fetches it, and its parts. This file knows no table.
 
-use crate::term_id::TermId;
+use smt_nodes::TermId;
 use smt_theory::Op;
 use smt_values::Value;
 

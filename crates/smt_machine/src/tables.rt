@@ -2,14 +2,13 @@
 
 ghost use Rattle.std.specs.Prelude.{◌≡◌, ◌+◌, [], MatchOption, None, Some, length, option_map, slice_get};
 ghost use Rattle.smt_machine.specs.Internal.Steps.{number_of, numbers_of, step_view};
-ghost use Rattle.smt_machine.specs.StandIn.NodeView.{node_view};
-ghost use Rattle.smt_machine.specs.StandIn.Nodes.{rows_of};
+ghost use Rattle.smt_nodes.specs.NodeView.{node_view};
+ghost use Rattle.smt_nodes.specs.Nodes.{rows_of};
 ghost use Rattle.smt_machine.specs.Tables.{call, model_count, nodes_of, resolved};
 
 use crate::items::item_at;
-use crate::nodes::{Node, Nodes};
 use crate::step::{Part, Parts, Step};
-use crate::term_id::TermId;
+use smt_nodes::{Node, Nodes, TermId};
 use smt_values::{bin, hex, numeral};
 
 /// The tables of a model and of a script, and the bodies of definitions. A place that is not there, and a part

@@ -1,3 +1,0 @@
-pub mod Node
-pub mod NodeView
-pub mod Nodes
