@@ -1,16 +1,15 @@
 -- What a table is filled with, and that each node's value and cost are made of those below it.
 use Rattle.std.proofs.Common.{◌≡◌, ℕ, zero, suc, ◌+◌, ◌<◌, ◌≤◌, Bool, true, false, cond, List, [], ◌∷◌, ◌++◌}
-use Rattle.std.proofs.Common.{length, map, slice_get, Option, Some, None, refl, ap, sym, ◌∙◌, subst, arith}
-use Rattle.std.proofs.Common.{nat_eq, nat_lt, inl, inr, ◌⊎◌}
+use Rattle.std.proofs.Common.{length, slice_get, Option, Some, None, refl, ap, sym, ◌∙◌, subst, arith, nat_eq}
+use Rattle.std.proofs.Common.{nat_lt, inl, inr, ◌⊎◌}
 use Rattle.std.proofs.lemmas.Bool.{ltb-true}
 use Rattle.std.proofs.lemmas.Bool.Decides.{nat_tests}
 use Rattle.std.proofs.lemmas.Option.{slice_get_past}
-use Rattle.smt_theory.specs.declared.op.Op.{Op}
-use Rattle.smt_values.specs.Element.{Element}
 use Rattle.smt_values.specs.KnownOperations.{known_step}
 use Rattle.smt_machine.specs.Given.{fill, given, open_everywhere}
 use Rattle.smt_machine.specs.Internal.Costs.{cost, first_cost, last_cost, part_cost, parts_cost}
-use Rattle.smt_machine.specs.Nodes.{Frame, Giving, Node, Known, Slot, Apply, Call, Let, node_value, part, parts}
+use Rattle.smt_machine.specs.Nodes.{Frame, Giving, Node, Known, Slot, Apply, Call, Let, node_value, part}
+use Rattle.smt_machine.specs.Nodes.{parts}
 
 -- ---- what is filled
 
@@ -149,7 +148,8 @@ cost_by i c d j false e agree = refl
 part_cost_same : (i : ℕ) (c d : ℕ → ℕ) (j : ℕ) → CostBelow i c d → part_cost i c j ≡ part_cost i d j
 part_cost_same i c d j agree = cost_by i c d j (nat_lt j i) refl agree
 
-parts_cost_same : (i : ℕ) (c d : ℕ → ℕ) (js : List ℕ) → CostBelow i c d → parts_cost i c js ≡ parts_cost i d js
+parts_cost_same : (i : ℕ) (c d : ℕ → ℕ) (js : List ℕ) → CostBelow i c d
+    → parts_cost i c js ≡ parts_cost i d js
 parts_cost_same i c d [] agree = refl
 parts_cost_same i c d (j ∷ js) agree =
     let first = part_cost_same i c d j agree in let rest = parts_cost_same i c d js agree in cc
@@ -177,17 +177,20 @@ cost_law_by : (nodes : List Node) (i : ℕ) → (i < length nodes) ⊎ (length n
     ≡ 1 + first_cost i (cost nodes) (slice_get nodes i) + last_cost i (cost nodes) (slice_get nodes i)
 unfolding cost
 cost_law_by nodes i (inl h) =
-    let make : (ℕ → ℕ) → ℕ → ℕ = λ c k. 1 + first_cost k c (slice_get nodes k) + last_cost k c (slice_get nodes k) in
+    let make : (ℕ → ℕ) → ℕ → ℕ =
+    λ c k. 1 + first_cost k c (slice_get nodes k) + last_cost k c (slice_get nodes k) in
     let base : ℕ → ℕ = λ k. 1 in
     let agree : CostBelow i (fill base make i) (cost nodes) = record {
       at = λ j below. fill_at base make i j below ∙ sym (fill_at base make (length nodes) j (omega arith));
     } in
     let first = first_cost_same i (fill base make i) (cost nodes) (slice_get nodes i) agree in
     let last = last_cost_same i (fill base make i) (cost nodes) (slice_get nodes i) agree in
-    fill_at base make (length nodes) i h ∙ ap (λ k. 1 + k + last_cost i (fill base make i) (slice_get nodes i)) first
+    fill_at base make (length nodes) i h
+    ∙ ap (λ k. 1 + k + last_cost i (fill base make i) (slice_get nodes i)) first
     ∙ ap (λ k. 1 + first_cost i (cost nodes) (slice_get nodes i) + k) last
 cost_law_by nodes i (inr h) =
-    let make : (ℕ → ℕ) → ℕ → ℕ = λ c k. 1 + first_cost k c (slice_get nodes k) + last_cost k c (slice_get nodes k) in
+    let make : (ℕ → ℕ) → ℕ → ℕ =
+    λ c k. 1 + first_cost k c (slice_get nodes k) + last_cost k c (slice_get nodes k) in
     let base : ℕ → ℕ = λ k. 1 in
     fill_past base make (length nodes) i h
     ∙ ap (λ n. 1 + first_cost i (cost nodes) n + last_cost i (cost nodes) n) (sym (slice_get_past nodes i h))

@@ -1,25 +1,22 @@
 -- What stacks of tasks lead to, and how much is left to do.
-use Rattle.std.proofs.Common.{◌≡◌, ℕ, zero, suc, ◌+◌, ◌-◌, ◌*◌, ◌<◌, ◌≤◌, Bool, true, false, cond, List, [], ◌∷◌}
-use Rattle.std.proofs.Common.{◌++◌, length, map, take, drop, min, slice_get, Option, Some, None, refl, ap, sym, ◌∙◌}
+use Rattle.std.proofs.Common.{◌≡◌, ℕ, ◌+◌, ◌-◌, ◌*◌, ◌<◌, Bool, true, false, cond, List, [], ◌∷◌, ◌++◌}
+use Rattle.std.proofs.Common.{length, map, take, drop, slice_get, Option, Some, None, refl, ap, sym, ◌∙◌}
 use Rattle.std.proofs.Common.{subst, arith, nat_lt, append_assoc, append-nil, length-append}
 use Rattle.std.proofs.Math.Seq.{drop-append_seam}
-use Rattle.std.proofs.lemmas.List.{length-map, drop-append-le, map-append, take-append-le, take_all}
-use Rattle.smt_theory.specs.declared.op.CoreOp.TheVariants.{Ite}
-use Rattle.smt_theory.specs.declared.op.Op.{Op}
-use Rattle.smt_theory.specs.declared.op.Op.TheVariants.{Core}
+use Rattle.std.proofs.lemmas.List.{length-map, map-append, take-append-le, take_all}
 use Rattle.smt_values.specs.Element.{Element}
-use Rattle.smt_values.specs.KnownOperations.{known_choice, known_step}
+use Rattle.smt_values.specs.KnownOperations.{known_step}
 use Rattle.smt_machine.proofs.GivenLemmas.{given_law, cost_law}
 use Rattle.smt_machine.specs.Given.{given}
-use Rattle.smt_machine.specs.Internal.Costs.{cost, first_cost, last_cost, part_cost, parts_cost}
-use Rattle.smt_machine.specs.Internal.States.{State, before_last, frame_of, last_of, state_of, with_frames}
-use Rattle.smt_machine.specs.Internal.States.{with_last, with_moved, with_value}
-use Rattle.smt_machine.specs.Internal.Tasks.{IsAt, IsBased, IsPlanned, IsStep, finished, part_task, run, run_all}
-use Rattle.smt_machine.specs.Internal.Tasks.{task_work, visits, work}
+use Rattle.smt_machine.specs.Internal.Costs.{cost, first_cost, part_cost, parts_cost}
+use Rattle.smt_machine.specs.Internal.States.{State, before_last, frame_of, last_of, state_of, with_last}
+use Rattle.smt_machine.specs.Internal.States.{with_value}
+use Rattle.smt_machine.specs.Internal.Tasks.{IsAt, IsBased, IsPlanned, IsStep, finished, part_task, run}
+use Rattle.smt_machine.specs.Internal.Tasks.{run_all, task_work, visits, work}
 use Rattle.smt_machine.specs.Nodes.{Frame, Node, Known, Slot, Apply, Call, Let, node_value, part, parts}
 use Rattle.smt_machine.specs.declared.machine.Machine.{Machine}
 use Rattle.smt_machine.specs.declared.task.Task.{Task}
-use Rattle.smt_machine.specs.declared.task.Task.TheVariants.{Visit, Open, Finish, Choose, Return, Unbind}
+use Rattle.smt_machine.specs.declared.task.Task.TheVariants.{Visit, Open, Finish}
 
 -- ---- stacks of tasks
 
@@ -78,8 +75,12 @@ work_part nodes i j = work_part_by nodes i j (nat_lt j i)
 pub work_visits : (nodes : List Node) (i : ℕ) (js : List ℕ)
     → work nodes (visits i js) ≡ 3 * parts_cost i (cost nodes) js
 work_visits nodes i [] = refl
-work_visits nodes i (j ∷ js) = omega (arith, work-append nodes (visits i js) (part_task i j ∷ []),
-    work_visits nodes i js, work_part nodes i j)
+work_visits nodes i (j ∷ js) = omega (
+  arith,
+  work-append nodes (visits i js) (part_task i j ∷ []),
+  work_visits nodes i js,
+  work_part nodes i j,
+)
 
 -- ---- the last values
 
@@ -95,8 +96,8 @@ before_last_more xs ys n h =
     ∙ take_all (length xs) xs (omega arith)
 
 -- what is made of the last values, when they were left just now
-pub made_of_last : (f : List (Option Element) → Option Element) (vs : List (Option Element)) (n : ℕ) (s : State)
-    → n ≡ length vs
+pub made_of_last : (f : List (Option Element) → Option Element) (vs : List (Option Element))
+    (n : ℕ) (s : State) → n ≡ length vs
     → with_last n (f (last_of n (s.values ++ vs))) (with_values vs s) ≡ with_value (f vs) s
 made_of_last f vs n s h =
     ap (λ xs. with_last n (f xs) (with_values vs s)) (last_of_more s.values vs n h)
@@ -129,7 +130,8 @@ finish_law nodes i (Apply op args) s h =
     made_of_last (known_step op) (parts i (given nodes) (frame_of s) args) (length args) s
     (length_parts nodes i (frame_of s) args)
 finish_law nodes i (Call body args) s h =
-    made_of_last (λ vs. part i (given nodes) vs body) (parts i (given nodes) (frame_of s) args) (length args) s
+    made_of_last (λ vs. part i (given nodes) vs body) (parts i (given nodes) (frame_of s) args)
+    (length args) s
     (length_parts nodes i (frame_of s) args)
 finish_law nodes i (Let values body) s h =
     made_of_last (λ vs. part i (given nodes) (frame_of s ++ vs) body)
@@ -181,8 +183,8 @@ pub visited : (nodes : List Node) (i : ℕ) (n : Option Node) (v : Option Elemen
     → IsStep nodes (Visit i) before after
 visited nodes i n v before after at is made based =
     let e : given nodes i (frame_of (state_of before)) ≡ v =
-        given_law nodes i (frame_of (state_of before))
-        ∙ ap (node_value i (given nodes) (frame_of (state_of before))) (sym at) ∙ is in
+    given_law nodes i (frame_of (state_of before))
+    ∙ ap (node_value i (given nodes) (frame_of (state_of before))) (sym at) ∙ is in
     settled nodes (Visit i) before after
     (let P : Option Element → Type 0 = λ w. IsAt (with_value w (state_of before)) before after in
     subst P (sym e) made) based (omega (arith, cost_law nodes i))
@@ -204,7 +206,8 @@ visit_planned nodes i n before after at compound is based =
     let s : State = state_of before in
     planned nodes (Visit i) before after (Finish i ∷ visits i (first_parts n)) s is
     (ap (run nodes (Finish i)) (run_visits nodes i (first_parts n) s)
-    ∙ ap (λ m. finished nodes i m (with_values (parts i (given nodes) (frame_of s) (first_parts n)) s)) (sym at)
+    ∙ ap (λ m. finished nodes i m (with_values (parts i (given nodes) (frame_of s) (first_parts n)) s))
+    (sym at)
     ∙ finish_law nodes i n s compound
     ∙ ap (λ m. with_value (node_value i (given nodes) (frame_of s) m) s) at
     ∙ ap (λ v. with_value v s) (sym (given_law nodes i (frame_of s))))

@@ -1,9 +1,9 @@
 -- What a step of the machine does for each task and each form of node.
-use Rattle.std.proofs.Common.{◌≡◌, ℕ, zero, suc, ◌+◌, ◌-◌, ◌*◌, ◌<◌, ◌≤◌, Bool, true, false, cond, List, [], ◌∷◌}
-use Rattle.std.proofs.Common.{◌++◌, length, map, take, drop, min, slice_get, Option, Some, None, refl, ap, sym, ◌∙◌}
-use Rattle.std.proofs.Common.{subst, arith, append-nil, length-append, length-drop, Result, Ok, Err, IfOk}
+use Rattle.std.proofs.Common.{◌≡◌, ℕ, ◌+◌, ◌-◌, ◌*◌, ◌<◌, ◌≤◌, Bool, true, false, cond, List, [], ◌∷◌, ◌++◌}
+use Rattle.std.proofs.Common.{length, take, min, slice_get, Option, Some, None, refl, ap, sym, ◌∙◌, subst}
+use Rattle.std.proofs.Common.{arith, length-append, length-drop, Result, Ok, Err, IfOk}
 use Rattle.std.proofs.Math.Seq.{drop-append_seam}
-use Rattle.std.proofs.lemmas.List.{length-map, drop-append-le, take-append-le, take_all}
+use Rattle.std.proofs.lemmas.List.{drop-append-le, take-append-le, take_all}
 use Rattle.std.specs.Prelude.{option_and_then, if◌then◌else◌}
 use Rattle.smt_theory.specs.declared.op.CoreOp.TheVariants.{Ite}
 use Rattle.smt_theory.specs.declared.op.Op.{Op}
@@ -14,16 +14,17 @@ use Rattle.smt_machine.proofs.GivenLemmas.{given_law, cost_law}
 use Rattle.smt_machine.proofs.RunLemmas.{made_of_last, planned, run_all-append, run_part, run_visits, settled}
 use Rattle.smt_machine.proofs.RunLemmas.{work-append, work_part, work_visits, with_values}
 use Rattle.smt_machine.specs.Given.{given}
-use Rattle.smt_machine.specs.Internal.Costs.{cost, first_cost, last_cost, part_cost, parts_cost}
+use Rattle.smt_machine.specs.Internal.Costs.{cost, first_cost, last_cost, part_cost}
 use Rattle.smt_machine.specs.Internal.States.{State, before_last, first_of, frame_of, last_of, state_of}
-use Rattle.smt_machine.specs.Internal.States.{with_frames, with_last, with_moved, with_value, without_last}
+use Rattle.smt_machine.specs.Internal.States.{with_last, with_moved, with_value, without_last}
 use Rattle.smt_machine.specs.Internal.Tasks.{IsAt, IsBased, IsBegun, IsChoice, IsPlanned, IsRunning, IsStep}
-use Rattle.smt_machine.specs.Internal.Tasks.{branches_cost, branches_of, empty_state}
-use Rattle.smt_machine.specs.Internal.Tasks.{chosen, chosen_between, chosen_cost, finished, part_task, run, run_all, task_work, visits, work}
-use Rattle.smt_machine.specs.Nodes.{Frame, Node, Known, Slot, Apply, Call, Let, node_value, part, parts}
+use Rattle.smt_machine.specs.Internal.Tasks.{branches_cost, branches_of, empty_state, chosen, chosen_between}
+use Rattle.smt_machine.specs.Internal.Tasks.{chosen_cost, finished, part_task, run, run_all, task_work}
+use Rattle.smt_machine.specs.Internal.Tasks.{visits, work}
+use Rattle.smt_machine.specs.Nodes.{Node, Apply, Call, Let, node_value, part}
 use Rattle.smt_machine.specs.declared.machine.Machine.{Machine}
 use Rattle.smt_machine.specs.declared.task.Task.{Task}
-use Rattle.smt_machine.specs.declared.task.Task.TheVariants.{Visit, Open, Finish, Choose, Return, Unbind}
+use Rattle.smt_machine.specs.declared.task.Task.TheVariants.{Visit, Finish, Choose, Return, Unbind}
 
 -- what follows from what holds unless memory was refused
 pub if_done : {T E : Type 0} {P Q : Type 0} (r : Result T E) → IfOk r (λ _. P) → (P → Q) → IfOk r (λ _. Q)
@@ -35,7 +36,7 @@ pub idle : (nodes : List Node) (task : Task) (m : Machine)
     → run nodes task (state_of m) ≡ state_of m
     → IsBased (state_of m) → 0 < task_work nodes task → IsStep nodes task m m
 idle nodes task m same based less =
-    settled nodes task m m (record { tasks = refl; state = sym same; })
+    settled nodes task m m (record { tasks = refl; state = sym same })
     (let P : State → Type 0 = λ s. IsBased s in subst P (sym same) based) less
 
 -- ---- a choice
@@ -66,7 +67,7 @@ pub choice_planned : (nodes : List Node) (i : ℕ) (op : Op) (args condition : L
     → IsStep nodes (Visit i) before after
 choice_planned nodes i op args condition before after at choice is based =
     let here : Some (Apply (Core Ite) (choice.0 ∷ choice.1 ∷ choice.2 ∷ [])) ≡ slice_get nodes i =
-        sym (ap (λ o. Some (Apply o args)) choice.3 ∙ ap (λ js. Some (Apply (Core Ite) js)) choice.4) ∙ at in
+    sym (ap (λ o. Some (Apply o args)) choice.3 ∙ ap (λ js. Some (Apply (Core Ite) js)) choice.4) ∙ at in
     let P : List ℕ → Type 0 = λ js. IsPlanned (Choose i ∷ visits i js) (state_of before) before after in
     choice_planned_at nodes i choice.0 choice.1 choice.2 before after here (subst P choice.5 is) based
 
@@ -85,12 +86,13 @@ chosen_is : (nodes : List Node) (i a b : ℕ) (op : Op) (args : List ℕ) (t : O
     → Some (Apply op args) ≡ slice_get nodes i → Some (a, b) ≡ branches_of args
     → t ≡ known_truth (first_of (last_of 1 s.values))
     → with_last 1 (option_and_then
-        (λ c. if c then part i (given nodes) (frame_of s) a else part i (given nodes) (frame_of s) b) t) s
+    (λ c. if c then part i (given nodes) (frame_of s) a else part i (given nodes) (frame_of s) b) t) s
     ≡ run nodes (Choose i) s
 chosen_is nodes i a b op args t s at branches is =
     let value : ℕ → Option Element = part i (given nodes) (frame_of s) in
     ap (λ o. with_last 1 (option_and_then (λ c. if c then value a else value b) o) s) is
-    ∙ ap (λ v. with_last 1 v s) (sym (choice_known (last_of 1 s.values) (value a) (value b) (length_last s.values)))
+    ∙ ap (λ v. with_last 1 v s) (sym (choice_known (last_of 1 s.values) (value a) (value b)
+    (length_last s.values)))
     ∙ ap (λ p. chosen_between nodes i p s) branches
     ∙ ap (λ m. chosen nodes i m s) at
 
@@ -149,8 +151,8 @@ chosen_none nodes i a b op args t before middle after at branches is none taken 
     let s : State = state_of before in
     let value : ℕ → Option Element = part i (given nodes) (frame_of s) in
     let leads : with_last 1 None s ≡ run nodes (Choose i) s =
-        ap (λ o. with_last 1 (option_and_then (λ k. if k then value a else value b) o) s) (sym none)
-        ∙ chosen_is nodes i a b op args t s at branches is in
+    ap (λ o. with_last 1 (option_and_then (λ k. if k then value a else value b) o) s) (sym none)
+    ∙ chosen_is nodes i a b op args t s at branches is in
     let B : State → Type 0 = λ z. IsBased z in
     settled nodes (Choose i) before after
     (record {
@@ -179,8 +181,8 @@ pub operated_step : (nodes : List Node) (i n : ℕ) (op : Op) (args : List ℕ) 
 operated_step nodes i n op args before after at count is based =
     let s : State = state_of before in
     let leads : with_last n (known_step op (last_of n s.values)) s ≡ run nodes (Finish i) s =
-        ap (λ k. with_last k (known_step op (last_of k s.values)) s) (sym count)
-        ∙ ap (λ m. finished nodes i m s) at in
+    ap (λ k. with_last k (known_step op (last_of k s.values)) s) (sym count)
+    ∙ ap (λ m. finished nodes i m s) at in
     let A : State → Type 0 = λ z. IsAt z before after in
     let B : State → Type 0 = λ z. IsBased z in
     settled nodes (Finish i) before after (subst A leads is)
@@ -198,7 +200,7 @@ state_is vs fs gs m n f b = cc
 pub entered_step : (nodes : List Node) (i n body : ℕ) (args : List ℕ) (before after : Machine)
     → Some (Call body args) ≡ slice_get nodes i → length args ≡ n
     → IsPlanned (Return (state_of before).base ∷ part_task i body ∷ [])
-        (with_moved (length (state_of before).frames) n (state_of before)) before after
+    (with_moved (length (state_of before).frames) n (state_of before)) before after
     → IsBased (state_of before)
     → IsStep nodes (Finish i) before after
 entered_step nodes i n body args before after at count is based =
@@ -207,9 +209,9 @@ entered_step nodes i n body args before after at count is based =
     let inner : State = with_moved len n s in
     let frame : frame_of inner ≡ last_of n s.values = drop-append_seam s.frames (last_of n s.values) in
     let back : take len (s.frames ++ last_of n s.values) ≡ s.frames =
-        take-append-le len s.frames (last_of n s.values) (omega arith) ∙ take_all len s.frames (omega arith) in
+    take-append-le len s.frames (last_of n s.values) (omega arith) ∙ take_all len s.frames (omega arith) in
     let base : min s.base (length (take len (s.frames ++ last_of n s.values))) ≡ s.base =
-        ap (λ fs. min s.base (length fs)) back ∙ lesser_is s.base len based in
+    ap (λ fs. min s.base (length fs)) back ∙ lesser_is s.base len based in
     planned nodes (Finish i) before after (Return s.base ∷ part_task i body ∷ []) inner is
     (ap (run nodes (Return s.base)) (run_part nodes i body inner)
     ∙ state_is (before_last n s.values ++ part i (given nodes) (frame_of inner) body ∷ []) _ _ _ _ back base
@@ -222,7 +224,7 @@ entered_step nodes i n body args before after at count is based =
 pub bound_step : (nodes : List Node) (i n body : ℕ) (values : List ℕ) (before after : Machine)
     → Some (Let values body) ≡ slice_get nodes i → length values ≡ n
     → IsPlanned (Unbind (length (state_of before).frames) ∷ part_task i body ∷ [])
-        (with_moved (state_of before).base n (state_of before)) before after
+    (with_moved (state_of before).base n (state_of before)) before after
     → IsBased (state_of before)
     → IsStep nodes (Finish i) before after
 bound_step nodes i n body values before after at count is based =
@@ -230,11 +232,11 @@ bound_step nodes i n body values before after at count is based =
     let len : ℕ = length s.frames in
     let inner : State = with_moved s.base n s in
     let frame : frame_of inner ≡ frame_of s ++ last_of n s.values =
-        drop-append-le s.base s.frames (last_of n s.values) based in
+    drop-append-le s.base s.frames (last_of n s.values) based in
     let back : take len (s.frames ++ last_of n s.values) ≡ s.frames =
-        take-append-le len s.frames (last_of n s.values) (omega arith) ∙ take_all len s.frames (omega arith) in
+    take-append-le len s.frames (last_of n s.values) (omega arith) ∙ take_all len s.frames (omega arith) in
     let base : min s.base (length (take len (s.frames ++ last_of n s.values))) ≡ s.base =
-        ap (λ fs. min s.base (length fs)) back ∙ lesser_is s.base len based in
+    ap (λ fs. min s.base (length fs)) back ∙ lesser_is s.base len based in
     planned nodes (Finish i) before after (Unbind len ∷ part_task i body ∷ []) inner is
     (ap (run nodes (Unbind len)) (run_part nodes i body inner)
     ∙ state_is (before_last n s.values ++ part i (given nodes) (frame_of inner) body ∷ []) _ _ _ _ back base
@@ -256,8 +258,8 @@ started nodes i m begun =
     }
 
 -- with a task that is taken off
-pub taken_based : (nodes : List Node) (v : Option Element) (before middle : Machine) → IsRunning nodes v before
-    → state_of middle ≡ state_of before → IsBased (state_of middle)
+pub taken_based : (nodes : List Node) (v : Option Element) (before middle : Machine)
+    → IsRunning nodes v before → state_of middle ≡ state_of before → IsBased (state_of middle)
 taken_based nodes v before middle running state =
     let B : State → Type 0 = λ z. IsBased z in subst B (sym state) running.based
 

@@ -1,5 +1,5 @@
 -- What is known of each node of a table: the table is filled from below.
-use Rattle.std.specs.Prelude.{ℕ, zero, suc, ◌==◌, List, Option, None, length, slice_get, if◌then◌else◌}
+use Rattle.std.specs.Prelude.{ℕ, zero, suc, ◌==◌, List, None, length, slice_get, if◌then◌else◌}
 use Rattle.smt_machine.specs.Nodes.{Giving, Node, node_value}
 
 -- n entries, each made of those below it; the others are as in `base`

@@ -1,5 +1,5 @@
--- The nodes of a model and of a script in one list, where the script's stand behind the model's: names lead to
--- the bodies of their definitions.
+-- The nodes of a model and of a script in one list, where the script's stand behind the model's and names
+-- lead to the bodies of their definitions.
 use Rattle.std.specs.Prelude.{ℕ, ◌+◌, List, [], ◌++◌, Option, Some, None, length, map, option_map, slice_get}
 use Rattle.smt_values.specs.Literals.{bin_element, hex_element, numeral_element}
 use Rattle.smt_machine.specs.Nodes as machine

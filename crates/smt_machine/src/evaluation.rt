@@ -1,7 +1,7 @@
 //! Evaluation of nodes, one task after another. This file knows no stack.
 
-ghost use Rattle.std.specs.Prelude.{◌≡◌, ◌+◌, ◌∷◌, [], ℕ, IfOk, IfSome, IsTrue, List, MatchOption, None, Option, Some, length};
-ghost use Rattle.std.specs.Prelude.{option_map, slice_get};
+ghost use Rattle.std.specs.Prelude.{◌≡◌, ◌+◌, [], IfOk, IfSome, IsTrue, List, None, Option, Some, option_map};
+ghost use Rattle.std.specs.Prelude.{slice_get};
 ghost use Rattle.smt_theory.specs.declared.op.CoreOp.TheVariants.{Ite};
 ghost use Rattle.smt_theory.specs.declared.op.Op.{Op};
 ghost use Rattle.smt_theory.specs.declared.op.Op.TheVariants.{Core};
@@ -10,7 +10,7 @@ ghost use Rattle.smt_values.specs.KnownOperations.{known_truth};
 ghost use Rattle.smt_machine.specs.Given.{given};
 ghost use Rattle.smt_machine.specs.Internal.States.{state_of};
 ghost use Rattle.smt_machine.specs.Internal.Steps.{number_of, numbers_of};
-ghost use Rattle.smt_machine.specs.Internal.Tasks.{IsAt, IsBased, IsChoice, IsStep, branches_of};
+ghost use Rattle.smt_machine.specs.Internal.Tasks.{IsBased, IsChoice, IsStep, branches_of};
 ghost use Rattle.smt_machine.specs.Nodes.{Apply, Node};
 ghost use Rattle.smt_machine.specs.Tables.{model_count, nodes_of};
 ghost use Rattle.smt_machine.specs.declared.task.Task.TheVariants.{Choose, Finish, Visit};
@@ -19,8 +19,8 @@ use crate::machine::Machine;
 use crate::step::{Part, Parts, Step};
 use crate::tables::Tables;
 use crate::task::{Task, task_of};
-use smt_nodes::TermId;
 use smt_faults::Memory;
+use smt_nodes::TermId;
 use smt_theory::{CoreOp, Op};
 use smt_values::Value;
 

@@ -1,13 +1,13 @@
 //! A machine's stacks, and how values move between them. This file fetches no node.
 
-ghost use Rattle.std.specs.Prelude.{◌≡◌, ◌∷◌, [], ◌++◌, IfOk, MatchOption, None, Some, length, slice_get};
+ghost use Rattle.std.specs.Prelude.{◌≡◌, ◌∷◌, [], ◌++◌, IfOk, MatchOption, None, Some, length};
 ghost use Rattle.smt_values.specs.Element.{known_element};
 ghost use Rattle.smt_values.specs.KnownOperations.{known_step};
-ghost use Rattle.smt_machine.specs.Internal.States.{before_last, first_of, frame_of, last_of, state_of};
-ghost use Rattle.smt_machine.specs.Internal.States.{with_frames, with_last, with_moved, with_value};
-ghost use Rattle.smt_machine.specs.Internal.States.{without_last};
+ghost use Rattle.smt_machine.specs.Internal.States.{first_of, frame_of, last_of, state_of, with_frames};
+ghost use Rattle.smt_machine.specs.Internal.States.{with_last, with_moved, with_value, without_last};
 ghost use Rattle.smt_machine.specs.Internal.Steps.{number_of, numbers_of};
 ghost use Rattle.smt_machine.specs.Internal.Tasks.{IsAt, IsBegun, IsPlanned, part_task, visits};
+ghost use Rattle.smt_machine.specs.Memory.{HasNoMemory};
 ghost use Rattle.smt_machine.specs.Nodes.{at_place};
 ghost use Rattle.smt_machine.specs.declared.task.Task.TheVariants.{Return, Unbind};
 
@@ -19,7 +19,8 @@ use smt_theory::Op;
 use smt_values::{Value, apply};
 use std::alloc::Global;
 
-/// Stacks for the evaluation of nodes, which keep their memory from one evaluation to the next.
+/// Stacks for the evaluation of nodes, bounded by memory alone. One machine serves many evaluations, and
+/// keeps its memory from one to the next.
 #[derive(Drop)]
 pub struct Machine {
     values: Vec<Option<Value>>,
@@ -30,7 +31,9 @@ pub struct Machine {
 
 impl Machine {
     /// A machine that has no memory yet.
-    pub fn new(alloc: Global) -> Machine {
+    pub fn new(alloc: Global) -> Machine
+        ensures { HasNoMemory result }
+    {
         Machine {
             values: Vec::new(alloc),
             frames: Vec::new(alloc),
@@ -64,7 +67,8 @@ impl Machine {
     /// One more value.
     #[inline(always)]
     pub(crate) fn leave(&mut self, value: Option<Value>) -> Result<(), Memory>
-        ensures { IfOk result (λ _. IsAt (with_value (known_element value) (state_of self.old)) self.old self.new) }
+        ensures { IfOk result (λ _.
+            IsAt (with_value (known_element value) (state_of self.old)) self.old self.new) }
     {
         self.values.push(value)?;
         Ok(())
@@ -98,8 +102,8 @@ impl Machine {
     /// What an operator makes of the last values, in their place.
     #[inline(always)]
     pub(crate) fn operate(&mut self, op: Op, count: usize) -> Result<(), Memory>
-        ensures { IfOk result (λ _. IsAt (with_last count
-            (known_step op (last_of count (state_of self.old).values)) (state_of self.old)) self.old self.new) }
+        ensures { let before = state_of self.old in IfOk result (λ _.
+            IsAt (with_last count (known_step op (last_of count before.values)) before) self.old self.new) }
     {
         let values = self.values.as_slice();
         let start = values.len().saturating_sub(count);
@@ -140,8 +144,9 @@ impl Machine {
     /// The last values become a frame of their own for a body.
     #[inline(always)]
     pub(crate) fn enter(&mut self, number: usize, body: Part, count: usize) -> Result<(), Memory>
-        ensures { IfOk result (λ _. IsPlanned (Return (state_of self.old).base ∷ part_task number (number_of body) ∷ [])
-            (with_moved (length (state_of self.old).frames) count (state_of self.old)) self.old self.new) }
+        ensures { let before = state_of self.old in IfOk result (λ _.
+            IsPlanned (Return before.base ∷ part_task number (number_of body) ∷ [])
+            (with_moved (length before.frames) count before) self.old self.new) }
     {
         self.tasks.push(Task::Return(self.base))?;
         let base = self.frames.as_slice().len();
@@ -151,9 +156,9 @@ impl Machine {
     /// The last values become the end of the frame for a body.
     #[inline(always)]
     pub(crate) fn bind(&mut self, number: usize, body: Part, count: usize) -> Result<(), Memory>
-        ensures { IfOk result (λ _.
-            IsPlanned (Unbind (length (state_of self.old).frames) ∷ part_task number (number_of body) ∷ [])
-            (with_moved (state_of self.old).base count (state_of self.old)) self.old self.new) }
+        ensures { let before = state_of self.old in IfOk result (λ _.
+            IsPlanned (Unbind (length before.frames) ∷ part_task number (number_of body) ∷ [])
+            (with_moved before.base count before) self.old self.new) }
     {
         let len = self.frames.as_slice().len();
         self.tasks.push(Task::Unbind(len))?;

@@ -1,9 +1,8 @@
 //! The nodes of a model and of a script as one table, and what names lead to. This file evaluates nothing.
 
-ghost use Rattle.std.specs.Prelude.{◌≡◌, ◌+◌, [], MatchOption, None, Some, length, option_map, slice_get};
+ghost use Rattle.std.specs.Prelude.{◌≡◌, ◌+◌, [], None, Some, option_map, slice_get};
 ghost use Rattle.smt_machine.specs.Internal.Steps.{number_of, numbers_of, step_view};
 ghost use Rattle.smt_nodes.specs.NodeView.{node_view};
-ghost use Rattle.smt_nodes.specs.Nodes.{rows_of};
 ghost use Rattle.smt_machine.specs.Tables.{call, model_count, nodes_of, resolved};
 
 use crate::items::item_at;
@@ -11,8 +10,8 @@ use crate::step::{Part, Parts, Step};
 use smt_nodes::{Node, Nodes, TermId};
 use smt_values::{bin, hex, numeral};
 
-/// The tables of a model and of a script, and the bodies of definitions. A place that is not there, and a part
-/// whose number is not below its node's, is open.
+/// The nodes of a model and of a script, and the bodies of their definitions. Any will do: a part whose
+/// number is not below its node's is open, and so is a name at a place that is not there.
 #[derive(Clone, Copy)]
 pub struct Tables<'a> {
     /// The nodes of the bodies of a model's definitions.
@@ -59,12 +58,7 @@ impl<'a> Tables<'a> {
 
 // A node of a table whose nodes stand behind `shift` others.
 #[inline(always)]
-fn step_of<'a>(
-    node: &Node<'a>,
-    shift: usize,
-    bodies: &[TermId],
-    declared: &[TermId],
-) -> Step<'a>
+fn step_of<'a>(node: &Node<'a>, shift: usize, bodies: &[TermId], declared: &[TermId]) -> Step<'a>
     ensures { step_view result ≡ resolved shift bodies.now declared.now (node_view node.now) }
 {
     match node {
@@ -80,7 +74,13 @@ fn step_of<'a>(
             call(part_at(bodies, *place, shift), Parts { ids: *args, shift })
         }
         Node::Let { values, body } => {
-            Step::Let(Parts { ids: *values, shift }, Part { id: *body, shift })
+            Step::Let(
+                Parts {
+                    ids: *values,
+                    shift,
+                },
+                Part { id: *body, shift },
+            )
         }
     }
 }

@@ -1,5 +1,5 @@
 -- A fetched node as a contract sees it.
-use Rattle.std.specs.Prelude.{ℕ, ◌+◌, List, Option, map}
+use Rattle.std.specs.Prelude.{ℕ, ◌+◌, List, map}
 use Rattle.smt_values.specs.Element.{known_element}
 use Rattle.smt_machine.specs.Nodes.{Node, Known, Slot, Apply, Call, Let}
 use Rattle.smt_machine.specs.declared.step.Part.{Part}

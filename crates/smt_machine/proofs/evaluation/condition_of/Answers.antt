@@ -1,5 +1,4 @@
-use Rattle.std.proofs.Common.{◌≡◌, ◌+◌, ℕ, List, [], ◌∷◌, length, map, take, refl}
-use Rattle.std.proofs.Common.{arith, rules}
+use Rattle.std.proofs.Common.{◌≡◌, ◌+◌, ℕ, List, [], ◌∷◌, length, map, take, refl, arith, rules}
 use Rattle.smt_theory.specs.declared.op.Op.{Op}
 use Rattle.smt_machine.specs.Internal.Tasks.{IsChoice}
 use Rattle.smt_theory.specs.declared.op.Op.TheVariants.{Core}
@@ -15,4 +14,5 @@ three op f (a ∷ b ∷ c ∷ []) h is = (f a, f b, f c, is, refl, refl)
 three op f (a ∷ b ∷ c ∷ d ∷ ids) h is = absurd (omega arith)
 
 pub returns-then-args-eq3 : goal.returns-then-args-eq3
-returns-then-args-eq3 c = three c.args.op.now (λ id. c.args.args.shift + id) c.args.args.ids.now c.if-args-eq3.true (c.is_choice.ensures (search rules))
+returns-then-args-eq3 c =
+    three c.args.op.now (λ id. c.args.args.shift + id) c.args.args.ids.now c.if-args-eq3.true (c.is_choice.ensures (search rules))

@@ -1,4 +1,4 @@
-use Rattle.std.proofs.Common.{◌+◌, ◌∙◌, Some, ap, length, refl, sym}
+use Rattle.std.proofs.Common.{◌+◌, ◌∙◌, Some, ap, length, sym}
 use Rattle.std.proofs.lemmas.List.{length-map}
 use Rattle.smt_machine.specs.Internal.Steps.{number_of, numbers_of, step_view}
 use Rattle.smt_machine.specs.Tables.{nodes_of}

@@ -1,7 +1,6 @@
-use Rattle.std.proofs.Common.{◌≡◌, ◌-◌, ◌++◌, ◌∷◌, [], ◌∙◌, ap, arith, drop, length, refl, sym, take}
+use Rattle.std.proofs.Common.{◌≡◌, ◌-◌, ◌++◌, ◌∷◌, [], ◌∙◌, ap, arith, drop, length, refl, sym}
 use Rattle.smt_values.specs.Element.{known_elements}
 use Rattle.smt_machine.proofs.StateLemmas.{before_known, moved, states_same}
-use Rattle.smt_machine.specs.Internal.Tasks.{part_task}
 use Rattle.smt_machine.proofs.machine.Machine.move_last.Goals as goal
 
 pub returns : goal.returns
@@ -12,7 +11,7 @@ returns c =
     let sees : c.items_from.result.now ≡ drop start items = cc in
     let from : start ≡ length items - c.args.count = omega arith in
     let new : c.extend_from_slice.new.self.items ≡ frames ++ drop start items =
-        c.in_ok-extend_from_slice.ensures.items ∙ ap (λ xs. frames ++ xs) sees in
+    c.in_ok-extend_from_slice.ensures.items ∙ ap (λ xs. frames ++ xs) sees in
     record {
       tasks = c.in_ok-push.ensures.items ∙ ap (λ t. c.args.self.now.tasks.items ++ t ∷ []) c.task_of.ensures;
       state = states_same _ _ _ _ _ _

@@ -11,10 +11,10 @@ returns c =
     let value = c.apply-value.result in
     let sees : c.items_from.result.now ≡ drop start items = cc in
     let is : known_element value ≡ known_step c.args.op (known_elements (drop start items)) =
-        c.apply-value.ensures ∙ ap (λ xs. known_step c.args.op (known_elements xs)) sees in
+    c.apply-value.ensures ∙ ap (λ xs. known_step c.args.op (known_elements xs)) sees in
     let from : start ≡ length items - c.args.count = omega arith in
     let new : c.push.new.self.items ≡ take start items ++ value ∷ [] =
-        c.in_ok-push.ensures.items ∙ ap (λ xs. xs ++ value ∷ []) c.truncate.ensures.items in
+    c.in_ok-push.ensures.items ∙ ap (λ xs. xs ++ value ∷ []) c.truncate.ensures.items in
     record {
       tasks = refl;
       state = states_same _ _ _ _ _ _

@@ -9,6 +9,7 @@ loop-task-smaller c = turned_less (nodes_of c.args.tables.now) c.in-Some.task c.
     c.take_task.new.self c.act.new.self c.in-Some.ensures.tasks c.in_ok-act.ensures
 
 pub loop-task-preserved : goal.loop-task-preserved
-loop-task-preserved c = turned (nodes_of c.args.tables.now) (given (nodes_of c.args.tables.now) c.args.root [])
+loop-task-preserved c = turned (nodes_of c.args.tables.now)
+    (given (nodes_of c.args.tables.now) c.args.root [])
     c.in-Some.task c.loop-task.self c.take_task.new.self c.act.new.self c.loop-task.invariant
     c.take_task.ensures.state c.in-Some.ensures.tasks c.in_ok-act.ensures
