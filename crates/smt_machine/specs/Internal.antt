@@ -1,4 +1,4 @@
-pub mod Steps
+pub mod Parts
 pub mod States
 pub mod Tasks
 pub mod Costs

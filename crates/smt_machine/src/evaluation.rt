@@ -9,20 +9,20 @@ ghost use Rattle.smt_values.specs.Element.{known_element};
 ghost use Rattle.smt_values.specs.KnownOperations.{known_truth};
 ghost use Rattle.smt_machine.specs.Given.{given};
 ghost use Rattle.smt_machine.specs.Internal.States.{state_of};
-ghost use Rattle.smt_machine.specs.Internal.Steps.{number_of, numbers_of};
+ghost use Rattle.smt_machine.specs.Internal.Parts.{meaning, number_of, numbers_of};
 ghost use Rattle.smt_machine.specs.Internal.Tasks.{IsBased, IsChoice, IsStep, branches_of};
-ghost use Rattle.smt_machine.specs.Nodes.{Apply, Node};
-ghost use Rattle.smt_machine.specs.Tables.{model_count, nodes_of};
+ghost use Rattle.smt_machine.specs.Nodes.{Apply, Node as MachineNode};
+ghost use Rattle.smt_machine.specs.Tables.{call, model_count, nodes_of};
 ghost use Rattle.smt_machine.specs.declared.task.Task.TheVariants.{Choose, Finish, Visit};
 
 use crate::machine::Machine;
-use crate::step::{Part, Parts, Step};
-use crate::tables::Tables;
+use crate::parts::{Part, Parts};
+use crate::tables::{Place, Tables};
 use crate::task::{Task, task_of};
 use smt_faults::Memory;
-use smt_nodes::TermId;
+use smt_nodes::{Node, TermId};
 use smt_theory::{CoreOp, Op};
-use smt_values::Value;
+use smt_values::{Value, bin, hex, numeral};
 
 impl Machine {
     /// What is known of the value of a closed term of the script, whatever was evaluated before. Refused is
@@ -77,15 +77,56 @@ impl Machine {
         requires { IsBased (state_of self.old) }
         ensures { IfOk result (λ _. IsStep (nodes_of tables.now) (Visit number) self.old self.new) }
     {
-        match tables.node(number) {
-            Some(Step::Known(value)) => self.leave(value),
-            Some(Step::Slot(place)) => {
-                let value = self.value_at(place);
+        let place = tables.place(number);
+        match place.node() {
+            Some(node) => self.visit_node(number, &place, &node),
+            None => self.leave(None),
+        }
+    }
+
+    #[inline(always)]
+    fn visit_node(&mut self, number: usize, from: &Place<'_>, node: &Node<'_>) -> Result<(), Memory>
+        requires { IsBased (state_of self.old) }
+        ensures { IfOk result (λ _. (nodes : List MachineNode)
+            → Some (meaning from.now node.now) ≡ slice_get nodes number
+            → IsStep nodes (Visit number) self.old self.new) }
+    {
+        match node {
+            Node::Numeral(digits) => self.leave(numeral(*digits)),
+            Node::Hex(digits) => self.leave(hex(*digits)),
+            Node::Bin(digits) => self.leave(bin(*digits)),
+            Node::Slot(place) => {
+                let value = self.value_at(*place);
                 self.leave(value)
             }
-            Some(Step::Apply(op, args)) => self.visit_args(number, &op, args),
-            Some(Step::Call(_, args)) => self.plan(Task::Finish(number), number, args),
-            Some(Step::Let(values, _)) => self.plan(Task::Finish(number), number, values),
+            Node::Apply { op, args } => self.visit_args(number, op, from.parts(*args)),
+            Node::Declared { place, args } => {
+                self.visit_call(number, from.declared(*place), from.parts(*args))
+            }
+            Node::Defined { place, args } => {
+                self.visit_call(number, from.defined(*place), from.parts(*args))
+            }
+            Node::Let { values, .. } => {
+                self.plan(Task::Finish(number), number, from.parts(*values))
+            }
+        }
+    }
+
+    // Plans a body behind its arguments, if there is one.
+    #[inline(always)]
+    fn visit_call(
+        &mut self,
+        number: usize,
+        body: Option<Part>,
+        args: Parts<'_>,
+    ) -> Result<(), Memory>
+        requires { IsBased (state_of self.old) }
+        ensures { IfOk result (λ _. (nodes : List MachineNode)
+            → Some (call (option_map number_of body) (numbers_of args.entry)) ≡ slice_get nodes number
+            → IsStep nodes (Visit number) self.old self.new) }
+    {
+        match body {
+            Some(_) => self.plan(Task::Finish(number), number, args),
             None => self.leave(None),
         }
     }
@@ -94,7 +135,7 @@ impl Machine {
     #[inline(always)]
     fn visit_args(&mut self, number: usize, op: &Op, args: Parts<'_>) -> Result<(), Memory>
         requires { IsBased (state_of self.old) }
-        ensures { IfOk result (λ _. (nodes : List Node)
+        ensures { IfOk result (λ _. (nodes : List MachineNode)
             → Some (Apply op.now (numbers_of args.entry)) ≡ slice_get nodes number
             → IsStep nodes (Visit number) self.old self.new) }
     {
@@ -110,12 +151,62 @@ impl Machine {
         requires { IsBased (state_of self.old) }
         ensures { IfOk result (λ _. IsStep (nodes_of tables.now) (Finish number) self.old self.new) }
     {
-        match tables.node(number) {
-            Some(Step::Apply(op, args)) => self.operate(op, args.ids.len()),
-            Some(Step::Call(body, args)) => self.enter(number, body, args.ids.len()),
-            Some(Step::Let(values, body)) => self.bind(number, body, values.ids.len()),
-            Some(Step::Known(_)) => Ok(()),
-            Some(Step::Slot(_)) => Ok(()),
+        let place = tables.place(number);
+        match place.node() {
+            Some(node) => self.finish_node(number, &place, &node),
+            None => Ok(()),
+        }
+    }
+
+    #[inline(always)]
+    fn finish_node(
+        &mut self,
+        number: usize,
+        from: &Place<'_>,
+        node: &Node<'_>,
+    ) -> Result<(), Memory>
+        requires { IsBased (state_of self.old) }
+        ensures { IfOk result (λ _. (nodes : List MachineNode)
+            → Some (meaning from.now node.now) ≡ slice_get nodes number
+            → IsStep nodes (Finish number) self.old self.new) }
+    {
+        match node {
+            Node::Apply { op, args } => self.operate(*op, args.len()),
+            Node::Declared { place, args } => {
+                self.finish_call(number, from.declared(*place), from.parts(*args))
+            }
+            Node::Defined { place, args } => {
+                self.finish_call(number, from.defined(*place), from.parts(*args))
+            }
+            Node::Let { values, body } => {
+                let body = Part {
+                    id: *body,
+                    shift: from.shift,
+                };
+                self.bind(number, body, values.len())
+            }
+            Node::Numeral(_) => Ok(()),
+            Node::Hex(_) => Ok(()),
+            Node::Bin(_) => Ok(()),
+            Node::Slot(_) => Ok(()),
+        }
+    }
+
+    // Goes on with a body, if there is one.
+    #[inline(always)]
+    fn finish_call(
+        &mut self,
+        number: usize,
+        body: Option<Part>,
+        args: Parts<'_>,
+    ) -> Result<(), Memory>
+        requires { IsBased (state_of self.old) }
+        ensures { IfOk result (λ _. (nodes : List MachineNode)
+            → Some (call (option_map number_of body) (numbers_of args.entry)) ≡ slice_get nodes number
+            → IsStep nodes (Finish number) self.old self.new) }
+    {
+        match body {
+            Some(body) => self.enter(number, body, args.ids.len()),
             None => Ok(()),
         }
     }
@@ -126,20 +217,41 @@ impl Machine {
         requires { IsBased (state_of self.old) }
         ensures { IfOk result (λ _. IsStep (nodes_of tables.now) (Choose number) self.old self.new) }
     {
-        match tables.node(number) {
-            Some(Step::Apply(op, args)) => self.choose_among(number, &op, args),
-            Some(Step::Call(_, _)) => Ok(()),
-            Some(Step::Let(_, _)) => Ok(()),
-            Some(Step::Known(_)) => Ok(()),
-            Some(Step::Slot(_)) => Ok(()),
+        let place = tables.place(number);
+        match place.node() {
+            Some(node) => self.choose_node(number, &place, &node),
             None => Ok(()),
+        }
+    }
+
+    #[inline(always)]
+    fn choose_node(
+        &mut self,
+        number: usize,
+        from: &Place<'_>,
+        node: &Node<'_>,
+    ) -> Result<(), Memory>
+        requires { IsBased (state_of self.old) }
+        ensures { IfOk result (λ _. (nodes : List MachineNode)
+            → Some (meaning from.now node.now) ≡ slice_get nodes number
+            → IsStep nodes (Choose number) self.old self.new) }
+    {
+        match node {
+            Node::Apply { op, args } => self.choose_among(number, op, from.parts(*args)),
+            Node::Declared { .. } => Ok(()),
+            Node::Defined { .. } => Ok(()),
+            Node::Let { .. } => Ok(()),
+            Node::Numeral(_) => Ok(()),
+            Node::Hex(_) => Ok(()),
+            Node::Bin(_) => Ok(()),
+            Node::Slot(_) => Ok(()),
         }
     }
 
     #[inline(always)]
     fn choose_among(&mut self, number: usize, op: &Op, args: Parts<'_>) -> Result<(), Memory>
         requires { IsBased (state_of self.old) }
-        ensures { IfOk result (λ _. (nodes : List Node)
+        ensures { IfOk result (λ _. (nodes : List MachineNode)
             → Some (Apply op.now (numbers_of args.entry)) ≡ slice_get nodes number
             → IsStep nodes (Choose number) self.old self.new) }
     {

@@ -22,7 +22,7 @@ mod evaluation;
 mod items;
 pub mod laws;
 mod machine;
-mod step;
+mod parts;
 mod tables;
 mod task;
 

@@ -5,14 +5,14 @@ ghost use Rattle.smt_values.specs.Element.{known_element};
 ghost use Rattle.smt_values.specs.KnownOperations.{known_step};
 ghost use Rattle.smt_machine.specs.Internal.States.{first_of, frame_of, last_of, state_of, with_frames};
 ghost use Rattle.smt_machine.specs.Internal.States.{with_last, with_moved, with_value, without_last};
-ghost use Rattle.smt_machine.specs.Internal.Steps.{number_of, numbers_of};
+ghost use Rattle.smt_machine.specs.Internal.Parts.{number_of, numbers_of};
 ghost use Rattle.smt_machine.specs.Internal.Tasks.{IsAt, IsBegun, IsPlanned, part_task, visits};
 ghost use Rattle.smt_machine.specs.Memory.{HasNoMemory};
 ghost use Rattle.smt_machine.specs.Nodes.{at_place};
 ghost use Rattle.smt_machine.specs.declared.task.Task.TheVariants.{Return, Unbind};
 
 use crate::items::{items_from, lesser};
-use crate::step::{Part, Parts};
+use crate::parts::{Part, Parts};
 use crate::task::{Task, task_of};
 use smt_faults::Memory;
 use smt_theory::Op;

@@ -1,14 +1,12 @@
 //! The nodes of a model and of a script as one table, and what names lead to. This file evaluates nothing.
 
-ghost use Rattle.std.specs.Prelude.{◌≡◌, ◌+◌, [], None, Some, option_map, slice_get};
-ghost use Rattle.smt_machine.specs.Internal.Steps.{number_of, numbers_of, step_view};
-ghost use Rattle.smt_nodes.specs.NodeView.{node_view};
-ghost use Rattle.smt_machine.specs.Tables.{call, model_count, nodes_of, resolved};
+ghost use Rattle.std.specs.Prelude.{◌≡◌, ◌+◌, option_map, slice_get};
+ghost use Rattle.smt_machine.specs.Internal.Parts.{found, meaning, number_of, numbers_of};
+ghost use Rattle.smt_machine.specs.Tables.{model_count, nodes_of, shifted};
 
 use crate::items::item_at;
-use crate::step::{Part, Parts, Step};
+use crate::parts::{Part, Parts};
 use smt_nodes::{Node, Nodes, TermId};
-use smt_values::{bin, hex, numeral};
 
 /// The nodes of a model and of a script, and the bodies of their definitions. Any will do: a part whose
 /// number is not below its node's is open, and so is a name at a place that is not there.
@@ -27,6 +25,17 @@ pub struct Tables<'a> {
     pub declared: &'a [TermId],
 }
 
+/// A place in one of two tables, and what the names of that table lead to.
+#[derive(Clone, Copy)]
+pub(crate) struct Place<'a> {
+    pub(crate) nodes: &'a Nodes,
+    pub(crate) number: usize,
+    /// How many nodes of both tables stand before those of this one.
+    pub(crate) shift: usize,
+    pub(crate) bodies: &'a [TermId],
+    pub(crate) declared: &'a [TermId],
+}
+
 impl<'a> Tables<'a> {
     /// How many nodes stand before the script's.
     #[inline(always)]
@@ -36,52 +45,67 @@ impl<'a> Tables<'a> {
         self.model.len()
     }
 
-    /// The node of a number.
+    /// Where the node of a number is looked for.
     #[inline(always)]
-    pub(crate) fn node(&self, number: usize) -> Option<Step<'a>>
-        ensures { option_map step_view result ≡ slice_get (nodes_of self.now) number }
+    pub(crate) fn place(&self, number: usize) -> Place<'a>
+        ensures { found result ≡ slice_get (nodes_of self.now) number }
     {
         let shift = self.shift();
         if number < shift {
-            match self.model.get(number) {
-                Some(node) => Some(step_of(&node, 0, self.model_bodies, &[])),
-                None => None,
+            Place {
+                nodes: self.model,
+                number,
+                shift: 0,
+                bodies: self.model_bodies,
+                declared: &[],
             }
         } else {
-            match self.script.get(number - shift) {
-                Some(node) => Some(step_of(&node, shift, self.script_bodies, self.declared)),
-                None => None,
+            Place {
+                nodes: self.script,
+                number: number - shift,
+                shift,
+                bodies: self.script_bodies,
+                declared: self.declared,
             }
         }
     }
 }
 
-// A node of a table whose nodes stand behind `shift` others.
-#[inline(always)]
-fn step_of<'a>(node: &Node<'a>, shift: usize, bodies: &[TermId], declared: &[TermId]) -> Step<'a>
-    ensures { step_view result ≡ resolved shift bodies.now declared.now (node_view node.now) }
-{
-    match node {
-        Node::Numeral(digits) => Step::Known(numeral(*digits)),
-        Node::Hex(digits) => Step::Known(hex(*digits)),
-        Node::Bin(digits) => Step::Known(bin(*digits)),
-        Node::Slot(place) => Step::Slot(*place),
-        Node::Apply { op, args } => Step::Apply(*op, Parts { ids: *args, shift }),
-        Node::Declared { place, args } => {
-            call(part_at(declared, *place, 0), Parts { ids: *args, shift })
+impl<'a> Place<'a> {
+    /// The node, if one is there.
+    #[inline(always)]
+    pub(crate) fn node(&self) -> Option<Node<'a>>
+        ensures { option_map (meaning self.now) result ≡ found self.now }
+    {
+        self.nodes.get(self.number)
+    }
+
+    /// Nodes of this table.
+    #[inline(always)]
+    pub(crate) fn parts<'b>(&self, ids: &'b [TermId]) -> Parts<'b>
+        ensures { numbers_of result ≡ shifted self.now.shift ids.now }
+    {
+        Parts {
+            ids,
+            shift: self.shift,
         }
-        Node::Defined { place, args } => {
-            call(part_at(bodies, *place, shift), Parts { ids: *args, shift })
-        }
-        Node::Let { values, body } => {
-            Step::Let(
-                Parts {
-                    ids: *values,
-                    shift,
-                },
-                Part { id: *body, shift },
-            )
-        }
+    }
+
+    /// The body of a definition of this table.
+    #[inline(always)]
+    pub(crate) fn defined(&self, place: usize) -> Option<Part>
+        ensures { option_map number_of result
+            ≡ option_map (λ j. self.now.shift + j) (slice_get self.now.bodies.now place) }
+    {
+        part_at(self.bodies, place, self.shift)
+    }
+
+    /// The body that a declared name has in the model.
+    #[inline(always)]
+    pub(crate) fn declared(&self, place: usize) -> Option<Part>
+        ensures { option_map number_of result ≡ slice_get self.now.declared.now place }
+    {
+        part_at(self.declared, place, 0)
     }
 }
 
@@ -93,16 +117,5 @@ fn part_at(ids: &[TermId], place: usize, shift: usize) -> Option<Part>
     match item_at(ids, place) {
         Some(id) => Some(Part { id: *id, shift }),
         None => None,
-    }
-}
-
-// A body with arguments.
-#[inline(always)]
-fn call<'a>(body: Option<Part>, args: Parts<'a>) -> Step<'a>
-    ensures { step_view result ≡ call (option_map number_of body) (numbers_of args.entry) }
-{
-    match body {
-        Some(body) => Step::Call(body, args),
-        None => Step::Known(None),
     }
 }

@@ -1,10 +1,10 @@
 //! What is left to do for a machine. This file knows no stack.
 
 ghost use Rattle.std.specs.Prelude.{◌≡◌};
-ghost use Rattle.smt_machine.specs.Internal.Steps.{number_of};
+ghost use Rattle.smt_machine.specs.Internal.Parts.{number_of};
 ghost use Rattle.smt_machine.specs.Internal.Tasks.{part_task};
 
-use crate::step::Part;
+use crate::parts::Part;
 
 /// A task; nodes are by their numbers.
 #[derive(Clone, Copy)]

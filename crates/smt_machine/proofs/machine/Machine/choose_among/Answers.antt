@@ -1,7 +1,7 @@
 use Rattle.std.proofs.Common.{◌∷◌, [], ◌∙◌, true, false, Some, ap, subst}
 use Rattle.smt_values.specs.KnownOperations.{known_truth}
 use Rattle.smt_machine.specs.Internal.States.{state_of}
-use Rattle.smt_machine.specs.Internal.Steps.{numbers_of}
+use Rattle.smt_machine.specs.Internal.Parts.{numbers_of}
 use Rattle.smt_machine.specs.Internal.Tasks.{IsPlanned}
 use Rattle.smt_machine.specs.declared.task.Task.{Task}
 use Rattle.smt_machine.proofs.StepLemmas.{chosen_one, if_done}

@@ -1,7 +1,7 @@
 use Rattle.std.proofs.Common.{◌≡◌, ◌+◌, ◌∷◌, ◌++◌, length, map}
 use Rattle.smt_machine.specs.Internal.States.{state_of}
 use Rattle.smt_machine.specs.Internal.Tasks.{visits}
-use Rattle.smt_machine.specs.Internal.Steps.{numbers_of}
+use Rattle.smt_machine.specs.Internal.Parts.{numbers_of}
 use Rattle.smt_machine.proofs.machine.Machine.plan.Given as goal
 
 abbrev pub invariant-loop-last : goal.invariant-loop-last

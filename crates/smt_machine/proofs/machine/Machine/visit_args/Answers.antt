@@ -1,4 +1,4 @@
-use Rattle.smt_machine.specs.Internal.Steps.{numbers_of}
+use Rattle.smt_machine.specs.Internal.Parts.{numbers_of}
 use Rattle.smt_machine.specs.Nodes.{Apply}
 use Rattle.smt_machine.proofs.RunLemmas.{visit_planned}
 use Rattle.smt_machine.proofs.StepLemmas.{choice_planned, if_done}
