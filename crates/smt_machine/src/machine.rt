@@ -162,8 +162,8 @@ impl Machine {
     {
         let len = self.frames.as_slice().len();
         self.tasks.push(Task::Unbind(len))?;
-        let base = self.base;
-        self.move_last(number, body, base, count)
+        let around = self.base;
+        self.move_last(number, body, around, count)
     }
 
     // The last values go to the frames for a body, of which the innermost begins at `base`.
