@@ -1,7 +1,9 @@
 -- Lists by places, as they grow and are cut. Nothing here knows a row.
-use Rattle.std.proofs.Common.{◌≡◌, ◌≤◌, ◌<◌, ◌+◌, ◌-◌, ◌⊎◌, inl, inr, ℕ, zero, suc, List, [], ◌∷◌, ◌++◌, length}
+use Rattle.std.proofs.Common.{◌≡◌, ◌≤◌, ◌<◌, ◌+◌, ◌-◌, ◌⊎◌, inl, inr, ℕ, zero, suc, List, [], ◌∷◌, ◌++◌}
+use Rattle.std.proofs.Common.{length}
 use Rattle.std.proofs.Common.{take, drop, map, slice_get, get_or, Some, refl, ap, sym, ◌∙◌, arith}
-use Rattle.std.proofs.lemmas.List.{drop-append-le, get_or_append_left, get_or_default, length-append, length-drop}
+use Rattle.std.proofs.lemmas.List.{drop-append-le, get_or_append_left, get_or_default, length-append}
+use Rattle.std.proofs.lemmas.List.{length-drop}
 use Rattle.std.proofs.lemmas.List.{take-append-drop, take-append-le}
 use Rattle.smt_nodes.specs.Internal.Lists.{before}
 
@@ -33,7 +35,8 @@ get_pushed {A = A} (z ∷ zs) y (suc i) x h = by (get_pushed zs y i x h)
 pub get_taken : {A : Type 0} (n : ℕ) (xs : List A) (i : ℕ) (x : A) → slice_get (take n xs) i ≡ Some x
     → slice_get xs i ≡ Some x
 get_taken {A = A} n xs i x h =
-    ap (λ (ys : List A). slice_get ys i) (sym (take-append-drop n xs)) ∙ get_kept (take n xs) (drop n xs) i x h
+    ap (λ (ys : List A). slice_get ys i) (sym (take-append-drop n xs))
+    ∙ get_kept (take n xs) (drop n xs) i x h
 
 -- functions that agree on what stands in a list
 pub map_same : {A B : Type 0} (f g : A → B) (xs : List A)

@@ -5,13 +5,15 @@ use Rattle.std.proofs.lemmas.Option.{get_or_from_slice_get, slice_get-get_or, sl
 use Rattle.smt_theory.specs.declared.op.CoreOp.TheVariants.{True}
 use Rattle.smt_theory.specs.declared.op.Op.{Op}
 use Rattle.smt_theory.specs.declared.op.Op.TheVariants.{Core}
-use Rattle.smt_nodes.specs.Internal.Lists.{Grows, IsHeld, IsStored, IsUpTo, Lists, before, lengths, node_of, rows_in}
+use Rattle.smt_nodes.specs.Internal.Lists.{Grows, IsHeld, IsStored, IsUpTo, Lists, before, lengths, node_of}
+use Rattle.smt_nodes.specs.Internal.Lists.{rows_in}
 use Rattle.smt_nodes.specs.Internal.PlainOp.{op_of_plain}
 use Rattle.smt_nodes.specs.Internal.Rows.{IsSound, annotated, around_of, row_view, source, source_by}
 use Rattle.smt_nodes.specs.Node as spec
 use Rattle.smt_nodes.specs.declared.rows.Ends.{Ends}
 use Rattle.smt_nodes.specs.declared.rows.Stored.{Stored}
-use Rattle.smt_nodes.specs.declared.rows.Stored.TheVariants.{Numeral, Hex, Bin, Slot, Plain, Numbered, Declared}
+use Rattle.smt_nodes.specs.declared.rows.Stored.TheVariants.{Numeral, Hex, Bin, Slot, Plain, Numbered}
+use Rattle.smt_nodes.specs.declared.rows.Stored.TheVariants.{Declared}
 use Rattle.smt_nodes.specs.declared.rows.Stored.TheVariants.{Defined, Let, Same}
 use Rattle.smt_nodes.specs.declared.rows.StoredRow.{StoredRow}
 use Rattle.smt_nodes.proofs.PlaceLemmas.{before_kept, read_kept}

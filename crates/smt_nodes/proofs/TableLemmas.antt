@@ -34,14 +34,15 @@ old_rows rows more t u sound grown =
     (λ i r at. row_kept rows more t u i r sound grown at)
 
 -- lists alone that grow change nothing
-pub views_kept : (rows : List StoredRow) (t u : Lists) → IsSound rows t → Grows t u → views rows u ≡ views rows t
+pub views_kept : (rows : List StoredRow) (t u : Lists) → IsSound rows t → Grows t u
+    → views rows u ≡ views rows t
 views_kept rows t u sound grown =
     ap (λ (all : List StoredRow). map (row_view all u) rows) (sym (append-nil rows))
     ∙ old_rows rows [] t u sound grown
 
 -- a row behind all
-views_pushed : (rows : List StoredRow) (t u : Lists) (new : StoredRow) (row : Row) → IsSound rows t → Grows t u
-    → row_view (rows ++ new ∷ []) u new ≡ row → views (rows ++ new ∷ []) u ≡ views rows t ++ row ∷ []
+views_pushed : (rows : List StoredRow) (t u : Lists) (new : StoredRow) (row : Row) → IsSound rows t
+    → Grows t u → row_view (rows ++ new ∷ []) u new ≡ row → views (rows ++ new ∷ []) u ≡ views rows t ++ row ∷ []
 views_pushed rows t u new row sound grown is =
     map-append (row_view (rows ++ new ∷ []) u) rows (new ∷ [])
     ∙ ap (λ (vs : List Row). vs ++ row_view (rows ++ new ∷ []) u new ∷ [])

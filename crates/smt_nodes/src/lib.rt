@@ -5,9 +5,9 @@
 //! `Nodes::cut` leaves the first so many. So `(+ x 1)`, where `x` is the first variable in scope:
 //!
 //! ```text
-//! let x = nodes.push(Node::Slot(0), Sort::Int)?;                            // 0
-//! let one = nodes.push(Node::Numeral(b"1"), Sort::Int)?;                    // 1
-//! let sum = nodes.push(Node::Apply { op: plus, args: &[x, one] }, Sort::Int)?;
+//! let x = nodes.push(&Node::Slot(0), Sort::Int)?;                           // 0
+//! let one = nodes.push(&Node::Numeral(b"1"), Sort::Int)?;                   // 1
+//! let sum = nodes.push(&Node::Apply { op: plus, args: &[x, one] }, Sort::Int)?; // 2
 //! nodes.get(sum.number())                                                   // Some(Node::Apply { .. })
 //! ```
 #![tactic(auto)]
@@ -18,6 +18,8 @@ mod rows;
 mod table;
 mod tables;
 mod term_id;
+#[cfg(test)]
+mod tests;
 
 pub use node::Node;
 pub use table::Nodes;

@@ -4,6 +4,12 @@
 use crate::op::PlainOp;
 use crate::term_id::TermId;
 use smt_theory::Sort;
+use std::mem::size_of;
+
+// Rows are read at random, and there may be many.
+const _: () = prove!(size_of::<StoredRow>() == 28);
+
+const _: () = prove!(size_of::<TermId>() == 4);
 
 /// How much of each list belongs to a row and those before it.
 #[derive(Clone, Copy)]

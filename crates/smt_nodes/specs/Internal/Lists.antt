@@ -1,5 +1,6 @@
 -- The lists behind the rows, and the node that a row stores by its counts and where it ends.
-use Rattle.std.specs.Prelude.{◌≡◌, ◌≤◌, ◌+◌, ◌-◌, ℕ, List, [], ◌++◌, length, take, slice_index_or, slice_range}
+use Rattle.std.specs.Prelude.{◌≡◌, ◌≤◌, ◌+◌, ◌-◌, ℕ, List, [], ◌++◌, length, take, slice_index_or}
+use Rattle.std.specs.Prelude.{slice_range}
 use Rattle.smt_theory.specs.declared.op.CoreOp.TheVariants.{True}
 use Rattle.smt_theory.specs.declared.op.Op.{Op}
 use Rattle.smt_theory.specs.declared.op.Op.TheVariants.{Core}
@@ -7,7 +8,8 @@ use Rattle.smt_nodes.specs.Internal.PlainOp.{op_of_plain}
 use Rattle.smt_nodes.specs.Node as spec
 use Rattle.smt_nodes.specs.declared.rows.Ends.{Ends}
 use Rattle.smt_nodes.specs.declared.rows.Stored.{Stored}
-use Rattle.smt_nodes.specs.declared.rows.Stored.TheVariants.{Numeral, Hex, Bin, Slot, Plain, Numbered, Declared}
+use Rattle.smt_nodes.specs.declared.rows.Stored.TheVariants.{Numeral, Hex, Bin, Slot, Plain, Numbered}
+use Rattle.smt_nodes.specs.declared.rows.Stored.TheVariants.{Declared}
 use Rattle.smt_nodes.specs.declared.rows.Stored.TheVariants.{Defined, Let, Same}
 use Rattle.smt_nodes.specs.declared.tables.Tables.{Tables}
 

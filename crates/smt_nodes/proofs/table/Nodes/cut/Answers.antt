@@ -9,9 +9,9 @@ use Rattle.smt_nodes.proofs.TableLemmas.{views_cut}
 use Rattle.smt_nodes.proofs.table.Nodes.cut.Goals as goal
 
 -- the rows and lists that are left, by what each call leaves
-left : (n : ℕ) (rows firsts seen : List StoredRow) (t u : Lists) (e : Ends) (P : List StoredRow → Lists → Type 0)
-    → firsts ≡ take n rows → seen ≡ firsts → e ≡ last_ends seen → u ≡ first_of e t
-    → P (take n rows) (first_of (last_ends (take n rows)) t) → P firsts u
+left : (n : ℕ) (rows firsts seen : List StoredRow) (t u : Lists) (e : Ends)
+    (P : List StoredRow → Lists → Type 0) → firsts ≡ take n rows → seen ≡ firsts → e ≡ last_ends seen
+    → u ≡ first_of e t → P (take n rows) (first_of (last_ends (take n rows)) t) → P firsts u
 left n rows firsts seen t u e P is same ends lists p =
     let all : u ≡ first_of (last_ends (take n rows)) t =
     lists ∙ ap (λ (a : Ends). first_of a t) (ends ∙ ap (λ (rs : List StoredRow). last_ends rs) (same ∙ is)) in

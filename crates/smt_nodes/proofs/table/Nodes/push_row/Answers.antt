@@ -1,4 +1,5 @@
-use Rattle.std.proofs.Common.{◌≡◌, ◌≤◌, List, [], ◌∷◌, ◌++◌, Bool, true, false, cond, length, is_ok, sym, subst}
+use Rattle.std.proofs.Common.{◌≡◌, ◌≤◌, List, [], ◌∷◌, ◌++◌, Bool, true, false, cond, length, is_ok, sym}
+use Rattle.std.proofs.Common.{subst}
 use Rattle.smt_nodes.specs.Internal.Lists.{IsHeld, Lists, lengths, lists_of, rows_in}
 use Rattle.smt_nodes.specs.Internal.Rows.{IsSound}
 use Rattle.smt_nodes.specs.declared.rows.StoredRow.{StoredRow}
@@ -17,8 +18,9 @@ sound_either false rows after t new is sound ends held below =
 pub invariant_of-self : goal.invariant_of-self
 invariant_of-self c =
     let nodes = c.args.self.now in
-    record {
-      sound = sound_either (is_ok c.push.result) nodes.rows.items c.push.new.self.items (lists_of nodes.tables)
-          (record { stored = c.args.stored; sort = c.args.sort; ends = c.in_ok-ends.ends }) c.push.ensures.items
-          nodes.sound c.in_ok-ends.ensures c.requires.held c.requires.below;
-    }
+    let new : StoredRow =
+    record { stored = c.args.stored; sort = c.args.sort; ends = c.in_ok-ends.ends } in
+    let kept : IsSound c.push.new.self.items (lists_of nodes.tables) =
+    sound_either (is_ok c.push.result) nodes.rows.items c.push.new.self.items (lists_of nodes.tables) new
+    c.push.ensures.items nodes.sound c.in_ok-ends.ensures c.requires.held c.requires.below in
+    record { sound = kept }

@@ -1,0 +1,51 @@
+//! A small table, built and read twice, of which memory may be refused once (`rt try --test --fail-alloc N`).
+
+use crate::{Node, Nodes};
+use smt_faults::Memory;
+use smt_theory::{Arithmetic, BitsOp, IntsOp, Op, Sort};
+use std::alloc::Global;
+
+// `(+ x (! 1))`, where `x` is the first variable in scope, and then one operator with a number on top.
+fn sum(alloc: Global) -> Result<Nodes, Memory> {
+    let mut nodes = Nodes::new(alloc);
+    let x = nodes.push(&Node::Slot(0), Sort::Int)?;
+    let one = nodes.push(&Node::Numeral(b"1"), Sort::Int)?;
+    let one = nodes.annotate(one)?;
+    let op = Op::Ints(IntsOp::Arithmetic(Arithmetic::Plus));
+    let sum = nodes.push(
+        &Node::Apply {
+            op,
+            args: &[x, one],
+        },
+        Sort::Int,
+    )?;
+    let op = Op::Bits(BitsOp::Repeat(2));
+    let _ = nodes.push(&Node::Apply { op, args: &[sum] }, Sort::Int)?;
+    Ok(nodes)
+}
+
+// How many arguments an operator has in the node of a number; 99 for another node.
+fn arity(nodes: &Nodes, number: usize) -> usize {
+    match nodes.get(number) {
+        Some(Node::Apply { op: _, args }) => args.len(),
+        _ => 99,
+    }
+}
+
+#[test]
+fn a_sum_is_read(rt: HostRuntime) {
+    let mut built = false;
+    for _ in 0..2 {
+        if let Ok(mut nodes) = sum(rt.alloc()) {
+            assert_eq!(rt; nodes.len(), 5);
+            assert_eq!(rt; arity(&nodes, 3), 2);
+            assert_eq!(rt; arity(&nodes, 4), 1);
+            assert_eq!(rt; nodes.around(2), Some(1));
+            nodes.cut(4);
+            assert_eq!(rt; nodes.len(), 4);
+            assert_eq!(rt; nodes.around(4), None);
+            built = true;
+        }
+    }
+    assert!(rt; built);
+}
