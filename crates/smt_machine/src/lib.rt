@@ -25,6 +25,8 @@ mod machine;
 mod parts;
 mod tables;
 mod task;
+#[cfg(test)]
+mod tests;
 
 pub use machine::Machine;
 pub use smt_faults::Memory;

@@ -1,1 +1,0 @@
-use Rattle.smt_machine.proofs.machine.Machine.value_at.Goals as goal
