@@ -1,0 +1,4 @@
+pub mod GivenLemmas
+pub mod RunLemmas
+pub mod StateLemmas
+pub mod StepLemmas

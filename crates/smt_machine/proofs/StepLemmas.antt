@@ -1,0 +1,295 @@
+-- What a step of the machine does for each task and each form of node.
+use Rattle.std.proofs.Common.{◌≡◌, ℕ, ◌+◌, ◌-◌, ◌*◌, ◌<◌, ◌≤◌, Bool, true, false, cond, List, [], ◌∷◌, ◌++◌}
+use Rattle.std.proofs.Common.{length, take, min, slice_get, Option, Some, None, refl, ap, sym, ◌∙◌, subst}
+use Rattle.std.proofs.Common.{arith, length-append, length-drop, Result, Ok, Err, IfOk}
+use Rattle.std.proofs.Math.Seq.{drop-append_seam}
+use Rattle.std.proofs.lemmas.List.{drop-append-le, take-append-le, take_all}
+use Rattle.std.specs.Prelude.{option_and_then, if◌then◌else◌}
+use Rattle.smt_theory.specs.declared.op.CoreOp.TheVariants.{Ite}
+use Rattle.smt_theory.specs.declared.op.Op.{Op}
+use Rattle.smt_theory.specs.declared.op.Op.TheVariants.{Core}
+use Rattle.smt_values.specs.Element.{Element}
+use Rattle.smt_values.specs.KnownOperations.{known_choice, known_step, known_truth}
+use Rattle.smt_machine.proofs.GivenLemmas.{given_law, cost_law}
+use Rattle.smt_machine.proofs.RunLemmas.{made_of_last, planned, run_all-append, run_part, run_visits, settled}
+use Rattle.smt_machine.proofs.RunLemmas.{work-append, work_part, work_visits, with_values}
+use Rattle.smt_machine.specs.Given.{given}
+use Rattle.smt_machine.specs.Internal.Costs.{cost, first_cost, last_cost, part_cost}
+use Rattle.smt_machine.specs.Internal.States.{State, before_last, first_of, frame_of, last_of, state_of}
+use Rattle.smt_machine.specs.Internal.States.{with_last, with_moved, with_value, without_last}
+use Rattle.smt_machine.specs.Internal.Tasks.{IsAt, IsBased, IsBegun, IsChoice, IsPlanned, IsRunning, IsStep}
+use Rattle.smt_machine.specs.Internal.Tasks.{branches_cost, branches_of, empty_state, chosen, chosen_between}
+use Rattle.smt_machine.specs.Internal.Tasks.{chosen_cost, finished, part_task, run, run_all, task_work}
+use Rattle.smt_machine.specs.Internal.Tasks.{visits, work}
+use Rattle.smt_machine.specs.Nodes.{Node, Apply, Call, Let, node_value, part}
+use Rattle.smt_machine.specs.declared.machine.Machine.{Machine}
+use Rattle.smt_machine.specs.declared.task.Task.{Task}
+use Rattle.smt_machine.specs.declared.task.Task.TheVariants.{Visit, Finish, Choose, Return, Unbind}
+
+-- what follows from what holds unless memory was refused
+pub if_done : {T E : Type 0} {P Q : Type 0} (r : Result T E) → IfOk r (λ _. P) → (P → Q) → IfOk r (λ _. Q)
+if_done (Ok x) p f = f p
+if_done (Err e) p f = tt
+
+-- a task that changes nothing
+pub idle : (nodes : List Node) (task : Task) (m : Machine)
+    → run nodes task (state_of m) ≡ state_of m
+    → IsBased (state_of m) → 0 < task_work nodes task → IsStep nodes task m m
+idle nodes task m same based less =
+    settled nodes task m m (record { tasks = refl; state = sym same })
+    (let P : State → Type 0 = λ s. IsBased s in subst P (sym same) based) less
+
+-- ---- a choice
+
+choice_planned_at : (nodes : List Node) (i c a b : ℕ) (before after : Machine)
+    → Some (Apply (Core Ite) (c ∷ a ∷ b ∷ [])) ≡ slice_get nodes i
+    → IsPlanned (Choose i ∷ visits i (c ∷ [])) (state_of before) before after
+    → IsBased (state_of before)
+    → IsStep nodes (Visit i) before after
+choice_planned_at nodes i c a b before after at is based =
+    let s : State = state_of before in
+    let value : ℕ → Option Element = part i (given nodes) (frame_of s) in
+    planned nodes (Visit i) before after (Choose i ∷ visits i (c ∷ [])) s is
+    (ap (run nodes (Choose i)) (run_visits nodes i (c ∷ []) s)
+    ∙ ap (λ m. chosen nodes i m (with_values (value c ∷ []) s)) (sym at)
+    ∙ made_of_last (λ vs. known_choice (vs ++ value a ∷ value b ∷ [])) (value c ∷ []) 1 s refl
+    ∙ ap (λ m. with_value (node_value i (given nodes) (frame_of s) m) s) at
+    ∙ ap (λ v. with_value v s) (sym (given_law nodes i (frame_of s))))
+    based
+    (let first = ap (first_cost i (cost nodes)) (sym at) in
+    let later = ap (chosen_cost i (cost nodes)) (sym at) in
+    omega (arith, work_visits nodes i (c ∷ []), first, later, cost_law nodes i))
+
+pub choice_planned : (nodes : List Node) (i : ℕ) (op : Op) (args condition : List ℕ) (before after : Machine)
+    → Some (Apply op args) ≡ slice_get nodes i → IsChoice op args condition
+    → IsPlanned (Choose i ∷ visits i condition) (state_of before) before after
+    → IsBased (state_of before)
+    → IsStep nodes (Visit i) before after
+choice_planned nodes i op args condition before after at choice is based =
+    let here : Some (Apply (Core Ite) (choice.0 ∷ choice.1 ∷ choice.2 ∷ [])) ≡ slice_get nodes i =
+    sym (ap (λ o. Some (Apply o args)) choice.3 ∙ ap (λ js. Some (Apply (Core Ite) js)) choice.4) ∙ at in
+    let P : List ℕ → Type 0 = λ js. IsPlanned (Choose i ∷ visits i js) (state_of before) before after in
+    choice_planned_at nodes i choice.0 choice.1 choice.2 before after here (subst P choice.5 is) based
+
+choice_known : (vs : List (Option Element)) (a b : Option Element) → length vs ≤ 1
+    → known_choice (vs ++ a ∷ b ∷ [])
+    ≡ option_and_then (λ c. if c then a else b) (known_truth (first_of vs))
+choice_known [] a b h = refl
+choice_known (v ∷ []) a b h = refl
+choice_known (v ∷ w ∷ vs) a b h = absurd (omega arith)
+
+length_last : {A : Type 0} (xs : List A) → length (last_of 1 xs) ≤ 1
+length_last xs = omega (arith, length-drop (length xs - 1) xs)
+
+-- the choice is what its condition says
+chosen_is : (nodes : List Node) (i a b : ℕ) (op : Op) (args : List ℕ) (t : Option Bool) (s : State)
+    → Some (Apply op args) ≡ slice_get nodes i → Some (a, b) ≡ branches_of args
+    → t ≡ known_truth (first_of (last_of 1 s.values))
+    → with_last 1 (option_and_then
+    (λ c. if c then part i (given nodes) (frame_of s) a else part i (given nodes) (frame_of s) b) t) s
+    ≡ run nodes (Choose i) s
+chosen_is nodes i a b op args t s at branches is =
+    let value : ℕ → Option Element = part i (given nodes) (frame_of s) in
+    ap (λ o. with_last 1 (option_and_then (λ c. if c then value a else value b) o) s) is
+    ∙ ap (λ v. with_last 1 v s) (sym (choice_known (last_of 1 s.values) (value a) (value b)
+    (length_last s.values)))
+    ∙ ap (λ p. chosen_between nodes i p s) branches
+    ∙ ap (λ m. chosen nodes i m s) at
+
+branch_less : (nodes : List Node) (i a b : ℕ) (op : Op) (args : List ℕ)
+    → Some (Apply op args) ≡ slice_get nodes i → Some (a, b) ≡ branches_of args
+    → 3 * (part_cost i (cost nodes) a + part_cost i (cost nodes) b) + 2 ≡ task_work nodes (Choose i)
+branch_less nodes i a b op args at branches =
+    ap (λ p. 3 * branches_cost i (cost nodes) p + 2) branches
+    ∙ ap (λ m. 3 * chosen_cost i (cost nodes) m + 2) at
+
+branch_value : (value : ℕ → Option Element) (c : Bool) (a b : ℕ)
+    → value (cond c a b) ≡ cond c (value a) (value b)
+branch_value value true a b = refl
+branch_value value false a b = refl
+
+branch_cost : (c : ℕ → ℕ) (k : Bool) (a b : ℕ) → c (cond k a b) ≤ c a + c b
+branch_cost c true a b = omega arith
+branch_cost c false a b = omega arith
+
+-- one of the branches
+pub chosen_one : (nodes : List Node) (i a b : ℕ) (op : Op) (args : List ℕ) (t : Option Bool) (c : Bool)
+    (before middle after : Machine)
+    → Some (Apply op args) ≡ slice_get nodes i → Some (a, b) ≡ branches_of args
+    → t ≡ known_truth (first_of (last_of 1 (state_of before).values)) → t ≡ Some c
+    → IsAt (without_last 1 (state_of before)) before middle
+    → IsPlanned (part_task i (if c then a else b) ∷ []) (state_of middle) middle after
+    → IsBased (state_of before)
+    → IsStep nodes (Choose i) before after
+chosen_one nodes i a b op args t c before middle after at branches is some taken is_planned based =
+    let s : State = state_of before in
+    let value : ℕ → Option Element = part i (given nodes) (frame_of s) in
+    planned nodes (Choose i) before after (part_task i (if c then a else b) ∷ []) (without_last 1 s)
+    (record {
+      tasks = is_planned.tasks ∙ ap (λ ts. ts ++ part_task i (if c then a else b) ∷ []) taken.tasks;
+      state = is_planned.state ∙ taken.state;
+    })
+    (run_part nodes i (if c then a else b) (without_last 1 s)
+    ∙ ap (λ v. with_last 1 v s) (branch_value value c a b)
+    ∙ ap (λ o. with_last 1 (option_and_then (λ k. if k then value a else value b) o) s) (sym some)
+    ∙ chosen_is nodes i a b op args t s at branches is)
+    based
+    (let less = branch_less nodes i a b op args at branches in
+    let one = branch_cost (part_cost i (cost nodes)) c a b in
+    omega (arith, less, one, work_part nodes i (if c then a else b)))
+
+-- no truth value to choose by
+pub chosen_none : (nodes : List Node) (i a b : ℕ) (op : Op) (args : List ℕ) (t : Option Bool)
+    (before middle after : Machine)
+    → Some (Apply op args) ≡ slice_get nodes i → Some (a, b) ≡ branches_of args
+    → t ≡ known_truth (first_of (last_of 1 (state_of before).values)) → t ≡ None
+    → IsAt (without_last 1 (state_of before)) before middle
+    → IsAt (with_value None (state_of middle)) middle after
+    → IsBased (state_of before)
+    → IsStep nodes (Choose i) before after
+chosen_none nodes i a b op args t before middle after at branches is none taken left based =
+    let s : State = state_of before in
+    let value : ℕ → Option Element = part i (given nodes) (frame_of s) in
+    let leads : with_last 1 None s ≡ run nodes (Choose i) s =
+    ap (λ o. with_last 1 (option_and_then (λ k. if k then value a else value b) o) s) (sym none)
+    ∙ chosen_is nodes i a b op args t s at branches is in
+    let B : State → Type 0 = λ z. IsBased z in
+    settled nodes (Choose i) before after
+    (record {
+      tasks = left.tasks ∙ taken.tasks;
+      state = left.state ∙ ap (with_value None) taken.state ∙ leads;
+    })
+    (let here : IsBased (with_last 1 None s) = based in subst B leads here)
+    (omega arith)
+
+-- no choice
+pub chosen_idle : (nodes : List Node) (i : ℕ) (op : Op) (args : List ℕ) (m : Machine)
+    → Some (Apply op args) ≡ slice_get nodes i → None ≡ branches_of args
+    → IsBased (state_of m) → IsStep nodes (Choose i) m m
+chosen_idle nodes i op args m at branches based =
+    idle nodes (Choose i) m
+    (ap (λ n. chosen nodes i n (state_of m)) (sym at)
+    ∙ ap (λ p. chosen_between nodes i p (state_of m)) (sym branches)) based (omega arith)
+
+-- ---- what a node does with the last values
+
+pub operated_step : (nodes : List Node) (i n : ℕ) (op : Op) (args : List ℕ) (before after : Machine)
+    → Some (Apply op args) ≡ slice_get nodes i → length args ≡ n
+    → IsAt (with_last n (known_step op (last_of n (state_of before).values)) (state_of before)) before after
+    → IsBased (state_of before)
+    → IsStep nodes (Finish i) before after
+operated_step nodes i n op args before after at count is based =
+    let s : State = state_of before in
+    let leads : with_last n (known_step op (last_of n s.values)) s ≡ run nodes (Finish i) s =
+    ap (λ k. with_last k (known_step op (last_of k s.values)) s) (sym count)
+    ∙ ap (λ m. finished nodes i m s) at in
+    let A : State → Type 0 = λ z. IsAt z before after in
+    let B : State → Type 0 = λ z. IsBased z in
+    settled nodes (Finish i) before after (subst A leads is)
+    (let here : IsBased (with_last n (known_step op (last_of n s.values)) s) = based in subst B leads here)
+    (omega arith)
+
+lesser_is : (m n : ℕ) → m ≤ n → min m n ≡ m
+lesser_is m n h = omega arith
+
+state_is : (vs fs gs : List (Option Element)) (m n : ℕ) → fs ≡ gs → m ≡ n
+    → (let r : State = record { values = vs; frames = fs; base = m } in r)
+    ≡ (let r : State = record { values = vs; frames = gs; base = n } in r)
+state_is vs fs gs m n f b = cc
+
+pub entered_step : (nodes : List Node) (i n body : ℕ) (args : List ℕ) (before after : Machine)
+    → Some (Call body args) ≡ slice_get nodes i → length args ≡ n
+    → IsPlanned (Return (state_of before).base ∷ part_task i body ∷ [])
+    (with_moved (length (state_of before).frames) n (state_of before)) before after
+    → IsBased (state_of before)
+    → IsStep nodes (Finish i) before after
+entered_step nodes i n body args before after at count is based =
+    let s : State = state_of before in
+    let len : ℕ = length s.frames in
+    let inner : State = with_moved len n s in
+    let frame : frame_of inner ≡ last_of n s.values = drop-append_seam s.frames (last_of n s.values) in
+    let back : take len (s.frames ++ last_of n s.values) ≡ s.frames =
+    take-append-le len s.frames (last_of n s.values) (omega arith) ∙ take_all len s.frames (omega arith) in
+    let base : min s.base (length (take len (s.frames ++ last_of n s.values))) ≡ s.base =
+    ap (λ fs. min s.base (length fs)) back ∙ lesser_is s.base len based in
+    planned nodes (Finish i) before after (Return s.base ∷ part_task i body ∷ []) inner is
+    (ap (run nodes (Return s.base)) (run_part nodes i body inner)
+    ∙ state_is (before_last n s.values ++ part i (given nodes) (frame_of inner) body ∷ []) _ _ _ _ back base
+    ∙ ap (λ f. with_last n (part i (given nodes) f body) s) frame
+    ∙ ap (λ k. with_last k (part i (given nodes) (last_of k s.values) body) s) (sym count)
+    ∙ ap (λ m. finished nodes i m s) at)
+    (omega (arith, length-append s.frames (last_of n s.values)))
+    (let last = ap (last_cost i (cost nodes)) (sym at) in omega (arith, last, work_part nodes i body))
+
+pub bound_step : (nodes : List Node) (i n body : ℕ) (values : List ℕ) (before after : Machine)
+    → Some (Let values body) ≡ slice_get nodes i → length values ≡ n
+    → IsPlanned (Unbind (length (state_of before).frames) ∷ part_task i body ∷ [])
+    (with_moved (state_of before).base n (state_of before)) before after
+    → IsBased (state_of before)
+    → IsStep nodes (Finish i) before after
+bound_step nodes i n body values before after at count is based =
+    let s : State = state_of before in
+    let len : ℕ = length s.frames in
+    let inner : State = with_moved s.base n s in
+    let frame : frame_of inner ≡ frame_of s ++ last_of n s.values =
+    drop-append-le s.base s.frames (last_of n s.values) based in
+    let back : take len (s.frames ++ last_of n s.values) ≡ s.frames =
+    take-append-le len s.frames (last_of n s.values) (omega arith) ∙ take_all len s.frames (omega arith) in
+    let base : min s.base (length (take len (s.frames ++ last_of n s.values))) ≡ s.base =
+    ap (λ fs. min s.base (length fs)) back ∙ lesser_is s.base len based in
+    planned nodes (Finish i) before after (Unbind len ∷ part_task i body ∷ []) inner is
+    (ap (run nodes (Unbind len)) (run_part nodes i body inner)
+    ∙ state_is (before_last n s.values ++ part i (given nodes) (frame_of inner) body ∷ []) _ _ _ _ back base
+    ∙ ap (λ f. with_last n (part i (given nodes) f body) s) frame
+    ∙ ap (λ k. with_last k (part i (given nodes) (frame_of s ++ last_of k s.values) body) s) (sym count)
+    ∙ ap (λ m. finished nodes i m s) at)
+    (omega (arith, length-append s.frames (last_of n s.values)))
+    (let last = ap (last_cost i (cost nodes)) (sym at) in omega (arith, last, work_part nodes i body))
+
+-- ---- the loop
+
+pub started : (nodes : List Node) (i : ℕ) (m : Machine) → IsBegun (Visit i) m
+    → IsRunning nodes (given nodes i []) m
+started nodes i m begun =
+    let B : State → Type 0 = λ z. IsBased z in
+    record {
+      answer = ap (λ ts. run_all nodes ts (state_of m)) begun.tasks ∙ ap (run nodes (Visit i)) begun.state;
+      based = let here : IsBased empty_state = omega arith in subst B (sym begun.state) here;
+    }
+
+-- with a task that is taken off
+pub taken_based : (nodes : List Node) (v : Option Element) (before middle : Machine)
+    → IsRunning nodes v before → state_of middle ≡ state_of before → IsBased (state_of middle)
+taken_based nodes v before middle running state =
+    let B : State → Type 0 = λ z. IsBased z in subst B (sym state) running.based
+
+pub turned : (nodes : List Node) (v : Option Element) (task : Task) (before middle after : Machine)
+    → IsRunning nodes v before
+    → state_of middle ≡ state_of before → before.tasks.items ≡ middle.tasks.items ++ task ∷ []
+    → IsStep nodes task middle after
+    → IsRunning nodes v after
+turned nodes v task before middle after running state tasks step = record {
+  answer = step.answer
+      ∙ ap (λ s. run_all nodes middle.tasks.items (run nodes task s)) state
+      ∙ sym (run_all-append nodes middle.tasks.items (task ∷ []) (state_of before))
+      ∙ ap (λ ts. run_all nodes ts (state_of before)) (sym tasks)
+      ∙ running.answer;
+  based = step.based;
+}
+
+pub turned_less : (nodes : List Node) (task : Task) (before middle after : Machine)
+    → before.tasks.items ≡ middle.tasks.items ++ task ∷ []
+    → IsStep nodes task middle after
+    → work nodes after.tasks.items < work nodes before.tasks.items
+turned_less nodes task before middle after tasks step =
+    let e = ap (work nodes) tasks in
+    omega (arith, e, work-append nodes middle.tasks.items (task ∷ []), step.falls)
+
+pub ended : (nodes : List Node) (v w : Option Element) (before middle : Machine)
+    → IsRunning nodes v before
+    → before.tasks.items ≡ [] → state_of middle ≡ state_of before
+    → w ≡ first_of (last_of 1 (state_of middle).values)
+    → w ≡ v
+ended nodes v w before middle running tasks state is =
+    is ∙ ap (λ s. first_of (last_of 1 s.values))
+    (state ∙ sym (ap (λ ts. run_all nodes ts (state_of before)) tasks) ∙ running.answer)

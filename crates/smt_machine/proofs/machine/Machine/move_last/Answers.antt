@@ -1,0 +1,20 @@
+use Rattle.std.proofs.Common.{◌≡◌, ◌-◌, ◌++◌, ◌∷◌, [], ◌∙◌, ap, arith, drop, length, refl, sym}
+use Rattle.smt_values.specs.Element.{known_elements}
+use Rattle.smt_machine.proofs.StateLemmas.{before_known, moved, states_same}
+use Rattle.smt_machine.proofs.machine.Machine.move_last.Goals as goal
+
+pub returns : goal.returns
+returns c =
+    let start = c.saturating_sub-start.result in
+    let items = c.args.self.now.values.items in
+    let frames = c.args.self.now.frames.items in
+    let sees : c.items_from.result.now ≡ drop start items = cc in
+    let from : start ≡ length items - c.args.count = omega arith in
+    let new : c.extend_from_slice.new.self.items ≡ frames ++ drop start items =
+    c.in_ok-extend_from_slice.ensures.items ∙ ap (λ xs. frames ++ xs) sees in
+    record {
+      tasks = c.in_ok-push.ensures.items ∙ ap (λ t. c.args.self.now.tasks.items ++ t ∷ []) c.task_of.ensures;
+      state = states_same _ _ _ _ _ _
+          (ap known_elements c.truncate.ensures.items ∙ sym (before_known items c.args.count start from))
+          (ap known_elements new ∙ moved frames items c.args.count start from) refl;
+    }

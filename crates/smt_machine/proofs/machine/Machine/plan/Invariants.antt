@@ -1,0 +1,15 @@
+use Rattle.std.proofs.Common.{◌≡◌, ◌+◌, ◌∷◌, ◌++◌, length, map}
+use Rattle.smt_machine.specs.Internal.States.{state_of}
+use Rattle.smt_machine.specs.Internal.Tasks.{visits}
+use Rattle.smt_machine.specs.Internal.Parts.{numbers_of}
+use Rattle.smt_machine.proofs.machine.Machine.plan.Given as goal
+
+abbrev pub invariant-loop-last : goal.invariant-loop-last
+invariant-loop-last l = record {
+  tasks : l.fn.self.tasks.items ++ (l.fn.task ∷ visits l.number (numbers_of l.parts))
+      ≡ l.self.tasks.items ++ visits l.number (map (λ id. l.parts.shift + id) l.left);
+  state : state_of l.self ≡ state_of l.fn.self;
+}
+
+abbrev pub decreases-loop-last : goal.decreases-loop-last
+decreases-loop-last l = length l.left

@@ -1,0 +1,11 @@
+use Rattle.std.proofs.Common.{[]}
+use Rattle.smt_machine.specs.Given.{given}
+use Rattle.smt_machine.specs.Internal.Tasks.{IsRunning, work}
+use Rattle.smt_machine.specs.Tables.{nodes_of}
+use Rattle.smt_machine.proofs.machine.Machine.run.Given as goal
+
+abbrev pub invariant-loop-task : goal.invariant-loop-task
+invariant-loop-task l = IsRunning (nodes_of l.tables) (given (nodes_of l.tables) l.root []) l.self
+
+abbrev pub decreases-loop-task : goal.decreases-loop-task
+decreases-loop-task l = work (nodes_of l.tables) l.self.tasks.items

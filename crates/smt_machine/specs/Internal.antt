@@ -1,0 +1,4 @@
+pub mod Parts
+pub mod States
+pub mod Tasks
+pub mod Costs

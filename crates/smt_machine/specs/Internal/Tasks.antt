@@ -1,0 +1,131 @@
+-- What a task does to the machine's state, in one step, and what a stack of tasks does.
+use Rattle.std.specs.Prelude.{ℕ, ◌+◌, ◌*◌, ◌<◌, ◌≤◌, ◌≡◌, List, [], ◌∷◌, ◌++◌, Option, Some, None, length}
+use Rattle.std.specs.Prelude.{nat_lt, slice_get, if◌then◌else◌}
+use Rattle.smt_theory.specs.declared.op.CoreOp.TheVariants.{Ite}
+use Rattle.smt_theory.specs.declared.op.Op.{Op}
+use Rattle.smt_theory.specs.declared.op.Op.TheVariants.{Core}
+use Rattle.smt_values.specs.Element.{Element}
+use Rattle.smt_values.specs.KnownOperations.{known_choice, known_step}
+use Rattle.smt_machine.specs.Given.{given}
+use Rattle.smt_machine.specs.Internal.Costs.{cost, last_cost, part_cost}
+use Rattle.smt_machine.specs.Internal.States.{State, frame_of, last_of, state_of, with_frames, with_last}
+use Rattle.smt_machine.specs.Internal.States.{with_value}
+use Rattle.smt_machine.specs.Nodes.{Node, Known, Slot, Apply, Call, Let, part}
+use Rattle.smt_machine.specs.declared.machine.Machine.{Machine}
+use Rattle.smt_machine.specs.declared.task.Task.{Task}
+use Rattle.smt_machine.specs.declared.task.Task.TheVariants.{Visit, Open, Finish, Choose, Return, Unbind}
+
+-- node i, when the values of its arguments are the last
+abbrev pub finished : List Node → ℕ → Option Node → State → State
+finished nodes i None s = s
+finished nodes i (Some (Known v)) s = s
+finished nodes i (Some (Slot k)) s = s
+finished nodes i (Some (Apply op args)) s =
+    with_last (length args) (known_step op (last_of (length args) s.values)) s
+finished nodes i (Some (Call body args)) s =
+    with_last (length args) (part i (given nodes) (last_of (length args) s.values) body) s
+finished nodes i (Some (Let values body)) s = with_last (length values)
+    (part i (given nodes) (frame_of s ++ last_of (length values) s.values) body) s
+
+-- the numbers of two branches behind a condition
+abbrev pub branches_of : List ℕ → Option (ℕ × ℕ)
+branches_of (condition ∷ a ∷ b ∷ []) = Some (a, b)
+branches_of _ = None
+
+-- the choice between nodes, when the value of the condition is the last
+abbrev pub chosen_between : List Node → ℕ → Option (ℕ × ℕ) → State → State
+chosen_between nodes i None s = s
+chosen_between nodes i (Some (a, b)) s = with_last 1
+    (known_choice (last_of 1 s.values
+    ++ part i (given nodes) (frame_of s) a ∷ part i (given nodes) (frame_of s) b ∷ [])) s
+
+abbrev pub chosen : List Node → ℕ → Option Node → State → State
+chosen nodes i (Some (Apply op args)) s = chosen_between nodes i (branches_of args) s
+chosen nodes i _ s = s
+
+abbrev pub run : List Node → Task → State → State
+run nodes (Visit i) s = with_value (given nodes i (frame_of s)) s
+run nodes Open s = with_value None s
+run nodes (Finish i) s = finished nodes i (slice_get nodes i) s
+run nodes (Choose i) s = chosen nodes i (slice_get nodes i) s
+run nodes (Return base) s = with_frames base s.base s
+run nodes (Unbind len) s = with_frames s.base len s
+
+-- the last task is the first to be done
+abbrev pub run_all : List Node → List Task → State → State
+run_all nodes [] s = s
+run_all nodes (t ∷ ts) s = run nodes t (run_all nodes ts s)
+
+-- ---- the tasks that are planned
+
+abbrev pub part_task : ℕ → ℕ → Task
+part_task i j = if nat_lt j i then Visit j else Open
+
+-- the first part of node i is the first to be evaluated
+abbrev pub visits : ℕ → List ℕ → List Task
+visits i [] = []
+visits i (j ∷ js) = visits i js ++ part_task i j ∷ []
+
+-- the operator with these arguments is a choice that has this condition
+abbrev pub IsChoice : Op → (args condition : List ℕ) → Type 0
+IsChoice op args condition = (c : ℕ) × (a : ℕ) × (b : ℕ)
+    × (op ≡ Core Ite) × (args ≡ c ∷ a ∷ b ∷ []) × (condition ≡ c ∷ [])
+
+-- ---- the measure
+
+abbrev pub branches_cost : ℕ → (ℕ → ℕ) → Option (ℕ × ℕ) → ℕ
+branches_cost i c None = 0
+branches_cost i c (Some (a, b)) = part_cost i c a + part_cost i c b
+
+abbrev pub chosen_cost : ℕ → (ℕ → ℕ) → Option Node → ℕ
+chosen_cost i c (Some (Apply op args)) = branches_cost i c (branches_of args)
+chosen_cost i c _ = 0
+
+-- three for each node that is visited, and up to two for what is done with it besides
+abbrev pub task_work : List Node → Task → ℕ
+task_work nodes (Visit i) = 3 * cost nodes i
+task_work nodes Open = 3
+task_work nodes (Finish i) = 3 * last_cost i (cost nodes) (slice_get nodes i) + 2
+task_work nodes (Choose i) = 3 * chosen_cost i (cost nodes) (slice_get nodes i) + 2
+task_work nodes (Return base) = 1
+task_work nodes (Unbind len) = 1
+
+abbrev pub work : List Node → List Task → ℕ
+work nodes [] = 0
+work nodes (t ∷ ts) = task_work nodes t + work nodes ts
+
+-- ---- a step of the machine
+
+-- the innermost frame begins within the frames
+abbrev pub IsBased : State → Type 0
+IsBased s = s.base ≤ length s.frames
+
+abbrev pub empty_state : State
+empty_state = record { values = []; frames = []; base = 0 }
+
+-- a machine has one task, and nothing else
+pub record IsBegun (task : Task) (m : Machine) : Type 0 where
+  pub tasks : m.tasks.items ≡ task ∷ []
+  pub state : state_of m ≡ empty_state
+
+-- a machine has the tasks of another, and this state
+pub record IsAt (s : State) (before after : Machine) : Type 0 where
+  pub tasks : after.tasks.items ≡ before.tasks.items
+  pub state : state_of after ≡ s
+
+-- a machine has more tasks than another, and this state
+pub record IsPlanned (more : List Task) (s : State) (before after : Machine) : Type 0 where
+  pub tasks : after.tasks.items ≡ before.tasks.items ++ more
+  pub state : state_of after ≡ s
+
+-- a machine has done a task that was taken off already: what is left to do leads to the same, and is less
+pub record IsStep (nodes : List Node) (task : Task) (before after : Machine) : Type 0 where
+  pub answer : run_all nodes after.tasks.items (state_of after)
+      ≡ run_all nodes before.tasks.items (run nodes task (state_of before))
+  pub based : IsBased (state_of after)
+  pub falls : work nodes after.tasks.items < work nodes before.tasks.items + task_work nodes task
+
+-- a machine is on its way to one value, and nothing else
+pub record IsRunning (nodes : List Node) (v : Option Element) (m : Machine) : Type 0 where
+  pub answer : run_all nodes m.tasks.items (state_of m) ≡ with_value v empty_state
+  pub based : IsBased (state_of m)

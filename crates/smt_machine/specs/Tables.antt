@@ -1,0 +1,40 @@
+-- The nodes of a model and of a script in one list, where the script's stand behind the model's and names
+-- lead to the bodies of their definitions.
+use Rattle.std.specs.Prelude.{ℕ, ◌+◌, List, [], ◌++◌, Option, Some, None, length, map, option_map, slice_get}
+use Rattle.smt_values.specs.Literals.{bin_element, hex_element, numeral_element}
+use Rattle.smt_machine.specs.Nodes as machine
+use Rattle.smt_nodes.specs.Node.{Node, Numeral, Hexadecimal, Binary, Slot, Apply, Declared, Defined, Let}
+use Rattle.smt_nodes.specs.Nodes.{rows_of}
+use Rattle.smt_machine.specs.declared.tables.Tables.{Tables}
+
+-- numbers of a table whose nodes stand behind so many others
+abbrev pub shifted : ℕ → List ℕ → List ℕ
+shifted n js = map (λ j. n + j) js
+
+-- the body at a place with arguments; open where none is there
+abbrev pub call : Option ℕ → List ℕ → machine.Node
+call None args = machine.Known None
+call (Some body) args = machine.Call body args
+
+-- A node of a table whose nodes stand behind n others. A defined name's body is a node of the same table, a
+-- declared name's is one from the start.
+abbrev pub resolved : ℕ → (bodies declared : List ℕ) → Node → machine.Node
+resolved n bodies declared (Numeral digits) = machine.Known (numeral_element digits)
+resolved n bodies declared (Hexadecimal digits) = machine.Known (hex_element digits)
+resolved n bodies declared (Binary digits) = machine.Known (bin_element digits)
+resolved n bodies declared (Slot place) = machine.Slot place
+resolved n bodies declared (Apply op args) = machine.Apply op (shifted n args)
+resolved n bodies declared (Declared place args) = call (slice_get declared place) (shifted n args)
+resolved n bodies declared (Defined place args) =
+    call (option_map (λ j. n + j) (slice_get bodies place)) (shifted n args)
+resolved n bodies declared (Let values body) = machine.Let (shifted n values) (n + body)
+
+-- how many nodes the model has
+abbrev pub model_count : Tables → ℕ
+model_count tables = length (rows_of tables.model.now)
+
+abbrev pub nodes_of : Tables → List machine.Node
+nodes_of tables =
+    map (λ row. resolved 0 tables.model_bodies.now [] row.node) (rows_of tables.model.now)
+    ++ map (λ row. resolved (model_count tables) tables.script_bodies.now tables.declared.now row.node)
+    (rows_of tables.script.now)

@@ -1,0 +1,317 @@
+//! Evaluation of nodes, one task after another. This file knows no stack.
+
+ghost use Rattle.std.specs.Prelude.{◌≡◌, ◌+◌, [], IfOk, IfSome, IsTrue, List, None, Option, Some, option_map};
+ghost use Rattle.std.specs.Prelude.{slice_get};
+ghost use Rattle.smt_theory.specs.declared.op.CoreOp.TheVariants.{Ite};
+ghost use Rattle.smt_theory.specs.declared.op.Op.{Op};
+ghost use Rattle.smt_theory.specs.declared.op.Op.TheVariants.{Core};
+ghost use Rattle.smt_values.specs.Element.{known_element};
+ghost use Rattle.smt_values.specs.KnownOperations.{known_truth};
+ghost use Rattle.smt_machine.specs.Given.{given};
+ghost use Rattle.smt_machine.specs.Internal.States.{state_of};
+ghost use Rattle.smt_machine.specs.Internal.Parts.{meaning, number_of, numbers_of};
+ghost use Rattle.smt_machine.specs.Internal.Tasks.{IsBased, IsChoice, IsStep, branches_of};
+ghost use Rattle.smt_machine.specs.Nodes.{Apply, Node as MachineNode};
+ghost use Rattle.smt_machine.specs.Tables.{call, model_count, nodes_of};
+ghost use Rattle.smt_machine.specs.declared.task.Task.TheVariants.{Choose, Finish, Visit};
+
+use crate::machine::Machine;
+use crate::parts::{Part, Parts};
+use crate::tables::{Place, Tables};
+use crate::task::{Task, task_of};
+use smt_faults::Memory;
+use smt_nodes::{Node, TermId};
+use smt_theory::{CoreOp, Op};
+use smt_values::{Value, bin, hex, numeral};
+
+impl Machine {
+    /// What is known of the value of a closed term of the script, whatever was evaluated before. Refused is
+    /// only the growth of the machine's stacks.
+    pub fn eval(&mut self, tables: Tables<'_>, term: TermId) -> Result<Option<Value>, Memory>
+        ensures { IfOk result (λ v. known_element v
+            ≡ given (nodes_of tables.entry) (model_count tables.entry + term) []) }
+    {
+        match tables.shift().checked_add(term.number()) {
+            Some(root) => self.run(&tables, root),
+            // So many nodes have no place in memory.
+            None => Err(Memory),
+        }
+    }
+
+    // What is known of the value of a closed node.
+    fn run(&mut self, tables: &Tables<'_>, root: usize) -> Result<Option<Value>, Memory>
+        ensures { IfOk result (λ v. known_element v ≡ given (nodes_of tables.now) root []) }
+    {
+        self.begin(Task::Visit(root))?;
+        while let Some(task) = self.take_task() {
+            self.act(tables, task)?;
+        }
+        Ok(self.take_last())
+    }
+
+    // Does a task that was taken off.
+    #[inline(always)]
+    fn act(&mut self, tables: &Tables<'_>, task: Task) -> Result<(), Memory>
+        requires { IsBased (state_of self.old) }
+        ensures { IfOk result (λ _. IsStep (nodes_of tables.now) task self.old self.new) }
+    {
+        match task {
+            Task::Visit(number) => self.visit(tables, number),
+            Task::Open => self.leave(None),
+            Task::Finish(number) => self.finish(tables, number),
+            Task::Choose(number) => self.choose(tables, number),
+            Task::Return(base) => {
+                self.leave_frame(base);
+                Ok(())
+            }
+            Task::Unbind(len) => {
+                self.unbind(len);
+                Ok(())
+            }
+        }
+    }
+
+    // Leaves the value of a node, or plans what has to come before.
+    #[inline(always)]
+    fn visit(&mut self, tables: &Tables<'_>, number: usize) -> Result<(), Memory>
+        requires { IsBased (state_of self.old) }
+        ensures { IfOk result (λ _. IsStep (nodes_of tables.now) (Visit number) self.old self.new) }
+    {
+        let place = tables.place(number);
+        match place.node() {
+            Some(node) => self.visit_node(number, &place, &node),
+            None => self.leave(None),
+        }
+    }
+
+    #[inline(always)]
+    fn visit_node(&mut self, number: usize, from: &Place<'_>, node: &Node<'_>) -> Result<(), Memory>
+        requires { IsBased (state_of self.old) }
+        ensures { IfOk result (λ _. (nodes : List MachineNode)
+            → Some (meaning from.now node.now) ≡ slice_get nodes number
+            → IsStep nodes (Visit number) self.old self.new) }
+    {
+        match node {
+            Node::Numeral(digits) => self.leave(numeral(*digits)),
+            Node::Hex(digits) => self.leave(hex(*digits)),
+            Node::Bin(digits) => self.leave(bin(*digits)),
+            Node::Slot(place) => {
+                let value = self.value_at(*place);
+                self.leave(value)
+            }
+            Node::Apply { op, args } => self.visit_args(number, op, from.parts(*args)),
+            Node::Declared { place, args } => {
+                self.visit_call(number, from.declared(*place), from.parts(*args))
+            }
+            Node::Defined { place, args } => {
+                self.visit_call(number, from.defined(*place), from.parts(*args))
+            }
+            Node::Let { values, .. } => {
+                self.plan(Task::Finish(number), number, from.parts(*values))
+            }
+        }
+    }
+
+    // Plans a body behind its arguments, if there is one.
+    #[inline(always)]
+    fn visit_call(
+        &mut self,
+        number: usize,
+        body: Option<Part>,
+        args: Parts<'_>,
+    ) -> Result<(), Memory>
+        requires { IsBased (state_of self.old) }
+        ensures { IfOk result (λ _. (nodes : List MachineNode)
+            → Some (call (option_map number_of body) (numbers_of args.entry)) ≡ slice_get nodes number
+            → IsStep nodes (Visit number) self.old self.new) }
+    {
+        match body {
+            Some(_) => self.plan(Task::Finish(number), number, args),
+            None => self.leave(None),
+        }
+    }
+
+    // Plans an operator behind its arguments, and a choice behind its condition alone.
+    #[inline(always)]
+    fn visit_args(&mut self, number: usize, op: &Op, args: Parts<'_>) -> Result<(), Memory>
+        requires { IsBased (state_of self.old) }
+        ensures { IfOk result (λ _. (nodes : List MachineNode)
+            → Some (Apply op.now (numbers_of args.entry)) ≡ slice_get nodes number
+            → IsStep nodes (Visit number) self.old self.new) }
+    {
+        match condition_of(op, args) {
+            Some(condition) => self.plan(Task::Choose(number), number, condition),
+            None => self.plan(Task::Finish(number), number, args),
+        }
+    }
+
+    // Goes on with a node whose arguments are the last values.
+    #[inline(always)]
+    fn finish(&mut self, tables: &Tables<'_>, number: usize) -> Result<(), Memory>
+        requires { IsBased (state_of self.old) }
+        ensures { IfOk result (λ _. IsStep (nodes_of tables.now) (Finish number) self.old self.new) }
+    {
+        let place = tables.place(number);
+        match place.node() {
+            Some(node) => self.finish_node(number, &place, &node),
+            None => Ok(()),
+        }
+    }
+
+    #[inline(always)]
+    fn finish_node(
+        &mut self,
+        number: usize,
+        from: &Place<'_>,
+        node: &Node<'_>,
+    ) -> Result<(), Memory>
+        requires { IsBased (state_of self.old) }
+        ensures { IfOk result (λ _. (nodes : List MachineNode)
+            → Some (meaning from.now node.now) ≡ slice_get nodes number
+            → IsStep nodes (Finish number) self.old self.new) }
+    {
+        match node {
+            Node::Apply { op, args } => self.operate(*op, args.len()),
+            Node::Declared { place, args } => {
+                self.finish_call(number, from.declared(*place), from.parts(*args))
+            }
+            Node::Defined { place, args } => {
+                self.finish_call(number, from.defined(*place), from.parts(*args))
+            }
+            Node::Let { values, body } => {
+                let body = Part {
+                    id: *body,
+                    shift: from.shift,
+                };
+                self.bind(number, body, values.len())
+            }
+            Node::Numeral(_) => Ok(()),
+            Node::Hex(_) => Ok(()),
+            Node::Bin(_) => Ok(()),
+            Node::Slot(_) => Ok(()),
+        }
+    }
+
+    // Goes on with a body, if there is one.
+    #[inline(always)]
+    fn finish_call(
+        &mut self,
+        number: usize,
+        body: Option<Part>,
+        args: Parts<'_>,
+    ) -> Result<(), Memory>
+        requires { IsBased (state_of self.old) }
+        ensures { IfOk result (λ _. (nodes : List MachineNode)
+            → Some (call (option_map number_of body) (numbers_of args.entry)) ≡ slice_get nodes number
+            → IsStep nodes (Finish number) self.old self.new) }
+    {
+        match body {
+            Some(body) => self.enter(number, body, args.ids.len()),
+            None => Ok(()),
+        }
+    }
+
+    // Goes on with a choice whose condition is the last value.
+    #[inline(always)]
+    fn choose(&mut self, tables: &Tables<'_>, number: usize) -> Result<(), Memory>
+        requires { IsBased (state_of self.old) }
+        ensures { IfOk result (λ _. IsStep (nodes_of tables.now) (Choose number) self.old self.new) }
+    {
+        let place = tables.place(number);
+        match place.node() {
+            Some(node) => self.choose_node(number, &place, &node),
+            None => Ok(()),
+        }
+    }
+
+    #[inline(always)]
+    fn choose_node(
+        &mut self,
+        number: usize,
+        from: &Place<'_>,
+        node: &Node<'_>,
+    ) -> Result<(), Memory>
+        requires { IsBased (state_of self.old) }
+        ensures { IfOk result (λ _. (nodes : List MachineNode)
+            → Some (meaning from.now node.now) ≡ slice_get nodes number
+            → IsStep nodes (Choose number) self.old self.new) }
+    {
+        match node {
+            Node::Apply { op, args } => self.choose_among(number, op, from.parts(*args)),
+            Node::Declared { .. } => Ok(()),
+            Node::Defined { .. } => Ok(()),
+            Node::Let { .. } => Ok(()),
+            Node::Numeral(_) => Ok(()),
+            Node::Hex(_) => Ok(()),
+            Node::Bin(_) => Ok(()),
+            Node::Slot(_) => Ok(()),
+        }
+    }
+
+    #[inline(always)]
+    fn choose_among(&mut self, number: usize, op: &Op, args: Parts<'_>) -> Result<(), Memory>
+        requires { IsBased (state_of self.old) }
+        ensures { IfOk result (λ _. (nodes : List MachineNode)
+            → Some (Apply op.now (numbers_of args.entry)) ≡ slice_get nodes number
+            → IsStep nodes (Choose number) self.old self.new) }
+    {
+        match branches(args) {
+            Some((first, second)) => {
+                let condition = self.take_last();
+                match truth(&condition) {
+                    Some(true) => self.plan_part(task_of(number, first)),
+                    Some(false) => self.plan_part(task_of(number, second)),
+                    None => self.leave(None),
+                }
+            }
+            None => Ok(()),
+        }
+    }
+}
+
+// The condition alone, where an operator with its arguments is a choice.
+#[inline(always)]
+fn condition_of<'a>(op: &Op, args: Parts<'a>) -> Option<Parts<'a>>
+    ensures { IfSome result (λ condition.
+        IsChoice op.now (numbers_of args.entry) (numbers_of condition)) }
+{
+    if is_choice(op) && args.ids.len() == 3 {
+        Some(Parts {
+            ids: &args.ids[..1],
+            shift: args.shift,
+        })
+    } else {
+        None
+    }
+}
+
+// Whether an operator is `ite`.
+#[inline(always)]
+fn is_choice(op: &Op) -> bool
+    ensures { IsTrue result → op.now ≡ Core Ite }
+{
+    matches!(op, Op::Core(CoreOp::Ite))
+}
+
+// The branches behind a condition.
+#[inline(always)]
+fn branches(args: Parts<'_>) -> Option<(Part, Part)>
+    ensures { option_map (λ p. (number_of p.0, number_of p.1)) result ≡ branches_of (numbers_of args.entry) }
+{
+    let shift = args.shift;
+    match args.ids {
+        [_, first, second] => Some((Part { id: *first, shift }, Part { id: *second, shift })),
+        _ => None,
+    }
+}
+
+// The truth value that a value is.
+#[inline(always)]
+fn truth(value: &Option<Value>) -> Option<bool>
+    ensures { result ≡ known_truth (known_element value.now) }
+{
+    match value {
+        Some(Value::Bool(truth)) => Some(*truth),
+        _ => None,
+    }
+}

@@ -1,0 +1,33 @@
+//! Evaluation of numbered nodes by one loop over a stack of its own.
+//!
+//! The nodes of a script's terms and those of a model's bodies stand in two tables (`smt_nodes`), and names
+//! lead to the bodies of their definitions. What is known of a node's value is made of the nodes with lower
+//! numbers alone: a part of another number is open, and so are a place and a body that are not there. Nothing
+//! here knows a name or a sort, and nothing allocates but the growth of a machine's stacks: a term may be as
+//! deep as memory allows.
+//!
+//! **The contract for the layer above**: `Machine::eval` gives `given` of `specs/Given.antt` over the nodes
+//! of both tables, `nodes_of` of `specs/Tables.antt`, whatever these hold; by `nodes_have_their_values` of
+//! [`laws`] that is what each form of node makes of its parts, `node_value` of `specs/Nodes.antt`.
+//!
+//! A call, for the script's `(+ x 1)` as node `sum`, where the model has 2 for `x`:
+//!
+//! ```text
+//! let mut machine = Machine::new(alloc);
+//! machine.eval(tables, sum)?                                                // Some(Value::Int(3))
+//! ```
+#![tactic(auto)]
+
+mod evaluation;
+mod items;
+pub mod laws;
+mod machine;
+mod parts;
+mod tables;
+mod task;
+#[cfg(test)]
+mod tests;
+
+pub use machine::Machine;
+pub use smt_faults::Memory;
+pub use tables::Tables;

@@ -1,0 +1,215 @@
+//! A machine's stacks, and how values move between them. This file fetches no node.
+
+ghost use Rattle.std.specs.Prelude.{◌≡◌, ◌∷◌, [], ◌++◌, IfOk, MatchOption, None, Some, length};
+ghost use Rattle.smt_values.specs.Element.{known_element};
+ghost use Rattle.smt_values.specs.KnownOperations.{known_step};
+ghost use Rattle.smt_machine.specs.Internal.States.{first_of, frame_of, last_of, state_of, with_frames};
+ghost use Rattle.smt_machine.specs.Internal.States.{with_last, with_moved, with_value, without_last};
+ghost use Rattle.smt_machine.specs.Internal.Parts.{number_of, numbers_of};
+ghost use Rattle.smt_machine.specs.Internal.Tasks.{IsAt, IsBegun, IsPlanned, part_task, visits};
+ghost use Rattle.smt_machine.specs.Memory.{HasNoMemory};
+ghost use Rattle.smt_machine.specs.Nodes.{at_place};
+ghost use Rattle.smt_machine.specs.declared.task.Task.TheVariants.{Return, Unbind};
+
+use crate::items::{items_from, lesser};
+use crate::parts::{Part, Parts};
+use crate::task::{Task, task_of};
+use smt_faults::Memory;
+use smt_theory::Op;
+use smt_values::{Value, apply};
+use std::alloc::Global;
+
+/// Stacks for the evaluation of nodes, bounded by memory alone. One machine serves many evaluations, and
+/// keeps its memory from one to the next.
+#[derive(Drop)]
+pub struct Machine {
+    values: Vec<Option<Value>>,
+    frames: Vec<Option<Value>>,
+    base: usize,
+    tasks: Vec<Task>,
+}
+
+impl Machine {
+    /// A machine that has no memory yet.
+    pub fn new(alloc: Global) -> Machine
+        ensures { HasNoMemory result }
+    {
+        Machine {
+            values: Vec::new(alloc),
+            frames: Vec::new(alloc),
+            base: 0,
+            tasks: Vec::new(alloc),
+        }
+    }
+
+    /// Empty stacks but for one task.
+    pub(crate) fn begin(&mut self, task: Task) -> Result<(), Memory>
+        ensures { IfOk result (λ _. IsBegun task self.new) }
+    {
+        self.values.clear();
+        self.frames.clear();
+        self.base = 0;
+        self.tasks.clear();
+        self.tasks.push(task)?;
+        Ok(())
+    }
+
+    /// The last task, which is taken off.
+    #[inline(always)]
+    pub(crate) fn take_task(&mut self) -> Option<Task>
+        ensures state { state_of self.new ≡ state_of self.old }
+        ensures tasks { MatchOption result ((self.old.tasks.items ≡ []) × (self.new.tasks.items ≡ []))
+            (λ task. self.old.tasks.items ≡ self.new.tasks.items ++ task ∷ []) }
+    {
+        self.tasks.pop()
+    }
+
+    /// One more value.
+    #[inline(always)]
+    pub(crate) fn leave(&mut self, value: Option<Value>) -> Result<(), Memory>
+        ensures { IfOk result (λ _.
+            IsAt (with_value (known_element value) (state_of self.old)) self.old self.new) }
+    {
+        self.values.push(value)?;
+        Ok(())
+    }
+
+    /// The value at a place of the frame.
+    #[inline(always)]
+    pub(crate) fn value_at(&self, place: usize) -> Option<Value>
+        ensures { known_element result ≡ at_place (frame_of (state_of self.now)) place }
+    {
+        let frames = self.frames.as_slice();
+        if place < frames.len().saturating_sub(self.base) {
+            frames[self.base + place]
+        } else {
+            None
+        }
+    }
+
+    /// The last value, which is taken off.
+    #[inline(always)]
+    pub(crate) fn take_last(&mut self) -> Option<Value>
+        ensures value { known_element result ≡ first_of (last_of 1 (state_of self.old).values) }
+        ensures rest { IsAt (without_last 1 (state_of self.old)) self.old self.new }
+    {
+        match self.values.pop() {
+            Some(value) => value,
+            None => None,
+        }
+    }
+
+    /// What an operator makes of the last values, in their place.
+    #[inline(always)]
+    pub(crate) fn operate(&mut self, op: Op, count: usize) -> Result<(), Memory>
+        ensures { let before = state_of self.old in IfOk result (λ _.
+            IsAt (with_last count (known_step op (last_of count before.values)) before) self.old self.new) }
+    {
+        let values = self.values.as_slice();
+        let start = values.len().saturating_sub(count);
+        let value = apply(op, items_from(values, start));
+        self.values.truncate(start);
+        self.values.push(value)?;
+        Ok(())
+    }
+
+    /// A task behind which the parts of a node are visited first, the first part before the others.
+    #[inline(always)]
+    pub(crate) fn plan(&mut self, task: Task, number: usize, parts: Parts<'_>) -> Result<(), Memory>
+        ensures { IfOk result (λ _. IsPlanned (task ∷ visits number (numbers_of parts.entry))
+            (state_of self.old) self.old self.new) }
+    {
+        self.tasks.push(task)?;
+        let mut left = parts.ids;
+        while let Some((last, rest)) = left.split_last() {
+            let part = Part {
+                id: *last,
+                shift: parts.shift,
+            };
+            self.tasks.push(task_of(number, part))?;
+            left = rest;
+        }
+        Ok(())
+    }
+
+    /// One more task.
+    #[inline(always)]
+    pub(crate) fn plan_part(&mut self, task: Task) -> Result<(), Memory>
+        ensures { IfOk result (λ _. IsPlanned (task ∷ []) (state_of self.old) self.old self.new) }
+    {
+        self.tasks.push(task)?;
+        Ok(())
+    }
+
+    /// The last values become a frame of their own for a body.
+    #[inline(always)]
+    pub(crate) fn enter(&mut self, number: usize, body: Part, count: usize) -> Result<(), Memory>
+        ensures { let before = state_of self.old in IfOk result (λ _.
+            IsPlanned (Return before.base ∷ part_task number (number_of body) ∷ [])
+            (with_moved (length before.frames) count before) self.old self.new) }
+    {
+        self.tasks.push(Task::Return(self.base))?;
+        let base = self.frames.as_slice().len();
+        self.move_last(number, body, base, count)
+    }
+
+    /// The last values become the end of the frame for a body.
+    #[inline(always)]
+    pub(crate) fn bind(&mut self, number: usize, body: Part, count: usize) -> Result<(), Memory>
+        ensures { let before = state_of self.old in IfOk result (λ _.
+            IsPlanned (Unbind (length before.frames) ∷ part_task number (number_of body) ∷ [])
+            (with_moved before.base count before) self.old self.new) }
+    {
+        let len = self.frames.as_slice().len();
+        self.tasks.push(Task::Unbind(len))?;
+        let around = self.base;
+        self.move_last(number, body, around, count)
+    }
+
+    // The last values go to the frames for a body, of which the innermost begins at `base`.
+    #[inline(always)]
+    fn move_last(
+        &mut self,
+        number: usize,
+        body: Part,
+        base: usize,
+        count: usize,
+    ) -> Result<(), Memory>
+        ensures { IfOk result (λ _. IsPlanned (part_task number (number_of body) ∷ [])
+            (with_moved base count (state_of self.old)) self.old self.new) }
+    {
+        let values = self.values.as_slice();
+        let start = values.len().saturating_sub(count);
+        self.frames.extend_from_slice(items_from(values, start))?;
+        self.values.truncate(start);
+        self.base = base;
+        self.tasks.push(task_of(number, body))?;
+        Ok(())
+    }
+
+    /// The frame that began at `base` is the innermost again.
+    #[inline(always)]
+    pub(crate) fn leave_frame(&mut self, base: usize)
+        ensures { IsAt (with_frames base (state_of self.old).base (state_of self.old)) self.old self.new }
+    {
+        let len = self.base;
+        self.shorten(base, len);
+    }
+
+    /// The frames have this length again.
+    #[inline(always)]
+    pub(crate) fn unbind(&mut self, len: usize)
+        ensures { IsAt (with_frames (state_of self.old).base len (state_of self.old)) self.old self.new }
+    {
+        let base = self.base;
+        self.shorten(base, len);
+    }
+
+    #[inline(always)]
+    fn shorten(&mut self, base: usize, len: usize)
+        ensures { IsAt (with_frames base len (state_of self.old)) self.old self.new }
+    {
+        self.frames.truncate(len);
+        self.base = lesser(base, self.frames.as_slice().len());
+    }
+}

@@ -1,0 +1,121 @@
+//! The nodes of a model and of a script as one table, and what names lead to. This file evaluates nothing.
+
+ghost use Rattle.std.specs.Prelude.{◌≡◌, ◌+◌, option_map, slice_get};
+ghost use Rattle.smt_machine.specs.Internal.Parts.{found, meaning, number_of, numbers_of};
+ghost use Rattle.smt_machine.specs.Tables.{model_count, nodes_of, shifted};
+
+use crate::items::item_at;
+use crate::parts::{Part, Parts};
+use smt_nodes::{Node, Nodes, TermId};
+
+/// The nodes of a model and of a script, and the bodies of their definitions. Any will do: a part whose
+/// number is not below its node's is open, and so is a name at a place that is not there.
+#[derive(Clone, Copy)]
+pub struct Tables<'a> {
+    /// The nodes of the bodies of a model's definitions.
+    pub model: &'a Nodes,
+    /// The body of each definition of the model, by its place.
+    pub model_bodies: &'a [TermId],
+    /// The nodes of the script's terms.
+    pub script: &'a Nodes,
+    /// The body of each definition of the script's own, by its place.
+    pub script_bodies: &'a [TermId],
+    /// For each name that the script declares, by its place, the body of the definition that the model gives
+    /// to it, in the model's table.
+    pub declared: &'a [TermId],
+}
+
+/// A place in one of two tables, and what the names of that table lead to.
+#[derive(Clone, Copy)]
+pub(crate) struct Place<'a> {
+    pub(crate) nodes: &'a Nodes,
+    pub(crate) number: usize,
+    /// How many nodes of both tables stand before those of this one.
+    pub(crate) shift: usize,
+    pub(crate) bodies: &'a [TermId],
+    pub(crate) declared: &'a [TermId],
+}
+
+impl<'a> Tables<'a> {
+    /// How many nodes stand before the script's.
+    #[inline(always)]
+    pub(crate) fn shift(&self) -> usize
+        ensures { result ≡ model_count self.now }
+    {
+        self.model.len()
+    }
+
+    /// Where the node of a number is looked for.
+    #[inline(always)]
+    pub(crate) fn place(&self, number: usize) -> Place<'a>
+        ensures { found result ≡ slice_get (nodes_of self.now) number }
+    {
+        let shift = self.shift();
+        if number < shift {
+            Place {
+                nodes: self.model,
+                number,
+                shift: 0,
+                bodies: self.model_bodies,
+                declared: &[],
+            }
+        } else {
+            Place {
+                nodes: self.script,
+                number: number - shift,
+                shift,
+                bodies: self.script_bodies,
+                declared: self.declared,
+            }
+        }
+    }
+}
+
+impl<'a> Place<'a> {
+    /// The node, if one is there.
+    #[inline(always)]
+    pub(crate) fn node(&self) -> Option<Node<'a>>
+        ensures { option_map (meaning self.now) result ≡ found self.now }
+    {
+        self.nodes.get(self.number)
+    }
+
+    /// Nodes of this table.
+    #[inline(always)]
+    pub(crate) fn parts<'b>(&self, ids: &'b [TermId]) -> Parts<'b>
+        ensures { numbers_of result ≡ shifted self.now.shift ids.now }
+    {
+        Parts {
+            ids,
+            shift: self.shift,
+        }
+    }
+
+    /// The body of a definition of this table.
+    #[inline(always)]
+    pub(crate) fn defined(&self, place: usize) -> Option<Part>
+        ensures { option_map number_of result
+            ≡ option_map (λ j. self.now.shift + j) (slice_get self.now.bodies.now place) }
+    {
+        part_at(self.bodies, place, self.shift)
+    }
+
+    /// The body that a declared name has in the model.
+    #[inline(always)]
+    pub(crate) fn declared(&self, place: usize) -> Option<Part>
+        ensures { option_map number_of result ≡ slice_get self.now.declared.now place }
+    {
+        part_at(self.declared, place, 0)
+    }
+}
+
+// The node at a place among those of a table whose nodes stand behind `shift` others.
+#[inline(always)]
+fn part_at(ids: &[TermId], place: usize, shift: usize) -> Option<Part>
+    ensures { option_map number_of result ≡ option_map (λ j. shift + j) (slice_get ids.now place) }
+{
+    match item_at(ids, place) {
+        Some(id) => Some(Part { id: *id, shift }),
+        None => None,
+    }
+}

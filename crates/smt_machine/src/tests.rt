@@ -1,0 +1,82 @@
+//! A term over a model's function and the script's own, evaluated twice by one machine, of which memory may be
+//! refused once (`rt try --test --fail-alloc N`).
+
+use crate::{Machine, Tables};
+use smt_faults::Memory;
+use smt_nodes::{Node, Nodes, TermId};
+use smt_theory::{Arithmetic, Comparison, CoreOp, IntsOp, Op, Sort};
+use smt_values::Value;
+use std::alloc::Global;
+
+const MINUS: Op = Op::Ints(IntsOp::Arithmetic(Arithmetic::Minus));
+
+const LESS: Op = Op::Ints(IntsOp::Comparison(Comparison::Less));
+
+const ITE: Op = Op::Core(CoreOp::Ite);
+
+fn apply(nodes: &mut Nodes, op: Op, args: &[TermId]) -> Result<TermId, Memory> {
+    nodes.push(&Node::Apply { op, args }, Sort::Int)
+}
+
+// `x` is 2, and `(f a)` is `(let ((b 1) (a a)) (- b a a))`: -3 for 2.
+fn model(alloc: Global) -> Result<(Nodes, [TermId; 2]), Memory> {
+    let mut nodes = Nodes::new(alloc);
+    let x = nodes.push(&Node::Numeral(b"2"), Sort::Int)?;
+    let one = nodes.push(&Node::Numeral(b"1"), Sort::Int)?;
+    let a = nodes.push(&Node::Slot(0), Sort::Int)?;
+    let inner_b = nodes.push(&Node::Slot(1), Sort::Int)?;
+    let inner_a = nodes.push(&Node::Slot(2), Sort::Int)?;
+    let body = apply(&mut nodes, MINUS, &[inner_b, inner_a, inner_a])?;
+    let values = &[one, a];
+    let f = nodes.push(&Node::Let { values, body }, Sort::Int)?;
+    Ok((nodes, [x, f]))
+}
+
+// `(g a b)` is `(ite (< b a) (- b a) (f b))`, and the term is `(g x (f x))`.
+fn script(alloc: Global) -> Result<(Nodes, TermId, TermId), Memory> {
+    let mut nodes = Nodes::new(alloc);
+    let a = nodes.push(&Node::Slot(0), Sort::Int)?;
+    let b = nodes.push(&Node::Slot(1), Sort::Int)?;
+    let less = apply(&mut nodes, LESS, &[b, a])?;
+    let place = 1;
+    let f_b = nodes.push(&Node::Declared { place, args: &[b] }, Sort::Int)?;
+    let difference = apply(&mut nodes, MINUS, &[b, a])?;
+    let g = apply(&mut nodes, ITE, &[less, difference, f_b])?;
+    let x = nodes.push(
+        &Node::Declared {
+            place: 0,
+            args: &[],
+        },
+        Sort::Int,
+    )?;
+    let f_x = nodes.push(&Node::Declared { place, args: &[x] }, Sort::Int)?;
+    let args = &[x, f_x];
+    let term = nodes.push(&Node::Defined { place: 0, args }, Sort::Int)?;
+    Ok((nodes, g, term))
+}
+
+fn value(alloc: Global, machine: &mut Machine) -> Result<Option<Value>, Memory> {
+    let (model, declared) = model(alloc)?;
+    let (script, g, term) = script(alloc)?;
+    let tables = Tables {
+        model: &model,
+        model_bodies: &declared,
+        script: &script,
+        script_bodies: &[g],
+        declared: &declared,
+    };
+    machine.eval(tables, term)
+}
+
+#[test]
+fn a_term_has_its_value(rt: HostRuntime) {
+    let mut machine = Machine::new(rt.alloc());
+    let mut evaluated = false;
+    for _ in 0..2 {
+        if let Ok(value) = value(rt.alloc(), &mut machine) {
+            assert!(rt; matches!(value, Some(Value::Int(-5))));
+            evaluated = true;
+        }
+    }
+    assert!(rt; evaluated);
+}
