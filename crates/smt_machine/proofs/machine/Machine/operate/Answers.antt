@@ -1,4 +1,5 @@
-use Rattle.std.proofs.Common.{◌≡◌, ◌-◌, ◌++◌, ◌∷◌, [], ◌∙◌, List, Option, ap, arith, drop, length, refl, take, ℕ}
+use Rattle.std.proofs.Common.{◌≡◌, ◌-◌, ◌++◌, ◌∷◌, [], ◌∙◌, List, Option, ap, arith, drop, length, refl}
+use Rattle.std.proofs.Common.{take, ℕ}
 use Rattle.smt_values.specs.Element.{Element, known_element, known_elements}
 use Rattle.smt_values.specs.KnownOperations.{known_step}
 use Rattle.smt_machine.proofs.StateLemmas.{operated, states_same}
@@ -19,5 +20,6 @@ returns c =
     record {
       tasks = refl {A = List Task};
       state = states_same _ _ _ _ _ _
-          (ap known_elements new ∙ operated c.args.op items c.args.count start value from is) (refl {A = List (Option Element)}) (refl {A = ℕ});
+          (ap known_elements new ∙ operated c.args.op items c.args.count start value from is)
+          (refl {A = List (Option Element)}) (refl {A = ℕ});
     }
