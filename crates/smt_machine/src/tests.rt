@@ -1,5 +1,5 @@
-//! A term over a model's function and the script's own, evaluated twice by one machine, of which memory may be
-//! refused once (`rt try --test --fail-alloc N`).
+//! A term over a model's function and the script's own, evaluated twice by one machine, of which memory may
+//! be refused once (`rt try --test --fail-alloc N`).
 
 use crate::{Machine, Tables};
 use smt_faults::Memory;

@@ -15,4 +15,5 @@ three op f (a ∷ b ∷ c ∷ d ∷ ids) h is = absurd (omega arith)
 
 pub returns-then-args-eq3 : goal.returns-then-args-eq3
 returns-then-args-eq3 c =
-    three c.args.op.now (λ id. c.args.args.shift + id) c.args.args.ids.now c.if-args-eq3.true (c.is_choice.ensures (search rules))
+    three c.args.op.now (λ id. c.args.args.shift + id) c.args.args.ids.now
+    c.if-args-eq3.true (c.is_choice.ensures (search rules))

@@ -1,6 +1,7 @@
-use Rattle.std.proofs.Common.{◌≡◌, ◌-◌, ◌++◌, ◌∷◌, [], ◌∙◌, ap, arith, drop, length, refl, sym}
+use Rattle.std.proofs.Common.{◌≡◌, ◌-◌, ◌++◌, ◌∷◌, [], ◌∙◌, List, ap, arith, drop, length, refl, sym, ℕ}
 use Rattle.smt_values.specs.Element.{known_elements}
 use Rattle.smt_machine.proofs.StateLemmas.{before_known, moved, states_same}
+use Rattle.smt_machine.specs.declared.task.Task.{Task}
 use Rattle.smt_machine.proofs.machine.Machine.move_last.Goals as goal
 
 pub returns : goal.returns
@@ -13,8 +14,9 @@ returns c =
     let new : c.extend_from_slice.new.self.items ≡ frames ++ drop start items =
     c.in_ok-extend_from_slice.ensures.items ∙ ap (λ xs. frames ++ xs) sees in
     record {
-      tasks = c.in_ok-push.ensures.items ∙ ap (λ t. c.args.self.now.tasks.items ++ t ∷ []) c.task_of.ensures;
+      tasks = ◌∙◌ {A = List Task} c.in_ok-push.ensures.items
+          (ap (λ t. c.args.self.now.tasks.items ++ t ∷ []) c.task_of.ensures);
       state = states_same _ _ _ _ _ _
           (ap known_elements c.truncate.ensures.items ∙ sym (before_known items c.args.count start from))
-          (ap known_elements new ∙ moved frames items c.args.count start from) refl;
+          (ap known_elements new ∙ moved frames items c.args.count start from) (refl {A = ℕ});
     }

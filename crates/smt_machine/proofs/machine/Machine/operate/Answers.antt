@@ -1,7 +1,9 @@
-use Rattle.std.proofs.Common.{◌≡◌, ◌-◌, ◌++◌, ◌∷◌, [], ◌∙◌, ap, arith, drop, length, refl, take}
-use Rattle.smt_values.specs.Element.{known_element, known_elements}
+use Rattle.std.proofs.Common.{◌≡◌, ◌-◌, ◌++◌, ◌∷◌, [], ◌∙◌, List, Option, ap, arith, drop, length, refl}
+use Rattle.std.proofs.Common.{take, ℕ}
+use Rattle.smt_values.specs.Element.{Element, known_element, known_elements}
 use Rattle.smt_values.specs.KnownOperations.{known_step}
 use Rattle.smt_machine.proofs.StateLemmas.{operated, states_same}
+use Rattle.smt_machine.specs.declared.task.Task.{Task}
 use Rattle.smt_machine.proofs.machine.Machine.operate.Goals as goal
 
 pub returns : goal.returns
@@ -16,7 +18,8 @@ returns c =
     let new : c.push.new.self.items ≡ take start items ++ value ∷ [] =
     c.in_ok-push.ensures.items ∙ ap (λ xs. xs ++ value ∷ []) c.truncate.ensures.items in
     record {
-      tasks = refl;
+      tasks = refl {A = List Task};
       state = states_same _ _ _ _ _ _
-          (ap known_elements new ∙ operated c.args.op items c.args.count start value from is) refl refl;
+          (ap known_elements new ∙ operated c.args.op items c.args.count start value from is)
+          (refl {A = List (Option Element)}) (refl {A = ℕ});
     }
