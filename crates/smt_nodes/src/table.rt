@@ -43,6 +43,7 @@ impl Nodes {
     }
 
     /// How many nodes there are.
+    #[inline(always)]
     pub fn len(&self) -> usize
         ensures { result ≡ length (rows_of self.now) }
     {
@@ -50,6 +51,7 @@ impl Nodes {
     }
 
     /// The node of a number; `None` from the length on.
+    #[inline(always)]
     pub fn get(&self, number: usize) -> Option<Node<'_>>
         ensures { option_map node_view result
             ≡ option_map (λ row. row.node) (slice_get (rows_of self.now) number) }
@@ -133,6 +135,7 @@ impl Nodes {
     }
 
     // The row of a number.
+    #[inline(always)]
     fn row(&self, number: usize) -> Option<StoredRow>
         ensures { result ≡ slice_get self.now.rows.items number }
     {
@@ -143,6 +146,7 @@ impl Nodes {
     }
 
     // The row that holds the node of a row.
+    #[inline(always)]
     fn source(&self, row: StoredRow) -> StoredRow
         ensures { result ≡ source self.now.rows.items row }
     {
@@ -156,6 +160,7 @@ impl Nodes {
     }
 
     // The node of a row.
+    #[inline(always)]
     fn node(&self, row: StoredRow) -> Node<'_>
         requires { (i : ℕ) × (slice_get self.now.rows.items i ≡ Some row) }
         ensures { node_view result ≡ (row_view self.now.rows.items (lists_of self.now.tables) row).node }

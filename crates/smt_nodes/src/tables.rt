@@ -58,6 +58,7 @@ impl Tables {
     }
 
     /// The node of a row.
+    #[inline(always)]
     pub(crate) fn node(&self, ends: Ends, stored: Stored) -> Node<'_>
         requires held { IsHeld ends stored }
         requires within { IsUpTo ends (lengths (lists_of self.now)) }
