@@ -21,3 +21,4 @@ pub mod DefinitionSortLemmas
 pub mod ItemSortLemmas
 pub mod WrittenLemmas
 pub mod DraftLemmas
+pub mod DenotesLemmas

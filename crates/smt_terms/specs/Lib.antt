@@ -11,4 +11,6 @@ pub mod WellSorted
 pub mod Written
 pub mod Contents
 pub mod Library
+pub mod Denotes
+pub mod TermsOf
 pub mod Internal

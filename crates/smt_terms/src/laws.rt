@@ -1,19 +1,23 @@
 //! What holds of the definitions that the contracts name. Nothing here does anything: each contract is a law.
 
 ghost use Rattle.std.specs.List.{All};
-ghost use Rattle.std.specs.Prelude.{◌≡◌, ◌≢◌, ◌↔◌, ◌∷◌, ◌++◌, ℕ, List, Some, None, true, false, Ok, bytes_eq};
+ghost use Rattle.std.specs.Prelude.{◌≡◌, ◌≢◌, ◌↔◌, ◌∷◌, ◌++◌, ℕ, List, [], Some, None, true, false, Ok, bytes_eq};
 ghost use Rattle.smt_trees.specs.Sexp.{Sexp, Sexps};
+ghost use Rattle.smt_nodes.specs.Node.{Row};
 ghost use Rattle.smt_theory.specs.declared.sort.Sort.{Sort};
+ghost use Rattle.smt_theory.specs.declared.theories.Theories.{Theories};
 ghost use Rattle.smt_terms.specs.Checking.{sort_in};
 ghost use Rattle.smt_terms.specs.Assertions.{asserted_in};
 ghost use Rattle.smt_terms.specs.Contents.{Contents, Extends, IsBelow, IsWithin, first_of};
 ghost use Rattle.smt_terms.specs.Definitions.{defined_in};
+ghost use Rattle.smt_terms.specs.Denotes.{Denotes, IsLonger, Slots, Table};
 ghost use Rattle.smt_forms.specs.Labels.{labels_in};
 ghost use Rattle.smt_terms.specs.Library.{IsTermOf};
 ghost use Rattle.smt_terms.specs.Items.{item_in};
 ghost use Rattle.smt_terms.specs.Declarations.{declared_in};
 ghost use Rattle.smt_terms.specs.Signature.{Entry, KeepsRank, Names, Signature, declared_named, entry_named};
-ghost use Rattle.smt_terms.specs.Signature.{names_of, sort_names_of};
+ghost use Rattle.smt_terms.specs.Signature.{names_of, no_names, sort_names_of};
+ghost use Rattle.smt_terms.specs.TermsOf.{AreTermsOf};
 ghost use Rattle.smt_terms.specs.Freshness.{is_taken};
 ghost use Rattle.smt_terms.specs.WellSorted.{AreIntroduced, IsWellSorted, Keeps};
 ghost use Rattle.smt_terms.specs.Written.{AreLabelsOf, IsDeclaredAs, IsDefinedAs, IsPrintedAs};
@@ -129,4 +133,20 @@ pub fn earlier_marks_are_kept()
 /// A term of contents is one of longer contents.
 pub fn terms_are_kept()
     ensures { (c d : Contents) (i : TermId) (t : Sexp) → Extends c d → IsTermOf c i t → IsTermOf d i t }
+{}
+
+/// A node stands for a term in longer tables too (SMT-LIB 2.6, section 3.6).
+pub fn nodes_stand_for_their_terms_still()
+    ensures { (t u : Table) (slots : Slots) (next around i : ℕ) (term : Sexp) → IsLonger t u
+        → Denotes t slots next around i term → Denotes u slots next around i term }
+{}
+
+/// A table without names and bodies is that of a signature without names, whatever nodes it has.
+pub fn no_names_have_no_bodies()
+    ensures { (theories : Theories) (rows : List Row) → AreTermsOf (record {
+      theories = theories;
+      heads = [];
+      bodies = [];
+      rows = rows;
+    }) (no_names theories) }
 {}
