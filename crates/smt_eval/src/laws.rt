@@ -20,11 +20,11 @@ ghost use Rattle.smt_eval.specs.Meaning.{value_over};
 ghost use Rattle.smt_eval.specs.Model.{AreDefined, AreItems, HasFirstFlaw, IsFirstLacking, items_of};
 ghost use Rattle.smt_eval.specs.Model.{model_in};
 ghost use Rattle.smt_eval.specs.Structure.{IsStructure, structure_of};
-ghost use Rattle.smt_eval.specs.declared.plain.Closed.{Closed};
+ghost use Rattle.smt_eval.specs.declared.closed.Closed.{Closed};
 ghost use Rattle.smt_eval.specs.declared.model_fault.ModelFlaw.TheVariants.{Item, Lacks};
 
 use crate::checked::Checked;
-use crate::plain::Closed;
+use crate::closed::Closed;
 use smt_terms::laws::{items_are_well_sorted, sorts_are_kept};
 use smt_theory::laws::{ranks_are_the_table, sorts_are_compared};
 use smt_values::laws::{known_results_are_true, results_are_of_their_sorts};

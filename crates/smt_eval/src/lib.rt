@@ -8,6 +8,7 @@
 
 mod calls;
 mod checked;
+mod closed;
 mod definitions;
 mod evaluator;
 mod interpretation;
@@ -19,5 +20,5 @@ mod scope;
 pub use checked::Checked;
 pub use interpretation::Interpretation;
 pub use model_fault::{ModelFault, ModelFlaw};
-pub use plain::eval;
+pub use closed::eval;
 pub use smt_faults::Memory;
