@@ -18,7 +18,7 @@ pub mod plain;
 mod scope;
 
 pub use checked::Checked;
+pub use closed::eval;
 pub use interpretation::Interpretation;
 pub use model_fault::{ModelFault, ModelFlaw};
-pub use closed::eval;
 pub use smt_faults::Memory;

@@ -100,10 +100,7 @@ fn known_indexed(over: Definitions<'_>, parts: &[Tree]) -> Result<Option<Value>,
     ensures { Gives (known_by (indexed (sexps_of parts.now)) (λ f. meaning_of over.entry f [])) result }
 {
     match indexed_identifier(over.alloc, parts) {
-        Ok(identifier) => Ok(known_of_operator(
-            identifier.operator(over.theories),
-            &[],
-        )),
+        Ok(identifier) => Ok(known_of_operator(identifier.operator(over.theories), &[])),
         Err(TermFault::Memory) => Err(Memory),
         Err(_) => Ok(None),
     }

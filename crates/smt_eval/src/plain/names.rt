@@ -95,12 +95,13 @@ fn last_named<'a>(
     ensures lighter { IfSome result (λ found. bodies_weight found.1.now + weight (sexp_of found.0.now.body.now)
         ≤ bodies_weight definitions.now) }
 {
-    let mut left = definitions;
-    while let Some((last, earlier)) = left.split_last() {
-        if last.name == name {
-            return Some((last, earlier));
+    let mut count = definitions.len();
+    while count > 0 {
+        count -= 1;
+        let last = &definitions[count];
+        if name == last.name {
+            return Some((last, &definitions[..count]));
         }
-        left = earlier;
     }
     None
 }
