@@ -94,24 +94,23 @@ fn print_read<W: Write>(
 
 // Prints the names that a model without a fault defines, in order, each behind a space, and ends the line.
 fn print_names<W: Write>(out: &mut W, declared: &Library, model: &Trees) -> Result<()> {
+    let definitions = definitions_of(declared, model)?;
+    write_names(out, &definitions)?;
+    Ok(())
+}
+
+/// The library of what the items of a model without a fault define.
+pub(crate) fn definitions_of(declared: &Library, model: &Trees) -> Result<Library> {
     let Ok(mut definitions) = declared.for_model() else {
         bail!("memory was refused");
     };
-    write_defined(out, declared, &mut definitions, model)
-}
-
-// Defines the items of a model, and writes the names of all definitions.
-fn write_defined<W: Write>(
-    out: &mut W,
-    declared: &Library,
-    definitions: &mut Library,
-    model: &Trees,
-) -> Result<()>
-    requires { HasTheoriesOf definitions.old declared.now }
-{
-    define(declared, definitions, model)?;
-    write_names(out, definitions)?;
-    Ok(())
+    match define(declared, &mut definitions, model) {
+        Ok(()) => Ok(definitions),
+        Err(error) => {
+            drop(definitions);
+            Err(error)
+        }
+    }
 }
 
 fn define(declared: &Library, definitions: &mut Library, model: &Trees) -> Result<()>

@@ -1,17 +1,19 @@
 //! Rows of values: terms over the definitions of a model, each with its known value. This file computes no
 //! value itself.
 
-ghost use Rattle.smt_eval.specs.Interpretation.{Fits};
 ghost use Rattle.smt_terms.specs.Library.{StandsFor};
 ghost use Rattle.smt_terms.specs.Signature.{Signature};
 
-use crate::models::print_model;
-use crate::trees::{tree_of, want_key};
+use crate::models::{definitions_of, print_model};
+use crate::trees::{parts_of, tree_of, want_key};
 use anyhow::{Result, bail};
 use row_texts::Field;
-use smt_eval::plain::Closed;
-use smt_eval::{Checked, Interpretation, Memory};
+use smt_eval::plain::{Closed, Definition};
+use smt_eval::{Checked, Memory};
+use smt_forms::item_form;
 use smt_terms::Library;
+use smt_theory::Theories;
+use smt_trees::Trees;
 use smt_values::Value;
 use std::alloc::Global;
 use std::io;
@@ -43,24 +45,49 @@ fn print_values<W: Write>(
     requires { (s : Signature) × StandsFor declared.now s }
 {
     want_key(first, "model")?;
-    let Some(model) = print_model(alloc, out, declared, first)? else {
+    let Some(_) = print_model(alloc, out, declared, first)? else {
         bail!("line {}: the model has a fault", first.line);
     };
-    print_terms(alloc, out, declared, &model, terms)
+    let parts = parts_of(alloc, first)?;
+    let library = definitions_of(declared, &parts)?;
+    let definitions = plain_definitions(alloc, &library, &parts)?;
+    print_terms(alloc, out, declared.theories(), definitions.as_slice(), terms)
+}
+
+// The definitions of a model with their bodies, which a library of them doesn't keep as trees.
+fn plain_definitions<'a>(
+    alloc: Global,
+    library: &'a Library,
+    model: &'a Trees,
+) -> Result<Vec<Definition<'a>>> {
+    let mut definitions = Vec::new(alloc);
+    let mut left = library.definitions();
+    for item in model.as_slice() {
+        if let Ok(form) = item_form(item)
+            && let Some((defined, rest)) = left.split_first()
+        {
+            definitions.push(Definition {
+                name: form.name,
+                params: defined.params.as_slice(),
+                result: defined.result,
+                body: form.body,
+            })?;
+            left = rest;
+        }
+    }
+    Ok(definitions)
 }
 
 fn print_terms<W: Write>(
     alloc: Global,
     out: &mut W,
-    library: &Library,
-    interpretation: &Interpretation,
+    theories: Theories,
+    definitions: &[Definition<'_>],
     fields: &[Field],
-) -> Result<()>
-    requires { Fits interpretation.now library.now }
-{
+) -> Result<()> {
     for field in fields {
         want_key(field, "term")?;
-        print_value(alloc, out, library, interpretation, field)?;
+        print_value(alloc, out, theories, definitions, field)?;
     }
     Ok(())
 }
@@ -68,16 +95,15 @@ fn print_terms<W: Write>(
 fn print_value<W: Write>(
     alloc: Global,
     out: &mut W,
-    library: &Library,
-    interpretation: &Interpretation,
+    theories: Theories,
+    definitions: &[Definition<'_>],
     field: &Field,
-) -> Result<()>
-    requires { Fits interpretation.now library.now }
-{
+) -> Result<()> {
     let tree = tree_of(alloc, field)?;
     let term = Closed {
-        library,
-        interpretation,
+        alloc,
+        theories,
+        definitions,
         tree: &tree,
     };
     write_value(out, field, &term.known())

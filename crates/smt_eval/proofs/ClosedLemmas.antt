@@ -15,7 +15,7 @@ use Rattle.smt_eval.specs.Known.{known_in, known_of, known_over}
 use Rattle.smt_eval.specs.Structure.{structure_of}
 use Rattle.smt_eval.specs.declared.definitions.Definitions.{Definitions}
 use Rattle.smt_faults.specs.declared.memory.Memory.{Memory}
-use Rattle.smt_eval.specs.declared.plain.Closed.{Closed}
+use Rattle.smt_eval.specs.declared.closed.Closed.{Closed}
 use Rattle.smt_eval.proofs.EvaluatorLemmas.{all_first}
 use Rattle.smt_eval.proofs.ReadLemmas.{all_valued}
 use Rattle.smt_eval.proofs.ValuesLemmas.{evaluates}

@@ -12,5 +12,6 @@ pub mod FoundLemmas
 pub mod ValuesLemmas
 pub mod ReadLemmas
 pub mod ClosedLemmas
+pub mod PlainLemmas
 pub mod ModelFaultLemmas
 pub mod StructureSortLemmas

@@ -6,7 +6,7 @@ use Rattle.smt_terms.specs.Library.{StandsFor}
 use Rattle.smt_terms.specs.Signature.{Signature}
 use Rattle.smt_eval.specs.Interpretation.{IsInterpretation}
 use Rattle.smt_eval.specs.Structure.{structure_of}
-use Rattle.smt_eval.specs.declared.plain.Closed.{Closed}
+use Rattle.smt_eval.specs.declared.closed.Closed.{Closed}
 
 -- the value stands for the term over the structure
 pub record IsClosed (closed : Closed) (structure : Signature) (term : Sexp) : Type 0 where

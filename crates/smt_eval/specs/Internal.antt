@@ -1,3 +1,4 @@
 pub mod DefinitionValues
 pub mod Evaluation
+pub mod PlainEvaluation
 pub mod ItemFault

@@ -7,4 +7,5 @@ pub mod CompleteModel
 pub mod Structure
 pub mod Interpretation
 pub mod ClosedTerm
+pub mod PlainTerm
 pub mod Internal

@@ -20,11 +20,14 @@ ghost use Rattle.smt_eval.specs.Meaning.{value_over};
 ghost use Rattle.smt_eval.specs.Model.{AreDefined, AreItems, HasFirstFlaw, IsFirstLacking, items_of};
 ghost use Rattle.smt_eval.specs.Model.{model_in};
 ghost use Rattle.smt_eval.specs.Structure.{IsStructure, structure_of};
-ghost use Rattle.smt_eval.specs.declared.plain.Closed.{Closed};
+ghost use Rattle.smt_eval.specs.PlainTerm.{entries_of};
+ghost use Rattle.smt_eval.specs.declared.closed.Closed.{Closed};
+ghost use Rattle.smt_eval.specs.declared.plain.Closed as plain;
 ghost use Rattle.smt_eval.specs.declared.model_fault.ModelFlaw.TheVariants.{Item, Lacks};
 
 use crate::checked::Checked;
-use crate::plain::Closed;
+use crate::closed::Closed;
+use crate::plain;
 use smt_terms::laws::{items_are_well_sorted, sorts_are_kept};
 use smt_theory::laws::{ranks_are_the_table, sorts_are_compared};
 use smt_values::laws::{known_results_are_true, results_are_of_their_sorts};
@@ -95,6 +98,15 @@ pub fn closed_trees_stand_for_themselves()
         → ⟦<Closed<'static> as Checked>⟧.IsTerm closed structure term ↔ ((script definitions : Signature)
         × StandsFor closed.library.now script × IsInterpretation closed.interpretation.now script definitions
         × (structure ≡ structure_of script definitions) × (term ≡ sexp_of closed.tree.now)) }
+{}
+
+/// A tree over definitions that are kept as theirs is a checked term, and stands for itself: over the structure
+/// of its theories and definitions, in order.
+pub fn plain_trees_stand_for_themselves()
+    ensures { (closed : plain.Closed) (structure : Signature) (term : Sexp)
+        → ⟦<plain::Closed<'static> as Checked>⟧.IsTerm closed structure term
+        ↔ ((structure.theories ≡ closed.theories) × (structure.entries ≡ entries_of closed.definitions.now)
+        × (term ≡ sexp_of closed.tree.now)) }
 {}
 
 /// A model of the script's names is its items: they are definitions in order, each over the earlier ones, and

@@ -8,6 +8,7 @@
 
 mod calls;
 mod checked;
+mod closed;
 mod definitions;
 mod evaluator;
 mod interpretation;
@@ -17,7 +18,7 @@ pub mod plain;
 mod scope;
 
 pub use checked::Checked;
+pub use closed::eval;
 pub use interpretation::Interpretation;
 pub use model_fault::{ModelFault, ModelFlaw};
-pub use plain::eval;
 pub use smt_faults::Memory;

@@ -1,67 +1,64 @@
-//! Terms that are kept as their trees. This file looks into no tree.
+//! Terms and definitions that are kept as their trees: what a term is known to have for a value, by recursion
+//! over its tree. A table of nodes gives the same and takes less time; this is for users who have no library.
+//!
+//! So `(* x x)` over the definition of `x` as 3:
+//!
+//! ```text
+//! let x = Definition { name: b"x", params: &[], result: Sort::Int, body: &three };
+//! let closed = Closed { alloc, theories, definitions: &[x], tree: &product };
+//! closed.known()?                                                           // Some(Value::Int(9))
+//! ```
 
 ghost use Rattle.std.specs.Prelude.{◌≡◌, IfOk};
-ghost use Rattle.smt_trees.specs.Sexp.{Sexp};
 ghost use Rattle.smt_values.specs.Element.{known_element};
-ghost use Rattle.smt_terms.specs.Library.{IsTerm, StandsFor};
-ghost use Rattle.smt_terms.specs.Signature.{Signature};
-ghost use Rattle.smt_eval.specs.Interpretation.{Fits, IsInterpretation};
 ghost use Rattle.smt_eval.specs.Known.{known_over};
-ghost use Rattle.smt_eval.specs.Structure.{structure_of};
+
+mod evaluator;
+mod names;
+mod scope;
 
 use crate::checked::Checked;
-use crate::definitions::Definitions;
-use crate::evaluator::known_value;
-use crate::interpretation::Interpretation;
+use crate::plain::evaluator::known_value;
+use crate::plain::names::Definitions;
 use smt_faults::Memory;
-use smt_terms::{Library, TermId};
+use smt_theory::{Sort, Theories};
 use smt_trees::Tree;
 use smt_values::Value;
+use std::alloc::Global;
 
-/// A term over the definitions of an interpretation, and behind them those of the script.
+/// A name that is defined (SMT-LIB 2.6, section 4.2.3).
+#[derive(Clone, Copy)]
+pub struct Definition<'a> {
+    /// The bytes of its name, without bars.
+    pub name: &'a [u8],
+    /// Its parameters by name, with their sorts.
+    pub params: &'a [(Vec<u8>, Sort)],
+    /// The sort of its result.
+    pub result: Sort,
+    /// Its body, over the definitions before it and the parameters.
+    pub body: &'a Tree,
+}
+
+/// A closed term over definitions, each of which sees those before it.
 #[derive(Clone, Copy)]
 pub struct Closed<'a> {
-    pub library: &'a Library,
-    pub interpretation: &'a Interpretation,
+    pub alloc: Global,
+    pub theories: Theories,
+    pub definitions: &'a [Definition<'a>],
     pub tree: &'a Tree,
 }
 
 impl Checked for Closed<'_> {
-    ghost use Rattle.smt_eval.specs.ClosedTerm.{IsClosed};
+    ghost use Rattle.smt_eval.specs.PlainTerm.{IsPlain};
 
-    ghost IsTerm = { IsClosed };
+    ghost IsTerm = { IsPlain };
 
     fn known(&self) -> Result<Option<Value>, Memory> {
-        let values = self.interpretation.values.as_slice();
         let over = Definitions {
-            script: self.library,
-            model: &self.interpretation.definitions,
-            values,
-            count: values.len(),
+            alloc: self.alloc,
+            theories: self.theories,
+            seen: self.definitions,
         };
         known_value(over, &[], self.tree)
     }
-}
-
-/// What is known of a term of the library over the structure that an interpretation gives to its names;
-/// `None` says that it is open. The term is closed, and a term of this library; the interpretation is one of
-/// a model of the names that the library has now.
-pub fn eval(
-    library: &Library,
-    interpretation: &Interpretation,
-    term: TermId,
-) -> Result<Option<Value>, Memory>
-    requires term { (t : Sexp) × IsTerm library.now term t }
-    requires fits { Fits interpretation.now library.now }
-    ensures { (script definitions : Signature) (t : Sexp) → StandsFor library.now script
-        → IsInterpretation interpretation.now script definitions → IsTerm library.now term t
-        → IfOk result (λ v. known_element v ≡ known_over (structure_of script definitions) t) }
-{
-    let tree = library.tree(term);
-    Closed {
-        library,
-        interpretation,
-        tree,
-    }
-    .known()
 }

@@ -1,18 +1,10 @@
-use Rattle.std.proofs.Common.{refl}
-use Rattle.smt_eval.specs.Structure.{structure_of}
+use Rattle.std.proofs.Common.{[], refl}
+use Rattle.smt_eval.specs.PlainTerm.{entries_of}
 use Rattle.rows.proofs.values.print_value.Goals as goal
 
 pub known-requires : goal.known-requires
-known-requires g c =
-    let fits = c.requires in (
-      structure_of fits.script fits.definitions,
-      _,
-      record {
-        script = fits.script;
-        definitions = fits.definitions;
-        names = fits.names;
-        holds = fits.holds;
-        over = refl;
-        tree = refl;
-      },
-    )
+known-requires g c = (
+  record { theories = c.args.theories; abbreviations = []; entries = entries_of c.args.definitions.now },
+  _,
+  record { theories = refl; definitions = refl; tree = refl },
+)

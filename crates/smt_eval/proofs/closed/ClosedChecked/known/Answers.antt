@@ -2,7 +2,7 @@ use Rattle.std.proofs.Common.{length, refl}
 use Rattle.smt_eval.specs.Structure.{structure_of}
 use Rattle.smt_eval.proofs.ClosedLemmas.{all_evaluated, of_all, over_all, structure_of_closed}
 use Rattle.smt_eval.proofs.EvaluatorLemmas.{if_known}
-use Rattle.smt_eval.proofs.plain.ClosedChecked.known.Goals as goal
+use Rattle.smt_eval.proofs.closed.ClosedChecked.known.Goals as goal
 
 pub known_value-requires : goal.known_value-requires
 known_value-requires c =

@@ -1,7 +1,7 @@
 use Rattle.std.proofs.Common.{refl, sym}
 use Rattle.smt_eval.specs.Structure.{structure_of}
 use Rattle.smt_eval.proofs.ClosedLemmas.{of_one}
-use Rattle.smt_eval.proofs.plain.eval.Goals as goal
+use Rattle.smt_eval.proofs.closed.eval.Goals as goal
 
 pub known-requires : goal.known-requires
 known-requires c =

@@ -1,0 +1,86 @@
+-- What names are known to mean over definitions that are kept as their trees.
+use Rattle.std.proofs.Common.{◌≡◌, ◌≤◌, ℕ, suc, ◌+◌, Bool, true, false, cond, List, [], ◌∷◌}
+use Rattle.std.proofs.Common.{◌++◌, length, map, slice_index_or, take, Option, Some, None, Ok, refl, ap, sym}
+use Rattle.std.proofs.Common.{◌∙◌, arith}
+use Rattle.std.proofs.Math.Seq.{take-suc}
+use Rattle.std.proofs.lemmas.List.{map-append}
+use Rattle.std.specs.Prelude.{bytes_eq, ok_or, option_map}
+use Rattle.smt_trees.specs.Sexp.{Sexps, Atom, Cons, Symbol, weight}
+use Rattle.smt_trees.specs.Tree.{sexp_of}
+use Rattle.smt_values.specs.Element.{Element}
+use Rattle.smt_theory.specs.Index.{IndexView}
+use Rattle.smt_theory.specs.declared.theories.Theories.{Theories}
+use Rattle.smt_forms.specs.Identifier.{Identifier, Plain, Indexed, all_indexes, indexed, operator_of}
+use Rattle.smt_faults.specs.declared.term_flaw.TermFlaw.TheVariants.{Form}
+use Rattle.smt_terms.specs.Signature.{Entry}
+use Rattle.smt_eval.specs.Internal.PlainEvaluation.{bodies_weight}
+use Rattle.smt_eval.proofs.EvaluatorLemmas.{known_with_indexes}
+use Rattle.smt_eval.specs.Known.{KnownMeaning, known_after, known_defined, known_of_op, known_operators}
+use Rattle.smt_eval.specs.Known.{with_known}
+use Rattle.smt_eval.specs.PlainTerm.{entries_of, entry_of, origin_of}
+use Rattle.smt_eval.specs.declared.plain.Definition.{Definition}
+
+-- the last of the first so many, and those before it
+pub last_of_first : {A : Type 0} (xs : List A) (j n : ℕ) (x : A) → n ≡ suc j → n ≤ length xs
+    → x ≡ slice_index_or xs j x → take n xs ≡ take j xs ++ x ∷ []
+last_of_first xs j n x next within is =
+    ap (λ k. take k xs) next ∙ take-suc xs j x (omega (arith, within, next)) ∙ ap (λ y. take j xs ++ y ∷ []) (sym is)
+
+-- one more definition hides the earlier ones
+known_after-last : (m : KnownMeaning) (es : List Entry) (e : Entry)
+    → known_after m (es ++ e ∷ []) ≡ with_known (known_after m es) e
+known_after-last m [] e = refl
+known_after-last m (c ∷ es) e = known_after-last (with_known m c) es e
+
+known_last : (m : KnownMeaning) (before all : List Definition) (d : Definition) (x : List ℕ)
+    (args : List (Option Element)) → all ≡ before ++ d ∷ []
+    → known_after m (entries_of all) (Plain x) args
+    ≡ cond (bytes_eq x d.name.now) (known_defined (known_after m (entries_of before)) (origin_of d) args)
+    (known_after m (entries_of before) (Plain x) args)
+known_last m before all d x args is =
+    ap (λ es. known_after m es (Plain x) args) (ap entries_of is ∙ map-append entry_of before (d ∷ []))
+    ∙ ap (λ (k : KnownMeaning). k (Plain x) args) (known_after-last m (entries_of before) (entry_of d))
+
+-- the last definition is meant where it has the name
+pub last_is_meant : (m : KnownMeaning) (before all : List Definition) (d : Definition) (x : List ℕ)
+    (args : List (Option Element)) → all ≡ before ++ d ∷ [] → bytes_eq x d.name.now ≡ true
+    → known_after m (entries_of all) (Plain x) args
+    ≡ known_defined (known_after m (entries_of before)) (origin_of d) args
+last_is_meant m before all d x args is named = known_last m before all d x args is ∙ ap
+    (λ b. cond b (known_defined (known_after m (entries_of before)) (origin_of d) args)
+    (known_after m (entries_of before) (Plain x) args)) named
+
+-- and what was meant before it where it hasn't
+pub last_is_not_meant : (m : KnownMeaning) (before all : List Definition) (d : Definition) (x : List ℕ)
+    (args : List (Option Element)) → all ≡ before ++ d ∷ [] → bytes_eq x d.name.now ≡ false
+    → known_after m (entries_of all) (Plain x) args ≡ known_after m (entries_of before) (Plain x) args
+last_is_not_meant m before all d x args is named = known_last m before all d x args is ∙ ap
+    (λ b. cond b (known_defined (known_after m (entries_of before)) (origin_of d) args)
+    (known_after m (entries_of before) (Plain x) args)) named
+
+-- the last body and those before it
+pub weight-last : (before all : List Definition) (d : Definition) → all ≡ before ++ d ∷ []
+    → bodies_weight all ≡ bodies_weight before + weight (sexp_of d.body.now)
+weight-last before all d is = ap bodies_weight is ∙ by before
+  where
+    by : (ds : List Definition)
+        → bodies_weight (ds ++ d ∷ []) ≡ bodies_weight ds + weight (sexp_of d.body.now)
+    by [] = omega arith
+    by (c ∷ ds) = let w = by ds in omega (arith, w)
+
+-- what has indexes is an operator
+pub indexed_is_operator : (theories : Theories) (es : List Entry) (f : Identifier) (parts : Sexps)
+    → indexed parts ≡ Ok f
+    → known_after (known_operators theories) es f [] ≡ known_of_op (operator_of theories f) []
+indexed_is_operator theories es (Indexed x indexes) parts is =
+    known_with_indexes (known_operators theories) es x indexes []
+indexed_is_operator theories es (Plain x) parts is = absurd (never parts is)
+  where
+    by : (y : List ℕ) (o : Option (List IndexView))
+        → ok_or (option_map (λ is. Indexed y is) o) Form ≡ Ok (Plain x) → ⊥
+    by y None h = cc
+    by y (Some is) h = cc
+
+    never : (ps : Sexps) → indexed ps ≡ Ok (Plain x) → ⊥
+    never (Cons (Atom Symbol y) (Cons t ts)) h = by y (all_indexes (Cons t ts)) h
+    never _ h = cc

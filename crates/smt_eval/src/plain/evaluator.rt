@@ -1,0 +1,186 @@
+//! Evaluation of trees. This file names no operator, and looks into no definition.
+
+ghost use Rattle.std.specs.Prelude.{◌≡◌, [], IfOk};
+ghost use Rattle.smt_trees.specs.Sexp.{Atom, Cons, Items, Reserved, Symbol};
+ghost use Rattle.smt_trees.specs.Tree.{sexp_of, sexps_of};
+ghost use Rattle.smt_trees.specs.declared.reserved.Word.TheVariants.{Let};
+ghost use Rattle.smt_values.specs.Element.{known_elements};
+ghost use Rattle.smt_forms.specs.Identifier.{applied, indexed};
+ghost use Rattle.smt_eval.specs.Internal.PlainEvaluation.{Gives, known_scope, meaning_of};
+ghost use Rattle.smt_eval.specs.Known.{known_by, known_of, knowns_bound, knowns_of};
+
+use crate::plain::names::{Definitions, known_applied, known_named, known_of_operator};
+use crate::plain::scope::push_variable;
+use smt_faults::Memory;
+use smt_forms::{
+    Variable, applied_identifier, find_variable, indexed_identifier, split_let, split_named,
+};
+use smt_terms::TermFault;
+use smt_trees::{Tree, Trees, Word, split_first};
+use smt_values::{Value, bin, hex, numeral};
+
+/// What is known of a term over the definitions that it sees, where the variables have these values, the
+/// innermost first.
+#[cycle(known_plain)]
+pub(crate) fn known_value<'a>(
+    over: Definitions<'_>,
+    scope: &[Variable<'a, Option<Value>>],
+    term: &'a Tree,
+) -> Result<Option<Value>, Memory>
+    ensures { Gives (known_of (meaning_of over.entry) (known_scope scope.now) (sexp_of term.now)) result }
+{
+    match term {
+        Tree::Symbol(name) => known_symbol(over, scope, name.as_slice()),
+        Tree::Numeral(digits) => Ok(numeral(digits.as_slice())),
+        Tree::Hex(digits) => Ok(hex(digits.as_slice())),
+        Tree::Bin(digits) => Ok(bin(digits.as_slice())),
+        Tree::List(parts) => known_list(over, scope, parts),
+        Tree::Decimal(_) | Tree::Text(_) => Ok(None),
+        Tree::Keyword(_) | Tree::Reserved(_) => Ok(None),
+    }
+}
+
+// What is known of a symbol alone: a variable, or else a name or an operator without arguments.
+#[cycle(known_plain)]
+fn known_symbol(
+    over: Definitions<'_>,
+    scope: &[Variable<'_, Option<Value>>],
+    name: &[u8],
+) -> Result<Option<Value>, Memory>
+    ensures { Gives (known_of (meaning_of over.entry) (known_scope scope.now) (Atom Symbol name.now)) result }
+{
+    match find_variable(scope, name) {
+        Some(value) => Ok(value),
+        None => known_named(over, name, &[]),
+    }
+}
+
+// What is known of the term that is a list of these parts.
+#[cycle(known_plain)]
+fn known_list<'a>(
+    over: Definitions<'_>,
+    scope: &[Variable<'a, Option<Value>>],
+    parts: &'a Trees,
+) -> Result<Option<Value>, Memory>
+    ensures { Gives (known_of (meaning_of over.entry) (known_scope scope.now) (Items parts.now)) result }
+{
+    let Some((head, args)) = split_first(parts.as_slice()) else {
+        return Ok(None);
+    };
+    match head {
+        Tree::Reserved(word) => known_reserved(over, scope, *word, args),
+        _ => known_call(over, scope, head, args),
+    }
+}
+
+// What is known of a list that begins with a reserved word, by what stands behind it.
+#[cycle(known_plain)]
+fn known_reserved<'a>(
+    over: Definitions<'_>,
+    scope: &[Variable<'a, Option<Value>>],
+    word: Word,
+    args: &'a [Tree],
+) -> Result<Option<Value>, Memory>
+    ensures { Gives (known_of (meaning_of over.entry) (known_scope scope.now)
+        (Items (Cons (Reserved word) (sexps_of args.now)))) result }
+{
+    match word {
+        Word::Underscore => known_indexed(over, args),
+        Word::Let => known_let(over, scope, args),
+        Word::Bang => match split_first(args) {
+            Some((term, _)) => known_value(over, scope, term),
+            None => Ok(None),
+        },
+        _ => Ok(None),
+    }
+}
+
+// What is known of the identifier `(_ symbol index ..)`, by what stands behind the `_`.
+fn known_indexed(over: Definitions<'_>, parts: &[Tree]) -> Result<Option<Value>, Memory>
+    ensures { Gives (known_by (indexed (sexps_of parts.now)) (λ f. meaning_of over.entry f [])) result }
+{
+    match indexed_identifier(over.alloc, parts) {
+        Ok(identifier) => Ok(known_of_operator(identifier.operator(over.theories), &[])),
+        Err(TermFault::Memory) => Err(Memory),
+        Err(_) => Ok(None),
+    }
+}
+
+// What is known of the term `(let (binding ..) body)`, by what stands behind the `let`.
+#[cycle(known_plain)]
+fn known_let<'a>(
+    over: Definitions<'_>,
+    scope: &[Variable<'a, Option<Value>>],
+    args: &'a [Tree],
+) -> Result<Option<Value>, Memory>
+    ensures { Gives (known_of (meaning_of over.entry) (known_scope scope.now)
+        (Items (Cons (Reserved Let) (sexps_of args.now)))) result }
+{
+    let Some((bindings, body)) = split_let(args) else {
+        return Ok(None);
+    };
+    let mut variables = knowns_bound_by(over, scope, bindings)?;
+    variables.extend_from_slice(scope)?;
+    known_value(over, variables.as_slice(), body)
+}
+
+// The variables that bindings bring, with what is known of each: each term is seen without them.
+#[cycle(known_plain)]
+fn knowns_bound_by<'a>(
+    over: Definitions<'_>,
+    scope: &[Variable<'a, Option<Value>>],
+    bindings: &'a [Tree],
+) -> Result<Vec<Variable<'a, Option<Value>>>, Memory>
+    ensures { IfOk result (λ variables. known_scope variables.items
+        ≡ knowns_bound (meaning_of over.entry) (known_scope scope.now) (sexps_of bindings.now)) }
+{
+    let mut variables = Vec::new(over.alloc);
+    let mut left = bindings;
+    while let Some((name, term, rest)) = split_named(left) {
+        let value = known_value(over, scope, term)?;
+        push_variable(&mut variables, name, value)?;
+        left = rest;
+    }
+    Ok(variables)
+}
+
+// What is known of what a head is applied to: the head is no reserved word that begins a term.
+#[cycle(known_plain)]
+fn known_call<'a>(
+    over: Definitions<'_>,
+    scope: &[Variable<'a, Option<Value>>],
+    head: &'a Tree,
+    args: &'a [Tree],
+) -> Result<Option<Value>, Memory>
+    ensures { Gives (known_by (applied (sexp_of head.now) (sexps_of args.now))
+        (λ f. meaning_of over.entry f
+        (knowns_of (meaning_of over.entry) (known_scope scope.now) (sexps_of args.now)))) result }
+{
+    match applied_identifier(over.alloc, head, args) {
+        Ok(identifier) => {
+            let known = known_all(over, scope, args)?;
+            known_applied(over, &identifier, known.as_slice())
+        }
+        Err(TermFault::Memory) => Err(Memory),
+        Err(_) => Ok(None),
+    }
+}
+
+// What is known of terms, in order.
+#[cycle(known_plain)]
+fn known_all<'a>(
+    over: Definitions<'_>,
+    scope: &[Variable<'a, Option<Value>>],
+    terms: &'a [Tree],
+) -> Result<Vec<Option<Value>>, Memory>
+    ensures { IfOk result (λ known. known_elements known.items
+        ≡ knowns_of (meaning_of over.entry) (known_scope scope.now) (sexps_of terms.now)) }
+{
+    let mut known = Vec::with_capacity(over.alloc, terms.len())?;
+    let mut left = terms;
+    while let Some((term, rest)) = split_first(left) {
+        known.push(known_value(over, scope, term)?)?;
+        left = rest;
+    }
+    Ok(known)
+}

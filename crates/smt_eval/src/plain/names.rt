@@ -1,0 +1,117 @@
+//! What names mean: operators, and definitions, whose bodies see their parameters and the definitions before
+//! them. This file looks into no term.
+
+ghost use Rattle.std.specs.Prelude.{◌≡◌, ◌≤◌, ◌+◌, MatchOption, IfSome, List, Option};
+ghost use Rattle.smt_trees.specs.Sexp.{weight};
+ghost use Rattle.smt_trees.specs.Tree.{sexp_of};
+ghost use Rattle.smt_values.specs.Element.{Element, known_element, known_elements};
+ghost use Rattle.smt_forms.specs.Identifier.{Plain};
+ghost use Rattle.smt_forms.specs.IdentifierView.{identifier_view};
+ghost use Rattle.smt_eval.specs.Internal.PlainEvaluation.{Gives, bodies_weight, meaning_of};
+ghost use Rattle.smt_eval.specs.Known.{KnownMeaning, known_after, known_defined, known_of_op};
+ghost use Rattle.smt_eval.specs.PlainTerm.{entries_of, origin_of};
+
+use crate::plain::Definition;
+use crate::plain::evaluator::known_value;
+use crate::plain::scope::bind;
+use smt_faults::Memory;
+use smt_forms::Identifier;
+use smt_theory::{Op, OpFault, Theories, op_of};
+use smt_values::{Value, apply};
+use std::alloc::Global;
+
+/// The definitions that a term sees, in order, and the theories.
+#[derive(Clone, Copy)]
+pub(crate) struct Definitions<'a> {
+    pub(crate) alloc: Global,
+    pub(crate) theories: Theories,
+    pub(crate) seen: &'a [Definition<'a>],
+}
+
+/// What is known of an identifier applied to arguments.
+#[cycle(known_plain)]
+pub(crate) fn known_applied(
+    over: Definitions<'_>,
+    identifier: &Identifier<'_>,
+    args: &[Option<Value>],
+) -> Result<Option<Value>, Memory>
+    ensures { Gives (meaning_of over.entry (identifier_view identifier.now) (known_elements args.now)) result }
+{
+    match identifier {
+        Identifier::Plain(name) => known_named(over, *name, args),
+        Identifier::Indexed { name, indexes } => Ok(known_of_operator(
+            op_of(over.theories, *name, indexes.as_slice()),
+            args,
+        )),
+    }
+}
+
+/// What is known of a symbol that is no variable, applied to arguments: what its definition gives, or what
+/// the operator does.
+#[cycle(known_plain)]
+pub(crate) fn known_named(
+    over: Definitions<'_>,
+    name: &[u8],
+    args: &[Option<Value>],
+) -> Result<Option<Value>, Memory>
+    ensures { Gives (meaning_of over.entry (Plain name.now) (known_elements args.now)) result }
+{
+    match last_named(over.seen, name) {
+        Some((definition, seen)) => {
+            let earlier = Definitions {
+                alloc: over.alloc,
+                theories: over.theories,
+                seen,
+            };
+            known_body(earlier, definition, args)
+        }
+        None => Ok(known_of_operator(op_of(over.theories, name, &[]), args)),
+    }
+}
+
+// What the body of a definition gives for arguments, over the definitions before it.
+#[cycle(known_plain)]
+fn known_body(
+    earlier: Definitions<'_>,
+    definition: &Definition<'_>,
+    args: &[Option<Value>],
+) -> Result<Option<Value>, Memory>
+    ensures { Gives (known_defined (meaning_of earlier.entry) (origin_of definition.now)
+        (known_elements args.now)) result }
+{
+    let variables = bind(earlier.alloc, definition.params, args)?;
+    known_value(earlier, variables.as_slice(), definition.body)
+}
+
+// The last definition of a name, with those before it.
+fn last_named<'a>(
+    definitions: &'a [Definition<'a>],
+    name: &[u8],
+) -> Option<(&'a Definition<'a>, &'a [Definition<'a>])>
+    ensures means { (m : KnownMeaning) (args : List (Option Element)) → MatchOption result
+        (known_after m (entries_of definitions.now) (Plain name.now) args ≡ m (Plain name.now) args)
+        (λ found. known_after m (entries_of definitions.now) (Plain name.now) args
+        ≡ known_defined (known_after m (entries_of found.1.now)) (origin_of found.0.now) args) }
+    ensures lighter { IfSome result (λ found. bodies_weight found.1.now + weight (sexp_of found.0.now.body.now)
+        ≤ bodies_weight definitions.now) }
+{
+    let mut count = definitions.len();
+    while count > 0 {
+        count -= 1;
+        let last = &definitions[count];
+        if name == last.name {
+            return Some((last, &definitions[..count]));
+        }
+    }
+    None
+}
+
+/// What an operator gives, if a name is one.
+pub(crate) fn known_of_operator(op: Result<Op, OpFault>, args: &[Option<Value>]) -> Option<Value>
+    ensures { known_element result ≡ known_of_op op (known_elements args.now) }
+{
+    match op {
+        Ok(op) => apply(op, args),
+        Err(_) => None,
+    }
+}

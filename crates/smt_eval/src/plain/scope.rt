@@ -1,0 +1,44 @@
+//! The variables that a term sees, with what is known of each. This file looks up no name, and evaluates
+//! nothing.
+
+ghost use Rattle.std.specs.Prelude.{◌≡◌, [], ◌∷◌, ◌++◌, map, IfOk, OnOk};
+ghost use Rattle.std.specs.List.{zip};
+ghost use Rattle.smt_values.specs.Element.{known_element, known_elements};
+ghost use Rattle.smt_eval.specs.Internal.PlainEvaluation.{known_scope};
+
+use smt_faults::Memory;
+use smt_forms::Variable;
+use smt_theory::Sort;
+use smt_values::Value;
+use std::alloc::Global;
+
+/// Puts a variable behind others.
+pub(crate) fn push_variable<'a>(
+    variables: &mut Vec<Variable<'a, Option<Value>>>,
+    name: &'a [u8],
+    value: Option<Value>,
+) -> Result<(), Memory>
+    ensures { OnOk result (known_scope variables.new.items
+        ≡ known_scope variables.old.items ++ (name.now, known_element value) ∷ []) }
+{
+    match variables.push(Variable { name, value }) {
+        Ok(()) => Ok(()),
+        Err(_) => Err(Memory),
+    }
+}
+
+/// The parameters of a definition with what is known of the arguments, the first with the first.
+pub(crate) fn bind<'a>(
+    alloc: Global,
+    params: &'a [(Vec<u8>, Sort)],
+    args: &[Option<Value>],
+) -> Result<Vec<Variable<'a, Option<Value>>>, Memory>
+    ensures { IfOk result (λ variables. known_scope variables.items
+        ≡ zip (map (λ p. p.0.items) params.now) (known_elements args.now)) }
+{
+    let mut variables = Vec::new(alloc);
+    for place in 0..params.len().min(args.len()) {
+        push_variable(&mut variables, params[place].0.as_slice(), args[place])?;
+    }
+    Ok(variables)
+}
