@@ -14,3 +14,5 @@ pub mod ReadLemmas
 pub mod ClosedLemmas
 pub mod ModelFaultLemmas
 pub mod StructureSortLemmas
+pub mod UnusedVariableLemmas
+pub mod FrameLemmas
