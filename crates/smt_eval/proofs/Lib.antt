@@ -16,3 +16,4 @@ pub mod ModelFaultLemmas
 pub mod StructureSortLemmas
 pub mod UnusedVariableLemmas
 pub mod FrameLemmas
+pub mod NodeValueLemmas
