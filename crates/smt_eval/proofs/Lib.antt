@@ -16,4 +16,5 @@ pub mod ModelFaultLemmas
 pub mod StructureSortLemmas
 pub mod UnusedVariableLemmas
 pub mod FrameLemmas
+pub mod HeadLemmas
 pub mod NodeValueLemmas

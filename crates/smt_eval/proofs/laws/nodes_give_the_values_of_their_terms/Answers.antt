@@ -1,5 +1,4 @@
-use Rattle.smt_eval.proofs.UnusedVariableLemmas.{known_same}
-use Rattle.smt_eval.proofs.NodeValueLemmas.{term_given}
+use Rattle.smt_eval.proofs.HeadLemmas.{found}
 use Rattle.smt_eval.proofs.laws.nodes_give_the_values_of_their_terms.Goals as goal
 
 pub returns : goal.returns
