@@ -18,3 +18,5 @@ pub mod UnusedVariableLemmas
 pub mod FrameLemmas
 pub mod HeadLemmas
 pub mod NodeValueLemmas
+pub mod NodeNameLemmas
+pub mod StructureNodeLemmas
