@@ -208,7 +208,7 @@ module _ (g : Giving) (off : ℕ) (declared : List ℕ) (t : Table) (es : List E
       (stands_behind [] vs ps 0 refl same)
 
   -- which is what its name means behind it
-  called : (last : ℕ) → CallsAreGiven last → (n q j : ℕ) (e : Entry) (x : List ℕ) (vs : Frame)
+  pub called : (last : ℕ) → CallsAreGiven last → (n q j : ℕ) (e : Entry) (x : List ℕ) (vs : Frame)
       → slice_get es q ≡ Some e → q < n → e.name ≡ x → IsBodyOf t q e j → j ≤ last
       → length vs ≡ length e.parameters → g (off + j) vs ≡ meaning n (Plain x) vs
   called last calls n q j e x vs at within name b below counted =

@@ -18,7 +18,7 @@ use Rattle.smt_machine.specs.Nodes as machine
 use Rattle.smt_machine.specs.Nodes.{Frame, node_value}
 use Rattle.smt_machine.specs.Tables.{resolved}
 use Rattle.smt_terms.specs.Denotes.{Denotes, Head, IsNameOf, IsRow, Slots, Table, UsesNone, unless_labelled}
-use Rattle.smt_terms.specs.Library.{declared_among, defined_among, is_declared}
+use Rattle.smt_terms.specs.Library.{declared_among, defined_among, is_declared, with_declared, with_defined}
 use Rattle.smt_terms.specs.Signature.{AreDistinct, Entry, Origin, Declared, Defined, Signature, entry_named}
 use Rattle.smt_terms.specs.TermsOf.{AreTermsOf, first_heads, heads_from, heads_of}
 use Rattle.smt_eval.proofs.EvaluatorLemmas.{all_first, defined_means}
@@ -47,12 +47,8 @@ within (y ∷ xs) (suc k) x h = let w = within xs k x h in omega (arith, w)
 
 heads_counted : (declared defined : ℕ) (es : List Entry) → length (heads_from declared defined es) ≡ length es
 heads_counted declared defined [] = refl
-heads_counted declared defined (e ∷ es) = by e.origin
-  where
-    by : (o : Origin)
-        → suc (length (heads_from (with_declared declared o) (with_defined defined o) es)) ≡ suc (length es)
-    by (Declared command) = ap suc (heads_counted (declared + 1) defined es)
-    by (Defined ps body) = ap suc (heads_counted declared (defined + 1) es)
+heads_counted declared defined (e ∷ es) =
+    ap suc (heads_counted (with_declared declared e.origin) (with_defined defined e.origin) es)
 
 -- ---- definitions among entries
 
@@ -106,13 +102,13 @@ not_named : (theories : Theories) (es : List Entry) (x : List ℕ)
     → All (λ e. is_plain_operator theories e.name ≡ false) es → is_plain_operator theories x ≡ true
     → entry_named es x ≡ None
 not_named theories [] x free plain = refl
-not_named theories (e ∷ es) x free plain = by (bytes_eq x e.name) refl (not_named theories es x free.1 plain)
+not_named theories (e ∷ es) x free plain = by (bytes_eq x e.name) refl (not_named theories es x (λ k d h. free (suc k) d (omega (arith, h))) plain)
   where
     by : (b : Bool) → bytes_eq x e.name ≡ b → entry_named es x ≡ None
         → cond b (Some e) (entry_named es x) ≡ None
     by true same rest =
         let here : is_plain_operator theories x ≡ false =
-        ap (is_plain_operator theories) (same_name x e.name same) ∙ free.0 in
+        ap (is_plain_operator theories) (same_name x e.name same) ∙ free zero e (omega arith) in
         cc
     by false same rest = rest
 
@@ -166,10 +162,10 @@ module _ (has : (nodes : List machine.Node) (i : ℕ) (frame : Frame)
   abbrev whole : Signature
   whole = structure_of names definitions
 
-  of_model : Row → machine.Node
+  abbrev of_model : Row → machine.Node
   of_model row = resolved 0 model.bodies [] row.node
 
-  of_script : Row → machine.Node
+  abbrev of_script : Row → machine.Node
   of_script row = resolved count script.bodies declared row.node
 
   free_of_operators : (x : List ℕ) → is_plain_operator definitions.theories x ≡ true
