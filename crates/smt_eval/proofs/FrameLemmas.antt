@@ -1,13 +1,12 @@
 -- Variables by their places in a frame, and what is known of each there.
-use Rattle.std.proofs.Common.{◌≡◌, ℕ, suc, ◌+◌, Bool, true, false, cond, List, [], ◌∷◌, ◌++◌, length, map}
-use Rattle.std.proofs.Common.{slice_get, Option, Some, None, is_some, option_map, refl, ap, sym, ◌∙◌, subst}
+use Rattle.std.proofs.Common.{◌≡◌, ℕ, ◌+◌, Bool, true, false, cond, List, [], ◌∷◌, ◌++◌, length, map}
+use Rattle.std.proofs.Common.{slice_get, Some, None, is_some, option_map, refl, ap, sym, ◌∙◌, subst}
 use Rattle.std.proofs.Common.{arith, append_assoc, length-append}
 use Rattle.std.specs.List.{zip}
 use Rattle.std.specs.Prelude.{bytes_eq, unwrap_or}
 use Rattle.smt_theory.specs.Words.{look_up}
 use Rattle.smt_theory.specs.declared.sort.Sort.{Sort}
 use Rattle.smt_theory.specs.declared.sort.Sort.TheVariants.{Bool as Boolean}
-use Rattle.smt_values.specs.Element.{Element}
 use Rattle.smt_machine.specs.Nodes.{Frame, at_place}
 use Rattle.smt_terms.specs.Denotes.{Slots, slots_from}
 use Rattle.smt_eval.proofs.PlaceLemmas.{at_left, at_right}

@@ -1,7 +1,7 @@
 -- Where the names of a table of terms stand among the entries of its signature, and the bodies of those that
 -- are defined.
 use Rattle.std.proofs.Common.{◌≡◌, ◌<◌, ℕ, zero, suc, ◌+◌, Bool, true, false, cond, List, [], ◌∷◌, length, take}
-use Rattle.std.proofs.Common.{slice_get, Some, refl, ap, sym, subst, arith}
+use Rattle.std.proofs.Common.{slice_get, Some, refl, sym, subst, arith}
 use Rattle.std.specs.Prelude.{bytes_eq}
 use Rattle.smt_trees.specs.Sexp.{Sexp}
 use Rattle.smt_theory.specs.Words.{look_up}

@@ -12,17 +12,16 @@ use Rattle.smt_theory.specs.Words.{look_up}
 use Rattle.smt_theory.specs.declared.op.Op.{Op}
 use Rattle.smt_theory.specs.declared.op.OpFault.{OpFault}
 use Rattle.smt_theory.specs.declared.op.OpFault.TheVariants.{Unknown}
-use Rattle.smt_values.specs.Element.{Element}
 use Rattle.smt_values.specs.KnownOperations.{known_step}
 use Rattle.smt_forms.specs.Identifier.{Identifier, Plain, Indexed, operator_of}
 use Rattle.smt_nodes.specs.Node as node
 use Rattle.smt_nodes.specs.Node.{Node}
-use Rattle.smt_machine.specs.Nodes.{Frame, Giving, node_value, part, parts}
+use Rattle.smt_machine.specs.Nodes.{Frame, Giving, node_value, parts}
 use Rattle.smt_machine.specs.Tables.{call, resolved, shifted}
-use Rattle.smt_terms.specs.Denotes.{Denotes, HasBodyBelow, Head, Table, applied_node, named_node, node_at, node_of}
+use Rattle.smt_terms.specs.Denotes.{Denotes, HasBodyBelow, Head, Table, applied_node, named_node, node_at}
 use Rattle.smt_terms.specs.Denotes.{slots_from}
 use Rattle.smt_terms.specs.Library.{declared_among}
-use Rattle.smt_terms.specs.Signature.{AreDistinct, Entry, Origin, Defined, Signature, entry_named}
+use Rattle.smt_terms.specs.Signature.{AreDistinct, Entry, Origin, Signature, entry_named}
 use Rattle.smt_terms.specs.TermsOf.{AreBodies, IsBody, first_heads, heads_of}
 use Rattle.smt_terms.specs.declared.library.Found.{Found}
 use Rattle.smt_terms.specs.declared.library.Found.TheVariants as place
@@ -110,7 +109,7 @@ module _ (g : Giving) (off : ℕ) (declared : List ℕ) (t : Table) (es : List E
       ∙ ap (λ ts. known_of_op (op_by ts x indexes) vs) (sym names.theories) ∙ ap (λ o. known_of_op o vs) is)
   operator_means n (Plain x) op vs is =
       let plain = ap (λ ts. is_plain_operator ts x) (sym names.theories)
-          ∙ some_op (plain_op t.theories x) op is in
+      ∙ some_op (plain_op t.theories x) op is in
       sym (not_defined d (seen n) x vs (entry_named-take d.entries x (seen n) (names.free x plain))
       ∙ ap (λ ts. known_of_op (op_by ts x []) vs) (sym names.theories) ∙ ap (λ o. known_of_op o vs) is)
 

@@ -1,6 +1,6 @@
 -- The value of a node is what is known of the term that it stands for, where the identifiers of the term mean
 -- what their nodes give.
-use Rattle.std.proofs.Common.{◌≡◌, ◌≤◌, ◌<◌, ℕ, ◌+◌, Bool, true, false, cond, List, [], ◌∷◌, ◌++◌, length, map}
+use Rattle.std.proofs.Common.{◌≡◌, ◌≤◌, ◌<◌, ℕ, ◌+◌, cond, List, [], ◌∷◌, ◌++◌, length, map}
 use Rattle.std.proofs.Common.{slice_get, Option, Some, None, option_map, refl, ap, sym, ◌∙◌, subst, arith}
 use Rattle.std.proofs.Common.{Result, Ok, suc, length-append}
 use Rattle.std.proofs.lemmas.Bool.{lt-ltb}
@@ -19,7 +19,6 @@ use Rattle.smt_forms.specs.Identifier.{Identifier, Plain, applied, indexed}
 use Rattle.smt_forms.specs.Labels.{labels_among}
 use Rattle.smt_nodes.specs.Node as node
 use Rattle.smt_nodes.specs.Node.{Node, Row}
-use Rattle.smt_machine.specs.Nodes as machine
 use Rattle.smt_machine.specs.Nodes.{Frame, Giving, at_place, node_value, part, parts}
 use Rattle.smt_machine.specs.Tables.{call, resolved, shifted}
 use Rattle.smt_terms.specs.Denotes.{AreBound, AreDenoted, Denotes, HasBodyBelow, IsNameOf, IsNode, IsRow}
@@ -195,7 +194,7 @@ module _ (g : Giving) (off : ℕ) (declared : List ℕ) (t : Table) (m : KnownMe
     all_given slots next i [] Nil d h frame r counted stand = refl
     all_given slots next i (j ∷ js) (Cons x xs) d h frame r counted stand =
         let first = part_below off i j g frame d.0
-            ∙ term_given slots next 0 j x d.1 (omega (arith, h, d.0)) frame r counted stand in
+        ∙ term_given slots next 0 j x d.1 (omega (arith, h, d.0)) frame r counted stand in
         let rest = all_given slots next i js xs d.2 h frame r counted stand in
         cc
     all_given slots next i _ _ d h frame r counted stand = absurd d
@@ -208,7 +207,7 @@ module _ (g : Giving) (off : ℕ) (declared : List ℕ) (t : Table) (m : KnownMe
     bound_given slots next i (j ∷ js) (Cons (Items (Cons (Atom Symbol x) (Cons term Nil))) rest) d h frame r
         counted stand =
         let first = part_below off i j g frame d.0
-            ∙ term_given slots next 0 j term d.1 (omega (arith, h, d.0)) frame r counted stand in
+        ∙ term_given slots next 0 j term d.1 (omega (arith, h, d.0)) frame r counted stand in
         bound_more m r x term rest (parts (off + i) g frame (shifted off js))
         (part (off + i) g frame (off + j)) first
         (bound_given slots next i js rest d.2 h frame r counted stand)

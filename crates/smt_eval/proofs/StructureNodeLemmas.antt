@@ -1,12 +1,12 @@
 -- A node of a script gives what is known of its term over the structure that a model gives to the script.
-use Rattle.std.proofs.Common.{◌≡◌, ◌<◌, ℕ, zero, suc, ◌+◌, Bool, true, false, cond, not, List, [], ◌∷◌, ◌++◌}
+use Rattle.std.proofs.Common.{◌≡◌, ◌<◌, ℕ, zero, suc, ◌+◌, Bool, true, false, cond, not, List, [], ◌∷◌}
 use Rattle.std.proofs.Common.{length, map, take, slice_get, Option, Some, None, refl, ap, sym, ◌∙◌, subst, arith}
 use Rattle.std.proofs.Common.{length-append}
 use Rattle.std.proofs.Math.Seq.{take-length}
 use Rattle.std.proofs.lemmas.List.{length-map}
 use Rattle.std.specs.List.{All}
 use Rattle.std.specs.Prelude.{bytes_eq}
-use Rattle.smt_trees.specs.Sexp.{Sexp, Sexps, Atom, Reserved, Items, Nil, Cons, Numeral, Hexadecimal, Binary}
+use Rattle.smt_trees.specs.Sexp.{Sexp, Atom, Reserved, Items, Nil, Cons, Numeral, Hexadecimal, Binary}
 use Rattle.smt_trees.specs.Sexp.{Symbol}
 use Rattle.smt_trees.specs.declared.reserved.Word.TheVariants.{Bang, Let, Underscore}
 use Rattle.smt_theory.specs.Operators.{is_plain_operator}
@@ -20,11 +20,11 @@ use Rattle.smt_machine.specs.Tables.{resolved}
 use Rattle.smt_terms.specs.Denotes.{Denotes, Head, IsNameOf, IsRow, Slots, Table, UsesNone, unless_labelled}
 use Rattle.smt_terms.specs.Library.{declared_among, defined_among, is_declared, with_declared, with_defined}
 use Rattle.smt_terms.specs.Signature.{AreDistinct, Entry, Origin, Declared, Defined, Signature, entry_named}
-use Rattle.smt_terms.specs.TermsOf.{AreTermsOf, first_heads, heads_from, heads_of}
-use Rattle.smt_eval.proofs.EvaluatorLemmas.{all_first, defined_means}
+use Rattle.smt_terms.specs.TermsOf.{AreTermsOf, first_heads, heads_from}
+use Rattle.smt_eval.proofs.EvaluatorLemmas.{all_first}
 use Rattle.smt_eval.proofs.HeadLemmas.{IsBodyOf, body_at, none_declared}
 use Rattle.smt_eval.proofs.NameLemmas.{same_name}
-use Rattle.smt_eval.proofs.NodeNameLemmas.{HasNames, IsGivenAt, body_given, calls_are_given, closed_given}
+use Rattle.smt_eval.proofs.NodeNameLemmas.{HasNames, IsGivenAt, calls_are_given, closed_given}
 use Rattle.smt_eval.proofs.NodeNameLemmas.{called}
 use Rattle.smt_eval.proofs.PlaceLemmas.{at_left, at_right, none_among, none_in_both}
 use Rattle.smt_eval.specs.Internal.DefinitionValues.{AllDefined, IsDefined, first}

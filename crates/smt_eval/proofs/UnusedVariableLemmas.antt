@@ -1,5 +1,5 @@
 -- What is known of a term is the same whatever the variables that it does not use.
-use Rattle.std.proofs.Common.{◌≡◌, ℕ, Bool, true, false, cond, not, ◌&&◌, ◌||◌, List, [], ◌∷◌, ◌++◌, map}
+use Rattle.std.proofs.Common.{◌≡◌, ℕ, Bool, true, false, cond, not, ◌&&◌, ◌||◌, List, [], ◌++◌, map}
 use Rattle.std.proofs.Common.{Option, Some, is_some, refl, ap}
 use Rattle.std.specs.Prelude.{bytes_eq, unwrap_or}
 use Rattle.smt_trees.specs.Sexp as sexp
