@@ -164,7 +164,8 @@ pub body_at : (t : Table) (es : List Entry) (before : ℕ) (bodies : List ℕ) (
     → IsBodyOf t (before + q) e j
 body_at t [] before bodies q e j all b at is = cc
 body_at t (c ∷ es) before bodies q e j all b at is =
-    by c.origin refl all.0 bodies b q at is (λ k rest d there here. body_at t es (before + 1) rest k e j all.1 d there here)
+    by c.origin refl all.0 bodies b q at is
+    (λ k rest d there here. body_at t es (before + 1) rest k e j all.1 d there here)
   where
     by : (o : Origin) → c.origin ≡ o → IsDefined o → (bs : List ℕ)
         → IsNextBody t before (length c.parameters) o bs (λ rest. AreBodies t (before + 1) rest es)

@@ -186,7 +186,8 @@ module _ (g : Giving) (off : ℕ) (declared : List ℕ) (t : Table) (es : List E
         by (Err fault) is (Some head) at here =
             let k = node_of_head head js m here in
             named_given last calls n i frame x js head below at k.counted m here body
-    means_its_nodes i frame (Indexed x indexes) js m below made body = by (op_by t.theories x indexes) refl made
+    means_its_nodes i frame (Indexed x indexes) js m below made body =
+        by (op_by t.theories x indexes) refl made
       where
         by : (o : Result Op OpFault) → op_by t.theories x indexes ≡ o → applied_node o None js ≡ Some m
             → node_value (off + i) g frame (Some (resolved off t.bodies declared m))

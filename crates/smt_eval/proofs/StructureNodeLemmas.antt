@@ -102,7 +102,9 @@ not_named : (theories : Theories) (es : List Entry) (x : List ℕ)
     → All (λ e. is_plain_operator theories e.name ≡ false) es → is_plain_operator theories x ≡ true
     → entry_named es x ≡ None
 not_named theories [] x free plain = refl
-not_named theories (e ∷ es) x free plain = by (bytes_eq x e.name) refl (not_named theories es x (λ k d h. free (suc k) d (omega (arith, h))) plain)
+not_named theories (e ∷ es) x free plain =
+    by (bytes_eq x e.name) refl
+    (not_named theories es x (λ k d h. free (suc k) d (omega (arith, h))) plain)
   where
     by : (b : Bool) → bytes_eq x e.name ≡ b → entry_named es x ≡ None
         → cond b (Some e) (entry_named es x) ≡ None
@@ -179,8 +181,9 @@ module _ (has : (nodes : List machine.Node) (i : ℕ) (frame : Frame)
   model_names : HasNames g 0 [] model definitions.entries whole (λ n. n)
   model_names = record {
     rows = λ k row at frame. has (nodes_over model script declared) (0 + k) frame
-        ∙ ap (node_value (0 + k) g frame) (at_left (map of_model model.rows) (map of_script script.rows) (0 + k)
-        (of_model row) (at_map of_model model.rows (0 + k) row (ap (slice_get model.rows) (omega arith) ∙ at)));
+        ∙ ap (node_value (0 + k) g frame)
+        (at_left (map of_model model.rows) (map of_script script.rows) (0 + k) (of_model row)
+        (at_map of_model model.rows (0 + k) row (ap (slice_get model.rows) (omega arith) ∙ at)));
     theories = bodies.theories;
     heads = bodies.heads;
     bodies = bodies.bodies;
@@ -202,16 +205,16 @@ module _ (has : (nodes : List machine.Node) (i : ℕ) (frame : Frame)
       let m = gives k e at in
       let b : IsBodyOf model m.place m.definition m.body =
       subst (λ q. IsBodyOf model q m.definition m.body) (omega arith)
-      (body_at model definitions.entries 0 model.bodies m.place m.definition m.body all bodies.bodies m.defined
-      m.node) in
+      (body_at model definitions.entries 0 model.bodies m.place m.definition m.body all bodies.bodies
+      m.defined m.node) in
       let place = within definitions.entries m.place m.definition m.defined in (
         m.body,
         m.listed,
         denotes_within (first_heads m.place model) _ _ _ m.body b.1 b.3.denotes,
         λ n vs counted. ap (λ j. g j vs) (omega arith)
             ∙ called g 0 [] model definitions.entries whole (λ q. q) model_names m.body
-            (calls_are_given g 0 [] model definitions.entries whole (λ q. q) model_names m.body) (seen n) m.place
-            m.body m.definition e.name vs m.defined (omega (arith, place)) m.name b (omega arith)
+            (calls_are_given g 0 [] model definitions.entries whole (λ q. q) model_names m.body) (seen n)
+            m.place m.body m.definition e.name vs m.defined (omega (arith, place)) m.name b (omega arith)
             (counted ∙ sym m.counted),
       )
 
