@@ -15,3 +15,9 @@ pub mod ClosedLemmas
 pub mod PlainLemmas
 pub mod ModelFaultLemmas
 pub mod StructureSortLemmas
+pub mod UnusedVariableLemmas
+pub mod FrameLemmas
+pub mod HeadLemmas
+pub mod NodeValueLemmas
+pub mod NodeNameLemmas
+pub mod StructureNodeLemmas

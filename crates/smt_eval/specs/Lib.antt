@@ -1,5 +1,6 @@
 pub mod Meaning
 pub mod Known
+pub mod NodeValues
 pub mod Agreement
 pub mod Model
 pub mod ModelFaults

@@ -1,24 +1,29 @@
 //! What holds of the definitions that the contracts name. Nothing here does anything: each contract is a law.
 
-ghost use Rattle.std.specs.Prelude.{◌≡◌, ◌↔◌, ℕ, ◌+◌, List, [], Ok, Err, Option};
+ghost use Rattle.std.specs.Prelude.{◌≡◌, ◌↔◌, ℕ, ◌+◌, List, [], Ok, Err, Option, length};
 ghost use Rattle.smt_trees.specs.Sexp.{Sexp, Sexps};
 ghost use Rattle.smt_trees.specs.Tree.{sexp_of};
 ghost use Rattle.smt_theory.specs.declared.sort.Sort.{Sort};
 ghost use Rattle.smt_values.specs.Element.{Agrees, Element, IsOfSort};
 ghost use Rattle.smt_values.specs.Operations.{DivisionByZero};
+ghost use Rattle.smt_machine.specs.Given.{given};
 ghost use Rattle.smt_terms.specs.Checking.{sort_in};
+ghost use Rattle.smt_terms.specs.Denotes.{Denotes, Table};
 ghost use Rattle.smt_terms.specs.Items.{items_before};
 ghost use Rattle.smt_terms.specs.Library.{StandsFor};
 ghost use Rattle.smt_terms.specs.Signature.{AreDistinct, Entry, Signature, names_of, unlabelled};
+ghost use Rattle.smt_terms.specs.TermsOf.{AreTermsOf};
 ghost use Rattle.smt_terms.specs.WellSorted.{AreIntroduced, AreWellSorted};
 ghost use Rattle.smt_eval.specs.Agreement.{AgreesWith, FitsScope};
 ghost use Rattle.smt_faults.specs.declared.term_flaw.TermFlaw.{TermFlaw};
 ghost use Rattle.smt_eval.specs.CompleteModel.{IsModelOf};
+ghost use Rattle.smt_eval.specs.Internal.DefinitionValues.{AllDefined};
 ghost use Rattle.smt_eval.specs.Interpretation.{IsInterpretation};
-ghost use Rattle.smt_eval.specs.Known.{known_in, known_of};
+ghost use Rattle.smt_eval.specs.Known.{known_in, known_of, known_over};
 ghost use Rattle.smt_eval.specs.Meaning.{value_over};
 ghost use Rattle.smt_eval.specs.Model.{AreDefined, AreItems, HasFirstFlaw, IsFirstLacking, items_of};
 ghost use Rattle.smt_eval.specs.Model.{model_in};
+ghost use Rattle.smt_eval.specs.NodeValues.{GivesBodies, nodes_over};
 ghost use Rattle.smt_eval.specs.Structure.{IsStructure, structure_of};
 ghost use Rattle.smt_eval.specs.PlainTerm.{entries_of};
 ghost use Rattle.smt_eval.specs.declared.closed.Closed.{Closed};
@@ -28,6 +33,7 @@ ghost use Rattle.smt_eval.specs.declared.model_fault.ModelFlaw.TheVariants.{Item
 use crate::checked::Checked;
 use crate::closed::Closed;
 use crate::plain;
+use smt_machine::laws::nodes_have_their_values;
 use smt_terms::laws::{items_are_well_sorted, sorts_are_kept};
 use smt_theory::laws::{ranks_are_the_table, sorts_are_compared};
 use smt_values::laws::{known_results_are_true, results_are_of_their_sorts};
@@ -129,3 +135,19 @@ pub fn the_first_fault_of_a_model_is_told()
         ↔ ((items : List Entry) × AreItems script [] (items_of parts) items
         × IsFirstLacking script.entries items command) }
 {}
+
+/// A node of a script has the value that is known of the term which it stands for, over the structure that a
+/// model gives to the script: among the nodes of the model and of the script, where each declared name leads
+/// to the body of the definition that the model gives to it.
+pub fn nodes_give_the_values_of_their_terms()
+    ensures { (model script : Table) (declared : List ℕ) (names definitions : Signature) (around i : ℕ)
+        (term : Sexp) → AreTermsOf script names → AreTermsOf model definitions
+        → AllDefined definitions.entries → definitions.theories ≡ names.theories
+        → AreDistinct (structure_of names definitions).entries
+        → GivesBodies declared names definitions model.bodies
+        → Denotes script [] 0 around i term
+        → given (nodes_over model script declared) (length model.rows + i) []
+        ≡ known_over (structure_of names definitions) term }
+{
+    nodes_have_their_values();
+}

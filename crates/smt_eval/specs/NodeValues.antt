@@ -1,0 +1,32 @@
+-- The nodes of a model and of a script together, and what has to hold for a node to have the value of the
+-- term that it stands for.
+use Rattle.std.specs.Prelude.{◌≡◌, ℕ, List, [], ◌++◌, Some, length, map, slice_get}
+use Rattle.smt_machine.specs.Nodes.{Node}
+use Rattle.smt_machine.specs.Tables.{resolved}
+use Rattle.smt_terms.specs.Denotes.{Table}
+use Rattle.smt_terms.specs.Signature.{Entry, Signature, declared_among}
+
+-- the nodes of a model, and behind them those of a script, whose declared names lead to these nodes
+abbrev pub nodes_over : (model script : Table) → (declared : List ℕ) → List Node
+nodes_over model script declared =
+    map (λ row. resolved 0 model.bodies [] row.node) model.rows
+    ++ map (λ row. resolved (length model.rows) script.bodies declared row.node) script.rows
+
+-- the k-th of these nodes is the body, among these, of a definition of the declared name with as many
+-- parameters
+pub record IsGivenBody (declared : List ℕ) (definitions : List Entry) (bodies : List ℕ) (k : ℕ)
+    (e : Entry) : Type 0 where
+  pub place : ℕ
+  pub definition : Entry
+  pub body : ℕ
+  pub defined : slice_get definitions place ≡ Some definition
+  pub name : definition.name ≡ e.name
+  pub counted : length definition.parameters ≡ length e.parameters
+  pub node : slice_get bodies place ≡ Some body
+  pub listed : slice_get declared k ≡ Some body
+
+-- for each declared name, in order, the node that is the body of the definition that the model gives to it
+abbrev pub GivesBodies : (declared : List ℕ) → (script definitions : Signature) → (bodies : List ℕ) → Type 0
+GivesBodies declared script definitions bodies = (k : ℕ) (e : Entry)
+    → slice_get (declared_among script.entries) k ≡ Some e
+    → IsGivenBody declared definitions.entries bodies k e
