@@ -51,7 +51,13 @@ fn print_values<W: Write>(
     let parts = parts_of(alloc, first)?;
     let library = definitions_of(declared, &parts)?;
     let definitions = plain_definitions(alloc, &library, &parts)?;
-    print_terms(alloc, out, declared.theories(), definitions.as_slice(), terms)
+    print_terms(
+        alloc,
+        out,
+        declared.theories(),
+        definitions.as_slice(),
+        terms,
+    )
 }
 
 // The definitions of a model with their bodies, which a library of them doesn't keep as trees.
