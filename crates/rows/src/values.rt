@@ -10,8 +10,8 @@ use anyhow::{Result, bail};
 use row_texts::Field;
 use smt_eval::plain::{Closed, Definition};
 use smt_eval::{Checked, Memory};
-use smt_forms::item_form;
-use smt_terms::Library;
+use smt_forms::{ItemForm, item_form};
+use smt_terms::{Definition as Defined, Library};
 use smt_theory::Theories;
 use smt_trees::Trees;
 use smt_values::Value;
@@ -50,7 +50,9 @@ fn print_values<W: Write>(
     };
     let parts = parts_of(alloc, first)?;
     let library = definitions_of(declared, &parts)?;
-    let definitions = plain_definitions(alloc, &library, &parts)?;
+    let Ok(definitions) = plain_definitions(alloc, &library, &parts) else {
+        bail!("memory was refused");
+    };
     print_terms(
         alloc,
         out,
@@ -65,23 +67,35 @@ fn plain_definitions<'a>(
     alloc: Global,
     library: &'a Library,
     model: &'a Trees,
-) -> Result<Vec<Definition<'a>>> {
+) -> Result<Vec<Definition<'a>>, Memory> {
     let mut definitions = Vec::new(alloc);
     let mut left = library.definitions();
     for item in model.as_slice() {
         if let Ok(form) = item_form(item)
             && let Some((defined, rest)) = left.split_first()
         {
-            definitions.push(Definition {
-                name: form.name,
-                params: defined.params.as_slice(),
-                result: defined.result,
-                body: form.body,
-            })?;
+            push_definition(&mut definitions, defined, &form)?;
             left = rest;
         }
     }
     Ok(definitions)
+}
+
+// Puts a definition behind others.
+fn push_definition<'a>(
+    definitions: &mut Vec<Definition<'a>>,
+    defined: &'a Defined,
+    form: &ItemForm<'a>,
+) -> Result<(), Memory> {
+    match definitions.push(Definition {
+        name: form.name,
+        params: defined.params.as_slice(),
+        result: defined.result,
+        body: form.body,
+    }) {
+        Ok(()) => Ok(()),
+        Err(_) => Err(Memory),
+    }
 }
 
 fn print_terms<W: Write>(
