@@ -85,6 +85,17 @@ left-true l left as' a d first found here is h =
           ∙ ap (judged_from d first) (sym next.2) ∙ h.2,
     )
 
+-- it is known to be false, which decides
+pub left-false : (l : Contents) (left as' : List code.Assertion) (a : code.Assertion) (d : Signature)
+    (first : Option Claim) (found : Judgement) → left ≡ a ∷ as'
+    → ((t : Sexp) → IsTermOf l a.term t → known_over d t ≡ Some (Truth false)) → IsLeft l left d first found
+    → Refuted (Assertion a.command) ≡ found
+left-false l left as' a d first found here is h =
+    let next = next_term l a as' h.0 (subst (λ ls. AreAssertions l ls h.0) here h.1) in
+    ap (λ n. Refuted (Assertion n)) next.3
+    ∙ sym (judged_from-false d first next.0 next.1 (is next.0.term next.4))
+    ∙ ap (judged_from d first) (sym next.2) ∙ h.2
+
 -- it is open
 abbrev pub IsOpen : Option Element → Type 0
 IsOpen v = (is_known false v ≡ false) × (is_known true v ≡ false)
@@ -118,6 +129,13 @@ left-opened l left as' a d None found here is none h =
           ∙ h.2,
     )
 left-opened l left as' a d (Some n) found here is none h = cc
+
+-- the next is a term
+pub term_left : (l : Contents) (left as' : List code.Assertion) (a : code.Assertion) → left ≡ a ∷ as'
+    → (all : List stacks.Assertion) × AreAssertions l left all → (t : Sexp) × IsTermOf l a.term t
+term_left l left as' a here h =
+    let next = next_term l a as' h.0 (subst (λ ls. AreAssertions l ls h.0) here h.1) in
+    (next.0.term, next.4)
 
 -- those that are left behind the next
 pub terms_left : (l : Contents) (left as' : List code.Assertion) (a : code.Assertion) → left ≡ a ∷ as'

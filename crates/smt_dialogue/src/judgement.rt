@@ -14,7 +14,7 @@ ghost use Rattle.smt_script.specs.StackView.{AreAssertions, StandsFor};
 ghost use Rattle.smt_dialogue.specs.Judgement as spec;
 ghost use Rattle.smt_dialogue.specs.Judgement.{claims_of, judged_over, judgement_of};
 
-use smt_eval::{Interpretation, Memory, ModelFlaw, eval};
+use smt_eval::{Interpretation, Machine, Memory, ModelFlaw, eval_by};
 use smt_faults::TermFlaw;
 use smt_report::Claim;
 use smt_script::{Assertion, Stack};
@@ -47,7 +47,14 @@ pub(crate) fn judge(stack: &Stack, model: &Trees) -> Result<Judgement, Memory>
     let library = stack.library();
     match Interpretation::read(library, model) {
         Ok(interpretation) => {
-            let judgement = judge_assertions(library, &interpretation, stack.assertions());
+            let mut machine = Machine::new(library.alloc());
+            let judgement = judge_assertions(
+                &mut machine,
+                library,
+                &interpretation,
+                stack.assertions(),
+            );
+            drop(machine);
             drop(interpretation);
             judgement
         }
@@ -72,6 +79,7 @@ fn judgement_of_flaw(flaw: ModelFlaw) -> Judgement
 // The first assertion that is false over the definitions of a model and the script's own, else the first that
 // is open, as a claim.
 fn judge_assertions(
+    machine: &mut Machine,
     library: &Library,
     interpretation: &Interpretation,
     assertions: &[Assertion],
@@ -90,7 +98,7 @@ fn judge_assertions(
         let claim = Claim::Assertion {
             command: assertion.command,
         };
-        match truth_of(eval(library, interpretation, assertion.term)?) {
+        match truth_of(eval_by(machine, library, interpretation, assertion.term)?) {
             Some(true) => {}
             Some(false) => return Ok(Judgement::Refuted { claim }),
             None => {

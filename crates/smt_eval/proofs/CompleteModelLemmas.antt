@@ -98,7 +98,7 @@ pub record AreSound (script : Signature) (items : List Entry) : Type 0 where
   pub free : AreFree script items
 
 -- it holds of the items after any more are read
-AreSound-from : TakenAreItems
+pub AreSound-from : TakenAreItems
     → (script : Signature) (earlier : List Entry) (number : ℕ) (trees : Sexps) (items : List Entry)
     → AreSound script earlier → items_from script earlier number trees ≡ Ok items → AreSound script items
 AreSound-from law script earlier number Nil items so_far h =

@@ -5,7 +5,8 @@ use Rattle.std.specs.Option.{option_or}
 use Rattle.smt_trees.specs.Sexp.{Sexp}
 use Rattle.smt_terms.specs.Contents.{Declaration}
 use Rattle.smt_terms.specs.Library.{declaration_at, declarations_from}
-use Rattle.smt_terms.specs.Signature.{Entry, Origin, Declared, Defined, entry_named}
+use Rattle.smt_terms.specs.Signature.{Entry, Origin, Declared, Defined, declared_among, entry_named}
+use Rattle.smt_terms.specs.Signature.{is_declared}
 use Rattle.smt_eval.specs.Model.{command_of_origin, first_lacking, lacking_at}
 
 -- a place of an entry is within
@@ -29,6 +30,7 @@ pub record IsNext (rest es : List Entry) (v : Declaration) (vs : List Declaratio
   pub later : List Entry
   pub stand : StandFrom place later es
   pub others : vs ≡ declarations_from place later
+  pub among : declared_among rest ≡ entry ∷ declared_among later
   pub lacking : (items : List Entry)
       → first_lacking rest items ≡ option_or (lacking_at items entry) (first_lacking later items)
 
@@ -72,6 +74,7 @@ next_declared k (e ∷ rest) es v vs stand h =
           later = rest;
           stand = stand_later k e rest es stand;
           others = sym (tail_of h);
+          among = ap (λ (p : Origin). cond (is_declared p) (e ∷ declared_among rest) (declared_among rest)) is;
           lacking = λ items. refl;
         }
     by (Defined ps t) is h next =
@@ -84,6 +87,8 @@ next_declared k (e ∷ rest) es v vs stand h =
           later = g.later;
           stand = g.stand;
           others = g.others;
+          among = ap (λ (p : Origin). cond (is_declared p) (e ∷ declared_among rest) (declared_among rest)) is
+              ∙ g.among;
           lacking = λ items. ap (λ (o : Option ℕ). option_or o (first_lacking rest items))
               (not_declared items e ps t is) ∙ g.lacking items;
         }
@@ -111,3 +116,14 @@ pub absent_is_lacking : (items : List Entry) (e : Entry) (command : ℕ) → ent
     → e.origin ≡ Declared command → lacking_at items e ≡ Some command
 absent_is_lacking items e command h is =
     ap (λ (o : Option Entry). cond (is_some o) None (command_of_origin e.origin)) h ∙ ap command_of_origin is
+
+-- where no declaration is left, no entry is declared
+pub none_among_left : (k : ℕ) (rest : List Entry) → declarations_from k rest ≡ [] → declared_among rest ≡ []
+none_among_left k [] h = refl
+none_among_left k (e ∷ rest) h = by e.origin h (λ g. none_among_left (k + 1) rest g)
+  where
+    by : (o : Origin) → declaration_at k e o ++ declarations_from (k + 1) rest ≡ []
+        → (declarations_from (k + 1) rest ≡ [] → declared_among rest ≡ [])
+        → cond (is_declared o) (e ∷ declared_among rest) (declared_among rest) ≡ []
+    by (Declared command) h next = cc
+    by (Defined ps t) h next = next h

@@ -27,11 +27,10 @@ use Rattle.smt_faults.specs.declared.term_flaw.TermFlaw.TheVariants.{Form}
 use Rattle.smt_forms.specs.declared.scope.Variable.{Variable}
 use Rattle.smt_eval.proofs.EntryLemmas.{entry_named-take}
 use Rattle.smt_eval.proofs.NameLemmas.{none_step, same_self}
-use Rattle.smt_eval.specs.Internal.DefinitionValues.{definition_values, first, kept_value, values_after}
-use Rattle.smt_eval.specs.Internal.Evaluation.{Evaluates, bodies_weight, known_scope, weight_of}
+use Rattle.smt_eval.specs.Internal.DefinitionValues.{first}
+use Rattle.smt_eval.specs.Internal.PlainEvaluation.{known_scope}
 use Rattle.smt_eval.specs.Known.{KnownMeaning, known_after, known_by, known_defined, known_in, known_of}
 use Rattle.smt_eval.specs.Known.{known_of_op, known_operators, knowns_bound, knowns_of, with_known}
-use Rattle.smt_eval.specs.declared.definitions.Definitions.{Definitions}
 use Rattle.smt_eval.proofs.FoundLemmas.{empty_of}
 
 -- ---- names
@@ -72,71 +71,15 @@ pub defined_means : (d : Signature) (n p : ℕ) (e : Entry) (x : List ℕ) (args
 defined_means d n p e x args distinct at h is = ap (λ y. known_in (first n d) (Plain y) args)
     (sym is) ∙ known_at (known_operators d.theories) d.entries n p e args distinct at h
 
--- the value at a place is what is kept of the definition there over those before it
-value_at : (m : KnownMeaning) (es : List Entry) (n p : ℕ) (e : Entry) (d : Option Element)
-    → slice_get es p ≡ Some e → p < n
-    → get_or (values_after m (take n es)) p d ≡ kept_value (known_after m (take p es)) e.origin
-value_at m [] n p e d at h = cc
-value_at m (c ∷ es) zero p e d at h = absurd (omega arith)
-value_at m (c ∷ es) (suc n) zero e d at h = let is : c ≡ e = cc in ap (λ z. kept_value m z.origin) is
-value_at m (c ∷ es) (suc n) (suc p) e d at h = value_at (with_known m c) es n p e d at (omega arith)
-
--- what a value at a place says of an element
-element_at : (vs : List (Option Value)) (p : ℕ)
-    → known_element (get_or vs p None) ≡ get_or (known_elements vs) p None
-element_at [] p = refl
-element_at (v ∷ vs) zero = refl
-element_at (v ∷ vs) (suc p) = element_at vs p
-
--- so the value that is kept of a constant is what its definition gives
-pub kept : (d : Signature) (vs : List (Option Value)) (p : ℕ) (e : Entry) (t : Sexp)
-    (args : List (Option Element)) → known_elements vs ≡ definition_values (first (length vs) d)
-    → slice_get d.entries p ≡ Some e → p < length vs → e.origin ≡ Defined [] t
-    → known_element (get_or vs p None) ≡ known_defined (known_in (first p d)) e.origin args
-kept d vs p e t args valued at h is =
-    element_at vs p ∙ ap (λ es. get_or es p None) valued ∙ value_at (known_operators d.theories) d.entries
-    (length vs) p e None at h
-    ∙ ap (kept_value (known_in (first p d))) is ∙ sym
-    (ap (λ (o : Origin). known_defined (known_in (first p d)) o args) is)
-
--- ---- values of definitions
-
--- one more definition, one more value
-values_next : (m : KnownMeaning) (es : List Entry) (n : ℕ) (e : Entry) → slice_get es n ≡ Some e
-    → values_after m (take (suc n) es)
-    ≡ values_after m (take n es) ++ kept_value (known_after m (take n es)) e.origin ∷ []
-values_next m [] n e at = cc
-values_next m (c ∷ es) zero e at = let is : c ≡ e = cc in ap (λ z. kept_value m z.origin ∷ []) is
-values_next m (c ∷ es) (suc n) e at =
-    ap (λ vs. kept_value m c.origin ∷ vs) (values_next (with_known m c) es n e at)
-
-pub values_more : (m : KnownMeaning) (es : List Entry) (n : ℕ) (e : Entry) → slice_get es n ≡ Some e
-    → values_after m (take (n + 1) es)
-    ≡ values_after m (take n es) ++ kept_value (known_after m (take n es)) e.origin ∷ []
-values_more m es n e at = rw add-one (values_next m es n e at)
-
 -- the first of as many as there are are all
 pub all_first : (d : Signature) (n : ℕ) → n ≡ length d.entries → first n d ≡ d
 all_first d n is = ap (λ (es : List Entry). record d { entries = es })
     (ap (λ k. take k d.entries) is ∙ take-length d.entries)
 
--- a place has one entry, which comes from there
-pub by_origin : (es : List Entry) (p : ℕ) (e f : Entry) {o : Origin} → slice_get es p ≡ Some e
-    → slice_get es p ≡ Some f → f.origin ≡ o → e.origin ≡ o
-by_origin es p e f at there is = let both : Some e ≡ Some f = sym at ∙ there in let same : e ≡ f = cc
-    in ap (λ (x : Entry). x.origin) same ∙ is
-
 -- what is known, and what that is
 pub if_known : {F : Type 0} (r : Result (Option Value) F) (x y : Option Element)
     → IfOk r (λ v. known_element v ≡ x) → x ≡ y → IfOk r (λ v. known_element v ≡ y)
 if_known r x y h is = subst (λ z. IfOk r (λ v. known_element v ≡ z)) is h
-
-none_of : (n : ℕ) → true ≡ (n == 0) → n ≡ 0
-none_of n h = grind (arith, h)
-
--- a list without elements
-pub empty_list : {A : Type 0} (xs : List A) → true ≡ (length xs == 0) → xs ≡ []
-empty_list xs h = empty_of xs (none_of (length xs) h)
 
 -- ---- lists
 
@@ -231,57 +174,3 @@ pub no_variable : (k : KnownMeaning) (vs : List (Variable (Option Value))) (x : 
     → known_of k (known_scope vs) (Atom Symbol x) ≡ k (Plain x) []
 no_variable k vs x r is at =
     ap (λ o. unwrap_or o (k (Plain x) [])) (look_up-known vs x ∙ ap (option_map known_element) (sym is ∙ at))
-
--- what is known of a symbol without a definition, applied to a term or more
-pub operator_applied : (d : Signature) (n : ℕ) (x : List ℕ) (known : List (Option Element))
-    (o : Result Op OpFault) {args rest : Sexps} {t : Sexp} → args ≡ Cons t rest
-    → entry_named (take n d.entries) x ≡ None → o ≡ op_by d.theories x []
-    → known_of_op o known ≡ known_by (applied (Atom Symbol x) args) (λ f. known_in (first n d) f known)
-operator_applied d n x known o split none is =
-    ap (λ r. known_of_op r known) is ∙ sym (not_defined d n x known none) ∙ sym
-    (ap (λ ts. known_by (applied (Atom Symbol x) ts) (λ f. known_in (first n d) f known)) split)
-
--- lists of one tree, of two and of three
-pub one_of : (ts : List Tree) (a : Tree) → 1 ≤ length ts → length ts < 2 → a ≡ get_or ts 0 a
-    → sexps_of ts ≡ Cons (sexp_of a) Nil
-one_of [] a h k is = absurd (omega (arith, h))
-one_of (t ∷ []) a h k is = ap (λ (x : Tree). Cons (sexp_of x) Nil) (sym is)
-one_of (t ∷ u ∷ ts) a h k is = absurd (omega (arith, k))
-
-pub two_of : (ts : List Tree) (a b : Tree) → 2 ≤ length ts → length ts < 3 → a ≡ get_or ts 0 a
-    → b ≡ get_or ts 1 b → sexps_of ts ≡ Cons (sexp_of a) (Cons (sexp_of b) Nil)
-two_of [] a b h k is then = absurd (omega (arith, h))
-two_of (t ∷ ts) a b h k is then = ap (λ (x : Tree). Cons (sexp_of x) (sexps_of ts)) (sym is) ∙ ap
-    (Cons (sexp_of a)) (one_of ts b (omega (arith, h)) (omega (arith, k)) then)
-
-pub three_of : (ts : List Tree) (a b c : Tree) → 3 ≤ length ts → length ts < 4 → a ≡ get_or ts 0 a
-    → b ≡ get_or ts 1 b → c ≡ get_or ts 2 c
-    → sexps_of ts ≡ Cons (sexp_of a) (Cons (sexp_of b) (Cons (sexp_of c) Nil))
-three_of [] a b c h k is then last = absurd (omega (arith, h))
-three_of (t ∷ ts) a b c h k is then last =
-    ap (λ (x : Tree). Cons (sexp_of x) (sexps_of ts)) (sym is) ∙ ap (Cons (sexp_of a))
-    (two_of ts b c (omega (arith, h)) (omega (arith, k)) then last)
-
--- ---- weights
-
--- a body that is called and what it sees are no more than what the call sees
-pub lighter : (bs : List (Option Sexp)) (p n : ℕ) (t : Sexp) → slice_get bs p ≡ Some (Some t) → p < n
-    → bodies_weight (take p bs) + weight t ≤ bodies_weight (take n bs)
-lighter [] p n t at h = cc
-lighter (b ∷ bs) p zero t at h = absurd (omega arith)
-lighter (b ∷ bs) zero (suc n) t at h =
-    let is : b ≡ Some t = cc in let w : weight_of b ≡ weight t = ap weight_of is in omega (arith, w)
-lighter (b ∷ bs) (suc p) (suc n) t at h = let w = lighter bs p n t at (omega (arith, h)) in omega (arith, w)
-
--- where fewer are seen
-pub earlier : (over : Definitions) (d : Signature) (p : ℕ) → Evaluates over d → p < over.count
-    → Evaluates (record over { count = p }) d
-earlier over d p e h = record {
-  script = e.script;
-  definitions = e.definitions;
-  structure = e.structure;
-  whole = e.whole;
-  valued = e.valued;
-  seen = omega (arith, h, e.seen);
-  within = e.within;
-}

@@ -6,9 +6,10 @@ use Rattle.std.specs.Prelude.{bytes_eq}
 use Rattle.smt_trees.specs.Sexp.{Sexp}
 use Rattle.smt_theory.specs.Words.{look_up}
 use Rattle.smt_terms.specs.Denotes.{Head, Table}
-use Rattle.smt_terms.specs.Library.{declared_among, is_declared, place_behind, with_declared, with_defined}
+use Rattle.smt_terms.specs.Library.{declared_among, is_declared}
 use Rattle.smt_terms.specs.Signature.{Entry, Origin, Declared, Defined}
-use Rattle.smt_terms.specs.TermsOf.{AreBodies, IsBody, IsNextBody, heads_from}
+use Rattle.smt_terms.specs.TermsOf.{AreBodies, IsBody, IsNextBody, heads_from, place_behind, with_declared}
+use Rattle.smt_terms.specs.TermsOf.{with_defined}
 use Rattle.smt_terms.specs.declared.library.Found.{Found}
 use Rattle.smt_terms.specs.declared.library.Found.TheVariants as place
 use Rattle.smt_eval.proofs.NameLemmas.{same_name}

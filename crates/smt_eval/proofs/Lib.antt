@@ -8,10 +8,10 @@ pub mod EvaluatorLemmas
 pub mod PlaceLemmas
 pub mod ScopeLemmas
 pub mod DefinitionLemmas
-pub mod FoundLemmas
-pub mod ValuesLemmas
-pub mod ReadLemmas
+pub mod GivenBodyLemmas
 pub mod ClosedLemmas
+pub mod FoundLemmas
+pub mod ReadLemmas
 pub mod PlainLemmas
 pub mod ModelFaultLemmas
 pub mod StructureSortLemmas

@@ -4,18 +4,13 @@ use Rattle.std.proofs.Common.{length, take, slice_get, Some, None, refl, ap, sym
 use Rattle.std.proofs.Common.{length-append}
 use Rattle.std.proofs.lemmas.List.{length-map}
 use Rattle.std.specs.Prelude.{bytes_eq}
-use Rattle.smt_terms.specs.Contents.{Contents, contents_of}
-use Rattle.smt_terms.specs.Library.{AreDefinitions, IsDefinitionOf, StandsFor, declared_among, defined_among}
-use Rattle.smt_terms.specs.Library.{definitions_of, is_declared, term_at}
+use Rattle.smt_terms.specs.Library.{declared_among, defined_among}
+use Rattle.smt_terms.specs.Library.{is_declared}
 use Rattle.smt_terms.specs.Signature.{AreDistinct, Entry, Origin, Declared, Defined, IsDeclared, Signature}
 use Rattle.smt_terms.specs.Signature.{entry_named}
-use Rattle.smt_terms.specs.declared.library.Definition.{Definition}
-use Rattle.smt_terms.specs.declared.library.Library.{Library}
 use Rattle.smt_eval.proofs.EntryLemmas.{entry_named-skip, none_before}
 use Rattle.smt_eval.proofs.NameLemmas.{none_step, same_name}
 use Rattle.smt_eval.specs.Internal.DefinitionValues.{AllDefined, IsDefined}
-use Rattle.smt_eval.specs.Internal.Evaluation.{Evaluates, bodies_in, bodies_of}
-use Rattle.smt_eval.specs.declared.definitions.Definitions.{Definitions}
 
 -- ---- entries that are declared or defined
 
@@ -113,82 +108,3 @@ pub none_in_both : (es fs : List Entry) (x : List ℕ) → entry_named es x ≡ 
 none_in_both [] fs x h i = i
 none_in_both (e ∷ es) fs x h i = let p = none_step (bytes_eq x e.name) e (entry_named es x) h
     in entry_named-skip e (es ++ fs) x p.0 ∙ none_in_both es fs x p.1 i
-
--- ---- the definitions of a library
-
--- the definition at a place is that of the entry there
-pub definition_of_place : (l : Contents) (ds : List Definition) (es : List Entry) (n : ℕ) (x : Definition)
-    → AreDefinitions l ds es → slice_get ds n ≡ Some x
-    → (e : Entry) × (slice_get es n ≡ Some e) × IsDefinitionOf l x e
-definition_of_place l [] es n x a h = cc
-definition_of_place l (d ∷ ds) [] n x a h = absurd a
-definition_of_place l (d ∷ ds) (e ∷ es) zero x a h =
-    let is : d ≡ x = cc in (e, refl, subst (λ (y : Definition). IsDefinitionOf l y e) is a.0)
-definition_of_place l (d ∷ ds) (e ∷ es) (suc n) x a h = definition_of_place l ds es n x a.1 h
-
-counted : (l : Contents) (ds : List Definition) (es : List Entry) → AreDefinitions l ds es
-    → length ds ≡ length es
-counted l [] [] a = refl
-counted l [] (e ∷ es) a = absurd a
-counted l (d ∷ ds) [] a = absurd a
-counted l (d ∷ ds) (e ∷ es) a = ap suc (counted l ds es a.1)
-
--- there are as many as the signature defines
-pub definitions_counted : (l : Library) (s : Signature) → StandsFor l s
-    → length (definitions_of l) ≡ length (defined_among s.entries)
-definitions_counted l s stands =
-    counted (contents_of l) (definitions_of l) (defined_among s.entries) stands.definitions
-
-pub bodies_counted : (l : Library) → length (bodies_in l) ≡ length (definitions_of l)
-bodies_counted l = length-map (definitions_of l) (λ d. term_at l d.body)
-
--- ---- the structure
-
-module _ (over : Definitions) (d : Signature) (e : Evaluates over d) where
-  -- its entries
-  pub entries_are : d.entries ≡ e.definitions.entries ++ defined_among e.script.entries
-  entries_are = ap (λ (s : Signature). s.entries) e.whole
-
-  pub theories_are : e.definitions.theories ≡ d.theories
-  theories_are = sym (ap (λ (s : Signature). s.theories) e.whole)
-
-  pub models_are : defined_among e.definitions.entries ≡ e.definitions.entries
-  models_are = all_defined e.definitions.entries e.structure.defined
-
-  pub distinct_entries : AreDistinct d.entries
-  distinct_entries = subst (λ (s : Signature). AreDistinct s.entries) (sym e.whole) e.structure.distinct
-
-  -- those of the model come first
-  pub models_counted : length (definitions_of over.model.now) ≡ length e.definitions.entries
-  models_counted = definitions_counted over.model.now e.definitions e.structure.stands ∙ ap
-      (λ (es : List Entry). length es) models_are
-
-  pub all_counted : length (bodies_of over) ≡ length d.entries
-  all_counted =
-      length-append (bodies_in over.model.now) (bodies_in over.script.now)
-      ∙ ap (λ (n : ℕ). n + length (bodies_in over.script.now))
-      (bodies_counted over.model.now ∙ models_counted)
-      ∙ ap (λ (n : ℕ). length e.definitions.entries + n)
-      (bodies_counted over.script.now ∙ definitions_counted over.script.now e.script e.structure.names)
-      ∙ sym (length-append e.definitions.entries (defined_among e.script.entries)) ∙ ap
-      (λ (es : List Entry). length es) (sym entries_are)
-
-  -- an entry of the model's definitions, and one of the script's
-  pub of_model : (p : ℕ) (f : Entry) → slice_get (defined_among e.definitions.entries) p ≡ Some f
-      → slice_get d.entries p ≡ Some f
-  of_model p f at = ap (λ (es : List Entry). slice_get es p) entries_are ∙ at_left e.definitions.entries
-      (defined_among e.script.entries) p f (ap (λ (es : List Entry). slice_get es p) (sym models_are) ∙ at)
-
-  pub of_script : (p q : ℕ) (f : Entry) → p ≡ length (definitions_of over.model.now) + q
-      → slice_get (defined_among e.script.entries) q ≡ Some f → slice_get d.entries p ≡ Some f
-  of_script p q f is at =
-      ap (λ (es : List Entry). slice_get es p) entries_are ∙ at_right e.definitions.entries
-      (defined_among e.script.entries) p q f (is ∙ ap (λ (n : ℕ). n + q) models_counted) at
-
-  -- a name that neither defines
-  pub of_neither : (x : List ℕ) → entry_named (defined_among e.definitions.entries) x ≡ None
-      → entry_named (defined_among e.script.entries) x ≡ None → entry_named d.entries x ≡ None
-  of_neither x h i =
-      ap (λ (es : List Entry). entry_named es x) entries_are
-      ∙ none_in_both e.definitions.entries (defined_among e.script.entries) x
-      (ap (λ (es : List Entry). entry_named es x) (sym models_are) ∙ h) i

@@ -7,17 +7,13 @@ use Rattle.smt_trees.specs.Sexp.{Sexp, Sexps, Nil, Cons}
 use Rattle.smt_trees.specs.Tree.{sexp_of, sexps_of}
 use Rattle.smt_trees.specs.declared.tree.Tree.{Tree}
 use Rattle.smt_theory.specs.Words.{result_and_then}
-use Rattle.smt_values.specs.Element.{Element, known_elements}
-use Rattle.smt_values.specs.declared.value.Value.{Value}
 use Rattle.smt_terms.specs.Items.{item_in, items_before}
 use Rattle.smt_terms.specs.Signature.{Entry, Signature}
 use Rattle.smt_faults.specs.declared.term_flaw.TermFlaw.{TermFlaw}
 use Rattle.smt_faults.specs.Outcome.{Tells, flaw_told}
 use Rattle.smt_faults.specs.declared.term_fault.TermFault.{TermFault}
 use Rattle.smt_faults.specs.declared.term_fault.TermFault.TheVariants as terms
-use Rattle.smt_eval.specs.Internal.DefinitionValues.{definition_values, values_after}
 use Rattle.smt_eval.specs.Internal.ItemFault.{model_fault_of_item}
-use Rattle.smt_eval.specs.Known.{KnownMeaning, with_known}
 use Rattle.smt_eval.specs.Model.{complete_or, first_lacking, items_from, items_of, model_in, or_item}
 use Rattle.smt_eval.specs.ModelFaults.{TellsModel}
 use Rattle.smt_eval.specs.declared.model_fault.ModelFault.{ModelFault}
@@ -85,17 +81,3 @@ model_faulty s parts items f same (inr (tells, is)) =
           (λ found. complete_or (first_lacking s.entries found) (items_before s found)))
           (ap (items_from s [] 1) (sym same) ∙ is),
     )
-
--- there are as many known values as definitions
-values-length : (m : KnownMeaning) (es : List Entry) → length (values_after m es) ≡ length es
-values-length m [] = refl
-values-length m (e ∷ es) = ap suc (values-length (with_known m e) es)
-
-elements-length : (vs : List (Option Value)) → length (known_elements vs) ≡ length vs
-elements-length [] = refl
-elements-length (v ∷ vs) = ap suc (elements-length vs)
-
-pub all_valued : (d : Signature) (vs : List (Option Value)) → known_elements vs ≡ definition_values d
-    → length vs ≡ length d.entries
-all_valued d vs h =
-    sym (elements-length vs) ∙ ap (λ (xs : List (Option Element)). length xs) h ∙ values-length _ d.entries

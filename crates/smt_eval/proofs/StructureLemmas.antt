@@ -1,7 +1,8 @@
 -- No name stands twice in the structure that a model gives to a script.
 use Rattle.std.proofs.Common.{◌≡◌, ℕ, Bool, true, false, cond, not, ◌||◌, List, [], ◌∷◌, ◌++◌, Option, Some}
-use Rattle.std.proofs.Common.{None, is_some, refl, ap, sym, ◌∙◌, subst}
+use Rattle.std.proofs.Common.{None, Ok, is_some, refl, ap, sym, ◌∙◌, subst}
 use Rattle.std.specs.Prelude.{bytes_eq, option_and_then, option_map}
+use Rattle.smt_trees.specs.Sexp.{Sexps}
 use Rattle.smt_theory.specs.Operators.{is_plain_operator}
 use Rattle.smt_theory.specs.Words.{look_up}
 use Rattle.smt_theory.specs.declared.theories.Theories.{Theories}
@@ -13,7 +14,8 @@ use Rattle.smt_terms.specs.Freshness.{is_taken}
 use Rattle.smt_terms.specs.WellSorted.{AreWellSorted, IsWellSortedFrom}
 use Rattle.smt_eval.specs.Internal.DefinitionValues.{AllDefined, IsDefined}
 use Rattle.smt_eval.specs.Structure.{structure_of}
-use Rattle.smt_eval.proofs.CompleteModelLemmas.{AreFree, AreSound, IsFree}
+use Rattle.smt_eval.specs.Model.{items_from}
+use Rattle.smt_eval.proofs.CompleteModelLemmas.{AreFree, AreSound, AreSound-from, IsFree, TakenAreItems}
 use Rattle.smt_eval.proofs.PlaceLemmas.{declared_alone, none_among, none_in_both}
 
 -- definitions that are well sorted are definitions
@@ -28,6 +30,13 @@ sorted_defined theories before (e ∷ es) h =
     by (Declared command) is = absurd
         (subst (λ (o : Origin). IsWellSortedFrom (unlabelled_over theories before) e.parameters e.sort o) is
         h.0)
+
+-- items are definitions
+pub items_defined : TakenAreItems → (script : Signature) (items : Sexps) (found : List Entry)
+    → items_from script [] 1 items ≡ Ok found → AllDefined found
+items_defined law script items found read = sorted_defined script.theories [] found
+    (AreSound-from law script [] 1 items found
+    (record { sorted = tt; distinct = tt; ranked = tt; free = tt }) read).sorted
 
 -- the definitions among distinct names
 distinct_among : (es : List Entry) → AreDistinct es → AreDistinct (defined_among es)

@@ -18,9 +18,9 @@ use Rattle.smt_machine.specs.Nodes as machine
 use Rattle.smt_machine.specs.Nodes.{Frame, node_value}
 use Rattle.smt_machine.specs.Tables.{resolved}
 use Rattle.smt_terms.specs.Denotes.{Denotes, Head, IsNameOf, IsRow, Slots, Table, UsesNone, unless_labelled}
-use Rattle.smt_terms.specs.Library.{declared_among, defined_among, is_declared, with_declared, with_defined}
+use Rattle.smt_terms.specs.Library.{declared_among, defined_among, is_declared}
 use Rattle.smt_terms.specs.Signature.{AreDistinct, Entry, Origin, Declared, Defined, Signature, entry_named}
-use Rattle.smt_terms.specs.TermsOf.{AreTermsOf, first_heads, heads_from}
+use Rattle.smt_terms.specs.TermsOf.{AreTermsOf, first_heads, heads_from, with_declared, with_defined}
 use Rattle.smt_eval.proofs.EvaluatorLemmas.{all_first}
 use Rattle.smt_eval.proofs.HeadLemmas.{IsBodyOf, body_at, none_declared}
 use Rattle.smt_eval.proofs.NameLemmas.{same_name}

@@ -1,8 +1,7 @@
--- A term that is kept as its tree.
+-- A term of a library, over an interpretation of its names.
 use Rattle.std.specs.Prelude.{◌≡◌}
 use Rattle.smt_trees.specs.Sexp.{Sexp}
-use Rattle.smt_trees.specs.Tree.{sexp_of}
-use Rattle.smt_terms.specs.Library.{StandsFor}
+use Rattle.smt_terms.specs.Library.{IsTerm, StandsFor}
 use Rattle.smt_terms.specs.Signature.{Signature}
 use Rattle.smt_eval.specs.Interpretation.{IsInterpretation}
 use Rattle.smt_eval.specs.Structure.{structure_of}
@@ -15,4 +14,4 @@ pub record IsClosed (closed : Closed) (structure : Signature) (term : Sexp) : Ty
   pub names : StandsFor closed.library.now script
   pub holds : IsInterpretation closed.interpretation.now script definitions
   pub over : structure ≡ structure_of script definitions
-  pub tree : term ≡ sexp_of closed.tree.now
+  pub stands : IsTerm closed.library.now closed.term term

@@ -1,4 +1,4 @@
 pub mod DefinitionValues
-pub mod Evaluation
+pub mod GivenBodies
 pub mod PlainEvaluation
 pub mod ItemFault

@@ -1,21 +1,22 @@
-//! Terms that are kept as their trees. This file looks into no tree.
+//! Terms that a library has checked, as numbered nodes. This file looks into no node.
 
-ghost use Rattle.std.specs.Prelude.{◌≡◌, IfOk};
+ghost use Rattle.std.specs.Prelude.{◌≡◌, [], length, IfOk};
 ghost use Rattle.smt_trees.specs.Sexp.{Sexp};
 ghost use Rattle.smt_values.specs.Element.{known_element};
-ghost use Rattle.smt_terms.specs.Library.{IsTerm, StandsFor};
+ghost use Rattle.smt_machine.specs.Tables.{model_count, nodes_of};
+ghost use Rattle.smt_terms.specs.Library.{IsTerm, StandsFor, terms_of};
 ghost use Rattle.smt_terms.specs.Signature.{Signature};
 ghost use Rattle.smt_eval.specs.Interpretation.{Fits, IsInterpretation};
 ghost use Rattle.smt_eval.specs.Known.{known_over};
+ghost use Rattle.smt_eval.specs.NodeValues.{nodes_over};
 ghost use Rattle.smt_eval.specs.Structure.{structure_of};
 
 use crate::checked::Checked;
-use crate::definitions::Definitions;
-use crate::evaluator::known_value;
 use crate::interpretation::Interpretation;
+use crate::laws::nodes_give_the_values_of_their_terms;
 use smt_faults::Memory;
+use smt_machine::{Machine, Tables};
 use smt_terms::{Library, TermId};
-use smt_trees::Tree;
 use smt_values::Value;
 
 /// A term over the definitions of an interpretation, and behind them those of the script.
@@ -23,7 +24,7 @@ use smt_values::Value;
 pub struct Closed<'a> {
     pub library: &'a Library,
     pub interpretation: &'a Interpretation,
-    pub tree: &'a Tree,
+    pub term: TermId,
 }
 
 impl Checked for Closed<'_> {
@@ -32,14 +33,7 @@ impl Checked for Closed<'_> {
     ghost IsTerm = { IsClosed };
 
     fn known(&self) -> Result<Option<Value>, Memory> {
-        let values = self.interpretation.values.as_slice();
-        let over = Definitions {
-            script: self.library,
-            model: &self.interpretation.definitions,
-            values,
-            count: values.len(),
-        };
-        known_value(over, &[], self.tree)
+        eval(self.library, self.interpretation, self.term)
     }
 }
 
@@ -57,11 +51,42 @@ pub fn eval(
         → IsInterpretation interpretation.now script definitions → IsTerm library.now term t
         → IfOk result (λ v. known_element v ≡ known_over (structure_of script definitions) t) }
 {
-    let tree = library.tree(term);
-    Closed {
+    eval_by(
+        &mut Machine::new(library.alloc()),
         library,
         interpretation,
-        tree,
+        term,
+    )
+}
+
+/// The same by a machine, whose memory serves one term after another.
+pub fn eval_by(
+    machine: &mut Machine,
+    library: &Library,
+    interpretation: &Interpretation,
+    term: TermId,
+) -> Result<Option<Value>, Memory>
+    requires term { (t : Sexp) × IsTerm library.now term t }
+    requires fits { Fits interpretation.now library.now }
+    ensures { (script definitions : Signature) (t : Sexp) → StandsFor library.now script
+        → IsInterpretation interpretation.now script definitions → IsTerm library.now term t
+        → IfOk result (λ v. known_element v ≡ known_over (structure_of script definitions) t) }
+{
+    nodes_give_the_values_of_their_terms();
+    machine.eval(tables(library, interpretation), term.node())
+}
+
+// The tables of the model and of the script.
+fn tables<'a>(library: &'a Library, interpretation: &'a Interpretation) -> Tables<'a>
+    ensures nodes { nodes_of result ≡ nodes_over (terms_of interpretation.now.definitions)
+        (terms_of library.now) interpretation.now.declared.items }
+    ensures count { model_count result ≡ length (terms_of interpretation.now.definitions).rows }
+{
+    Tables {
+        model: interpretation.definitions.nodes(),
+        model_bodies: interpretation.definitions.bodies(),
+        script: library.nodes(),
+        script_bodies: library.bodies(),
+        declared: interpretation.declared.as_slice(),
     }
-    .known()
 }

@@ -1,42 +1,36 @@
 //! Models, as solvers print them. This file looks into no item: a library takes them.
 
-ghost use Rattle.std.specs.Prelude.{◌≡◌, ◌⊎◌, List, [], Ok, Err, MatchResult, IfOk};
+ghost use Rattle.std.specs.Prelude.{◌≡◌, List, [], ◌∷◌, ◌++◌, None, Ok, MatchOption, MatchResult, OnOk, slice_get};
 ghost use Rattle.smt_trees.specs.Tree.{sexps_of};
-ghost use Rattle.smt_values.specs.Element.{known_elements};
 ghost use Rattle.smt_terms.specs.Items.{items_before};
-ghost use Rattle.smt_terms.specs.Library.{StandsFor};
-ghost use Rattle.smt_terms.specs.Signature.{Entry, Signature};
-ghost use Rattle.smt_eval.specs.Internal.DefinitionValues.{definition_values};
-ghost use Rattle.smt_eval.specs.Internal.Evaluation.{HaveStructure};
+ghost use Rattle.smt_terms.specs.Library.{StandsFor, terms_of};
+ghost use Rattle.smt_terms.specs.Signature.{Entry, Signature, declared_among, entry_named};
+ghost use Rattle.smt_eval.specs.Internal.DefinitionValues.{AllDefined};
+ghost use Rattle.smt_eval.specs.Internal.GivenBodies.{GiveBodies, GivesBody, TellsLacking};
 ghost use Rattle.smt_eval.specs.Internal.ItemFault.{model_fault_of_item};
 ghost use Rattle.smt_eval.specs.Interpretation.{IsInterpretation};
-ghost use Rattle.smt_eval.specs.Model as model;
-ghost use Rattle.smt_eval.specs.Model.{model_in, items_from, items_of};
-ghost use Rattle.smt_eval.specs.Structure.{structure_of};
+ghost use Rattle.smt_eval.specs.Model.{first_lacking, model_in, items_from, items_of};
 ghost use Rattle.smt_eval.specs.ModelFaults.{TellsModel};
 
-use crate::calls::kept_value;
-use crate::definitions::Definitions;
 use crate::laws::{models_are_complete, structures_are_distinct};
 use crate::model_fault::ModelFault;
 use smt_faults::Memory;
-use smt_terms::{Library, TermFault};
+use smt_nodes::TermId;
+use smt_terms::laws::items_are_well_sorted;
+use smt_terms::{Found, Library, TermFault};
 use smt_trees::{Tree, Trees, split_first};
-use smt_values::Value;
 
-/// The definitions of a model, and what is known of the value of each constant among them and the script's
-/// own definitions behind them.
+/// The definitions of a model, and for each name that the script declares the body that the model gives to it.
 #[derive(Drop)]
 pub struct Interpretation {
     pub(crate) definitions: Library,
-    pub(crate) values: Vec<Option<Value>>,
+    pub(crate) declared: Vec<TermId>,
 }
 
 impl Interpretation {
-    /// Reads a model of the names of a library (SMT-LIB 2.6, section 4.2.6), and evaluates each constant of
-    /// its definitions and of the library's own over the definitions before it. Refused are the first item
-    /// with a fault, before the first declared name that is lacking, and want of memory. The library stands
-    /// for a signature, as every one does that `Library::new` and the calls after it made.
+    /// Reads a model of the names of a library (SMT-LIB 2.6, section 4.2.6), and evaluates nothing. Refused
+    /// are the first item with a fault, before the first declared name that is lacking, and want of memory.
+    /// The library stands for a signature, as every one does that `Library::new` and the calls after it made.
     pub fn read(declared: &Library, model: &Trees) -> Result<Interpretation, ModelFault>
         requires { (s : Signature) × StandsFor declared.now s }
         ensures { (s : Signature) → StandsFor declared.now s
@@ -44,23 +38,21 @@ impl Interpretation {
             × IsInterpretation i s d)
             (TellsModel (model_in s model.now)) }
     {
-        let definitions = read_items(declared, items(model.as_slice()))?;
-        // (dropped by name: the prover takes long over a library that is owned on more than one path)
-        if let Some(command) = first_lacking(declared, &definitions) {
-            drop(definitions);
-            return Err(ModelFault::Lacks { command });
-        }
-        // Laws: no two definitions have one name, nor one of them that of a definition of the script.
+        // Laws: each item is a definition; no two have one name, nor one of them that of a definition of the
+        // script; and each declared name has its rank.
+        items_are_well_sorted();
         models_are_complete();
         structures_are_distinct();
-        match values_of(declared, &definitions) {
-            Ok(values) => Ok(Interpretation {
+        let definitions = read_items(declared, items(model.as_slice()))?;
+        match declared_bodies(declared, &definitions) {
+            Ok(declared) => Ok(Interpretation {
                 definitions,
-                values,
+                declared,
             }),
-            Err(_) => {
+            Err(fault) => {
+                // (dropped by name: the prover takes long over a library that is owned on more than one path)
                 drop(definitions);
-                Err(ModelFault::Memory)
+                Err(fault)
             }
         }
     }
@@ -105,37 +97,56 @@ fn items(trees: &[Tree]) -> &[Tree]
     }
 }
 
-// The command of the first declared name that isn't defined.
-fn first_lacking(declared: &Library, definitions: &Library) -> Option<u64>
+// For each declared name, in order, the node that is the body of its definition; or the command of the first
+// name that isn't defined.
+fn declared_bodies(declared: &Library, definitions: &Library) -> Result<Vec<TermId>, ModelFault>
     requires { (s : Signature) × StandsFor declared.now s }
-    ensures { (s d : Signature) → StandsFor declared.now s → StandsFor definitions.now d
-        → result ≡ model.first_lacking s.entries d.entries }
+    ensures { (s d : Signature) → StandsFor declared.now s → StandsFor definitions.now d → AllDefined d.entries
+        → MatchResult result (λ bodies. (first_lacking s.entries d.entries ≡ None)
+        × GiveBodies d.entries (terms_of definitions.now).bodies (declared_among s.entries) bodies.items)
+        (TellsLacking (first_lacking s.entries d.entries)) }
 {
+    let mut bodies = Vec::new(definitions.alloc());
     let mut left = declared.declared();
     while let Some((declaration, rest)) = left.split_first() {
-        if definitions.find(declared.name(declaration.name)).is_none() {
-            return Some(declaration.command);
-        }
+        let Some(body) = body_of(definitions, declared.name(declaration.name)) else {
+            return Err(ModelFault::Lacks {
+                command: declaration.command,
+            });
+        };
+        push_node(&mut bodies, body)?;
         left = rest;
     }
-    None
+    Ok(bodies)
 }
 
-// What is known of the value of each constant of the structure, in order.
-fn values_of(declared: &Library, definitions: &Library) -> Result<Vec<Option<Value>>, Memory>
-    requires { (s d : Signature) × HaveStructure declared.now definitions.now s d }
-    ensures { (s d : Signature) → HaveStructure declared.now definitions.now s d
-        → IfOk result (λ values. known_elements values.items ≡ definition_values (structure_of s d)) }
+// The node that is the body of the definition of a name, if there is one.
+fn body_of(definitions: &Library, name: &[u8]) -> Option<TermId>
+    ensures { (d : Signature) → StandsFor definitions.now d → AllDefined d.entries
+        → MatchOption result (entry_named d.entries name.now ≡ None)
+        (λ body. GivesBody d.entries (terms_of definitions.now).bodies name.now body) }
 {
-    let mut values = Vec::new(definitions.alloc());
-    for place in 0..definitions.definitions().len() + declared.definitions().len() {
-        let value = kept_value(Definitions {
-            script: declared,
-            model: definitions,
-            values: values.as_slice(),
-            count: place,
-        })?;
-        values.push(value)?;
+    match definitions.find(name) {
+        Some(Found::Defined(place)) => item_at(definitions.bodies(), place),
+        Some(Found::Declared(_)) => None,
+        None => None,
     }
-    Ok(values)
+}
+
+// The node at a place, if there is one.
+fn item_at(nodes: &[TermId], place: usize) -> Option<TermId>
+    ensures { result ≡ slice_get nodes.now place }
+{
+    match nodes.get(place) {
+        Some(node) => Some(*node),
+        None => None,
+    }
+}
+
+// Puts a node behind others.
+fn push_node(nodes: &mut Vec<TermId>, node: TermId) -> Result<(), Memory>
+    ensures { OnOk result (nodes.new.items ≡ nodes.old.items ++ node ∷ []) }
+{
+    nodes.push(node)?;
+    Ok(())
 }

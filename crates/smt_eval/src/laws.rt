@@ -10,7 +10,7 @@ ghost use Rattle.smt_machine.specs.Given.{given};
 ghost use Rattle.smt_terms.specs.Checking.{sort_in};
 ghost use Rattle.smt_terms.specs.Denotes.{Denotes, Table};
 ghost use Rattle.smt_terms.specs.Items.{items_before};
-ghost use Rattle.smt_terms.specs.Library.{StandsFor};
+ghost use Rattle.smt_terms.specs.Library.{IsTerm, StandsFor};
 ghost use Rattle.smt_terms.specs.Signature.{AreDistinct, Entry, Signature, names_of, unlabelled};
 ghost use Rattle.smt_terms.specs.TermsOf.{AreTermsOf};
 ghost use Rattle.smt_terms.specs.WellSorted.{AreIntroduced, AreWellSorted};
@@ -97,13 +97,13 @@ pub fn models_give_structures()
     items_are_well_sorted();
 }
 
-/// A tree is a checked term wherever its interpretation is one of a model of its library's names, and nowhere
-/// else: it stands for itself, over the structure that they give.
-pub fn closed_trees_stand_for_themselves()
+/// A term of a library is a checked term wherever its interpretation is one of a model of the library's names,
+/// and nowhere else: it stands for what its number stands for in the library, over the structure that they give.
+pub fn closed_terms_stand_for_their_trees()
     ensures { (closed : Closed) (structure : Signature) (term : Sexp)
         → ⟦<Closed<'static> as Checked>⟧.IsTerm closed structure term ↔ ((script definitions : Signature)
         × StandsFor closed.library.now script × IsInterpretation closed.interpretation.now script definitions
-        × (structure ≡ structure_of script definitions) × (term ≡ sexp_of closed.tree.now)) }
+        × (structure ≡ structure_of script definitions) × IsTerm closed.library.now closed.term term) }
 {}
 
 /// A tree over definitions that are kept as theirs is a checked term, and stands for itself: over the structure

@@ -6,19 +6,16 @@
 //! 1))` of a declared `x` the term `(< x 0)` is known to be false, and `(= (div x 0) x)` is open.
 #![tactic(auto)]
 
-mod calls;
 mod checked;
 mod closed;
-mod definitions;
-mod evaluator;
 mod interpretation;
 pub mod laws;
 mod model_fault;
 pub mod plain;
-mod scope;
 
 pub use checked::Checked;
-pub use closed::eval;
+pub use closed::{Closed, eval, eval_by};
 pub use interpretation::Interpretation;
 pub use model_fault::{ModelFault, ModelFlaw};
 pub use smt_faults::Memory;
+pub use smt_machine::Machine;

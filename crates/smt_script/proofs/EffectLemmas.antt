@@ -218,9 +218,11 @@ extends_itself c = record {
   theories = refl;
   abbreviations = ([], sym (append-nil c.abbreviations));
   ranks = ([], sym (append-nil c.ranks));
-  places = ([], sym (append-nil c.places));
+  heads = ([], sym (append-nil c.heads));
   declared = ([], sym (append-nil c.declared));
   definitions = ([], sym (append-nil c.definitions));
+  bodies = ([], sym (append-nil c.bodies));
+  rows = ([], sym (append-nil c.rows));
   terms = ([], sym (append-nil c.terms));
 }
 
@@ -477,7 +479,8 @@ some_entries l s n command es abbreviations entries h =
 
 pub assert_effect : ContentsAreKept
     → (old : Stack) (l : Library) (as' : Vec Assertion) (a : Assertion) (term : Sexp)
-    → AssertsIn old.library l term → IsTermOf (contents_of l) a.term term
+    → AssertsIn old.library l term
+    → ((s : Signature) → library.StandsFor old.library s → IsTermOf (contents_of l) a.term term)
     → Extends (contents_of old.library) (contents_of l)
     → as'.items ≡ old.assertions.items ++ a ∷ []
     → HasEffect old (record old { library = l; assertions = as' }) a.command (Assert term)
@@ -496,7 +499,7 @@ assert_effect law old l as' a term asserts stored grown pushed = record {
       (one_more_assertion (contents_of l) old.assertions.items (assertions_in_force cs) a
       (record { command = a.command; term = term })
       (assertions_stay law (contents_of old.library) (contents_of l) grown old.assertions.items
-      (assertions_in_force cs) h.assertions) refl stored));
+      (assertions_in_force cs) h.assertions) refl (stored (signature_in_force cs) h.library)));
   start = refl;
 }
 

@@ -1,7 +1,8 @@
 -- Labels that are added, one behind another.
 use Rattle.std.proofs.Common.{◌≡◌, ℕ, Bool, true, false, cond, List, [], ◌∷◌, ◌++◌, map, Option, Some, None}
 use Rattle.std.proofs.Common.{is_some, Result, Ok, Err, OnOk, refl, ap, sym, ◌∙◌, subst, append_assoc}
-use Rattle.std.proofs.Common.{append-nil}
+use Rattle.std.proofs.Common.{append-nil, inl, inr}
+use Rattle.std.proofs.lemmas.List.{map-append}
 use Rattle.std.specs.Str.{bytes_eq}
 use Rattle.smt_trees.specs.Sexp.{Sexp}
 use Rattle.smt_trees.specs.Tree.{sexp_of}
@@ -13,24 +14,31 @@ use Rattle.smt_theory.specs.declared.sort.Sort.TheVariants.{Bool as Boolean}
 use Rattle.smt_terms.specs.Assertions.{asserted_in, label_entries, label_or_none}
 use Rattle.smt_terms.specs.Checking.{sort_in}
 use Rattle.smt_terms.specs.Contents.{Contents, Extends, IsWithin, contents_of, first_of}
-use Rattle.smt_terms.specs.Internal.LabelsView.{AreGiven, AreNew, AreSorted, given_terms, label_entry}
-use Rattle.smt_terms.specs.Internal.LabelsView.{labels_view}
+use Rattle.smt_nodes.specs.Node.{Row}
+use Rattle.smt_terms.specs.Denotes.{IsLonger, Table}
+use Rattle.smt_terms.specs.Internal.Growing.{AreFitUnder, HoldsUnder, IsFitUnder, terms_under}
+use Rattle.smt_terms.specs.Internal.LabelsView.{AreNew, AreSorted, label_entry}
+use Rattle.smt_terms.specs.Internal.TableView.{AreNamed, table_with}
 use Rattle.smt_terms.specs.Internal.LibraryView.{names_for, names_of_library, ranks_of_library}
 use Rattle.smt_terms.specs.Labels as spec
 use Rattle.smt_forms.specs.Labels.{labels_in}
 use Rattle.smt_terms.specs.Library.{StandsFor}
 use Rattle.smt_terms.specs.Signature.{Entry, Names, Rank, Signature, behind, in_assertion, names_of}
 use Rattle.smt_terms.specs.Signature.{rank_of_entry, with_entries, with_entry}
+use Rattle.smt_faults.specs.Outcome.{Tells}
+use Rattle.smt_faults.specs.declared.term_fault.TermFault.{TermFault}
 use Rattle.smt_faults.specs.declared.term_flaw.TermFlaw.TheVariants.{IllSorted}
 use Rattle.smt_terms.specs.declared.labels.Label.{Label}
-use Rattle.smt_terms.specs.declared.labels.Labels.{Labels}
 use Rattle.smt_terms.specs.declared.library.Library.{Library}
 use Rattle.smt_terms.specs.declared.library.marks.Mark.{Mark}
 use Rattle.smt_terms.proofs.ClosedLemmas.{neither}
 use Rattle.smt_terms.proofs.ContentsLemmas.{extends_itself, extends_on, mark_kept}
 use Rattle.smt_terms.proofs.IntroducedLemmas.{AreFit, IsGivenList, IsGivenList-behind, any-split, fit}
 use Rattle.smt_terms.proofs.IntroducedLemmas.{is_given}
+use Rattle.smt_terms.proofs.DenotesLemmas.{denotes_kept}
 use Rattle.smt_terms.proofs.ItemLemmas.{names_as}
+use Rattle.smt_terms.proofs.StandsLemmas.{under_longer}
+use Rattle.smt_terms.proofs.WholeLemmas.{given_as}
 
 -- ## Labels that are new
 
@@ -80,21 +88,23 @@ fit_are_new names ranks (k ∷ ks) is leaves fits =
           fits.1,
     )
 
--- so are those of a term that has a sort
-pub given_are_new : (library : Library) (old new : Labels) (term : Sexp) (sort : Sort)
-    → labels_view old ≡ spec.Given [] → old.given.items ≡ []
-    → sort_in (names_for library (labels_view old)) [] term ≡ Ok sort
-    → AreGiven (names_of_library library) old new (labels_in term)
-    → AreNew (ranks_of_library library) new.given.items
-given_are_new library old new term sort view none has given =
+-- those that a term gives fit
+given_fit : (library : Library) (labels : spec.Labels) (given : List Label) (term : Sexp) (sort : Sort)
+    → labels ≡ spec.Given [] → sort_in (names_for library labels) [] term ≡ Ok sort
+    → given_as given ≡ labels_in term → AreFit (in_assertion (names_of_library library)) (given_as given)
+given_fit library labels given term sort view has same =
     let names = in_assertion (names_of_library library) in
-    let same : given_terms new ≡ labels_in term =
-    given.given ∙ ap (λ (ks : List Label). map (λ k. (k.name.items, sexp_of k.body)) ks ++ labels_in term)
-    none in
-    fit_are_new names (ranks_of_library library) new.given.items tt (λ x h i. h)
-    (subst (λ ls. AreFit names ls) (sym same)
+    subst (λ ls. AreFit names ls) (sym same)
     (fit names [] term sort tt
-    (ap (λ (ls : spec.Labels). sort_in (names_for library ls) [] term) (sym view) ∙ has)))
+    (ap (λ (ls : spec.Labels). sort_in (names_for library ls) [] term) (sym view) ∙ has))
+
+-- so are those of a term that has a sort
+pub given_are_new : (library : Library) (labels : spec.Labels) (given : List Label) (term : Sexp) (sort : Sort)
+    → labels ≡ spec.Given [] → sort_in (names_for library labels) [] term ≡ Ok sort
+    → given_as given ≡ labels_in term → AreNew (ranks_of_library library) given
+given_are_new library labels given term sort view has same =
+    fit_are_new (in_assertion (names_of_library library)) (ranks_of_library library) given tt (λ x h i. h)
+    (given_fit library labels given term sort view has same)
 
 -- ## What labels bring
 
@@ -107,32 +117,83 @@ entries-sorted names (k ∷ ks) h =
     (λ (es : List Entry). label_entry k ∷ es) (entries-sorted names ks h.1)
 
 -- what an asserted term brings by the labels that it gave
-pub asserted_by : (library : Library) (s : Signature) (old new : Labels) (term : Sexp) (sort : Sort)
-    → StandsFor library s → labels_view old ≡ spec.Given [] → old.given.items ≡ []
-    → sort_in (names_for library (labels_view old)) [] term ≡ Ok sort → is_same_sort sort Boolean ≡ true
-    → AreGiven (names_of_library library) old new (labels_in term)
-    → asserted_in (names_of s) term ≡ Ok (map label_entry new.given.items)
-asserted_by library s old new term sort stands view none has formula given =
+pub asserted_by : (library : Library) (s : Signature) (labels : spec.Labels) (given : List Label) (term : Sexp)
+    (sort : Sort) → StandsFor library s → labels ≡ spec.Given []
+    → sort_in (names_for library labels) [] term ≡ Ok sort → is_same_sort sort Boolean ≡ true
+    → given_as given ≡ labels_in term → AreSorted (names_of_library library) given
+    → asserted_in (names_of s) term ≡ Ok (map label_entry given)
+asserted_by library s labels given term sort stands view has formula same sorted =
     let names = names_of_library library in
-    let same : given_terms new ≡ labels_in term =
-    given.given ∙ ap (λ (ks : List Label). map (λ k. (k.name.items, sexp_of k.body)) ks ++ labels_in term)
-    none in
-    let sorted : AreSorted names new.given.items =
-    given.sorted (subst (λ ks. AreSorted names ks) (sym none) tt) in
     ap (λ (ns : Names). asserted_in ns term) (sym (names_as library s stands))
     ∙ ap (λ r. result_and_then r
     (λ found. cond (is_same_sort found Boolean) (Ok (label_entries names (labels_in term)))
     (Err IllSorted))) (ap (λ (ls : spec.Labels). sort_in (names_for library ls) [] term) (sym view) ∙ has)
     ∙ ap (λ b. cond b (Ok (label_entries names (labels_in term))) (Err IllSorted)) formula
-    ∙ ap (λ es. Ok es) (ap (label_entries names) (sym same) ∙ entries-sorted names new.given.items sorted)
+    ∙ ap (λ es. Ok es) (ap (label_entries names) (sym same) ∙ entries-sorted names given sorted)
+
+-- the fault of a term that is asserted
+pub asserted_fault : (library : Library) (s : Signature) (labels : spec.Labels) (term : Sexp) (e : TermFault)
+    → StandsFor library s → labels ≡ spec.Given [] → Tells (sort_in (names_for library labels) [] term) e
+    → Tells (asserted_in (names_of s) term) e
+asserted_fault library s labels term e stands view (inl m) = inl m
+asserted_fault library s labels term e stands view (inr h) =
+    let names = names_of_library library in
+    inr (ap (λ (ns : Names). asserted_in ns term) (sym (names_as library s stands))
+    ∙ ap (λ r. result_and_then r
+    (λ found. cond (is_same_sort found Boolean) (Ok (label_entries names (labels_in term)))
+    (Err IllSorted))) (ap (λ (ls : spec.Labels). sort_in (names_for library ls) [] term) (sym view) ∙ h))
+
+-- and of one that is no formula
+pub asserted_ill : (library : Library) (s : Signature) (labels : spec.Labels) (term : Sexp) (sort : Sort)
+    → StandsFor library s → labels ≡ spec.Given []
+    → sort_in (names_for library labels) [] term ≡ Ok sort → is_same_sort sort Boolean ≡ false
+    → asserted_in (names_of s) term ≡ Err IllSorted
+asserted_ill library s labels term sort stands view has other =
+    let names = names_of_library library in
+    ap (λ (ns : Names). asserted_in ns term) (sym (names_as library s stands))
+    ∙ ap (λ r. result_and_then r
+    (λ found. cond (is_same_sort found Boolean) (Ok (label_entries names (labels_in term)))
+    (Err IllSorted))) (ap (λ (ls : spec.Labels). sort_in (names_for library ls) [] term) (sym view) ∙ has)
+    ∙ ap (λ b. cond b (Ok (label_entries names (labels_in term))) (Err IllSorted)) other
+
+-- ## What labels stand for
+
+-- labels that fit, with nodes that stand for their terms, over the table that the term was checked over
+fits_named : (names : Names) (t : Table) (bodies : List ℕ) (c : Contents) (s : Signature) (ls : List Label)
+    → names.theories ≡ s.theories → IsLonger t (terms_under bodies c) → AreFit names (given_as ls)
+    → AreNamed t ls → AreFitUnder bodies c s ls
+fits_named names t bodies c s [] same longer fits named = tt
+fits_named names t bodies c s (l ∷ ls) same longer fits named = (
+  record {
+    free = ap (λ ts. is_plain_operator ts l.name.items) (sym same)
+        ∙ (neither (is_some (look_up names.ranks l.name.items))
+        (is_plain_operator names.theories l.name.items) fits.0.free).1;
+    named = denotes_kept t (terms_under bodies c) longer [] 0 0 l.node (sexp_of l.body) named.0;
+  },
+  fits_named (behind ((l.name.items, sexp_of l.body) ∷ []) names) t bodies c s ls same longer fits.1 named.1,
+)
+
+-- those of an assertion, over the bodies with their own
+pub given_named : (library : Library) (labels : spec.Labels) (given : List Label) (term : Sexp) (sort : Sort)
+    (rows : List Row) (bodies : List ℕ) (now : Contents) (s : Signature) → StandsFor library s
+    → labels ≡ spec.Given [] → sort_in (names_for library labels) [] term ≡ Ok sort
+    → given_as given ≡ labels_in term
+    → IsLonger (table_with library given rows) (terms_under bodies now)
+    → AreNamed (table_with library given rows) given → AreFitUnder bodies now s given
+given_named library labels given term sort rows bodies now s stands view has same longer named =
+    fits_named (in_assertion (names_of_library library)) (table_with library given rows) bodies now s given
+    stands.theories longer (given_fit library labels given term sort view has same) named
 
 -- ## Adding
 
 -- some labels were added, and these are left
 pub record AreAdded (old now : Library) (all left : List Label) : Type 0 where
-  pub done : List Entry
-  pub are : map label_entry all ≡ done ++ map label_entry left
-  pub stands : (s : Signature) → StandsFor old s → StandsFor now (with_entries s done)
+  pub done : List Label
+  pub are : all ≡ done ++ left
+  pub stands : (bodies : List ℕ) (s : Signature) → HoldsUnder bodies (contents_of old) s
+      → AreFitUnder bodies (contents_of old) s all
+      → HoldsUnder bodies (contents_of now) (with_entries s (map label_entry done))
+  pub bodies : now.bodies.items ≡ old.bodies.items ++ map (λ l. l.node) done
   pub new : AreNew (ranks_of_library now) left
   pub grown : Extends (contents_of old) (contents_of now)
 
@@ -148,31 +209,74 @@ one_entry s done e = λ i. record {
   entries = append_assoc s.entries done (e ∷ []) i;
 }
 
+-- the one behind others that fit
+fit_behind : (bodies : List ℕ) (c : Contents) (s : Signature) (done : List Label) (l : Label) (rest : List Label)
+    → AreFitUnder bodies c s (done ++ l ∷ rest) → IsFitUnder bodies c s l
+fit_behind bodies c s [] l rest fits = fits.0
+fit_behind bodies c s (d ∷ done) l rest fits = fit_behind bodies c s done l rest fits.1
+
+-- a label that fits does so in longer contents, over the same bodies and more names
+pub fit_longer : (bodies : List ℕ) (c d : Contents) (s t : Signature) (l : Label) → t.theories ≡ s.theories
+    → IsLonger (terms_under bodies c) (terms_under bodies d) → IsFitUnder bodies c s l
+    → IsFitUnder bodies d t l
+fit_longer bodies c d s t l same longer fits = record {
+  free = ap (λ ts. is_plain_operator ts l.name.items) same ∙ fits.free;
+  named = denotes_kept (terms_under bodies c) (terms_under bodies d) longer [] 0 0 l.node (sexp_of l.body)
+      fits.named;
+}
+
+pub fits_longer : (bodies : List ℕ) (c d : Contents) (s t : Signature) (ls : List Label)
+    → t.theories ≡ s.theories → IsLonger (terms_under bodies c) (terms_under bodies d)
+    → AreFitUnder bodies c s ls → AreFitUnder bodies d t ls
+fits_longer bodies c d s t [] same longer fits = tt
+fits_longer bodies c d s t (l ∷ ls) same longer fits = (
+  fit_longer bodies c d s t l same longer fits.0,
+  fits_longer bodies c d s t ls same longer fits.1,
+)
+
 pub AreAdded-none : (library : Library) (all : List Label) → AreNew (ranks_of_library library) all
     → AreAdded library library all all
 AreAdded-none library all new = record {
   done = [];
   are = refl;
-  stands = λ s h. subst (λ r. StandsFor library r) (no_entries s) h;
+  stands = λ bodies s h fits. subst (λ r. HoldsUnder bodies (contents_of library) r) (no_entries s) h;
+  bodies = sym (append-nil library.bodies.items);
   new = new;
   grown = extends_itself (contents_of library);
 }
 
 pub AreAdded-next : (old mid now : Library) (all left rest : List Label) (l : Label)
     → AreAdded old mid all left → left ≡ l ∷ rest
-    → ((s : Signature) → StandsFor mid s → StandsFor now (with_entry s (label_entry l)))
+    → ((bodies : List ℕ) (s : Signature) → HoldsUnder bodies (contents_of mid) s
+    → IsFitUnder bodies (contents_of mid) s l
+    → HoldsUnder bodies (contents_of now) (with_entry s (label_entry l)))
     → ranks_of_library now ≡ ranks_of_library mid ++ (l.name.items, rank_of_entry (label_entry l)) ∷ []
+    → now.bodies.items ≡ mid.bodies.items ++ l.node ∷ []
     → Extends (contents_of mid) (contents_of now) → AreAdded old now all rest
-AreAdded-next old mid now all left rest l first split added ranks grown = record {
-  done = first.done ++ label_entry l ∷ [];
-  are = first.are ∙ ap (λ (ls : List Label). first.done ++ map label_entry ls) split ∙ sym
-      (append_assoc first.done (label_entry l ∷ []) (map label_entry rest));
-  stands = λ s h. subst (λ r. StandsFor now r) (one_entry s first.done (label_entry l))
-      (added (with_entries s first.done) (first.stands s h));
-  new = subst (λ rs. AreNew rs rest) (sym ranks)
-      (subst (λ ls. AreNew (ranks_of_library mid) ls) split first.new).1;
-  grown = extends_on (contents_of old) (contents_of mid) (contents_of now) first.grown grown;
-}
+AreAdded-next old mid now all left rest l first split added ranks joined grown =
+    let parts : all ≡ first.done ++ l ∷ rest = first.are ∙ ap (λ (ls : List Label). first.done ++ ls) split in
+    let longer = λ (bodies : List ℕ).
+    under_longer bodies (contents_of old) (contents_of mid) first.grown.theories first.grown.heads
+    first.grown.rows in
+    record {
+      done = first.done ++ l ∷ [];
+      are = parts ∙ sym (append_assoc first.done (l ∷ []) rest);
+      stands = λ bodies s h fits.
+          subst (λ es. HoldsUnder bodies (contents_of now) (with_entries s es))
+          (sym (map-append label_entry first.done (l ∷ [])))
+          (subst (λ r. HoldsUnder bodies (contents_of now) r) (one_entry s (map label_entry first.done) (label_entry l))
+          (added bodies (with_entries s (map label_entry first.done)) (first.stands bodies s h fits)
+          (fit_longer bodies (contents_of old) (contents_of mid) s (with_entries s (map label_entry first.done)) l
+          refl (longer bodies)
+          (fit_behind bodies (contents_of old) s first.done l rest
+          (subst (λ ls. AreFitUnder bodies (contents_of old) s ls) parts fits)))));
+      bodies = joined ∙ ap (λ (bs : List ℕ). bs ++ l.node ∷ []) first.bodies
+          ∙ append_assoc old.bodies.items (map (λ k. k.node) first.done) (l.node ∷ [])
+          ∙ ap (λ (bs : List ℕ). old.bodies.items ++ bs) (sym (map-append (λ (k : Label). k.node) first.done (l ∷ [])));
+      new = subst (λ rs. AreNew rs rest) (sym ranks)
+          (subst (λ ls. AreNew (ranks_of_library mid) ls) split first.new).1;
+      grown = extends_on (contents_of old) (contents_of mid) (contents_of now) first.grown grown;
+    }
 
 -- the first that is left is new
 pub AreAdded-first : (old now : Library) (all left rest : List Label) (l : Label) → AreAdded old now all left
@@ -180,12 +284,25 @@ pub AreAdded-first : (old now : Library) (all left rest : List Label) (l : Label
 AreAdded-first old now all left rest l added split =
     (subst (λ ls. AreNew (ranks_of_library now) ls) split added.new).0
 
+-- where none is left, all were added
+all_done : (old now : Library) (all left : List Label) (added : AreAdded old now all left) → left ≡ []
+    → added.done ≡ all
+all_done old now all left added none =
+    sym (added.are ∙ ap (λ (ls : List Label). added.done ++ ls) none ∙ append-nil added.done)
+
 pub AreAdded-all : (old now : Library) (all left : List Label) → AreAdded old now all left → left ≡ []
-    → (s : Signature) → StandsFor old s → StandsFor now (with_entries s (map label_entry all))
-AreAdded-all old now all left added none s h =
-    subst (λ es. StandsFor now (with_entries s es))
-    (sym (added.are ∙ ap (λ (ls : List Label). added.done ++ map label_entry ls) none ∙ append-nil
-    added.done)) (added.stands s h)
+    → (bodies : List ℕ) (s : Signature) → HoldsUnder bodies (contents_of old) s
+    → AreFitUnder bodies (contents_of old) s all
+    → HoldsUnder bodies (contents_of now) (with_entries s (map label_entry all))
+AreAdded-all old now all left added none bodies s h fits =
+    subst (λ ls. HoldsUnder bodies (contents_of now) (with_entries s (map label_entry ls)))
+    (all_done old now all left added none) (added.stands bodies s h fits)
+
+pub AreAdded-bodies : (old now : Library) (all left : List Label) → AreAdded old now all left → left ≡ []
+    → now.bodies.items ≡ old.bodies.items ++ map (λ l. l.node) all
+AreAdded-bodies old now all left added none =
+    added.bodies ∙ ap (λ (ls : List Label). old.bodies.items ++ map (λ l. l.node) ls)
+    (all_done old now all left added none)
 
 -- ## Undoing
 

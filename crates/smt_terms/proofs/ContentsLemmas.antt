@@ -1,30 +1,49 @@
 -- The contents of libraries, cut and grown.
 use Rattle.std.proofs.Common.{◌≡◌, ◌≤◌, ℕ, zero, suc, ◌+◌, List, [], ◌∷◌, ◌++◌, length, map, take, slice_get}
-use Rattle.std.proofs.Common.{Some, refl, ap, sym, ◌∙◌, arith, append_assoc, Result, Ok, Err, OnOk, OnErr}
+use Rattle.std.proofs.Common.{refl, ap, sym, ◌∙◌, arith, append_assoc, Result, Ok, Err, OnOk, OnErr}
+use Rattle.std.specs.Global.{Vec}
 use Rattle.std.proofs.lemmas.List.{append-nil, length-append, length-take-le, take-append-le, take-map}
 use Rattle.smt_trees.specs.Sexp.{Sexp}
 use Rattle.smt_theory.specs.declared.sort.Sort.{Sort}
-use Rattle.smt_terms.specs.Contents.{Contents, Extends, IsBelow, IsWithin, first_of}
-use Rattle.smt_terms.specs.Library.{IsTermOf}
+use Rattle.smt_nodes.specs.Node.{Row}
+use Rattle.smt_nodes.specs.Nodes.{rows_of}
+use Rattle.smt_terms.specs.Contents.{Contents, Extends, IsBelow, IsWithin, contents_of, declaration_view}
+use Rattle.smt_terms.specs.Contents.{first_of, terms_in}
+use Rattle.smt_terms.specs.Denotes.{IsLonger}
+use Rattle.smt_terms.specs.Internal.Growing.{KeepsNames}
+use Rattle.smt_terms.specs.Internal.LibraryView.{abbreviations_of}
+use Rattle.smt_terms.specs.Library.{IsTermOf, IsTreeOf}
+use Rattle.smt_terms.specs.declared.library.Declared.{Declared}
+use Rattle.smt_terms.specs.declared.library.Definition.{Definition}
+use Rattle.smt_terms.specs.declared.library.Library.{Library}
 use Rattle.smt_terms.specs.declared.library.TermId.{TermId}
+use Rattle.smt_terms.specs.declared.library.TreeId.{TreeId}
 use Rattle.smt_terms.specs.declared.library.marks.Mark.{Mark}
+use Rattle.smt_terms.specs.declared.sorts.SortNames.{SortNames}
+use Rattle.smt_terms.proofs.DenotesLemmas.{denotes_kept}
 use Rattle.smt_terms.proofs.TermLemmas.{stays}
 
 -- contents whose parts are the same
 pub same_contents : (c d : Contents) → c.theories ≡ d.theories → c.abbreviations ≡ d.abbreviations
-    → c.ranks ≡ d.ranks → c.places ≡ d.places → c.declared ≡ d.declared → c.definitions ≡ d.definitions
-    → c.terms ≡ d.terms → c ≡ d
-same_contents c d theories abbreviations ranks places declared definitions terms = λ i. record {
+    → c.ranks ≡ d.ranks → c.heads ≡ d.heads → c.declared ≡ d.declared → c.definitions ≡ d.definitions
+    → c.bodies ≡ d.bodies → c.rows ≡ d.rows → c.terms ≡ d.terms → c ≡ d
+same_contents c d theories abbreviations ranks heads declared definitions bodies rows terms = λ i. record {
   theories = theories i;
   abbreviations = abbreviations i;
   ranks = ranks i;
-  places = places i;
+  heads = heads i;
   declared = declared i;
   definitions = definitions i;
+  bodies = bodies i;
+  rows = rows i;
   terms = terms i;
 }
 
 -- ---- lists
+
+-- perhaps more of the same behind
+abbrev pub Goes : {A : Type 0} → List A → List A → Type 0
+Goes {A} xs ys = (more : List A) × (ys ≡ xs ++ more)
 
 -- the first so many stay as more come behind
 take_kept : {A : Type 0} (n : ℕ) (xs ys : List A) → n ≤ length xs → (more : List A) × (ys ≡ xs ++ more)
@@ -65,9 +84,11 @@ mark_kept mark c d within more =
     same_contents (first_of mark d) (first_of mark c) more.theories
     (take_kept mark.abbreviations c.abbreviations d.abbreviations within.abbreviations more.abbreviations)
     (take_kept mark.names c.ranks d.ranks within.ranks more.ranks)
-    (take_kept mark.names c.places d.places within.places more.places)
+    (take_kept mark.names c.heads d.heads within.heads more.heads)
     (take_kept mark.declared c.declared d.declared within.declared more.declared)
     (take_kept mark.definitions c.definitions d.definitions within.definitions more.definitions)
+    (take_kept mark.definitions c.bodies d.bodies within.bodies more.bodies)
+    (take_kept mark.nodes c.rows d.rows within.rows more.rows)
     (take_kept mark.terms c.terms d.terms within.terms more.terms)
 
 pub mark_within : (mark : Mark) (c d : Contents) → IsWithin mark c → Extends c d → IsWithin mark d
@@ -75,9 +96,11 @@ mark_within mark c d within more = record {
   abbreviations =
       within_kept mark.abbreviations c.abbreviations d.abbreviations within.abbreviations more.abbreviations;
   ranks = within_kept mark.names c.ranks d.ranks within.ranks more.ranks;
-  places = within_kept mark.names c.places d.places within.places more.places;
+  heads = within_kept mark.names c.heads d.heads within.heads more.heads;
   declared = within_kept mark.declared c.declared d.declared within.declared more.declared;
   definitions = within_kept mark.definitions c.definitions d.definitions within.definitions more.definitions;
+  bodies = within_kept mark.definitions c.bodies d.bodies within.bodies more.bodies;
+  rows = within_kept mark.nodes c.rows d.rows within.rows more.rows;
   terms = within_kept mark.terms c.terms d.terms within.terms more.terms;
 }
 
@@ -87,9 +110,11 @@ earlier_kept mark later c below =
     same_contents (first_of mark (first_of later c)) (first_of mark c) refl
     (take_earlier mark.abbreviations later.abbreviations c.abbreviations below.abbreviations)
     (take_earlier mark.names later.names c.ranks below.names)
-    (take_earlier mark.names later.names c.places below.names)
+    (take_earlier mark.names later.names c.heads below.names)
     (take_earlier mark.declared later.declared c.declared below.declared)
     (take_earlier mark.definitions later.definitions c.definitions below.definitions)
+    (take_earlier mark.definitions later.definitions c.bodies below.definitions)
+    (take_earlier mark.nodes later.nodes c.rows below.nodes)
     (take_earlier mark.terms later.terms c.terms below.terms)
 
 pub earlier_within : (mark later : Mark) (c : Contents) → IsBelow mark later → IsWithin later c
@@ -98,25 +123,38 @@ earlier_within mark later c below within = record {
   abbreviations = within_earlier mark.abbreviations later.abbreviations c.abbreviations below.abbreviations
       within.abbreviations;
   ranks = within_earlier mark.names later.names c.ranks below.names within.ranks;
-  places = within_earlier mark.names later.names c.places below.names within.places;
+  heads = within_earlier mark.names later.names c.heads below.names within.heads;
   declared = within_earlier mark.declared later.declared c.declared below.declared within.declared;
   definitions =
       within_earlier mark.definitions later.definitions c.definitions below.definitions within.definitions;
+  bodies = within_earlier mark.definitions later.definitions c.bodies below.definitions within.bodies;
+  rows = within_earlier mark.nodes later.nodes c.rows below.nodes within.rows;
   terms = within_earlier mark.terms later.terms c.terms below.terms within.terms;
 }
 
--- a term has its number among more
+-- a tree has its number among more
+pub tree_kept : (c d : Contents) (i : TreeId) (t : Sexp) → Goes c.terms d.terms → IsTreeOf c i t
+    → IsTreeOf d i t
+tree_kept c d i t (ms, same) is =
+    ap (λ (ts : List Sexp). slice_get ts i.number) same ∙ stays c.terms ms i.number t is
+
+-- the table of longer contents is longer
+pub terms_longer : (c d : Contents) → Extends c d → IsLonger (terms_in c) (terms_in d)
+terms_longer c d more = record {
+  theories = more.theories;
+  heads = more.heads;
+  bodies = more.bodies;
+  rows = more.rows;
+}
+
+-- and so a term is one of longer contents
 pub term_kept : (c d : Contents) (i : TermId) (t : Sexp) → Extends c d → IsTermOf c i t → IsTermOf d i t
-term_kept c d i t more is = by more.terms
-  where
-    by : (ms : List Sexp) × (d.terms ≡ c.terms ++ ms) → slice_get d.terms i.number ≡ Some t
-    by (ms, same) = ap (λ (ts : List Sexp). slice_get ts i.number) same ∙ stays c.terms ms i.number t is
+term_kept c d i t more is = (
+  tree_kept c d i.tree t more.terms is.0,
+  denotes_kept (terms_in c) (terms_in d) (terms_longer c d more) [] 0 0 i.node t is.1,
+)
 
 -- ---- growing
-
--- perhaps more of the same behind
-abbrev pub Goes : {A : Type 0} → List A → List A → Type 0
-Goes {A} xs ys = (more : List A) × (ys ≡ xs ++ more)
 
 goes_on : {A : Type 0} (xs ys zs : List A) → Goes xs ys → Goes ys zs → Goes xs zs
 goes_on {A = A} xs ys zs (more, h) (rest, i) =
@@ -129,9 +167,11 @@ extends_on c d e first second = record {
   abbreviations =
       goes_on c.abbreviations d.abbreviations e.abbreviations first.abbreviations second.abbreviations;
   ranks = goes_on c.ranks d.ranks e.ranks first.ranks second.ranks;
-  places = goes_on c.places d.places e.places first.places second.places;
+  heads = goes_on c.heads d.heads e.heads first.heads second.heads;
   declared = goes_on c.declared d.declared e.declared first.declared second.declared;
   definitions = goes_on c.definitions d.definitions e.definitions first.definitions second.definitions;
+  bodies = goes_on c.bodies d.bodies e.bodies first.bodies second.bodies;
+  rows = goes_on c.rows d.rows e.rows first.rows second.rows;
   terms = goes_on c.terms d.terms e.terms first.terms second.terms;
 }
 
@@ -145,10 +185,76 @@ extends_itself c = record {
   theories = refl;
   abbreviations = nothing_more _ _ refl;
   ranks = nothing_more _ _ refl;
-  places = nothing_more _ _ refl;
+  heads = nothing_more _ _ refl;
   declared = nothing_more _ _ refl;
   definitions = nothing_more _ _ refl;
+  bodies = nothing_more _ _ refl;
+  rows = nothing_more _ _ refl;
   terms = nothing_more _ _ refl;
+}
+
+-- ---- where no name comes
+
+pub keeps_itself : (c : Contents) → KeepsNames c c
+keeps_itself c = record {
+  theories = refl;
+  abbreviations = refl;
+  ranks = refl;
+  heads = refl;
+  declared = refl;
+  definitions = refl;
+  bodies = refl;
+  rows = nothing_more _ _ refl;
+  terms = nothing_more _ _ refl;
+}
+
+pub keeps_on : (c d e : Contents) → KeepsNames c d → KeepsNames d e → KeepsNames c e
+keeps_on c d e first second = record {
+  theories = second.theories ∙ first.theories;
+  abbreviations = second.abbreviations ∙ first.abbreviations;
+  ranks = second.ranks ∙ first.ranks;
+  heads = second.heads ∙ first.heads;
+  declared = second.declared ∙ first.declared;
+  definitions = second.definitions ∙ first.definitions;
+  bodies = second.bodies ∙ first.bodies;
+  rows = goes_on c.rows d.rows e.rows first.rows second.rows;
+  terms = goes_on c.terms d.terms e.terms first.terms second.terms;
+}
+
+pub grown_by : (c d : Contents) → KeepsNames c d → Extends c d
+grown_by c d kept = record {
+  theories = kept.theories;
+  abbreviations = nothing_more _ _ kept.abbreviations;
+  ranks = nothing_more _ _ kept.ranks;
+  heads = nothing_more _ _ kept.heads;
+  declared = nothing_more _ _ kept.declared;
+  definitions = nothing_more _ _ kept.definitions;
+  bodies = nothing_more _ _ kept.bodies;
+  rows = kept.rows;
+  terms = kept.terms;
+}
+
+-- where a term was checked, or refused
+pub more_rows : {A E : Type 0} (r : Result A E) (old new : List Row) → OnOk r (Goes old new)
+    → OnErr r (new ≡ old) → Goes old new
+more_rows (Ok a) old new h i = h
+more_rows (Err e) old new h i = nothing_more old new i
+
+-- a library that differs in nodes and trees alone
+pub keeps_names : (old new : Library) → new.names ≡ old.names → new.sorts ≡ old.sorts
+    → new.declared ≡ old.declared → new.definitions ≡ old.definitions → new.bodies ≡ old.bodies
+    → Goes (rows_of old.nodes) (rows_of new.nodes) → Goes (contents_of old).terms (contents_of new).terms
+    → KeepsNames (contents_of old) (contents_of new)
+keeps_names old new names sorts declared definitions bodies rows terms = record {
+  theories = ap (λ (z : SortNames). z.theories) sorts;
+  abbreviations = ap abbreviations_of sorts;
+  ranks = rw names refl;
+  heads = rw names refl;
+  declared = ap (λ (v : Vec Declared). map declaration_view v.items) declared;
+  definitions = ap (λ (v : Vec Definition). v.items) definitions;
+  bodies = ap (λ (v : Vec ℕ). v.items) bodies;
+  rows = rows;
+  terms = terms;
 }
 
 -- there is perhaps one abbreviation more

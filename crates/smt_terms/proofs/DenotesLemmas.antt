@@ -19,7 +19,7 @@ use Rattle.smt_terms.specs.Denotes.{slots_bound, symbol_node, unless_labelled}
 
 -- ---- longer lists
 
-look_up-append : {A : Type 0} (xs ys : List (List ℕ × A)) (f : List ℕ) (a : A) → look_up xs f ≡ Some a
+pub look_up-append : {A : Type 0} (xs ys : List (List ℕ × A)) (f : List ℕ) (a : A) → look_up xs f ≡ Some a
     → look_up (xs ++ ys) f ≡ Some a
 look_up-append [] ys f a h = cc
 look_up-append (x ∷ xs) ys f a h = by (bytes_eq f x.0) h (look_up-append xs ys f a)
@@ -30,7 +30,7 @@ look_up-append (x ∷ xs) ys f a h = by (bytes_eq f x.0) h (look_up-append xs ys
     by true h next = h
     by false h next = next h
 
-slice_get-append : {A : Type 0} (xs ys : List A) (i : ℕ) (a : A) → slice_get xs i ≡ Some a
+pub slice_get-append : {A : Type 0} (xs ys : List A) (i : ℕ) (a : A) → slice_get xs i ≡ Some a
     → slice_get (xs ++ ys) i ≡ Some a
 slice_get-append [] ys i a h = cc
 slice_get-append (x ∷ xs) ys zero a h = h
@@ -55,7 +55,7 @@ module _ (t u : Table) (longer : IsLonger t u) where
           (sym (ap (λ rows. slice_get rows i) longer.rows.1
           ∙ slice_get-append t.rows longer.rows.0 i row is)) h
 
-  body_kept : (p j : ℕ) → slice_get t.bodies p ≡ Some j → slice_get u.bodies p ≡ Some j
+  pub body_kept : (p j : ℕ) → slice_get t.bodies p ≡ Some j → slice_get u.bodies p ≡ Some j
   body_kept p j h =
       ap (λ bodies. slice_get bodies p) longer.bodies.1 ∙ slice_get-append t.bodies longer.bodies.0 p j h
 

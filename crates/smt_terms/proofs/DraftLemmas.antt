@@ -11,6 +11,7 @@ use Rattle.smt_trees.specs.Sexp.{Decimal, Hexadecimal, Binary, Text}
 use Rattle.smt_trees.specs.declared.reserved.Word.TheVariants.{Bang, Let, Underscore}
 use Rattle.smt_theory.specs.Words.{look_up, result_and_then}
 use Rattle.smt_theory.specs.declared.sort.Sort.{Sort}
+use Rattle.smt_theory.specs.declared.sort.Sort.TheVariants.{Bool as Boolean}
 use Rattle.smt_forms.specs.Bindings.{are_attributes, named_trees}
 use Rattle.smt_forms.specs.Labels.{labels_among, labels_in}
 use Rattle.smt_forms.specs.Variables.{any_uses_outer, bindings_use_outer, is_among, uses_outer, uses_variable}
@@ -18,6 +19,7 @@ use Rattle.smt_faults.specs.Outcome.{IsOutcome, Tells}
 use Rattle.smt_faults.specs.declared.term_fault.TermFault.{TermFault}
 use Rattle.smt_faults.specs.declared.term_flaw.TermFlaw.{TermFlaw}
 use Rattle.smt_faults.specs.declared.term_flaw.TermFlaw.TheVariants.{Label}
+use Rattle.smt_terms.specs.Denotes.{UsesNone, slots_from}
 use Rattle.smt_terms.specs.Checking.{flaw_of_label, flaw_of_labels, sort_in, unless}
 use Rattle.smt_terms.specs.Freshness.{NewLabel, where_fresh}
 use Rattle.smt_terms.specs.Internal.LabelsView.{given_names, labels_view}
@@ -273,6 +275,57 @@ open-some vs base x b is h =
         let small : nat_lt c.place base ≡ true = lt-ltb c.place base below in
         ap (λ (d : Bound). nat_lt d.place base) (sym same) ∙ small
 
+-- ## Places in a frame
+
+-- what is seen of the places of variables
+look_up-places : (base : ℕ) (vs : Variables) (x : List ℕ)
+    → look_up (map (λ v. (v.0, v.1.place - base)) vs) x ≡ option_map (λ b. b.place - base) (look_up vs x)
+look_up-places base [] x = refl
+look_up-places base (v ∷ vs) x = by (bytes_eq x v.0) (look_up-places base vs x)
+  where
+    by : (b : Bool)
+        → look_up (map (λ w. (w.0, w.1.place - base)) vs) x
+        ≡ option_map (λ (c : Bound). c.place - base) (look_up vs x)
+        → cond b (Some (v.1.place - base)) (look_up (map (λ w. (w.0, w.1.place - base)) vs) x)
+        ≡ option_map (λ (c : Bound). c.place - base) (cond b (Some v.1) (look_up vs x))
+    by true h = refl
+    by false h = h
+
+-- a variable that stands inside has a slot
+pub slot_inside : (vs : Variables) (base : ℕ) (x : List ℕ) (b : Bound) → IsPlaced vs base
+    → look_up vs x ≡ Some b → nat_lt b.place base ≡ false
+    → look_up (map (λ v. (v.0, v.1.place - base)) (inside base vs)) x ≡ Some (b.place - base)
+slot_inside vs base x b is h inner =
+    look_up-places base (inside base vs) x ∙ by (look_up (inside base vs) x) refl
+  where
+    whole : look_up (inside base vs ++ outside base vs) x ≡ Some b
+    whole = ap (λ (ws : Variables). look_up ws x) (take-append-drop (length vs - base) vs) ∙ h
+
+    by : (o : Option Bound) → look_up (inside base vs) x ≡ o
+        → option_map (λ (c : Bound). c.place - base) o ≡ Some (b.place - base)
+    by (Some c) here =
+        let now = sym (look_up-first (inside base vs) (outside base vs) x c here) ∙ whole in
+        let same : c ≡ b = cc in
+        ap (λ (d : Bound). Some (d.place - base)) same
+    by None here =
+        let now = sym (look_up-behind (inside base vs) (outside base vs) x here) ∙ whole in
+        let below : b.place < base = found_below base (outside base vs) x b is.outer now in
+        let small : nat_lt b.place base ≡ true = lt-ltb b.place base below in cc
+
+-- a name that is no variable has none
+pub slot_none : (vs : Variables) (base : ℕ) (x : List ℕ) → look_up vs x ≡ None
+    → look_up (map (λ v. (v.0, v.1.place - base)) (inside base vs)) x ≡ None
+slot_none vs base x h = look_up-places base (inside base vs) x ∙ by (look_up (inside base vs) x) refl
+  where
+    whole : look_up (inside base vs ++ outside base vs) x ≡ None
+    whole = ap (λ (ws : Variables). look_up ws x) (take-append-drop (length vs - base) vs) ∙ h
+
+    by : (o : Option Bound) → look_up (inside base vs) x ≡ o
+        → option_map (λ (c : Bound). c.place - base) o ≡ None
+    by None here = refl
+    by (Some c) here =
+        let now = sym (look_up-first (inside base vs) (outside base vs) x c here) ∙ whole in cc
+
 -- ## Lets
 
 -- the body of a `let` uses a variable from outside where it does among all
@@ -289,6 +342,39 @@ open_body b bound old new t within more =
     ∙ ap (λ (xs : List (List ℕ)). xs ++ names_of (inside b old)) (names-placed (length old) bound))
     ∙ ap (λ (vs : Variables). uses_outer (names_of bound ++ names_of (inside b old)) (sorts_of vs) t)
     (ap (λ (vs : Variables). outside b vs) more ∙ outside_more b placed old within)
+
+-- variables that are bound have the next places
+slots-placed : (base n : ℕ) (vs : Scope) → base ≤ n
+    → map (λ v. (v.0, v.1.place - base)) (placed_from n vs) ≡ slots_from (n - base) (names_of vs)
+slots-placed base n [] h = refl
+slots-placed base n (v ∷ vs) h =
+    let next : (n + 1) - base ≡ (n - base) + 1 = omega (arith, h) in
+    ap (λ (ss : List (List ℕ × ℕ)). (v.0, n - base) ∷ ss)
+    (slots-placed base (n + 1) vs (omega (arith, h))
+    ∙ ap (λ (m : ℕ). slots_from m (names_of vs)) next)
+
+pub slots_more : (b : ℕ) (bound : Scope) (old new : Variables) → b ≤ length old
+    → new ≡ placed_from (length old) bound ++ old
+    → map (λ v. (v.0, v.1.place - b)) (inside b new)
+    ≡ slots_from (length old - b) (names_of bound) ++ map (λ v. (v.0, v.1.place - b)) (inside b old)
+slots_more b bound old new within more =
+    let placed = placed_from (length old) bound in
+    let slot : (List ℕ × Bound) → (List ℕ × ℕ) = λ v. (v.0, v.1.place - b) in
+    ap (λ (vs : Variables). map slot (inside b vs)) more
+    ∙ ap (λ (vs : Variables). map slot vs) (inside_more b placed old within)
+    ∙ map-append slot placed (inside b old)
+    ∙ ap (λ (ss : List (List ℕ × ℕ)). ss ++ map slot (inside b old)) (slots-placed b (length old) bound within)
+
+pub places_more : (b : ℕ) (bound : Scope) (old new : Variables) → b ≤ length old
+    → new ≡ placed_from (length old) bound ++ old → length new - b ≡ (length old - b) + length bound
+places_more b bound old new within more =
+    omega (
+      arith,
+      within,
+      ap length more,
+      length-append (placed_from (length old) bound) old,
+      length-placed (length old) bound,
+    )
 
 -- what was seen before is left
 pub cut_back : (bound : Scope) (old new : Variables) → new ≡ placed_from (length old) bound ++ old
@@ -424,6 +510,33 @@ closed_within vs base t h =
 
     hides : Hides [] (sorts_of vs) (names_of (inside base vs)) (sorts_of (outside base vs))
     hides x g = open-none vs base x (none (look_up vs x) (sym (found_sorts vs x) ∙ g))
+
+-- a term that uses none of the variables uses none of those that have slots
+pub uses_none : (vs : Variables) (base : ℕ) (t : Sexp) → uses_variable (sorts_of vs) t ≡ false
+    → UsesNone (map (λ v. (v.0, v.1.place - base)) (inside base vs)) t
+uses_none vs base t h =
+    closed_inside [] (sorts_of vs) [] (map (λ s. (s.0, Boolean)) slots) hides t h
+  where
+    slots : List (List ℕ × ℕ)
+    slots = map (λ v. (v.0, v.1.place - base)) (inside base vs)
+
+    none : (o : Option Bound) → is_some o ≡ false → o ≡ None
+    none None g = refl
+    none (Some b) g = cc
+
+    unseen : (ss : List (List ℕ × ℕ)) (x : List ℕ) → look_up ss x ≡ None
+        → is_some (look_up (map (λ s. (s.0, Boolean)) ss) x) ≡ false
+    unseen [] x g = refl
+    unseen (s ∷ ss) x g = by (bytes_eq x s.0) g (unseen ss x)
+      where
+        by : (b : Bool) → cond b (Some s.1) (look_up ss x) ≡ None
+            → (look_up ss x ≡ None → is_some (look_up (map (λ r. (r.0, Boolean)) ss) x) ≡ false)
+            → is_some (cond b (Some Boolean) (look_up (map (λ r. (r.0, Boolean)) ss) x)) ≡ false
+        by true k rest = cc
+        by false k rest = rest k
+
+    hides : Hides [] (sorts_of vs) [] (map (λ s. (s.0, Boolean)) slots)
+    hides x g = unseen slots x (slot_none vs base x (none (look_up vs x) (sym (found_sorts vs x) ∙ g)))
 
 -- a term that has labels without a fault uses no variable
 pub closed_by_labels : (library : Library) (labels : Labels) (scope : Scope) (t : Sexp) (xs : List (List ℕ))

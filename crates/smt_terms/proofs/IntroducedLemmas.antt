@@ -48,10 +48,10 @@ MayBeGiven-behind xs (Given names) h = tt
 MayBeGiven-behind xs Refused h = tt
 MayBeGiven-behind xs Unread h = h
 
--- a label was given
+-- a label was given, or none may be
 abbrev pub is_given : Labels → List ℕ → Bool
 is_given (Given names) x = is_among names x
-is_given Refused x = false
+is_given Refused x = true
 is_given Unread x = false
 
 -- the label is fresh, and its term has a sort without variables
@@ -197,6 +197,17 @@ mutual
       (fit-bindings (behind ls names) scope (bound ++ (x, a.0) ∷ []) rest vs
       (MayBeGiven-behind (map (λ l. l.0) ls) names.labels may) a.2)
   fit-bindings names scope bound _ vs may h = tt
+
+-- a term that has a sort where none may be given has none
+pub no_labels_given : (names : Names) (scope : Scope) (t : Sexp) (sort : Sort) → names.labels ≡ Refused
+    → sort_in names scope t ≡ Ok sort → labels_in t ≡ []
+no_labels_given names scope t sort refused h =
+    by (labels_in t) (fit names scope t sort (subst MayBeGiven (sym refused) tt) h)
+  where
+    by : (ls : Labelled) → AreFit names ls → ls ≡ []
+    by [] fits = refl
+    by (l ∷ ls) fits =
+        let never : true ≡ false = ap (λ labels. is_given labels l.0) (sym refused) ∙ fits.0.new in cc
 
 -- ## Entries behind entries
 

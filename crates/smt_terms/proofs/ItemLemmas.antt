@@ -1,8 +1,12 @@
 -- Items, one step at a time.
-use Rattle.std.proofs.Common.{◌≡◌, ℕ, Bool, true, cond, not, ◌&&◌, List, [], map, Option, Some, None, is_some}
-use Rattle.std.proofs.Common.{option_map, Result, Ok, Err, refl, ap, sym, ◌∙◌}
+use Rattle.std.proofs.Common.{◌≡◌, ℕ, Bool, true, false, cond, not, ◌&&◌, ◌||◌, List, [], ◌∷◌, map, Option, Some}
+use Rattle.std.proofs.Common.{None, is_some, option_map, Result, Ok, Err, refl, ap, sym, ◌∙◌}
+use Rattle.std.proofs.lemmas.List.Elements.{All-head, All-tail}
+use Rattle.std.specs.List.{All}
 use Rattle.std.specs.Option.{option_and_then}
+use Rattle.std.specs.Prelude.{bytes_eq}
 use Rattle.smt_trees.specs.Sexp.{Sexp}
+use Rattle.smt_theory.specs.Operators.{is_plain_operator}
 use Rattle.smt_theory.specs.Ranks.{are_exactly}
 use Rattle.smt_theory.specs.Sort.{is_same_sort}
 use Rattle.smt_theory.specs.Words.{look_up, result_and_then}
@@ -10,23 +14,28 @@ use Rattle.smt_theory.specs.declared.sort.Sort.{Sort}
 use Rattle.smt_theory.specs.declared.theories.Theories.{Theories}
 use Rattle.smt_terms.specs.Checking.{unless}
 use Rattle.smt_terms.specs.Definitions.{definition_in, parameters_named}
-use Rattle.smt_terms.specs.Internal.LibraryView.{names_of_library, sort_names}
+use Rattle.smt_terms.specs.Internal.LibraryView.{names_of_library, places_of_library, sort_names}
+use Rattle.smt_terms.specs.Internal.TableView.{head_of}
 use Rattle.smt_forms.specs.ItemForm.{ItemForm, item_form}
-use Rattle.smt_terms.specs.Freshness.{is_defined_before, is_taken_undeclared, name_flaw}
+use Rattle.smt_terms.specs.Freshness.{is_defined_before, is_taken, is_taken_undeclared, name_flaw}
 use Rattle.smt_terms.specs.Items.{defined_as, form_in, has_rank_of, item_in, items_before}
 use Rattle.smt_terms.specs.Labels.{Refused}
-use Rattle.smt_terms.specs.Library.{HasTheoriesOf, StandsFor, is_declared, places_from}
+use Rattle.smt_terms.specs.Library.{HasTheoriesOf, StandsFor, is_declared}
 use Rattle.smt_terms.specs.Signature as signature
 use Rattle.smt_terms.specs.Signature.{Entry, Names, Origin, Rank, Signature, declared_named, entry_named}
 use Rattle.smt_terms.specs.Signature.{if_declared, names_of, rank_of_entry, ranks_of, sort_names_of}
 use Rattle.smt_terms.specs.SortTrees.{sort_named}
 use Rattle.smt_faults.specs.declared.term_flaw.TermFlaw.{TermFlaw}
 use Rattle.smt_faults.specs.declared.term_flaw.TermFlaw.TheVariants.{BoundTwice, IllSorted, NotFresh}
+use Rattle.smt_terms.specs.declared.library.Entry.{Entry as Held}
 use Rattle.smt_terms.specs.declared.library.Found.{Found}
 use Rattle.smt_terms.specs.declared.library.Library.{Library}
+use Rattle.smt_terms.proofs.ClosedLemmas.{neither}
 use Rattle.smt_terms.proofs.EntryLemmas.{look_up-ranks}
+use Rattle.smt_terms.proofs.NameLemmas.{same_name}
 use Rattle.smt_terms.proofs.NameLookUps.{some_map}
-use Rattle.smt_terms.proofs.PlaceLemmas.{declared_place, is_declared_place}
+use Rattle.smt_terms.proofs.LibraryLemmas.{Pairs, viewed}
+use Rattle.smt_terms.proofs.PlaceLemmas.{declared_place, is_declared_place, places-heads, places_from, places_in}
 
 -- the names that a library holds are those of what it stands for
 pub names_as : (library : Library) (s : Signature) → StandsFor library s
@@ -39,6 +48,16 @@ pub sorts_as : (library : Library) (s : Signature) → StandsFor library s
     → sort_names library.sorts ≡ sort_names_of s
 sorts_as library s stands =
     λ i. record { theories = stands.theories i; abbreviations = stands.abbreviations i }
+
+-- a name stands where its entry does
+places_viewed : (es : Pairs Held) → places_in (viewed head_of es) ≡ viewed (λ e. e.place) es
+places_viewed [] = refl
+places_viewed (p ∷ es) = ap (λ (ps : List (List ℕ × Found)). (p.0.items, p.1.place) ∷ ps) (places_viewed es)
+
+pub places_as : (library : Library) (s : Signature) → StandsFor library s
+    → places_of_library library ≡ places_from 0 0 s.entries
+places_as library s stands =
+    sym (places_viewed library.names.entries) ∙ ap places_in stands.terms.heads ∙ places-heads 0 0 s.entries
 
 -- those of what a model's library stands for are the ones that a body sees
 pub names_before : (library script : Library) (s m : Signature) → HasTheoriesOf library script
@@ -164,3 +183,54 @@ pub name_flaw_by : (s : Signature) (es : List Entry) (x : List ℕ) (b c : Bool)
 name_flaw_by s es x b c h i =
     ap (λ d. cond d (Some BoundTwice) (cond (is_taken_undeclared s x) (Some NotFresh) None)) h
     ∙ ap (λ d. cond b (Some BoundTwice) (cond d (Some NotFresh) None)) (sym i)
+
+-- ## Names that are no operator's
+
+-- a name of entries of which none is an operator's
+named_free : (theories : Theories) (es : List Entry) (x : List ℕ) (e : Entry)
+    → All (λ d. is_plain_operator theories d.name ≡ false) es → entry_named es x ≡ Some e
+    → is_plain_operator theories x ≡ false
+named_free theories [] x e free at = cc
+named_free theories (y ∷ es) x e free at =
+    by (bytes_eq x y.name) refl at
+    (named_free theories es x e (All-tail (λ d. is_plain_operator theories d.name ≡ false) y es free))
+  where
+    by : (b : Bool) → bytes_eq x y.name ≡ b → cond b (Some y) (entry_named es x) ≡ Some e
+        → (entry_named es x ≡ Some e → is_plain_operator theories x ≡ false)
+        → is_plain_operator theories x ≡ false
+    by true same h rest = ap (is_plain_operator theories) (same_name x y.name same)
+        ∙ All-head (λ d. is_plain_operator theories d.name ≡ false) y es free
+    by false same h rest = rest h
+
+-- one that may be an item's
+item_free : (s : Signature) (x : List ℕ) → All (λ d. is_plain_operator s.theories d.name ≡ false) s.entries
+    → is_taken_undeclared s x ≡ false → is_plain_operator s.theories x ≡ false
+item_free s x free fit = by (entry_named s.entries x) refl fit
+  where
+    by : (o : Option Entry) → entry_named s.entries x ≡ o
+        → (not (is_some (option_and_then (λ e. if_declared e e.origin) o))
+        && (is_some (look_up (ranks_of s.entries) x) || is_plain_operator s.theories x)) ≡ false
+        → is_plain_operator s.theories x ≡ false
+    by None at h = (neither (is_some (look_up (ranks_of s.entries) x)) (is_plain_operator s.theories x) h).1
+    by (Some e) at h = named_free s.theories s.entries x e free at
+
+-- so is the name of an item that has no flaw, over the theories of the script
+pub item_is_free : (library script : Library) (s m : Signature) (x : List ℕ) → HasTheoriesOf library script
+    → StandsFor script s → StandsFor library m → name_flaw s m.entries x ≡ None
+    → is_plain_operator m.theories x ≡ false
+item_is_free library script s m x same stands items none =
+    ap (λ ts. is_plain_operator ts x) (sym items.theories ∙ same ∙ stands.theories)
+    ∙ item_free s x stands.terms.free (by (is_defined_before m.entries x) (is_taken_undeclared s x) none)
+  where
+    by : (b c : Bool) → cond b (Some BoundTwice) (cond c (Some NotFresh) None) ≡ None → c ≡ false
+    by true c h = cc
+    by false true h = cc
+    by false false h = refl
+
+-- and a name that is not taken is none's
+pub not_operator : (library : Library) (s : Signature) (x : List ℕ) → StandsFor library s
+    → is_taken (names_of_library library) x ≡ false → is_plain_operator s.theories x ≡ false
+not_operator library s x stands free =
+    ap (λ ts. is_plain_operator ts x) (sym stands.theories)
+    ∙ (neither (is_some (look_up (names_of_library library).ranks x))
+    (is_plain_operator library.sorts.theories x) free).1

@@ -26,7 +26,7 @@ use Rattle.smt_terms.specs.Freshness.{is_label_taken}
 use Rattle.smt_terms.specs.Signature.{Names, Rank, behind, unlabelled}
 use Rattle.smt_faults.specs.declared.term_flaw.TermFlaw.{TermFlaw}
 use Rattle.smt_faults.specs.declared.term_flaw.TermFlaw.TheVariants.{Label as IsLabel, NotFresh}
-use Rattle.smt_terms.proofs.CheckerLemmas.{IsPlainHead, Scope, applied_ok}
+use Rattle.smt_terms.proofs.CheckerLemmas.{IsPlainHead, Scope, applied_ok, underscore_head}
 use Rattle.smt_terms.specs.declared.labels.Label.{Label}
 use Rattle.smt_terms.specs.declared.labels.Labels.{Labels}
 use Rattle.smt_terms.specs.declared.library.Library.{Library}
@@ -280,11 +280,21 @@ called library labels scope head args parts f ss given r split other is done sam
     ∙ ap (λ ts. sort_of_call (names_for library labels) scope f ts) (sym same)
     ∙ call_without_labels library labels scope f given ∙ sym call
 
-pub given_by_args : (r : Result Sort TermFlaw) (names : Names) (old new : Labels) (head : Sexp)
+pub given_by_args : {T E : Type 0} (r : Result T E) (names : Names) (old new : Labels) (head : Sexp)
     (args parts : Sexps) → parts ≡ Cons head args → begins_indexed head ≡ false → begins_let head ≡ false
     → begins_annotated head ≡ false
     → AreGiven names old new (labels_in_all args) → OnOk r (AreGiven names old new (labels_in (Items parts)))
 given_by_args (Err e) names old new head args parts split h i j given = tt
-given_by_args (Ok sort) names old new head args parts split h i j given =
+given_by_args (Ok v) names old new head args parts split h i j given =
     subst (AreGiven names old new)
     (sym (ap (λ ps. labels_in (Items ps)) split ∙ other_labels head args h i j)) given
+
+-- an identifier alone gives none
+pub given_by_indexed : {T E : Type 0} (r : Result T E) (names : Names) (old new : Labels) (head : Sexp)
+    (args parts : Sexps) → parts ≡ Cons head args → begins_indexed head ≡ true → new ≡ old
+    → OnOk r (AreGiven names old new (labels_in (Items parts)))
+given_by_indexed (Err e) names old new head args parts split is same = tt
+given_by_indexed (Ok v) names old new head args parts split is same =
+    subst (AreGiven names old new)
+    (sym (ap (λ ps. labels_in (Items ps)) (split ∙ ap (λ h. Cons h args) (underscore_head head is))))
+    (subst (λ ls. AreGiven names old ls []) (sym same) (AreGiven-none names old))

@@ -22,3 +22,13 @@ pub mod ItemSortLemmas
 pub mod WrittenLemmas
 pub mod DraftLemmas
 pub mod DenotesLemmas
+pub mod BodyLemmas
+pub mod WholeLemmas
+pub mod ClosingLemmas
+pub mod HeadLemmas
+pub mod TableLemmas
+pub mod AroundLemmas
+pub mod NodeLemmas
+pub mod PartNodeLemmas
+pub mod LabelNodeLemmas
+pub mod BinderNodeLemmas

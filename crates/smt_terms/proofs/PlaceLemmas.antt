@@ -1,18 +1,19 @@
 -- Where names stand, among the declared and the defined ones.
-use Rattle.std.proofs.Common.{◌≡◌, ℕ, suc, ◌+◌, Bool, true, false, cond, not, List, [], ◌∷◌, ◌++◌, length}
-use Rattle.std.proofs.Common.{slice_get, Option, Some, None, option_map, refl, ap, sym, ◌∙◌, arith}
+use Rattle.std.proofs.Common.{◌≡◌, ℕ, suc, ◌+◌, Bool, true, false, cond, not, List, [], ◌∷◌, length}
+use Rattle.std.proofs.Common.{map, slice_get, Option, Some, None, option_map, refl, ap, sym, ◌∙◌, arith}
 use Rattle.std.proofs.Common.{MatchOption, subst}
 use Rattle.std.specs.Str.{bytes_eq}
 use Rattle.smt_theory.specs.Words.{look_up}
-use Rattle.smt_terms.specs.Library.{IsFound, declared_among, defined_among, is_declared, place_behind}
-use Rattle.smt_terms.specs.Library.{places_from, with_declared, with_defined}
+use Rattle.smt_terms.specs.Denotes.{Head}
+use Rattle.smt_terms.specs.Library.{IsFound, declared_among, defined_among, is_declared}
+use Rattle.smt_terms.specs.TermsOf.{heads_from, place_behind, with_declared, with_defined}
 use Rattle.smt_terms.specs.Signature as signature
 use Rattle.smt_terms.specs.Signature.{Entry, Origin, entry_named}
 use Rattle.smt_terms.specs.declared.library.Found.{Found}
 use Rattle.smt_terms.specs.declared.library.Found.TheVariants as place
 
 -- how many are declared, with one more in front
-counted_declared : (n : ℕ) (e : Entry) (es : List Entry)
+pub counted_declared : (n : ℕ) (e : Entry) (es : List Entry)
     → with_declared n e.origin + length (declared_among es) ≡ n + length (declared_among (e ∷ es))
 counted_declared n e es = by e.origin
   where
@@ -22,7 +23,7 @@ counted_declared n e es = by e.origin
     by (signature.Defined ps body) = refl
 
 -- how many are defined
-counted_defined : (n : ℕ) (e : Entry) (es : List Entry)
+pub counted_defined : (n : ℕ) (e : Entry) (es : List Entry)
     → with_defined n e.origin + length (defined_among es) ≡ n + length (defined_among (e ∷ es))
 counted_defined n e es = by e.origin
   where
@@ -31,25 +32,22 @@ counted_defined n e es = by e.origin
     by (signature.Declared command) = refl
     by (signature.Defined ps body) = omega arith
 
--- one more name stands behind all
-pub places-push : (m n : ℕ) (es : List Entry) (e : Entry)
-    → places_from m n (es ++ e ∷ [])
-    ≡ places_from m n es ++ (
-      e.name,
-      place_behind (m + length (declared_among es))
-          (n + length (defined_among es)) e.origin,
-    ) ∷ []
-places-push m n [] e = ap (λ (k : ℕ). (e.name, place_behind k n e.origin) ∷ []) (omega arith) ∙ ap
-    (λ (k : ℕ). (e.name, place_behind (m + 0) k e.origin) ∷ []) (omega arith)
-places-push m n (x ∷ es) e =
-    ap (λ (ps : List (List ℕ × Found)). (x.name, place_behind m n x.origin) ∷ ps)
-    (places-push (with_declared m x.origin) (with_defined n x.origin) es e
-    ∙ ap (λ (k : ℕ). places_from (with_declared m x.origin) (with_defined n x.origin) es
-    ++ (e.name, place_behind k (with_defined n x.origin + length (defined_among es)) e.origin) ∷ [])
-    (counted_declared m x es)
-    ∙ ap (λ (k : ℕ). places_from (with_declared m x.origin) (with_defined n x.origin) es
-    ++ (e.name, place_behind (m + length (declared_among (x ∷ es))) k e.origin) ∷ [])
-    (counted_defined n x es))
+-- the names with where they stand, behind so many that are declared, and so many that are defined
+abbrev pub places_from : ℕ → ℕ → List Entry → List (List ℕ × Found)
+places_from declared defined [] = []
+places_from declared defined (e ∷ es) =
+    (e.name, place_behind declared defined e.origin)
+    ∷ places_from (with_declared declared e.origin) (with_defined defined e.origin) es
+
+-- where names stand, without how many arguments they take
+abbrev pub places_in : List (List ℕ × Head) → List (List ℕ × Found)
+places_in heads = map (λ p. (p.0, p.1.place)) heads
+
+pub places-heads : (m n : ℕ) (es : List Entry) → places_in (heads_from m n es) ≡ places_from m n es
+places-heads m n [] = refl
+places-heads m n (e ∷ es) = ap
+    (λ (ps : List (List ℕ × Found)). (e.name, place_behind m n e.origin) ∷ ps)
+    (places-heads (with_declared m e.origin) (with_defined n e.origin) es)
 
 -- the entry stands at this place, behind so many that are declared, and so many that are defined
 abbrev pub IsFoundBehind : ℕ → ℕ → Found → List Entry → List Entry → Entry → Type 0

@@ -1,30 +1,37 @@
 -- What a library stands for, as abbreviations, terms, declarations and definitions are added.
-use Rattle.std.proofs.Common.{◌≡◌, ℕ, zero, suc, ◌+◌, cond, List, [], ◌∷◌, ◌++◌, length, map, slice_get}
-use Rattle.std.proofs.Common.{Option, Some, None, option_map, refl, ap, sym, ◌∙◌, arith, subst, Result, Ok}
+use Rattle.std.proofs.Common.{◌≡◌, ℕ, zero, suc, ◌+◌, ◌-◌, false, cond, List, [], ◌∷◌, ◌++◌, length, map, take}
+use Rattle.std.proofs.Common.{slice_get, Option, Some, None, option_map, refl, ap, sym, ◌∙◌, arith, subst, Result, Ok}
 use Rattle.std.proofs.Common.{Err, OnErr}
+use Rattle.std.specs.List.{All}
 use Rattle.std.specs.Vec.{vec_len}
 use Rattle.std.specs.Global.{Vec}
-use Rattle.std.proofs.lemmas.List.{append-nil, length-map, map-append}
-use Rattle.std.proofs.lemmas.List.Elements.{filter-append}
+use Rattle.std.proofs.lemmas.List.{append-nil, length-append, length-map, map-append}
+use Rattle.std.proofs.lemmas.List.Elements.{All-append, All-cons, All-nil, filter-append}
 use Rattle.smt_trees.specs.Sexp.{Sexp}
 use Rattle.smt_theory.specs.Words.{look_up}
 use Rattle.smt_theory.specs.declared.sort.Sort.{Sort}
-use Rattle.smt_terms.specs.Contents.{Contents, Declaration}
+use Rattle.smt_theory.specs.Operators.{is_plain_operator}
+use Rattle.smt_theory.specs.declared.theories.Theories.{Theories}
+use Rattle.smt_terms.specs.Contents.{Contents, Declaration, terms_in}
 use Rattle.smt_terms.specs.Definitions.{definition}
-use Rattle.smt_terms.specs.Library.{AreDefinitions, Holds, IsDefinitionOf, IsTermOf, declaration_at}
+use Rattle.smt_terms.specs.Denotes.{Denotes, Head, IsLonger, slots_from}
+use Rattle.smt_terms.specs.Internal.Growing.{HoldsUnder, IsBodyUnder, KeepsNames, terms_under}
+use Rattle.smt_terms.specs.Library.{AreDefinitions, Holds, IsDefinitionOf, IsTreeOf, declaration_at}
 use Rattle.smt_terms.specs.Library.{declarations_from, declared_among, defined_among, is_declared}
-use Rattle.smt_terms.specs.Library.{places_from}
 use Rattle.smt_terms.specs.Signature as signature
 use Rattle.smt_terms.specs.Declarations.{declaration}
 use Rattle.smt_terms.specs.Signature.{Entry, Origin, Rank, Signature, entry_named, rank_of_entry, ranks_of}
-use Rattle.smt_terms.specs.Signature.{with_abbreviation, with_entry}
+use Rattle.smt_terms.specs.Signature.{no_names, with_abbreviation, with_entry}
 use Rattle.smt_terms.specs.declared.library.Definition.{Definition}
-use Rattle.smt_terms.specs.declared.library.Found.{Found}
+use Rattle.smt_terms.specs.TermsOf.{AreBodies, IsBody, first_heads, heads_from, heads_of, place_behind}
+use Rattle.smt_terms.specs.TermsOf.{with_declared, with_defined}
 use Rattle.smt_terms.specs.declared.library.Found.TheVariants as place
-use Rattle.smt_terms.specs.declared.library.TermId.{TermId}
+use Rattle.smt_terms.specs.declared.library.TreeId.{TreeId}
+use Rattle.smt_terms.proofs.BodyLemmas.{IsLastBody, bodies_longer, bodies_push, heads-push}
+use Rattle.smt_terms.proofs.ContentsLemmas.{Goes, nothing_more, tree_kept}
+use Rattle.smt_terms.proofs.DenotesLemmas.{denotes_kept}
 use Rattle.smt_terms.proofs.DeclarationLemmas.{declarations-push, declared-push}
 use Rattle.smt_terms.proofs.EntryLemmas.{distinct-push, look_up-ranks}
-use Rattle.smt_terms.proofs.PlaceLemmas.{places-push}
 
 -- a fact that holds holds of a refusal
 pub on_err : {A E P : Type 0} (r : Result A E) → P → OnErr r P
@@ -40,12 +47,25 @@ on_err_weaker (Err e) f p = f p
 pub counted : {A : Type 0} (v : Vec A) (n : ℕ) → n ≡ vec_len v → n ≡ length v.items
 counted v n h = omega (arith, v.ok)
 
--- each term of the one is a term of the other, under its number
-abbrev pub HasTermsOf : Contents → Contents → Type 0
-HasTermsOf new old = (i : TermId) (t : Sexp) → IsTermOf old i t → IsTermOf new i t
+take_front : {A : Type 0} (xs more : List A) → take (length xs) (xs ++ more) ≡ xs
+take_front [] more = refl
+take_front {A = A} (x ∷ xs) more = ap (λ (ys : List A). x ∷ ys) (take_front xs more)
 
--- definitions stay as terms are added
-definition_stays : (old new : Contents) (d : Definition) (e : Entry) → HasTermsOf new old
+-- what was put behind all, and taken away again
+pub undone_push : {A : Type 0} (xs pushed left : List A) (x : A) → pushed ≡ xs ++ x ∷ []
+    → left ≡ take (length pushed - 1) pushed → left ≡ xs
+undone_push {A = A} xs pushed left x is cut =
+    let count : length pushed - 1 ≡ length xs =
+    omega (arith, ap (λ (ys : List A). length ys) is ∙ length-append xs (x ∷ [])) in
+    cut ∙ ap (λ (n : ℕ). take n pushed) count ∙ ap (λ (ys : List A). take (length xs) ys) is
+    ∙ take_front xs (x ∷ [])
+
+-- each tree of the one is a tree of the other, under its number
+abbrev pub HasTreesOf : Contents → Contents → Type 0
+HasTreesOf new old = (i : TreeId) (t : Sexp) → IsTreeOf old i t → IsTreeOf new i t
+
+-- definitions stay as trees are added
+definition_stays : (old new : Contents) (d : Definition) (e : Entry) → HasTreesOf new old
     → IsDefinitionOf old d e → IsDefinitionOf new d e
 definition_stays old new d e terms is =
     record {
@@ -55,7 +75,7 @@ definition_stays old new d e terms is =
       body = (is.body.0, terms d.body is.body.0 is.body.1, is.body.2);
     }
 
-definitions_stay : (old new : Contents) (ds : List Definition) (es : List Entry) → HasTermsOf new old
+definitions_stay : (old new : Contents) (ds : List Definition) (es : List Entry) → HasTreesOf new old
     → AreDefinitions old ds es → AreDefinitions new ds es
 definitions_stay old new [] [] terms h = tt
 definitions_stay old new [] (e ∷ es) terms h = absurd h
@@ -91,39 +111,141 @@ length-declarations n (e ∷ es) = by e.origin (length-declarations (n + 1) es)
     by (signature.Declared command) rest = ap suc rest
     by (signature.Defined ps body) rest = rest
 
--- nothing but terms has come
-pub stands_still : (old new : Contents) (s : Signature) → new.theories ≡ old.theories
-    → new.abbreviations ≡ old.abbreviations → new.ranks ≡ old.ranks → new.places ≡ old.places
-    → new.declared ≡ old.declared → new.definitions ≡ old.definitions
-    → HasTermsOf new old → Holds old s → Holds new s
-stands_still old new s theories abbreviations ranks places declared definitions terms stands = record {
-  theories = theories ∙ stands.theories;
-  distinct = stands.distinct;
-  abbreviations = abbreviations ∙ stands.abbreviations;
-  ranks = ranks ∙ stands.ranks;
-  places = places ∙ stands.places;
-  declared = declared ∙ stands.declared;
-  definitions = subst (λ ds. AreDefinitions new ds (defined_among s.entries)) (sym definitions)
-      (definitions_stay old new old.definitions (defined_among s.entries) terms stands.definitions);
+-- contents without names
+pub nothing_stands : (c : Contents) (theories : Theories) → c.theories ≡ theories → c.abbreviations ≡ []
+    → c.ranks ≡ [] → c.heads ≡ [] → c.declared ≡ [] → c.definitions ≡ [] → c.bodies ≡ []
+    → Holds c (no_names theories)
+nothing_stands c theories same abbreviations ranks heads declared definitions bodies = record {
+  theories = same;
+  distinct = tt;
+  abbreviations = abbreviations;
+  ranks = ranks;
+  declared = declared;
+  definitions = subst (λ ds. AreDefinitions c ds []) (sym definitions) tt;
+  terms = record {
+    theories = same;
+    heads = heads;
+    free = All-nil (λ e. is_plain_operator theories e.name ≡ false);
+    bodies = bodies;
+  };
 }
+
+-- ---- while bodies are still to come
+
+-- what contents stand for, over the bodies that they have, and back
+pub under : (c : Contents) (s : Signature) → Holds c s → HoldsUnder c.bodies c s
+under c s stands = record {
+  theories = stands.theories;
+  distinct = stands.distinct;
+  abbreviations = stands.abbreviations;
+  ranks = stands.ranks;
+  declared = stands.declared;
+  definitions = stands.definitions;
+  heads = stands.terms.heads;
+  free = stands.terms.free;
+  seen = stands.terms.bodies;
+}
+
+pub whole : (bodies : List ℕ) (c : Contents) (s : Signature) → c.bodies ≡ bodies → HoldsUnder bodies c s
+    → Holds c s
+whole bodies c s same stands = record {
+  theories = stands.theories;
+  distinct = stands.distinct;
+  abbreviations = stands.abbreviations;
+  ranks = stands.ranks;
+  declared = stands.declared;
+  definitions = stands.definitions;
+  terms = record {
+    theories = stands.theories;
+    heads = stands.heads;
+    free = stands.free;
+    bodies = subst (λ bs. AreBodies (terms_under bs c) 0 c.bodies s.entries) (sym same) stands.seen;
+  };
+}
+
+-- with more bodies to come
+pub under_more : (bodies more : List ℕ) (c : Contents) (s : Signature) → HoldsUnder bodies c s
+    → HoldsUnder (bodies ++ more) c s
+under_more bodies more c s stands = record {
+  theories = stands.theories;
+  distinct = stands.distinct;
+  abbreviations = stands.abbreviations;
+  ranks = stands.ranks;
+  declared = stands.declared;
+  definitions = stands.definitions;
+  heads = stands.heads;
+  free = stands.free;
+  seen = bodies_longer (terms_under bodies c) (terms_under (bodies ++ more) c) 0 c.bodies s.entries (record {
+    theories = refl;
+    heads = nothing_more _ _ refl;
+    bodies = (more, refl);
+    rows = nothing_more _ _ refl;
+  }) stands.seen;
+}
+
+-- the table over the same bodies, as names and nodes come
+pub under_longer : (bodies : List ℕ) (old new : Contents) → new.theories ≡ old.theories
+    → Goes old.heads new.heads → Goes old.rows new.rows
+    → IsLonger (terms_under bodies old) (terms_under bodies new)
+under_longer bodies old new theories heads rows = record {
+  theories = theories;
+  heads = heads;
+  bodies = nothing_more _ _ refl;
+  rows = rows;
+}
+
+-- nothing but nodes and trees has come
+pub stands_kept : (bodies : List ℕ) (old new : Contents) (s : Signature) → KeepsNames old new
+    → HoldsUnder bodies old s → HoldsUnder bodies new s
+stands_kept bodies old new s kept stands = record {
+  theories = kept.theories ∙ stands.theories;
+  distinct = stands.distinct;
+  abbreviations = kept.abbreviations ∙ stands.abbreviations;
+  ranks = kept.ranks ∙ stands.ranks;
+  declared = kept.declared ∙ stands.declared;
+  definitions = subst (λ ds. AreDefinitions new ds (defined_among s.entries)) (sym kept.definitions)
+      (definitions_stay old new old.definitions (defined_among s.entries) (λ i t. tree_kept old new i t kept.terms)
+      stands.definitions);
+  heads = kept.heads ∙ stands.heads;
+  free = stands.free;
+  seen = bodies_longer (terms_under bodies old) (terms_under bodies new) 0 new.bodies s.entries
+      (under_longer bodies old new kept.theories (nothing_more _ _ kept.heads) kept.rows)
+      (subst (λ bs. AreBodies (terms_under bodies old) 0 bs s.entries) (sym kept.bodies) stands.seen);
+}
+
+pub stands_still : (old new : Contents) (s : Signature) → KeepsNames old new → Holds old s → Holds new s
+stands_still old new s kept stands =
+    whole old.bodies new s kept.bodies (stands_kept old.bodies old new s kept (under old s stands))
 
 -- an abbreviation has come
 pub stands_abbreviated : (old new : Contents) (s : Signature) (x : List ℕ) (sort : Sort)
     → new.theories ≡ old.theories → new.abbreviations ≡ old.abbreviations ++ (x, sort) ∷ []
-    → new.ranks ≡ old.ranks → new.places ≡ old.places
-    → new.declared ≡ old.declared → new.definitions ≡ old.definitions → HasTermsOf new old → Holds old s
+    → new.ranks ≡ old.ranks → new.heads ≡ old.heads
+    → new.declared ≡ old.declared → new.definitions ≡ old.definitions → new.bodies ≡ old.bodies
+    → new.rows ≡ old.rows → new.terms ≡ old.terms → Holds old s
     → Holds new (with_abbreviation s x sort)
-stands_abbreviated old new s x sort theories abbreviations ranks places declared definitions terms stands =
-    record {
+stands_abbreviated old new s x sort theories abbreviations ranks heads declared definitions bodies rows terms
+    stands = record {
       theories = theories ∙ stands.theories;
       distinct = stands.distinct;
       abbreviations =
           abbreviations ∙ ap (λ (ss : List (List ℕ × Sort)). ss ++ (x, sort) ∷ []) stands.abbreviations;
       ranks = ranks ∙ stands.ranks;
-      places = places ∙ stands.places;
       declared = declared ∙ stands.declared;
       definitions = subst (λ ds. AreDefinitions new ds (defined_among s.entries)) (sym definitions)
-          (definitions_stay old new old.definitions (defined_among s.entries) terms stands.definitions);
+          (definitions_stay old new old.definitions (defined_among s.entries)
+          (λ i t. tree_kept old new i t (nothing_more _ _ terms)) stands.definitions);
+      terms = record {
+        theories = theories ∙ stands.theories;
+        heads = heads ∙ stands.terms.heads;
+        free = stands.terms.free;
+        bodies = bodies_longer (terms_in old) (terms_in new) 0 new.bodies s.entries (record {
+          theories = theories;
+          heads = nothing_more _ _ heads;
+          bodies = nothing_more _ _ bodies;
+          rows = nothing_more _ _ rows;
+        }) (subst (λ bs. AreBodies (terms_in old) 0 bs s.entries) (sym bodies) stands.terms.bodies);
+      };
     }
 
 -- the ranks with one more
@@ -142,18 +264,69 @@ absent_entry es x ranks is none =
     by None h = refl
     by (Some e) h = cc
 
+-- the names with one more stand where the entries do
+heads-next : (es : List Entry) (e : Entry) (heads : List (List ℕ × Head)) (m n : ℕ)
+    → heads ≡ heads_of es → m ≡ length (declared_among es) → n ≡ length (defined_among es)
+    → heads ++ (e.name, record { place = place_behind m n e.origin; arity = length e.parameters }) ∷ []
+    ≡ heads_of (es ++ e ∷ [])
+heads-next es e heads m n is declared defined =
+    ap (λ (hs : List (List ℕ × Head)).
+    hs ++ (e.name, record { place = place_behind m n e.origin; arity = length e.parameters }) ∷ []) is
+    ∙ ap (λ (k : ℕ). heads_of es
+    ++ (e.name, record { place = place_behind k n e.origin; arity = length e.parameters }) ∷ [])
+    (omega (arith, declared))
+    ∙ ap (λ (k : ℕ). heads_of es ++ (
+      e.name,
+      record {
+        place = place_behind (0 + length (declared_among es)) k e.origin;
+        arity = length e.parameters;
+      },
+    ) ∷ []) (omega (arith, defined))
+    ∙ sym (heads-push 0 0 es e)
+
+-- and so the bodies with what one more entry has
+seen-next : (bodies more : List ℕ) (old new : Contents) (es : List Entry) (e : Entry)
+    → new.theories ≡ old.theories → Goes old.heads new.heads → Goes old.rows new.rows
+    → new.bodies ≡ old.bodies ++ more → AreBodies (terms_under bodies old) 0 old.bodies es
+    → IsLastBody (terms_under bodies new) (length es) e more
+    → AreBodies (terms_under bodies new) 0 new.bodies (es ++ e ∷ [])
+seen-next bodies more old new es e theories heads rows is seen last =
+    subst (λ bs. AreBodies (terms_under bodies new) 0 bs (es ++ e ∷ [])) (sym is)
+    (bodies_push (terms_under bodies new) 0 old.bodies es e more
+    (bodies_longer (terms_under bodies old) (terms_under bodies new) 0 old.bodies es
+    (under_longer bodies old new theories heads rows) seen)
+    (let same : length es ≡ 0 + length es = omega arith in
+    subst (λ (n : ℕ). IsLastBody (terms_under bodies new) n e more) same last))
+
+-- no name is an operator's, with one more that is none's
+free-push : (theories : Theories) (es : List Entry) (e : Entry)
+    → All (λ d. is_plain_operator theories d.name ≡ false) es → is_plain_operator theories e.name ≡ false
+    → All (λ d. is_plain_operator theories d.name ≡ false) (es ++ e ∷ [])
+free-push theories es e all free =
+    All-append (λ d. is_plain_operator theories d.name ≡ false) es (e ∷ []) all
+    (All-cons (λ d. is_plain_operator theories d.name ≡ false) e [] free
+    (All-nil (λ d. is_plain_operator theories d.name ≡ false)))
+
 -- a declared name has come
 pub stands_declared : (old new : Contents) (s : Signature) (x : List ℕ) (d : Declaration)
-    → look_up old.ranks x ≡ None → d.name ≡ length old.ranks → new.theories ≡ old.theories
+    → look_up old.ranks x ≡ None → is_plain_operator old.theories x ≡ false
+    → d.name ≡ length old.ranks → new.theories ≡ old.theories
     → new.abbreviations ≡ old.abbreviations
     → new.ranks ≡ old.ranks ++ (x, record { parameters = d.parameters; sort = d.sort }) ∷ []
-    → new.places ≡ old.places ++ (x, place.Declared (length old.declared)) ∷ []
+    → new.heads ≡ old.heads ++ (
+      x,
+      record {
+        place = place.Declared (length old.declared);
+        arity = length d.parameters;
+      },
+    ) ∷ []
     → new.declared ≡ old.declared ++ d ∷ []
-    → new.definitions ≡ old.definitions → HasTermsOf new old → Holds old s
+    → new.definitions ≡ old.definitions → new.bodies ≡ old.bodies → Goes old.rows new.rows
+    → Goes old.terms new.terms → Holds old s
     → Holds new (with_entry s
     (declaration x d.command (record { parameters = d.parameters; sort = d.sort })))
-stands_declared old new s x d absent next theories abbreviations ranks places declared definitions terms
-    stands =
+stands_declared old new s x d absent free next theories abbreviations ranks heads declared definitions bodies
+    rows terms stands =
     let e : Entry = declaration x d.command (record { parameters = d.parameters; sort = d.sort }) in
     let counted : length old.declared ≡ length (declared_among s.entries) =
     ap (λ (ds : List Declaration). length ds) stands.declared ∙ length-declarations 0 s.entries in
@@ -162,18 +335,12 @@ stands_declared old new s x d absent next theories abbreviations ranks places de
     (λ d. (d.name, rank_of_entry d)) in
     let same : defined_among (s.entries ++ e ∷ []) ≡ defined_among s.entries =
     filter-append _ s.entries (e ∷ []) ∙ append-nil (defined_among s.entries) in
-    record {
+    whole old.bodies new (with_entry s e) bodies (record {
       theories = theories ∙ stands.theories;
       distinct =
           distinct-push s.entries e stands.distinct (absent_entry s.entries x old.ranks stands.ranks absent);
       abbreviations = abbreviations ∙ stands.abbreviations;
       ranks = ranks ∙ ranks-push s.entries e old.ranks stands.ranks;
-      places =
-          places ∙ ap (λ (n : ℕ). old.places ++ (x, place.Declared n) ∷ []) counted ∙ ap
-          (λ (ps : List (List ℕ × Found)). ps ++ (x, place.Declared (length (declared_among s.entries)))
-          ∷ []) stands.places
-          ∙ sym (places-push 0 0 s.entries e ∙ ap
-          (λ (n : ℕ). places_from 0 0 s.entries ++ (x, place.Declared n) ∷ []) (omega arith));
       declared =
           declared-push old.declared new.declared d s.entries e declared stands.declared
           (ap (λ (n : ℕ). record {
@@ -185,8 +352,14 @@ stands_declared old new s x d absent next theories abbreviations ranks places de
       definitions =
           subst (λ es. AreDefinitions new new.definitions es) (sym same)
           (subst (λ ds. AreDefinitions new ds (defined_among s.entries)) (sym definitions)
-          (definitions_stay old new old.definitions (defined_among s.entries) terms stands.definitions));
-    }
+          (definitions_stay old new old.definitions (defined_among s.entries)
+          (λ i t. tree_kept old new i t terms) stands.definitions));
+      heads = heads ∙ heads-next s.entries e old.heads (length old.declared) _ stands.terms.heads counted refl;
+      free = free-push s.theories s.entries e stands.terms.free
+          (ap (λ ts. is_plain_operator ts x) (sym stands.theories) ∙ free);
+      seen = seen-next old.bodies [] old new s.entries e theories (_, heads) rows
+          (bodies ∙ sym (append-nil old.bodies)) stands.terms.bodies refl;
+    })
 
 -- the parameters of a definition, as names with their sorts
 abbrev pub parameters_of : Definition → List (List ℕ × Sort)
@@ -204,17 +377,55 @@ names_of_own : (ps : List (Vec ℕ × Sort))
 names_of_own [] = refl
 names_of_own (p ∷ ps) = ap (λ (xs : List (List ℕ)). p.0.items ∷ xs) (names_of_own ps)
 
+length-heads : (m n : ℕ) (es : List Entry) → length (heads_from m n es) ≡ length es
+length-heads m n [] = refl
+length-heads m n (e ∷ es) = ap suc (length-heads (with_declared m e.origin) (with_defined n e.origin) es)
+
+-- a body that sees all names is one for the next entry
+body-next : (bodies : List ℕ) (old new : Contents) (es : List Entry) (ps : List (List ℕ × Sort)) (t : Sexp)
+    (j : ℕ) → new.theories ≡ old.theories → Goes old.heads new.heads → Goes old.rows new.rows
+    → old.heads ≡ heads_of es → IsBodyUnder bodies old ps j t
+    → IsBody (terms_under bodies new) (length es) (length (map (λ p. p.1) ps)) (map (λ p. p.0) ps) t j
+body-next bodies old new es ps t j theories heads rows are node =
+    let count : length es ≡ length old.heads =
+    sym (length-heads 0 0 es) ∙ ap (λ (hs : List (List ℕ × Head)). length hs) (sym are) in
+    let names : length (map (λ (p : List ℕ × Sort). p.0) ps) ≡ length ps = length-map ps (λ p. p.0) in
+    let first : IsLonger (terms_under bodies old) (first_heads (length es) (terms_under bodies new)) = record {
+      theories = theories;
+      heads = nothing_more _ _ (ap (λ (n : ℕ). take n new.heads) count
+          ∙ ap (λ (hs : List (List ℕ × Head)). take (length old.heads) hs) heads.1
+          ∙ take_front old.heads heads.0);
+      bodies = nothing_more _ _ refl;
+      rows = rows;
+    } in
+    record {
+      counted = names ∙ sym (length-map ps (λ p. p.1));
+      denotes = denotes_kept (terms_under bodies old) (first_heads (length es) (terms_under bodies new)) first
+          (slots_from 0 (map (λ p. p.0) ps)) (length (map (λ p. p.0) ps)) 0 j t
+          (subst (λ (n : ℕ). Denotes (terms_under bodies old) (slots_from 0 (map (λ p. p.0) ps)) n 0 j t)
+          (sym names) node);
+    }
+
 -- a definition has come
-pub stands_defined : (old new : Contents) (s : Signature) (x : List ℕ) (ps : List (List ℕ × Sort))
-    (d : Definition) (t : Sexp) → look_up old.ranks x ≡ None → d.name.items ≡ x → parameters_of d ≡ ps
-    → IsTermOf old d.body t
+pub stands_defined : (bodies : List ℕ) (old new : Contents) (s : Signature) (x : List ℕ)
+    (ps : List (List ℕ × Sort)) (d : Definition) (t : Sexp) (j : ℕ) → look_up old.ranks x ≡ None
+    → is_plain_operator s.theories x ≡ false → d.name.items ≡ x → parameters_of d ≡ ps
+    → IsTreeOf old d.body t → IsBodyUnder bodies old ps j t
     → new.theories ≡ old.theories → new.abbreviations ≡ old.abbreviations
     → new.ranks ≡ old.ranks ++ (x, record { parameters = map (λ p. p.1) ps; sort = d.result }) ∷ []
-    → new.places ≡ old.places ++ (x, place.Defined (length old.definitions)) ∷ []
+    → new.heads ≡ old.heads ++ (
+      x,
+      record {
+        place = place.Defined (length old.definitions);
+        arity = length (map (λ p. p.1) ps);
+      },
+    ) ∷ []
     → new.declared ≡ old.declared → new.definitions ≡ old.definitions ++ d ∷ []
-    → HasTermsOf new old → Holds old s → Holds new (with_entry s (definition x ps d.result t))
-stands_defined old new s x ps d t absent named bound body theories abbreviations ranks places declared
-    definitions terms stands =
+    → new.bodies ≡ old.bodies ++ j ∷ [] → Goes old.rows new.rows
+    → Goes old.terms new.terms → HoldsUnder bodies old s
+    → HoldsUnder bodies new (with_entry s (definition x ps d.result t))
+stands_defined bodies old new s x ps d t j absent free named bound body node theories abbreviations ranks heads
+    declared definitions joined rows terms stands =
     let e : Entry = definition x ps d.result t in
     let counted : length old.definitions ≡ length (defined_among s.entries) =
     length-definitions old old.definitions (defined_among s.entries) stands.definitions in
@@ -226,7 +437,7 @@ stands_defined old new s x ps d t absent named bound body theories abbreviations
       sort = refl;
       body = (
         t,
-        terms d.body t body,
+        tree_kept old new d.body t terms body,
         ap
             (λ (qs : List (List ℕ × Sort)). signature.Defined (map (λ p. p.0) qs) t) (sym bound) ∙ ap
             (λ (xs : List (List ℕ)). signature.Defined xs t) (names_of_own d.params.items),
@@ -238,20 +449,19 @@ stands_defined old new s x ps d t absent named bound body theories abbreviations
           distinct-push s.entries e stands.distinct (absent_entry s.entries x old.ranks stands.ranks absent);
       abbreviations = abbreviations ∙ stands.abbreviations;
       ranks = ranks ∙ ranks-push s.entries e old.ranks stands.ranks;
-      places =
-          places ∙ ap (λ (n : ℕ). old.places ++ (x, place.Defined n) ∷ []) counted ∙ ap
-          (λ (ps : List (List ℕ × Found)). ps ++ (x, place.Defined (length (defined_among s.entries)))
-          ∷ []) stands.places
-          ∙ sym (places-push 0 0 s.entries e ∙ ap
-          (λ (n : ℕ). places_from 0 0 s.entries ++ (x, place.Defined n) ∷ []) (omega arith));
       declared = declared ∙ stands.declared ∙ sym
           (declarations-push 0 s.entries e ∙ append-nil (declarations_from 0 s.entries));
       definitions =
           subst (λ es. AreDefinitions new new.definitions es) (sym more)
           (subst (λ ds. AreDefinitions new ds (defined_among s.entries ++ e ∷ [])) (sym definitions)
           (definitions-push new old.definitions (defined_among s.entries) d e
-          (definitions_stay old new old.definitions (defined_among s.entries) terms stands.definitions)
+          (definitions_stay old new old.definitions (defined_among s.entries)
+          (λ i t. tree_kept old new i t terms) stands.definitions)
           is));
+      heads = heads ∙ heads-next s.entries e old.heads _ (length old.definitions) stands.heads refl counted;
+      free = free-push s.theories s.entries e stands.free free;
+      seen = seen-next bodies (j ∷ []) old new s.entries e theories (_, heads) rows joined stands.seen
+          (body-next bodies old new s.entries ps t j theories (_, heads) rows stands.heads node, refl);
     }
 
 -- at the place of a defined entry stands its definition

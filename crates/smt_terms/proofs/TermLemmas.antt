@@ -19,7 +19,7 @@ term_stays old new tree i t is h =
     ap (λ (ts : List Tree). slice_get (map sexp_of ts) i) is ∙ ap (λ (ts : List Sexp). slice_get ts i)
     (map-append sexp_of old (tree ∷ [])) ∙ stays (map sexp_of old) (map sexp_of (tree ∷ [])) i t h
 
-added : {A : Type 0} (xs : List A) (x : A) → slice_get (xs ++ x ∷ []) (length xs) ≡ Some x
+pub added : {A : Type 0} (xs : List A) (x : A) → slice_get (xs ++ x ∷ []) (length xs) ≡ Some x
 added [] x = refl
 added (y ∷ xs) x = added xs x
 

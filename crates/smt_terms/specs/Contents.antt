@@ -4,11 +4,14 @@ use Rattle.smt_trees.specs.Sexp.{Sexp}
 use Rattle.smt_trees.specs.Tree.{sexp_of}
 use Rattle.smt_theory.specs.declared.sort.Sort.{Sort}
 use Rattle.smt_theory.specs.declared.theories.Theories.{Theories}
-use Rattle.smt_terms.specs.Internal.LibraryView.{abbreviations_of, places_of_library, ranks_of_library}
+use Rattle.smt_nodes.specs.Node.{Row}
+use Rattle.smt_nodes.specs.Nodes.{rows_of}
+use Rattle.smt_terms.specs.Denotes.{Head, Table}
+use Rattle.smt_terms.specs.Internal.LibraryView.{abbreviations_of, ranks_of_library}
+use Rattle.smt_terms.specs.Internal.TableView.{heads_of_library}
 use Rattle.smt_terms.specs.Signature.{Rank}
 use Rattle.smt_terms.specs.declared.library.Declared.{Declared}
 use Rattle.smt_terms.specs.declared.library.Definition.{Definition}
-use Rattle.smt_terms.specs.declared.library.Found.{Found}
 use Rattle.smt_terms.specs.declared.library.Library.{Library}
 use Rattle.smt_terms.specs.declared.library.marks.Mark.{Mark}
 
@@ -24,14 +27,17 @@ declaration_view d =
     record { name = d.name; parameters = d.params.items; sort = d.result; command = d.command }
 
 -- the theories; the abbreviations, and the names with their ranks and with where they stand; the
--- declarations, the definitions and the terms; each in the order in which they came
+-- declarations, the definitions and the nodes of their bodies; the nodes and the trees of terms; each in the
+-- order in which they came
 pub record Contents : Type 0 where
   pub theories : Theories
   pub abbreviations : List (List ℕ × Sort)
   pub ranks : List (List ℕ × Rank)
-  pub places : List (List ℕ × Found)
+  pub heads : List (List ℕ × Head)
   pub declared : List Declaration
   pub definitions : List Definition
+  pub bodies : List ℕ
+  pub rows : List Row
   pub terms : List Sexp
 
 abbrev pub contents_of : Library → Contents
@@ -39,23 +45,31 @@ contents_of library = record {
   theories = library.sorts.theories;
   abbreviations = abbreviations_of library.sorts;
   ranks = ranks_of_library library;
-  places = places_of_library library;
+  heads = heads_of_library library;
   declared = map declaration_view library.declared.items;
   definitions = library.definitions.items;
+  bodies = library.bodies.items;
+  rows = rows_of library.nodes;
   terms = map sexp_of library.terms.items;
 }
 
+-- the table of terms that contents hold
+abbrev pub terms_in : Contents → Table
+terms_in c = record { theories = c.theories; heads = c.heads; bodies = c.bodies; rows = c.rows }
+
 -- ---- beginnings
 
--- the first so many of each
+-- the first so many of each: of the bodies as many as of the definitions
 abbrev pub first_of : Mark → Contents → Contents
 first_of mark c = record {
   theories = c.theories;
   abbreviations = take mark.abbreviations c.abbreviations;
   ranks = take mark.names c.ranks;
-  places = take mark.names c.places;
+  heads = take mark.names c.heads;
   declared = take mark.declared c.declared;
   definitions = take mark.definitions c.definitions;
+  bodies = take mark.definitions c.bodies;
+  rows = take mark.nodes c.rows;
   terms = take mark.terms c.terms;
 }
 
@@ -63,9 +77,11 @@ first_of mark c = record {
 pub record IsWithin (mark : Mark) (c : Contents) : Type 0 where
   pub abbreviations : mark.abbreviations ≤ length c.abbreviations
   pub ranks : mark.names ≤ length c.ranks
-  pub places : mark.names ≤ length c.places
+  pub heads : mark.names ≤ length c.heads
   pub declared : mark.declared ≤ length c.declared
   pub definitions : mark.definitions ≤ length c.definitions
+  pub bodies : mark.definitions ≤ length c.bodies
+  pub rows : mark.nodes ≤ length c.rows
   pub terms : mark.terms ≤ length c.terms
 
 -- the first mark counts no more of any than the second
@@ -74,6 +90,7 @@ pub record IsBelow (mark later : Mark) : Type 0 where
   pub names : mark.names ≤ later.names
   pub declared : mark.declared ≤ later.declared
   pub definitions : mark.definitions ≤ later.definitions
+  pub nodes : mark.nodes ≤ later.nodes
   pub terms : mark.terms ≤ later.terms
 
 -- the second contents are the first, and perhaps more of each behind them
@@ -81,7 +98,9 @@ pub record Extends (c d : Contents) : Type 0 where
   pub theories : d.theories ≡ c.theories
   pub abbreviations : (more : List (List ℕ × Sort)) × (d.abbreviations ≡ c.abbreviations ++ more)
   pub ranks : (more : List (List ℕ × Rank)) × (d.ranks ≡ c.ranks ++ more)
-  pub places : (more : List (List ℕ × Found)) × (d.places ≡ c.places ++ more)
+  pub heads : (more : List (List ℕ × Head)) × (d.heads ≡ c.heads ++ more)
   pub declared : (more : List Declaration) × (d.declared ≡ c.declared ++ more)
   pub definitions : (more : List Definition) × (d.definitions ≡ c.definitions ++ more)
+  pub bodies : (more : List ℕ) × (d.bodies ≡ c.bodies ++ more)
+  pub rows : (more : List Row) × (d.rows ≡ c.rows ++ more)
   pub terms : (more : List Sexp) × (d.terms ≡ c.terms ++ more)

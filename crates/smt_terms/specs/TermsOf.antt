@@ -5,8 +5,23 @@ use Rattle.std.specs.Prelude.{◌≡◌, ℕ, ◌+◌, List, [], ◌∷◌, fals
 use Rattle.smt_theory.specs.Operators.{is_plain_operator}
 use Rattle.smt_trees.specs.Sexp.{Sexp}
 use Rattle.smt_terms.specs.Denotes.{Denotes, Head, Table, slots_from}
-use Rattle.smt_terms.specs.Library.{place_behind, with_declared, with_defined}
 use Rattle.smt_terms.specs.Signature.{Entry, Origin, Declared, Defined, Signature}
+use Rattle.smt_terms.specs.declared.library.Found.{Found}
+use Rattle.smt_terms.specs.declared.library.Found.TheVariants as place
+
+-- where an entry stands behind so many that are declared, and so many that are defined
+abbrev pub place_behind : ℕ → ℕ → Origin → Found
+place_behind declared defined (Declared command) = place.Declared declared
+place_behind declared defined (Defined parameters body) = place.Defined defined
+
+-- how many are declared, and how many defined, with one more
+abbrev pub with_declared : ℕ → Origin → ℕ
+with_declared n (Declared command) = n + 1
+with_declared n (Defined parameters body) = n
+
+abbrev pub with_defined : ℕ → Origin → ℕ
+with_defined n (Declared command) = n
+with_defined n (Defined parameters body) = n + 1
 
 -- the names of entries, where each stands, behind so many that are declared, and so many that are defined,
 -- and how many arguments it takes

@@ -6,17 +6,19 @@ ghost use Rattle.smt_forms.specs.NamesIn.{names_in};
 
 use smt_faults::Memory;
 use smt_forms::NameSet;
+use smt_nodes::TermId;
 use smt_theory::Sort;
 use smt_trees::Tree;
 use std::alloc::Global;
 use std::mem;
 
-/// A label: its name, without bars, and the term that it names, with its sort.
+/// A label: its name, without bars, and the term that it names, with its sort and its node.
 #[derive(Drop)]
 pub(crate) struct Label {
     pub(crate) name: Vec<u8>,
     pub(crate) sort: Sort,
     pub(crate) body: Tree,
+    pub(crate) node: TermId,
 }
 
 /// The labels that were given so far, in order, or that none may be.
@@ -29,7 +31,7 @@ pub(crate) struct Labels<'a> {
 }
 
 impl<'a> Labels<'a> {
-    ghost use Rattle.std.specs.Prelude.{◌≡◌, ◌++◌, ◌∷◌, [], OnOk};
+    ghost use Rattle.std.specs.Prelude.{◌≡◌, ◌++◌, ◌∷◌, [], OnErr, OnOk};
     ghost use Rattle.smt_trees.specs.Tree.{sexp_of};
     ghost use Rattle.smt_terms.specs.Internal.LabelsView.{given_names, labels_view};
     ghost use Rattle.smt_terms.specs.Labels as spec;
@@ -81,23 +83,26 @@ impl<'a> Labels<'a> {
         labels.given
     }
 
-    /// Adds a label of a term of this sort.
+    /// Adds a label of a term of this sort, whose node this is.
     pub(crate) fn push(
         &mut self,
         alloc: Global,
         name: &'a [u8],
         sort: Sort,
         term: &Tree,
+        node: TermId,
     ) -> Result<(), Memory>
         ensures pushed { OnOk result
             ((l : Label) × (self.new.given.items ≡ self.old.given.items ++ l ∷ []) × (l.name.items ≡ name.now)
-            × (l.sort ≡ sort) × (sexp_of l.body ≡ sexp_of term.now)) }
+            × (l.sort ≡ sort) × (sexp_of l.body ≡ sexp_of term.now) × (l.node ≡ node)) }
+        ensures unchanged { OnErr result (self.new.given.items ≡ self.old.given.items) }
         ensures refuses { self.new.refused ≡ self.old.refused }
     {
         let label = Label {
             name: Vec::from_slice(alloc, name)?,
             sort,
             body: term.copy(alloc)?,
+            node,
         };
         self.given.push(label)?;
         match self.names.insert(name) {

@@ -13,6 +13,6 @@ pub mod laws;
 mod library;
 mod sorts;
 
-pub use library::{Declared, Definition, Found, Library, Mark, TermId};
+pub use library::{Declared, Definition, Found, Library, Mark, TermId, TreeId};
 pub use smt_faults::TermFault;
 pub use smt_forms::Param;

@@ -1,7 +1,7 @@
 //! The names in force, in the order in which they came, where each stands, and the terms that were checked
 //! over them.
 
-ghost use Rattle.std.specs.Prelude.{bytes_eq};
+ghost use Rattle.std.specs.Prelude.{◌≡◌, length, bytes_eq};
 ghost use Rattle.std.specs.List.{IsDistinct};
 ghost use Rattle.std.proofs.Props.{props};
 ghost use Rattle.indexmap.specs.IndexMap.{keys};
@@ -11,6 +11,7 @@ pub use marks::Mark;
 mod assertions;
 mod binders;
 mod checker;
+mod closing;
 mod definitions;
 mod draft;
 mod freshness;
@@ -20,10 +21,10 @@ mod params;
 mod scope;
 
 use crate::labels::Labels;
-use crate::library::draft::Draft;
 use crate::sorts::SortNames;
 use indexmap::IndexMap;
 use smt_faults::{Memory, TermFault};
+use smt_nodes::{Node, Nodes};
 use smt_theory::{Sort, Theories};
 use smt_trees::Tree;
 use std::alloc::Global;
@@ -71,13 +72,39 @@ pub struct Definition {
     /// The sort of its result, and of its body.
     pub result: Sort,
     /// Its body, over the earlier names and the parameters.
-    pub body: TermId,
+    pub body: TreeId,
 }
 
-/// The number of a term that a library has checked. It means something in that library alone.
+/// The number of a tree that a library holds. It means something in that library alone.
+#[derive(Clone, Copy, Debug, PartialEq, Eq)]
+pub struct TreeId {
+    number: usize,
+}
+
+/// The number of a term that a library has checked: that of its tree, and that of its node. It means
+/// something in that library alone.
 #[derive(Clone, Copy, Debug, PartialEq, Eq)]
 pub struct TermId {
-    number: usize,
+    tree: TreeId,
+    node: smt_nodes::TermId,
+}
+
+impl TermId {
+    ghost use Rattle.std.specs.Prelude.{◌≡◌};
+
+    /// The number of its tree.
+    pub fn tree(self) -> TreeId
+        ensures { result ≡ self.tree }
+    {
+        self.tree
+    }
+
+    /// The number of its node.
+    pub fn node(self) -> smt_nodes::TermId
+        ensures { result ≡ self.node }
+    {
+        self.node
+    }
 }
 
 /// The names of a signature in order of insertion, abbreviations of sorts, and terms over the names. No name
@@ -89,14 +116,21 @@ pub struct Library {
     names: IndexMap<Vec<u8>, Entry>,
     declared: Vec<Declared>,
     definitions: Vec<Definition>,
+    bodies: Vec<smt_nodes::TermId>,
+    nodes: Nodes,
     terms: Vec<Tree>,
     ghost distinct: { IsDistinct (λ a b. bytes_eq a.items b.items) (keys names) } by { Prim.hlevel props },
+    ghost paired: { length bodies.items ≡ length definitions.items } by { Prim.hlevel props },
 }
 
 impl Library {
     ghost use Rattle.std.specs.Prelude.{◌≡◌, ◌<◌, ◌∷◌, ◌++◌, [], map, slice_get, option_copied, option_map};
     ghost use Rattle.std.specs.Prelude.{Some, None, Ok, Err, MatchOption, MatchResult, OnOk, OnErr, IfOk};
-    ghost use Rattle.std.specs.Prelude.{IfErr};
+    ghost use Rattle.std.specs.Prelude.{IfErr, false};
+    ghost use Rattle.smt_nodes.specs.Node.{Row};
+    ghost use Rattle.smt_nodes.specs.NodeView.{node_view};
+    ghost use Rattle.smt_nodes.specs.Nodes.{rows_of};
+    ghost use Rattle.smt_theory.specs.Operators.{is_plain_operator};
     ghost use Rattle.smt_trees.specs.Sexp.{Sexp};
     ghost use Rattle.smt_trees.specs.Tree.{sexp_of, sexps_of};
     ghost use Rattle.smt_theory.specs.Words.{look_up};
@@ -104,8 +138,10 @@ impl Library {
     ghost use Rattle.smt_terms.specs.Contents.{Extends, contents_of, declaration_view};
     ghost use Rattle.smt_terms.specs.Internal.LibraryView.{names_of_library, places_of_library, rank_of};
     ghost use Rattle.smt_terms.specs.Internal.LibraryView.{ranks_of_library, sort_names};
-    ghost use Rattle.smt_terms.specs.Library.{AreDefinitions, IsFound, IsTerm, IsUnchanged, StandsFor};
-    ghost use Rattle.smt_terms.specs.Library.{declarations_from};
+    ghost use Rattle.smt_terms.specs.Internal.Growing.{KeepsNames};
+    ghost use Rattle.smt_terms.specs.Internal.TableView.{head_of, heads_of_library};
+    ghost use Rattle.smt_terms.specs.Library.{AreDefinitions, IsFound, IsTerm, IsTree, IsUnchanged};
+    ghost use Rattle.smt_terms.specs.Library.{StandsFor, declarations_from, terms_of};
     ghost use Rattle.smt_terms.specs.Library.{defined_among, definitions_of, name_count};
     ghost use Rattle.smt_terms.specs.Signature as signature;
     ghost use Rattle.smt_terms.specs.Declarations.{abbreviated_in, declaration, declared_in, rank_named};
@@ -125,6 +161,8 @@ impl Library {
             names: IndexMap::new(alloc),
             declared: Vec::new(alloc),
             definitions: Vec::new(alloc),
+            bodies: Vec::new(alloc),
+            nodes: Nodes::new(alloc),
             terms: Vec::new(alloc),
         }
     }
@@ -230,44 +268,70 @@ impl Library {
         ensures kept { IsUnchanged self.old self.new }
         ensures grown { Extends (contents_of self.old) (contents_of self.new) }
     {
-        let mut draft = Draft::new(self.alloc, Labels::refused(self.alloc));
-        let checked = self.sort_of(&mut draft, term)?;
-        Ok((self.add_term(term)?, checked.sort))
+        let (checked, _) = self.check_whole(&[], Labels::refused(self.alloc), term)?;
+        let tree = self.add_tree(term)?;
+        let id = TermId {
+            tree,
+            node: checked.node,
+        };
+        Ok((id, checked.sort))
     }
 
-    /// The term of this number, which is one of this library.
-    pub fn tree(&self, term: TermId) -> &Tree
+    /// The tree of this number, which is one of this library.
+    pub fn tree(&self, tree: TreeId) -> &Tree
+        requires { (t : Sexp) × IsTree self.now tree t }
+        ensures { (t : Sexp) → IsTree self.now tree t → sexp_of result.now ≡ t }
+    {
+        &self.terms.as_slice()[tree.number]
+    }
+
+    /// The node of a term, which is one of this library.
+    pub fn node(&self, term: TermId) -> Node<'_>
         requires { (t : Sexp) × IsTerm self.now term t }
-        ensures { (t : Sexp) → IsTerm self.now term t → sexp_of result.now ≡ t }
+        ensures { (row : Row) × (slice_get (terms_of self.now).rows term.node ≡ Some row)
+            × (node_view result ≡ row.node) }
     {
-        &self.terms.as_slice()[term.number]
+        match self.nodes.get(term.node.number()) {
+            Some(node) => node,
+            None => unreachable!(),
+        }
     }
 
-    // Adds a copy of a term.
-    pub(super) fn add_term(&mut self, term: &Tree) -> Result<TermId, Memory>
-        ensures term { IfOk result (λ i. IsTerm self.new i (sexp_of term.now)) }
-        ensures kept { IsUnchanged self.old self.new }
-        ensures names { names_of_library self.new ≡ names_of_library self.old }
-        ensures sorts { self.new.sorts ≡ self.old.sorts }
-        ensures grown { Extends (contents_of self.old) (contents_of self.new) }
+    /// The nodes of all terms.
+    pub fn nodes(&self) -> &Nodes
+        ensures { rows_of result.now ≡ (terms_of self.now).rows }
     {
-        match term.copy(self.alloc) {
-            Ok(copy) => self.push_term(copy),
+        &self.nodes
+    }
+
+    /// The nodes that are the bodies of the definitions, in order.
+    pub fn bodies(&self) -> &[smt_nodes::TermId]
+        ensures { result.now ≡ (terms_of self.now).bodies }
+    {
+        self.bodies.as_slice()
+    }
+
+    // Adds a copy of a tree.
+    pub(super) fn add_tree(&mut self, tree: &Tree) -> Result<TreeId, Memory>
+        ensures tree { IfOk result (λ i. IsTree self.new i (sexp_of tree.now)) }
+        ensures kept { KeepsNames (contents_of self.old) (contents_of self.new) }
+        ensures sorts { self.new.sorts ≡ self.old.sorts }
+    {
+        match tree.copy(self.alloc) {
+            Ok(copy) => self.push_tree(copy),
             Err(_) => Err(Memory),
         }
     }
 
-    // Adds a term.
-    fn push_term(&mut self, term: Tree) -> Result<TermId, Memory>
-        ensures term { IfOk result (λ i. IsTerm self.new i (sexp_of term)) }
-        ensures kept { IsUnchanged self.old self.new }
-        ensures names { names_of_library self.new ≡ names_of_library self.old }
+    // Adds a tree.
+    pub(super) fn push_tree(&mut self, tree: Tree) -> Result<TreeId, Memory>
+        ensures tree { IfOk result (λ i. IsTree self.new i (sexp_of tree)) }
+        ensures kept { KeepsNames (contents_of self.old) (contents_of self.new) }
         ensures sorts { self.new.sorts ≡ self.old.sorts }
-        ensures grown { Extends (contents_of self.old) (contents_of self.new) }
     {
         let number = self.terms.len();
-        self.terms.push(term)?;
-        Ok(TermId { number })
+        self.terms.push(tree)?;
+        Ok(TreeId { number })
     }
 
     // What a name stands for.
@@ -337,6 +401,7 @@ impl Library {
     #[tactic(auto, using(crate::proofs::ContentsLemmas::extends_itself))]
     fn add_declared(&mut self, name: &[u8], declared: Declared) -> Result<(), Memory>
         requires absent { look_up (names_of_library self.old).ranks name.now ≡ None }
+        requires free { is_plain_operator self.old.sorts.theories name.now ≡ false }
         requires next { declared.name ≡ name_count self.old }
         ensures added { OnOk result ((s : Signature) → StandsFor self.old s
             → StandsFor self.new (with_entry s
@@ -365,14 +430,16 @@ impl Library {
         requires { look_up (names_of_library self.old).ranks name.now ≡ None }
         ensures ranks { OnOk result
             (ranks_of_library self.new ≡ ranks_of_library self.old ++ (name.now, rank_of entry) ∷ []) }
-        ensures places { OnOk result
-            (places_of_library self.new ≡ places_of_library self.old ++ (name.now, entry.place) ∷ []) }
+        ensures heads { OnOk result
+            (heads_of_library self.new ≡ heads_of_library self.old ++ (name.now, head_of entry) ∷ []) }
         ensures unchanged { OnErr result
             ((ranks_of_library self.new ≡ ranks_of_library self.old)
-            × (places_of_library self.new ≡ places_of_library self.old)) }
+            × (heads_of_library self.new ≡ heads_of_library self.old)) }
         ensures sorts { self.new.sorts ≡ self.old.sorts }
         ensures declared { self.new.declared.items ≡ self.old.declared.items }
         ensures definitions { self.new.definitions.items ≡ self.old.definitions.items }
+        ensures bodies { self.new.bodies.items ≡ self.old.bodies.items }
+        ensures nodes { self.new.nodes ≡ self.old.nodes }
         ensures terms { self.new.terms.items ≡ self.old.terms.items }
     {
         let key = Vec::from_slice(self.alloc, name)?;

@@ -1,22 +1,22 @@
 //! Assertions: a term that is checked with its labels, which become names. Which level it stands at is not
 //! known here.
 
-ghost use Rattle.std.specs.Prelude.{◌≡◌, ◌⊎◌, ◌∷◌, ◌++◌, List, [], None, Ok, Err, map, IfErr, IfOk, OnErr};
+ghost use Rattle.std.specs.Prelude.{◌≡◌, ◌⊎◌, ◌∷◌, ◌++◌, ℕ, List, [], None, Ok, Err, map, IfErr, IfOk, OnErr};
 ghost use Rattle.std.specs.Prelude.{OnOk};
 ghost use Rattle.smt_trees.specs.Tree.{sexp_of};
 ghost use Rattle.smt_theory.specs.Words.{look_up};
 ghost use Rattle.smt_terms.specs.Assertions.{asserted_in};
 ghost use Rattle.smt_terms.specs.Contents.{Extends, contents_of};
+ghost use Rattle.smt_terms.specs.Internal.Growing.{AreFitUnder, HoldsUnder, IsFitUnder};
 ghost use Rattle.smt_terms.specs.Internal.LabelsView.{AreNew, label_entry};
 ghost use Rattle.smt_terms.specs.Internal.LibraryView.{ranks_of_library};
-ghost use Rattle.smt_terms.specs.Library.{IsTerm, IsUnchanged, StandsFor};
+ghost use Rattle.smt_terms.specs.Library.{IsTerm, IsTree, IsUnchanged, StandsFor};
 ghost use Rattle.smt_terms.specs.Signature as signature;
 ghost use Rattle.smt_terms.specs.Signature.{Signature, names_of, rank_of_entry, with_entries, with_entry};
 ghost use Rattle.smt_faults.specs.Outcome.{Tells};
 
 use crate::labels::{Label, Labels};
-use crate::library::draft::Draft;
-use crate::library::{Library, TermId};
+use crate::library::{Library, TermId, TreeId};
 use crate::sorts::are_equal;
 use smt_faults::{Memory, TermFault};
 use smt_theory::Sort;
@@ -37,22 +37,23 @@ impl Library {
             ((s : Signature) → StandsFor self.old s → (labels : List signature.Entry)
             × (asserted_in (names_of s) (sexp_of term) ≡ Ok labels)
             × StandsFor self.new (with_entries s labels)) }
-        ensures term { IfOk result (λ i. IsTerm self.new i (sexp_of term)) }
+        ensures term { IfOk result (λ i. (s : Signature) → StandsFor self.old s
+            → IsTerm self.new i (sexp_of term)) }
         ensures refused { IfErr result (λ fault. (s : Signature) → StandsFor self.old s
             → Tells (asserted_in (names_of s) (sexp_of term)) fault) }
         ensures unchanged { OnErr result (IsUnchanged self.old self.new) }
         ensures grown { Extends (contents_of self.old) (contents_of self.new) }
     {
-        let mut draft = Draft::new(self.alloc, Labels::new(self.alloc));
-        let checked = self.sort_of(&mut draft, &term)?;
+        let (checked, given) = self.check_whole(&[], Labels::new(self.alloc), &term)?;
         if !are_equal(checked.sort, Sort::Bool) {
             return Err(TermFault::IllSorted);
         }
-        let given = draft.labels.take_given(self.alloc);
-        drop(draft);
         let mark = self.mark();
         match self.add_assertion(given.as_slice(), term) {
-            Ok(term) => Ok(term),
+            Ok(tree) => Ok(TermId {
+                tree,
+                node: checked.node,
+            }),
             Err(Memory) => {
                 self.cut(mark);
                 Err(TermFault::Memory)
@@ -67,7 +68,8 @@ impl Library {
             ((s : Signature) → StandsFor self.old s → (labels : List signature.Entry)
             × (asserted_in (names_of s) (sexp_of term.now) ≡ Ok labels)
             × StandsFor self.new (with_entries s labels)) }
-        ensures term { IfOk result (λ i. IsTerm self.new i (sexp_of term.now)) }
+        ensures term { IfOk result (λ i. (s : Signature) → StandsFor self.old s
+            → IsTerm self.new i (sexp_of term.now)) }
         ensures refused { IfErr result (λ fault. (s : Signature) → StandsFor self.old s
             → Tells (asserted_in (names_of s) (sexp_of term.now)) fault) }
         ensures unchanged { OnErr result (IsUnchanged self.old self.new) }
@@ -77,17 +79,20 @@ impl Library {
         self.assert(copy)
     }
 
-    // Adds the term of an assertion, and the labels that it gave. Where memory is refused, some of them may
+    // Adds the tree of an assertion, and the labels that it gave. Where memory is refused, some of them may
     // have been added.
-    fn add_assertion(&mut self, labels: &[Label], term: Tree) -> Result<TermId, Memory>
+    fn add_assertion(&mut self, labels: &[Label], tree: Tree) -> Result<TreeId, Memory>
         requires { AreNew (ranks_of_library self.old) labels.now }
-        ensures added { OnOk result
-            ((s : Signature) → StandsFor self.old s
-            → StandsFor self.new (with_entries s (map label_entry labels.now))) }
-        ensures term { IfOk result (λ i. IsTerm self.new i (sexp_of term)) }
+        ensures added { OnOk result ((bodies : List ℕ) (s : Signature)
+            → HoldsUnder bodies (contents_of self.old) s
+            → AreFitUnder bodies (contents_of self.old) s labels.now
+            → HoldsUnder bodies (contents_of self.new) (with_entries s (map label_entry labels.now))) }
+        ensures bodies { OnOk result
+            (self.new.bodies.items ≡ self.old.bodies.items ++ map (λ l. l.node) labels.now) }
+        ensures tree { IfOk result (λ i. IsTree self.new i (sexp_of tree)) }
         ensures grown { Extends (contents_of self.old) (contents_of self.new) }
     {
-        let number = self.push_term(term)?;
+        let number = self.push_tree(tree)?;
         self.add_labels(labels)?;
         Ok(number)
     }
@@ -96,9 +101,12 @@ impl Library {
     // been added.
     fn add_labels(&mut self, labels: &[Label]) -> Result<(), Memory>
         requires { AreNew (ranks_of_library self.old) labels.now }
-        ensures added { OnOk result
-            ((s : Signature) → StandsFor self.old s
-            → StandsFor self.new (with_entries s (map label_entry labels.now))) }
+        ensures added { OnOk result ((bodies : List ℕ) (s : Signature)
+            → HoldsUnder bodies (contents_of self.old) s
+            → AreFitUnder bodies (contents_of self.old) s labels.now
+            → HoldsUnder bodies (contents_of self.new) (with_entries s (map label_entry labels.now))) }
+        ensures bodies { OnOk result
+            (self.new.bodies.items ≡ self.old.bodies.items ++ map (λ l. l.node) labels.now) }
         ensures grown { Extends (contents_of self.old) (contents_of self.new) }
     {
         let mut left = labels;
@@ -111,16 +119,18 @@ impl Library {
 
     fn add_label(&mut self, label: &Label) -> Result<(), Memory>
         requires { look_up (ranks_of_library self.old) label.now.name.items ≡ None }
-        ensures added { OnOk result
-            ((s : Signature) → StandsFor self.old s
-            → StandsFor self.new (with_entry s (label_entry label.now))) }
+        ensures added { OnOk result ((bodies : List ℕ) (s : Signature)
+            → HoldsUnder bodies (contents_of self.old) s
+            → IsFitUnder bodies (contents_of self.old) s label.now
+            → HoldsUnder bodies (contents_of self.new) (with_entry s (label_entry label.now))) }
         ensures ranks { OnOk result
             (ranks_of_library self.new
             ≡ ranks_of_library self.old ++ (label.now.name.items, rank_of_entry (label_entry label.now))
             ∷ []) }
+        ensures bodies { OnOk result (self.new.bodies.items ≡ self.old.bodies.items ++ label.now.node ∷ []) }
         ensures grown { Extends (contents_of self.old) (contents_of self.new) }
     {
-        let body = self.add_term(&label.body)?;
-        self.insert_definition(label.name.as_slice(), &[], label.sort, body)
+        let body = self.add_tree(&label.body)?;
+        self.insert_definition(label.name.as_slice(), &[], label.sort, body, label.node)
     }
 }

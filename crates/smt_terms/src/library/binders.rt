@@ -1,7 +1,7 @@
-//! The sorts of terms that bind variables, and of annotated ones, whose labels are kept. This file adds no
-//! name to a library.
+//! The sorts and the nodes of terms that bind variables, and of annotated ones, whose labels are kept. This
+//! file adds no name to a library.
 
-ghost use Rattle.std.specs.Prelude.{◌≡◌, ◌∷◌, [], true, map, IfOk, OnOk};
+ghost use Rattle.std.specs.Prelude.{◌≡◌, ◌+◌, ◌++◌, ◌∷◌, ℕ, List, [], true, length, map, IfOk, OnOk};
 ghost use Rattle.smt_trees.specs.Sexp.{Cons, Items, Reserved};
 ghost use Rattle.smt_trees.specs.Tree.{sexp_of, sexps_of};
 ghost use Rattle.smt_trees.specs.declared.reserved.Word.TheVariants.{Bang, Let};
@@ -15,20 +15,26 @@ ghost use Rattle.smt_terms.specs.Internal.Calls.{TellsOfLabel, TellsOfLabels, ha
 ghost use Rattle.smt_terms.specs.Internal.DraftView.{IsPlaced, are_open_bindings, is_open, seen_by, sorts_seen};
 ghost use Rattle.smt_terms.specs.Internal.LabelsView.{AreGiven, labels_view};
 ghost use Rattle.smt_terms.specs.Internal.LibraryView.{names_for, names_of_library};
+ghost use Rattle.smt_terms.specs.Denotes.{Denotes, Table};
+ghost use Rattle.smt_terms.specs.Internal.NodesView.{BindingsStand, GrowsTo, Stands, nodes_given};
+ghost use Rattle.smt_terms.specs.Internal.TableView.{AreNamed};
 ghost use Rattle.smt_faults.specs.Outcome.{IsOutcome};
 
 use crate::labels::Labels;
 use crate::library::Library;
+use crate::library::checker::FEW;
 use crate::library::draft::{Checked, Draft};
 use crate::library::scope::push_variable;
+use smallvec::SmallVec;
 use smt_faults::TermFault;
 use smt_forms::{NameSet, Variable, are_attributes, are_named, label_at, split_let, split_named};
+use smt_nodes::{Node, TermId};
 use smt_theory::Sort;
 use smt_trees::{Tree, split_first};
 
 impl Library {
-    // The sort of a `let` (SMT-LIB 2.6, section 3.6.1), by what stands behind its word. Its variables come
-    // before those around it.
+    // The sort and the node of a `let` (SMT-LIB 2.6, section 3.6.1), by what stands behind its word. Its
+    // variables come before those around it.
     #[cycle(check)]
     pub(super) fn sort_of_let<'a>(
         &self,
@@ -42,6 +48,9 @@ impl Library {
         ensures kept { OnOk result (SeesTheSame draft.old draft.new) }
         ensures open { IfOk result (λ c. c.is_open
             ≡ is_open draft.old (Items (Cons (Reserved Let) (sexps_of args.now)))) }
+        ensures node { IfOk result (Stands self.now draft.old draft.new
+            (Items (Cons (Reserved Let) (sexps_of args.now)))) }
+        ensures longer { GrowsTo draft.old draft.new }
     {
         let Some((bindings, body)) = split_let(args) else {
             return Err(TermFault::Form);
@@ -50,24 +59,25 @@ impl Library {
             return Err(TermFault::Form);
         }
         let outer = draft.scope.len();
-        let (bound, is_open) = self.bound_by(draft, bindings)?;
+        let (bound, is_open, values) = self.bound_by(draft, bindings)?;
         draft.bind(bound.as_slice())?;
         let checked = self.sort_of(draft, body)?;
         draft.scope.cut(outer);
-        Ok(Checked {
-            sort: checked.sort,
-            is_open: is_open | checked.is_open,
-        })
+        let node = Node::Let {
+            values: values.as_slice(),
+            body: checked.node,
+        };
+        Ok(draft.push(&node, &checked.sort, is_open | checked.is_open)?)
     }
 
-    // The variables that bindings bring, with the sorts of their terms, which do not see these variables; and
-    // whether one of the terms uses a variable that stands outside.
+    // The variables that bindings bring, with the sorts of their terms, which do not see these variables;
+    // whether one of the terms uses a variable that stands outside; and the nodes of the terms.
     #[cycle(check)]
     fn bound_by<'a>(
         &self,
         draft: &mut Draft<'a>,
         bindings: &'a [Tree],
-    ) -> Result<(Vec<Variable<'a, Sort>>, bool), TermFault>
+    ) -> Result<(Vec<Variable<'a, Sort>>, bool, SmallVec<TermId, FEW>), TermFault>
         requires placed { IsPlaced (seen_by draft.old) draft.old.base }
         requires named { are_named_trees (sexps_of bindings.now) ≡ true }
         ensures bound { IsOutcome (λ found. scope_view found.0.items)
@@ -78,9 +88,14 @@ impl Library {
             (labels_in_bindings (sexps_of bindings.now))) }
         ensures kept { OnOk result (SeesTheSame draft.old draft.new) }
         ensures open { IfOk result (λ found. found.1 ≡ are_open_bindings draft.old (sexps_of bindings.now)) }
+        ensures nodes { IfOk result (λ found. BindingsStand self.now draft.old draft.new
+            (sexps_of bindings.now) found.2.items found.1) }
+        ensures longer { GrowsTo draft.old draft.new }
     {
         let mut names = NameSet::new(self.alloc);
         let mut bound = Vec::new(self.alloc);
+        let mut nodes = SmallVec::new(self.alloc);
+        nodes.reserve(bindings.len())?;
         let mut is_open = false;
         let mut left = bindings;
         while let Some((name, term, rest)) = split_named(left) {
@@ -90,14 +105,15 @@ impl Library {
             let checked = self.sort_of(draft, term)?;
             names.insert(name)?;
             push_variable(&mut bound, name, checked.sort)?;
+            nodes.push_reserved(checked.node);
             is_open |= checked.is_open;
             left = rest;
         }
-        Ok((bound, is_open))
+        Ok((bound, is_open, nodes))
     }
 
-    // The sort of an annotated term (SMT-LIB 2.6, section 3.6.5), by what stands behind the `!`: that of the
-    // term.
+    // The sort and the node of an annotated term (SMT-LIB 2.6, section 3.6.5), by what stands behind the `!`:
+    // those of the term, with one annotation more round it, unless that has a label.
     #[cycle(check)]
     pub(super) fn sort_of_annotated<'a>(
         &self,
@@ -111,6 +127,9 @@ impl Library {
         ensures kept { OnOk result (SeesTheSame draft.old draft.new) }
         ensures open { IfOk result (λ c. c.is_open
             ≡ is_open draft.old (Items (Cons (Reserved Bang) (sexps_of args.now)))) }
+        ensures node { IfOk result (Stands self.now draft.old draft.new
+            (Items (Cons (Reserved Bang) (sexps_of args.now)))) }
+        ensures longer { GrowsTo draft.old draft.new }
     {
         let Some((term, attributes)) = split_first(args) else {
             return Err(TermFault::Form);
@@ -121,11 +140,13 @@ impl Library {
         if has_label(attributes) {
             self.sort_of_labelled(draft, term, attributes)
         } else {
-            self.sort_of(draft, term)
+            let checked = self.sort_of(draft, term)?;
+            Ok(draft.annotate(checked)?)
         }
     }
 
-    // The sort of a term whose attributes give it a label: it may use no variable that stands outside it.
+    // The sort of a term whose attributes give it a label: it may use no variable that stands outside it. Its
+    // node is the name that the first label gives to it.
     #[cycle(check)]
     fn sort_of_labelled<'a>(
         &self,
@@ -143,16 +164,17 @@ impl Library {
         ensures kept { OnOk result (SeesTheSame draft.old draft.new) }
         ensures open { IfOk result (λ c. c.is_open ≡ is_open draft.old
             (Items (Cons (Reserved Bang) (Cons (sexp_of term.now) (sexps_of attributes.now))))) }
+        ensures node { IfOk result (Stands self.now draft.old draft.new
+            (Items (Cons (Reserved Bang) (Cons (sexp_of term.now) (sexps_of attributes.now))))) }
+        ensures longer { GrowsTo draft.old draft.new }
     {
         let base = draft.base;
         draft.base = draft.scope.len();
         let checked = self.sort_of(draft, term)?;
+        let place = self.bodies.len() + draft.labels.given.len();
         self.give_labels(&mut draft.labels, term, &checked, attributes)?;
         draft.base = base;
-        Ok(Checked {
-            sort: checked.sort,
-            is_open: false,
-        })
+        Ok(draft.push(&Node::Defined { place, args: &[] }, &checked.sort, false)?)
     }
 
     // Gives the labels among attributes to a term that was checked, in order, or answers their first fault.
@@ -169,6 +191,11 @@ impl Library {
         ensures labels { OnOk result
             (AreGiven (names_of_library self.now) labels.old labels.new
             (map (λ x. (x, sexp_of term.now)) (labels_among (sexps_of attributes.now)))) }
+        ensures nodes { OnOk result (nodes_given labels.new ≡ nodes_given labels.old
+            ++ map (λ x. checked.now.node) (labels_among (sexps_of attributes.now))) }
+        ensures longer { (more : List ℕ) × (nodes_given labels.new ≡ nodes_given labels.old ++ more) }
+        ensures named { OnOk result ((t : Table) → AreNamed t labels.old.given.items
+            → Denotes t [] 0 0 checked.now.node (sexp_of term.now) → AreNamed t labels.new.given.items) }
     {
         let mut left = attributes;
         while let Some((tree, rest)) = split_first(left) {
@@ -194,6 +221,11 @@ impl Library {
         ensures labels { OnOk result
             (AreGiven (names_of_library self.now) labels.old labels.new
             (map (λ x. (x, sexp_of term.now)) (label_of_tree (sexp_of tree.now) (sexps_of rest.now)))) }
+        ensures nodes { OnOk result (nodes_given labels.new ≡ nodes_given labels.old
+            ++ map (λ x. checked.now.node) (label_of_tree (sexp_of tree.now) (sexps_of rest.now))) }
+        ensures longer { (more : List ℕ) × (nodes_given labels.new ≡ nodes_given labels.old ++ more) }
+        ensures named { OnOk result ((t : Table) → AreNamed t labels.old.given.items
+            → Denotes t [] 0 0 checked.now.node (sexp_of term.now) → AreNamed t labels.new.given.items) }
     {
         match label_at(tree, rest) {
             Some(name) => self.give_label(labels, term, checked, name),
@@ -214,6 +246,11 @@ impl Library {
             checked.now.is_open (sexp_of term.now) name.now result }
         ensures labels { OnOk result
             (AreGiven (names_of_library self.now) labels.old labels.new ((name.now, sexp_of term.now) ∷ [])) }
+        ensures nodes { OnOk result (nodes_given labels.new ≡ nodes_given labels.old
+            ++ map (λ x. checked.now.node) (name.now ∷ [])) }
+        ensures longer { (more : List ℕ) × (nodes_given labels.new ≡ nodes_given labels.old ++ more) }
+        ensures named { OnOk result ((t : Table) → AreNamed t labels.old.given.items
+            → Denotes t [] 0 0 checked.now.node (sexp_of term.now) → AreNamed t labels.new.given.items) }
     {
         if labels.are_refused() || checked.is_open {
             return Err(TermFault::Label);
@@ -221,7 +258,7 @@ impl Library {
         if self.is_in_use(labels, name) {
             return Err(TermFault::NotFresh);
         }
-        Ok(labels.push(self.alloc, name, checked.sort, term)?)
+        Ok(labels.push(self.alloc, name, checked.sort, term, checked.node)?)
     }
 }
 

@@ -1,42 +1,51 @@
-//! The sort checker: the sort of a term, or its first flaw. This file adds no name to a library, and knows no
-//! values.
+//! The sort checker: the sort and the node of a term, or its first flaw. This file adds no name to a library,
+//! and knows no values.
 
-ghost use Rattle.std.specs.Prelude.{◌≡◌, ◌*◌, false, length, Ok, Err, IfOk, MatchResult, OnOk};
-ghost use Rattle.smt_trees.specs.Sexp.{Atom, Items, Symbol};
+ghost use Rattle.std.specs.Prelude.{◌≡◌, ◌*◌, ◌++◌, ◌∷◌, [], false, length, Option, Some, Ok, Err, IfOk};
+ghost use Rattle.std.specs.Prelude.{MatchResult, OnOk};
+ghost use Rattle.smt_nodes.specs.Node.{Apply};
+ghost use Rattle.smt_nodes.specs.NodeView.{node_view};
+ghost use Rattle.smt_trees.specs.Sexp.{Atom, Binary, Hexadecimal, Items, Numeral, Symbol};
 ghost use Rattle.smt_trees.specs.Tree.{sexp_of, sexps_of};
 ghost use Rattle.smt_theory.specs.Ranks.{are_exactly};
 ghost use Rattle.smt_theory.specs.Width.{width_of};
 ghost use Rattle.smt_theory.specs.Words.{look_up};
 ghost use Rattle.smt_terms.specs.Checking as checking;
 ghost use Rattle.smt_terms.specs.Checking.{sorts_in, sort_of_name};
+ghost use Rattle.smt_terms.specs.Denotes as denotes;
+ghost use Rattle.smt_terms.specs.Denotes.{Head, applied_node, named_node};
 ghost use Rattle.smt_terms.specs.Internal.Calls.{GivesLabels, HasSort, SeesTheSame, names_variable};
 ghost use Rattle.smt_terms.specs.Internal.DraftView.{IsPlaced, are_open, is_open, seen_by, sorts_of, sorts_seen};
 ghost use Rattle.smt_forms.specs.ScopeOf.{scope_of};
 ghost use Rattle.smt_forms.specs.Identifier.{Plain};
 ghost use Rattle.smt_forms.specs.IdentifierView.{identifier_view};
 ghost use Rattle.smt_terms.specs.Internal.LabelsView.{AreGiven, labels_view};
-ghost use Rattle.smt_terms.specs.Internal.LibraryView.{names_for, names_of_library};
+ghost use Rattle.smt_terms.specs.Internal.LibraryView.{names_for, names_of_library, rank_of};
 ghost use Rattle.smt_forms.specs.Labels.{labels_in_all};
+ghost use Rattle.smt_terms.specs.Internal.NodesView.{AddsApplied, AddsNode, GrowsTo, IsNodeOf};
+ghost use Rattle.smt_terms.specs.Internal.NodesView.{Stands, TermsStand};
+ghost use Rattle.smt_terms.specs.Internal.TableView.{head_of};
 ghost use Rattle.smt_terms.specs.SortTrees.{bit_vectors, integers};
 ghost use Rattle.smt_faults.specs.Outcome.{IsOutcome};
 
 use crate::library::draft::{Bound, Checked, Draft};
-use crate::library::{Entry, Library};
+use crate::library::{Entry, Found, Library};
 use crate::sorts;
 use smallvec::SmallVec;
 use smt_faults::{TermFault, TermFlaw};
 use smt_forms::{
     Identifier, Scope, applied_identifier, indexed_identifier, is_bang, is_let, is_underscore,
 };
+use smt_nodes::{Node, TermId};
 use smt_theory::{Op, OpFault, Sort, Width, op_of, rank};
 use smt_trees::{Tree, Trees, split_first};
 
-// How many arguments' sorts are kept without memory of their own.
-const FEW: usize = 4;
+// How many arguments' sorts and nodes are kept without memory of their own.
+pub(super) const FEW: usize = 4;
 
 impl Library {
-    /// The sort of a term over these names and the variables that it sees, or its first fault. The variables
-    /// that it sees are then the same.
+    /// The sort and the node of a term over these names and the variables that it sees, or its first fault. The
+    /// variables that it sees are then the same. There may be more nodes, and more labels, at a fault too.
     #[cycle(check)]
     #[inline(always)]
     pub(crate) fn sort_of<'a>(
@@ -49,9 +58,11 @@ impl Library {
         ensures labels { GivesLabels self.now draft.old draft.new (sexp_of term.now) result }
         ensures kept { OnOk result (SeesTheSame draft.old draft.new) }
         ensures open { IfOk result (λ c. c.is_open ≡ is_open draft.old (sexp_of term.now)) }
+        ensures node { IfOk result (Stands self.now draft.old draft.new (sexp_of term.now)) }
+        ensures longer { GrowsTo draft.old draft.new }
     {
         match term {
-            Tree::Symbol(name) => Ok(self.sort_of_symbol(draft, name.as_slice())?),
+            Tree::Symbol(name) => self.sort_of_symbol(draft, name.as_slice()),
             _ => self.sort_of_other(draft, term),
         }
     }
@@ -64,16 +75,63 @@ impl Library {
         ensures labels { GivesLabels self.now draft.old draft.new (sexp_of term.now) result }
         ensures kept { OnOk result (SeesTheSame draft.old draft.new) }
         ensures open { IfOk result (λ c. c.is_open ≡ is_open draft.old (sexp_of term.now)) }
+        ensures node { IfOk result (Stands self.now draft.old draft.new (sexp_of term.now)) }
+        ensures longer { GrowsTo draft.old draft.new }
     {
         match term {
-            Tree::Symbol(name) => Ok(self.sort_of_symbol(draft, name.as_slice())?),
-            Tree::Numeral(_) => Ok(closed(self.sort_of_numeral()?)),
+            Tree::Symbol(name) => self.sort_of_symbol(draft, name.as_slice()),
+            Tree::Numeral(digits) => self.push_numeral(draft, digits.as_slice()),
             Tree::List(parts) => self.sort_of_list(draft, parts),
-            Tree::Hex(digits) => Ok(closed(self.sort_of_digits(4, digits.as_slice())?)),
-            Tree::Bin(digits) => Ok(closed(self.sort_of_digits(1, digits.as_slice())?)),
+            Tree::Hex(digits) => self.push_hex(draft, digits.as_slice()),
+            Tree::Bin(digits) => self.push_bin(draft, digits.as_slice()),
             Tree::Decimal(_) | Tree::Text(_) => Err(TermFault::Unsupported),
             Tree::Keyword(_) | Tree::Reserved(_) => Err(TermFault::Form),
         }
+    }
+
+    // The sort of a numeral, whose node is added. (The toolchain proves a function that lends a node only if it
+    // names the type of nodes' numbers: hence the empty list, here and below.)
+    fn push_numeral(&self, draft: &mut Draft<'_>, digits: &[u8]) -> Result<Checked, TermFault>
+        ensures sort { IsOutcome (λ c. c.sort) (integers (names_of_library self.now).theories) result }
+        ensures open { IfOk result (λ c. c.is_open ≡ false) }
+        ensures node { IfOk result (Stands self.now draft.old draft.new (Atom Numeral digits.now)) }
+        ensures longer { GrowsTo draft.old draft.new }
+        ensures scope { draft.new.scope ≡ draft.old.scope }
+        ensures base { draft.new.base ≡ draft.old.base }
+        ensures labels { draft.new.labels ≡ draft.old.labels }
+    {
+        let _: &[TermId] = &[];
+        push_literal(draft, &Node::Numeral(digits), self.sort_of_numeral())
+    }
+
+    // The sort of a hexadecimal literal, whose node is added.
+    fn push_hex(&self, draft: &mut Draft<'_>, digits: &[u8]) -> Result<Checked, TermFault>
+        ensures sort { IsOutcome (λ c. c.sort) (bit_vectors (names_of_library self.now).theories
+            (width_of (4 * length digits.now))) result }
+        ensures open { IfOk result (λ c. c.is_open ≡ false) }
+        ensures node { IfOk result (Stands self.now draft.old draft.new (Atom Hexadecimal digits.now)) }
+        ensures longer { GrowsTo draft.old draft.new }
+        ensures scope { draft.new.scope ≡ draft.old.scope }
+        ensures base { draft.new.base ≡ draft.old.base }
+        ensures labels { draft.new.labels ≡ draft.old.labels }
+    {
+        let _: &[TermId] = &[];
+        push_literal(draft, &Node::Hex(digits), self.sort_of_digits(4, digits))
+    }
+
+    // The sort of a binary literal, whose node is added.
+    fn push_bin(&self, draft: &mut Draft<'_>, digits: &[u8]) -> Result<Checked, TermFault>
+        ensures sort { IsOutcome (λ c. c.sort) (bit_vectors (names_of_library self.now).theories
+            (width_of (1 * length digits.now))) result }
+        ensures open { IfOk result (λ c. c.is_open ≡ false) }
+        ensures node { IfOk result (Stands self.now draft.old draft.new (Atom Binary digits.now)) }
+        ensures longer { GrowsTo draft.old draft.new }
+        ensures scope { draft.new.scope ≡ draft.old.scope }
+        ensures base { draft.new.base ≡ draft.old.base }
+        ensures labels { draft.new.labels ≡ draft.old.labels }
+    {
+        let _: &[TermId] = &[];
+        push_literal(draft, &Node::Bin(digits), self.sort_of_digits(1, digits))
     }
 
     fn sort_of_numeral(&self) -> Result<Sort, TermFlaw>
@@ -94,7 +152,7 @@ impl Library {
         sorts::bit_vectors(self.sorts.theories, width_of_digits(bits, digits))
     }
 
-    // The sort of the term that is a list of these parts.
+    // The sort and the node of the term that is a list of these parts.
     #[cycle(check)]
     fn sort_of_list<'a>(
         &self,
@@ -106,13 +164,15 @@ impl Library {
         ensures labels { GivesLabels self.now draft.old draft.new (Items parts.now) result }
         ensures kept { OnOk result (SeesTheSame draft.old draft.new) }
         ensures open { IfOk result (λ c. c.is_open ≡ is_open draft.old (Items parts.now)) }
+        ensures node { IfOk result (Stands self.now draft.old draft.new (Items parts.now)) }
+        ensures longer { GrowsTo draft.old draft.new }
     {
         let Some((head, args)) = split_first(parts.as_slice()) else {
             return Err(TermFault::Form);
         };
         if is_underscore(head) {
             let identifier = indexed_identifier(self.alloc, args)?;
-            return Ok(closed(self.sort_applied(&identifier, &[])?));
+            return self.sort_applied(draft, &identifier, &[], &[], false);
         }
         if is_let(head) {
             return self.sort_of_let(draft, args);
@@ -121,18 +181,23 @@ impl Library {
             return self.sort_of_annotated(draft, args);
         }
         let identifier = applied_identifier(self.alloc, head, args)?;
-        let (sorts, is_open) = self.sorts_of(draft, args)?;
-        let sort = self.sort_of_call(&draft.scope, &identifier, sorts.as_slice())?;
-        Ok(Checked { sort, is_open })
+        let (sorts, is_open, nodes) = self.sorts_of(draft, args)?;
+        self.sort_of_call(
+            draft,
+            &identifier,
+            sorts.as_slice(),
+            nodes.as_slice(),
+            is_open,
+        )
     }
 
-    // The sorts of terms, in order, and whether one of them uses a variable that stands outside.
+    // The sorts of terms, in order, whether one of them uses a variable that stands outside, and their nodes.
     #[cycle(check)]
     fn sorts_of<'a>(
         &self,
         draft: &mut Draft<'a>,
         terms: &'a [Tree],
-    ) -> Result<(SmallVec<Sort, FEW>, bool), TermFault>
+    ) -> Result<(SmallVec<Sort, FEW>, bool, SmallVec<TermId, FEW>), TermFault>
         requires { IsPlaced (seen_by draft.old) draft.old.base }
         ensures sorts { IsOutcome (λ found. found.0.items)
             (sorts_in (names_for self.now (labels_view draft.old.labels)) (sorts_seen draft.old)
@@ -142,108 +207,212 @@ impl Library {
             (labels_in_all (sexps_of terms.now))) }
         ensures kept { OnOk result (SeesTheSame draft.old draft.new) }
         ensures open { IfOk result (λ found. found.1 ≡ are_open draft.old (sexps_of terms.now)) }
+        ensures nodes { IfOk result (λ found. TermsStand self.now draft.old draft.new (sexps_of terms.now)
+            found.2.items found.1) }
+        ensures counted { IfOk result (λ found. length found.2.items ≡ length found.0.items) }
+        ensures longer { GrowsTo draft.old draft.new }
     {
         let mut sorts = SmallVec::new(self.alloc);
         sorts.reserve(terms.len())?;
+        let mut nodes = SmallVec::new(self.alloc);
+        nodes.reserve(terms.len())?;
         let mut is_open = false;
         let mut left = terms;
         while let Some((term, rest)) = split_first(left) {
             let checked = self.sort_of(draft, term)?;
             sorts.push_reserved(checked.sort);
+            nodes.push_reserved(checked.node);
             is_open |= checked.is_open;
             left = rest;
         }
-        Ok((sorts, is_open))
+        Ok((sorts, is_open, nodes))
     }
 
-    // The sort of a symbol alone: that of a variable, or else of a name or an operator without arguments.
+    // The sort and the node of a symbol alone: those of a variable, or else of a name or an operator without
+    // arguments.
     #[inline(always)]
-    fn sort_of_symbol(&self, draft: &Draft<'_>, name: &[u8]) -> Result<Checked, TermFlaw>
-        requires { IsPlaced (seen_by draft.now) draft.now.base }
-        ensures sort { MatchResult result
-            (λ c. checking.sort_of_symbol (names_of_library self.now) name.now
-            (look_up (sorts_seen draft.now) name.now) ≡ Ok c.sort)
-            (λ flaw. checking.sort_of_symbol (names_of_library self.now) name.now
-            (look_up (sorts_seen draft.now) name.now) ≡ Err flaw) }
-        ensures open { IfOk result (λ c. c.is_open ≡ is_open draft.now (Atom Symbol name.now)) }
+    fn sort_of_symbol(&self, draft: &mut Draft<'_>, name: &[u8]) -> Result<Checked, TermFault>
+        requires { IsPlaced (seen_by draft.old) draft.old.base }
+        ensures sort { IsOutcome (λ c. c.sort) (checking.sort_of_symbol (names_of_library self.now) name.now
+            (look_up (sorts_seen draft.old) name.now)) result }
+        ensures open { IfOk result (λ c. c.is_open ≡ is_open draft.old (Atom Symbol name.now)) }
+        ensures scope { draft.new.scope ≡ draft.old.scope }
+        ensures base { draft.new.base ≡ draft.old.base }
+        ensures labels { draft.new.labels ≡ draft.old.labels }
+        ensures node { IfOk result (Stands self.now draft.old draft.new (Atom Symbol name.now)) }
+        ensures longer { GrowsTo draft.old draft.new }
     {
         match draft.scope.find(name) {
-            Some(variable) => Ok(Checked {
-                sort: variable.sort,
-                is_open: variable.place < draft.base,
-            }),
-            None => match self.sort_of_plain(name, &[]) {
-                Ok(sort) => Ok(closed(sort)),
-                Err(flaw) => Err(flaw),
-            },
+            Some(variable) => {
+                let node = Node::Slot(variable.place.saturating_sub(draft.base));
+                let is_open = variable.place < draft.base;
+                Ok(draft.push(&node, &variable.sort, is_open)?)
+            }
+            None => self.sort_applied(draft, &Identifier::Plain(name), &[], &[], false),
         }
     }
 
-    // The sort of an identifier applied to arguments of these sorts, where it may be a variable, which takes
-    // none.
+    // The sort and the node of an identifier applied to arguments of these sorts and with these nodes, where
+    // it may be a variable, which takes none.
     #[inline(always)]
     fn sort_of_call(
         &self,
-        scope: &Scope<'_, Bound>,
+        draft: &mut Draft<'_>,
         identifier: &Identifier<'_>,
-        args: &[Sort],
-    ) -> Result<Sort, TermFlaw>
-        ensures { result ≡ checking.sort_of_call (names_of_library self.now) (sorts_of (scope_of scope.now))
-            (identifier_view identifier.now) args.now }
+        sorts: &[Sort],
+        args: &[TermId],
+        is_open: bool,
+    ) -> Result<Checked, TermFault>
+        ensures sort { IsOutcome (λ c. c.sort) (checking.sort_of_call (names_of_library self.now)
+            (sorts_seen draft.old) (identifier_view identifier.now) sorts.now) result }
+        ensures open { IfOk result (λ c. c.is_open ≡ is_open) }
+        ensures added { IfOk result (AddsApplied self.now draft.old draft.new (identifier_view identifier.now)
+            sorts.now args.now) }
+        ensures longer { GrowsTo draft.old draft.new }
+        ensures scope { draft.new.scope ≡ draft.old.scope }
+        ensures base { draft.new.base ≡ draft.old.base }
+        ensures labels { draft.new.labels ≡ draft.old.labels }
     {
-        if is_variable(scope, identifier) {
-            return Err(TermFlaw::IllSorted);
+        if is_variable(&draft.scope, identifier) {
+            return Err(TermFault::IllSorted);
         }
-        self.sort_applied(identifier, args)
+        self.sort_applied(draft, identifier, sorts, args, is_open)
     }
 
-    // The sort of an identifier applied to arguments of these sorts.
+    // The sort and the node of an identifier that is no variable, applied to such arguments.
     #[inline(always)]
-    fn sort_applied(&self, identifier: &Identifier<'_>, args: &[Sort]) -> Result<Sort, TermFlaw>
-        ensures { result ≡ checking.sort_applied (names_of_library self.now)
-            (identifier_view identifier.now) args.now }
+    fn sort_applied(
+        &self,
+        draft: &mut Draft<'_>,
+        identifier: &Identifier<'_>,
+        sorts: &[Sort],
+        args: &[TermId],
+        is_open: bool,
+    ) -> Result<Checked, TermFault>
+        ensures sort { IsOutcome (λ c. c.sort) (checking.sort_applied (names_of_library self.now)
+            (identifier_view identifier.now) sorts.now) result }
+        ensures open { IfOk result (λ c. c.is_open ≡ is_open) }
+        ensures added { IfOk result (AddsApplied self.now draft.old draft.new (identifier_view identifier.now)
+            sorts.now args.now) }
+        ensures longer { GrowsTo draft.old draft.new }
+        ensures scope { draft.new.scope ≡ draft.old.scope }
+        ensures base { draft.new.base ≡ draft.old.base }
+        ensures labels { draft.new.labels ≡ draft.old.labels }
+    {
+        match self.applied(identifier, sorts, args) {
+            Ok((sort, node)) => Ok(draft.push(&node, &sort, is_open)?),
+            Err(flaw) => Err(TermFault::from(flaw)),
+        }
+    }
+
+    // What such an application is: its sort and its node.
+    #[inline(always)]
+    fn applied<'b>(
+        &self,
+        identifier: &Identifier<'_>,
+        sorts: &[Sort],
+        args: &'b [TermId],
+    ) -> Result<(Sort, Node<'b>), TermFlaw>
+        ensures sort { MatchResult result (λ p. checking.sort_applied (names_of_library self.now)
+            (identifier_view identifier.now) sorts.now ≡ Ok p.0)
+            (λ flaw. checking.sort_applied (names_of_library self.now)
+            (identifier_view identifier.now) sorts.now ≡ Err flaw) }
+        ensures node { IfOk result (λ p. IsNodeOf self.now (identifier_view identifier.now) sorts.now args.now
+            (node_view p.1)) }
     {
         match identifier {
-            Identifier::Plain(name) => self.sort_of_plain(*name, args),
+            Identifier::Plain(name) => self.sort_of_plain(*name, sorts, args),
             Identifier::Indexed { name, indexes } => {
-                sort_of_operator(op_of(self.sorts.theories, *name, indexes.as_slice()), args)
+                let op = op_of(self.sorts.theories, *name, indexes.as_slice());
+                sort_of_operator(op, sorts, args)
             }
         }
     }
 
-    // The sort of a symbol that is no variable: a name in force, or else an operator.
+    // The sort and the node of a symbol that is no variable: a name in force, or else an operator.
     #[inline(always)]
-    fn sort_of_plain(&self, name: &[u8], args: &[Sort]) -> Result<Sort, TermFlaw>
-        ensures { result ≡ checking.sort_applied (names_of_library self.now) (Plain name.now) args.now }
+    fn sort_of_plain<'b>(
+        &self,
+        name: &[u8],
+        sorts: &[Sort],
+        args: &'b [TermId],
+    ) -> Result<(Sort, Node<'b>), TermFlaw>
+        ensures sort { MatchResult result
+            (λ p. checking.sort_applied (names_of_library self.now) (Plain name.now) sorts.now ≡ Ok p.0)
+            (λ flaw. checking.sort_applied (names_of_library self.now) (Plain name.now) sorts.now
+            ≡ Err flaw) }
+        ensures node { IfOk result (λ p. IsNodeOf self.now (Plain name.now) sorts.now args.now
+            (node_view p.1)) }
     {
         match self.get(name) {
-            Some(entry) => sort_of_entry(entry, args),
-            None => sort_of_operator(op_of(self.sorts.theories, name, &[]), args),
+            Some(entry) => sort_of_entry(entry, sorts, args),
+            None => sort_of_operator(op_of(self.sorts.theories, name, &[]), sorts, args),
         }
     }
 }
 
-// The sort of a name in force applied to arguments of these sorts.
-fn sort_of_entry(entry: &Entry, args: &[Sort]) -> Result<Sort, TermFlaw>
-    ensures { result ≡ sort_of_name
-        (record { parameters = entry.now.parameters.items; sort = entry.now.sort }) args.now }
+// The sort and the node of a name in force applied to arguments of these sorts.
+#[inline(always)]
+fn sort_of_entry<'b>(
+    entry: &Entry,
+    sorts: &[Sort],
+    args: &'b [TermId],
+) -> Result<(Sort, Node<'b>), TermFlaw>
+    ensures sort { MatchResult result (λ p. sort_of_name (rank_of entry.now) sorts.now ≡ Ok p.0)
+        (λ flaw. sort_of_name (rank_of entry.now) sorts.now ≡ Err flaw) }
+    ensures node { IfOk result (λ p. length args.now ≡ length sorts.now
+        → named_node (Some (head_of entry.now)) args.now ≡ Some (node_view p.1)) }
 {
-    if are_same(entry.parameters.as_slice(), args) {
-        Ok(entry.sort)
+    if are_same(entry.parameters.as_slice(), sorts) {
+        Ok((entry.sort, node_at(entry.place, args)))
     } else {
         Err(TermFlaw::IllSorted)
     }
 }
 
-// The sort of an operator applied to arguments of these sorts.
+// The node of the name that stands at this place, with arguments.
+fn node_at<'b>(place: Found, args: &'b [TermId]) -> Node<'b>
+    ensures { node_view result ≡ denotes.node_at place args.now }
+{
+    match place {
+        Found::Declared(place) => Node::Declared { place, args },
+        Found::Defined(place) => Node::Defined { place, args },
+    }
+}
+
+// The sort and the node of an operator applied to arguments of these sorts.
 #[inline(always)]
-fn sort_of_operator(op: Result<Op, OpFault>, args: &[Sort]) -> Result<Sort, TermFlaw>
-    ensures { result ≡ checking.sort_of_operator op args.now }
+fn sort_of_operator<'b>(
+    op: Result<Op, OpFault>,
+    sorts: &[Sort],
+    args: &'b [TermId],
+) -> Result<(Sort, Node<'b>), TermFlaw>
+    ensures sort { MatchResult result (λ p. checking.sort_of_operator op sorts.now ≡ Ok p.0)
+        (λ flaw. checking.sort_of_operator op sorts.now ≡ Err flaw) }
+    ensures node { IfOk result (λ p. (head : Option Head)
+        → applied_node op head args.now ≡ Some (node_view p.1)) }
 {
     match op {
-        Ok(op) => rank(op, args).ok_or(TermFlaw::IllSorted),
+        Ok(op) => applied_operator(&op, sorts, args),
         Err(OpFault::Unknown) => Err(TermFlaw::Unknown),
         Err(OpFault::Index) => Err(TermFlaw::Index),
+    }
+}
+
+// The same, where it is one.
+#[inline(always)]
+fn applied_operator<'b>(
+    op: &Op,
+    sorts: &[Sort],
+    args: &'b [TermId],
+) -> Result<(Sort, Node<'b>), TermFlaw>
+    ensures sort { MatchResult result (λ p. checking.sort_of_operator (Ok op.now) sorts.now ≡ Ok p.0)
+        (λ flaw. checking.sort_of_operator (Ok op.now) sorts.now ≡ Err flaw) }
+    ensures node { IfOk result (λ p. node_view p.1 ≡ Apply op.now args.now) }
+{
+    match rank(*op, sorts) {
+        Some(sort) => Ok((sort, Node::Apply { op: *op, args })),
+        None => Err(TermFlaw::IllSorted),
     }
 }
 
@@ -265,15 +434,22 @@ fn is_variable(scope: &Scope<'_, Bound>, identifier: &Identifier<'_>) -> bool
     }
 }
 
-// A sort of a term that uses no variable.
-fn closed(sort: Sort) -> Checked
-    ensures sort { result.sort ≡ sort }
-    ensures open { result.is_open ≡ false }
+// Adds the node of a literal of this sort, or answers what is wrong with that.
+fn push_literal(
+    draft: &mut Draft<'_>,
+    node: &Node<'_>,
+    sort: Result<Sort, TermFlaw>,
+) -> Result<Checked, TermFault>
+    ensures sort { IsOutcome (λ c. c.sort) sort result }
+    ensures open { IfOk result (λ c. c.is_open ≡ false) }
+    ensures added { IfOk result (λ c. AddsNode draft.old draft.new (node_view node.now) c) }
+    ensures longer { GrowsTo draft.old draft.new }
+    ensures scope { draft.new.scope ≡ draft.old.scope }
+    ensures base { draft.new.base ≡ draft.old.base }
+    ensures labels { draft.new.labels ≡ draft.old.labels }
 {
-    Checked {
-        sort,
-        is_open: false,
-    }
+    let sort = sort?;
+    Ok(draft.push(node, &sort, false)?)
 }
 
 // The width of digits that stand for so many bits each.

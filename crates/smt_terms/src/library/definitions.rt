@@ -1,14 +1,17 @@
 //! Definitions of names, by a script or by a model: the body is checked, and the name added. Whether a name
 //! is fresh is said in `freshness`.
 
-ghost use Rattle.std.specs.Prelude.{◌≡◌, ◌⊎◌, ◌∷◌, ◌++◌, [], None, Ok, Err, map, OnOk, OnErr, IfErr};
+ghost use Rattle.std.specs.Prelude.{◌≡◌, ◌⊎◌, ◌∷◌, ◌++◌, ◌-◌, ℕ, List, [], None, Ok, Err, length, map, take};
+ghost use Rattle.std.specs.Prelude.{OnOk, OnErr, IfErr, false};
 ghost use Rattle.smt_trees.specs.Sexp.{Sexp};
 ghost use Rattle.smt_trees.specs.Tree.{sexp_of};
+ghost use Rattle.smt_theory.specs.Operators.{is_plain_operator};
 ghost use Rattle.smt_theory.specs.Words.{look_up};
 ghost use Rattle.smt_terms.specs.Contents.{Extends, contents_of};
 ghost use Rattle.smt_terms.specs.Definitions.{defined_in, definition, definition_in};
+ghost use Rattle.smt_terms.specs.Internal.Growing.{HoldsUnder, IsBodyUnder, KeepsNames};
 ghost use Rattle.smt_terms.specs.Internal.LibraryView.{names_of_library, ranks_of_library};
-ghost use Rattle.smt_terms.specs.Library.{IsTerm, IsUnchanged, StandsFor};
+ghost use Rattle.smt_terms.specs.Library.{IsTree, IsUnchanged, StandsFor};
 ghost use Rattle.smt_forms.specs.ParamView.{param_view};
 ghost use Rattle.smt_forms.specs.ScopeView.{scope_view};
 ghost use Rattle.smt_terms.specs.Signature as signature;
@@ -16,12 +19,12 @@ ghost use Rattle.smt_terms.specs.Signature.{Signature, names_of, with_entry};
 ghost use Rattle.smt_faults.specs.Outcome.{Tells};
 
 use crate::labels::Labels;
-use crate::library::draft::Draft;
 use crate::library::params::{named_parameters, sorted_params, sorts_of_variables};
-use crate::library::{Definition, Entry, Found, Library, TermId};
+use crate::library::{Definition, Entry, Found, Library, TreeId};
 use crate::sorts::are_equal;
 use smt_faults::{Memory, TermFault};
 use smt_forms::{Param, Variable};
+use smt_nodes::TermId;
 use smt_theory::Sort;
 use smt_trees::Tree;
 
@@ -72,7 +75,7 @@ impl Library {
         requires { look_up (names_of_library self.old).ranks name.now ≡ None }
         ensures added { OnOk result ((s : Signature) → StandsFor self.old s → (e : signature.Entry)
             × (definition_in (names_of s) name.now (scope_view parameters.now) sort (sexp_of body.now) ≡ Ok e)
-            × StandsFor self.new (with_entry s e)) }
+            × (is_plain_operator s.theories name.now ≡ false → StandsFor self.new (with_entry s e))) }
         ensures refused { IfErr result (λ fault. (s : Signature) → StandsFor self.old s
             → Tells (definition_in (names_of s) name.now (scope_view parameters.now) sort (sexp_of body.now))
             fault) }
@@ -80,34 +83,39 @@ impl Library {
         ensures grown { Extends (contents_of self.old) (contents_of self.new) }
         ensures sorts { self.new.sorts ≡ self.old.sorts }
     {
-        let mut draft = Draft::new(self.alloc, Labels::refused(self.alloc));
-        draft.bind(parameters)?;
-        if !are_equal(self.sort_of(&mut draft, body)?.sort, sort) {
+        let (checked, _) = self.check_whole(parameters, Labels::refused(self.alloc), body)?;
+        if !are_equal(checked.sort, sort) {
             return Err(TermFault::IllSorted);
         }
-        let body = self.add_term(body)?;
-        Ok(self.insert_definition(name, parameters, sort, body)?)
+        let tree = self.add_tree(body)?;
+        Ok(self.insert_definition(name, parameters, sort, tree, checked.node)?)
     }
 
-    // Adds the definition of a new name at the end, or changes no name.
+    // Adds the definition of a new name at the end, whose body has this tree and this node, or changes no
+    // name.
     #[tactic(auto, using(crate::proofs::ContentsLemmas::extends_itself))]
     pub(super) fn insert_definition(
         &mut self,
         name: &[u8],
         parameters: &[Variable<'_, Sort>],
         sort: Sort,
-        body: TermId,
+        tree: TreeId,
+        node: TermId,
     ) -> Result<(), Memory>
         requires { look_up (names_of_library self.old).ranks name.now ≡ None }
         ensures added { OnOk result
-            ((s : Signature) (t : Sexp) → StandsFor self.old s → IsTerm self.old body t
-            → StandsFor self.new (with_entry s (definition name.now (scope_view parameters.now) sort t))) }
+            ((bodies : List ℕ) (s : Signature) (t : Sexp) → HoldsUnder bodies (contents_of self.old) s
+            → is_plain_operator s.theories name.now ≡ false → IsTree self.old tree t
+            → IsBodyUnder bodies (contents_of self.old) (scope_view parameters.now) node t
+            → HoldsUnder bodies (contents_of self.new)
+            (with_entry s (definition name.now (scope_view parameters.now) sort t))) }
         ensures ranks { OnOk result
             (ranks_of_library self.new
             ≡ ranks_of_library self.old
             ++ (name.now, record { parameters = map (λ p. p.1) (scope_view parameters.now); sort = sort })
             ∷ []) }
-        ensures unchanged { OnErr result (IsUnchanged self.old self.new) }
+        ensures bodies { OnOk result (self.new.bodies.items ≡ self.old.bodies.items ++ node ∷ []) }
+        ensures unchanged { OnErr result (KeepsNames (contents_of self.old) (contents_of self.new)) }
         ensures grown { Extends (contents_of self.old) (contents_of self.new) }
         ensures sorts { self.new.sorts ≡ self.old.sorts }
     {
@@ -115,20 +123,59 @@ impl Library {
             name: Vec::from_slice(self.alloc, name)?,
             params: named_parameters(self.alloc, parameters)?,
             result: sort,
-            body,
+            body: tree,
         };
         let entry = Entry {
             parameters: sorts_of_variables(self.alloc, parameters)?,
             sort,
             place: Found::Defined(self.definitions.len()),
         };
-        self.definitions.push(definition)?;
+        self.push_definition(definition, node)?;
         match self.insert(name, entry) {
             Ok(()) => Ok(()),
             Err(fault) => {
-                let _ = self.definitions.pop();
+                self.pop_definition();
                 Err(fault)
             }
         }
+    }
+
+    // Adds a definition and the node of its body, or neither.
+    fn push_definition(&mut self, definition: Definition, node: TermId) -> Result<(), Memory>
+        ensures definitions { OnOk result
+            (self.new.definitions.items ≡ self.old.definitions.items ++ definition ∷ []) }
+        ensures bodies { OnOk result (self.new.bodies.items ≡ self.old.bodies.items ++ node ∷ []) }
+        ensures unchanged { OnErr result ((self.new.definitions.items ≡ self.old.definitions.items)
+            × (self.new.bodies.items ≡ self.old.bodies.items)) }
+        ensures names { self.new.names ≡ self.old.names }
+        ensures sorts { self.new.sorts ≡ self.old.sorts }
+        ensures declared { self.new.declared ≡ self.old.declared }
+        ensures nodes { self.new.nodes ≡ self.old.nodes }
+        ensures terms { self.new.terms ≡ self.old.terms }
+    {
+        self.definitions.push(definition)?;
+        match self.bodies.push(node) {
+            Ok(()) => Ok(()),
+            Err(_) => {
+                let _ = self.definitions.pop();
+                Err(Memory)
+            }
+        }
+    }
+
+    // Takes the last definition away, and the node of its body.
+    fn pop_definition(&mut self)
+        ensures definitions { self.new.definitions.items ≡ take (length self.old.definitions.items - 1)
+            self.old.definitions.items }
+        ensures bodies { self.new.bodies.items ≡ take (length self.old.bodies.items - 1)
+            self.old.bodies.items }
+        ensures names { self.new.names ≡ self.old.names }
+        ensures sorts { self.new.sorts ≡ self.old.sorts }
+        ensures declared { self.new.declared ≡ self.old.declared }
+        ensures nodes { self.new.nodes ≡ self.old.nodes }
+        ensures terms { self.new.terms ≡ self.old.terms }
+    {
+        let _ = self.definitions.pop();
+        let _ = self.bodies.pop();
     }
 }

@@ -1,13 +1,18 @@
 //! What is kept of a term while it is checked: the variables that its parts see, and the labels that they
 //! gave. This file knows no trees.
 
-ghost use Rattle.std.specs.Prelude.{◌≡◌, ◌++◌, ◌∷◌, [], length, OnOk};
+ghost use Rattle.std.specs.Prelude.{◌≡◌, ◌<◌, ◌+◌, ◌++◌, ◌∷◌, [], length, slice_get, Some, IfOk, OnOk, OnErr};
+ghost use Rattle.smt_nodes.specs.Node.{Row};
+ghost use Rattle.smt_nodes.specs.NodeView.{node_view};
+ghost use Rattle.smt_nodes.specs.Nodes.{rows_of};
 ghost use Rattle.smt_forms.specs.ScopeView.{scope_view};
 ghost use Rattle.smt_terms.specs.Internal.DraftView.{placed_from, seen_by};
+ghost use Rattle.smt_terms.specs.Internal.NodesView.{AddsAround, AddsNode, GrowsTo};
 
 use crate::labels::Labels;
 use smt_faults::Memory;
 use smt_forms::{Scope, Variable};
+use smt_nodes::{Node, Nodes, TermId};
 use smt_theory::Sort;
 use std::alloc::Global;
 
@@ -19,32 +24,37 @@ pub(crate) struct Bound {
 }
 
 /// The variables that are seen, of which the outermost `base` stand outside the innermost term with a label;
-/// and the labels so far.
+/// the labels so far; and the nodes of terms, of this draft and of those before it.
 #[derive(Drop)]
 pub(crate) struct Draft<'a> {
     pub(crate) scope: Scope<'a, Bound>,
     pub(crate) base: usize,
     pub(crate) labels: Labels<'a>,
+    pub(crate) nodes: Nodes,
 }
 
-/// What was found of a term: its sort, and whether it uses a variable that stands outside.
+/// What was found of a term: its sort, its node, and whether it uses a variable that stands outside; then the
+/// node stands for nothing.
 #[derive(Clone, Copy)]
 pub(crate) struct Checked {
     pub(crate) sort: Sort,
+    pub(crate) node: TermId,
     pub(crate) is_open: bool,
 }
 
 impl<'a> Draft<'a> {
-    /// No variables, with these labels.
-    pub(crate) fn new(alloc: Global, labels: Labels<'a>) -> Self
+    /// No variables, with these labels and nodes.
+    pub(crate) fn new(alloc: Global, labels: Labels<'a>, nodes: Nodes) -> Self
         ensures variables { seen_by result ≡ [] }
         ensures base { result.base ≡ 0 }
         ensures labels { result.labels ≡ labels.entry }
+        ensures nodes { result.nodes ≡ nodes }
     {
         Draft {
             scope: Scope::new(alloc),
             base: 0,
             labels,
+            nodes,
         }
     }
 
@@ -54,6 +64,7 @@ impl<'a> Draft<'a> {
             ≡ placed_from (length (seen_by self.old)) (scope_view variables.now) ++ seen_by self.old) }
         ensures base { self.new.base ≡ self.old.base }
         ensures labels { self.new.labels ≡ self.old.labels }
+        ensures nodes { self.new.nodes ≡ self.old.nodes }
     {
         let first = self.scope.len();
         let mut left = variables.len();
@@ -74,7 +85,51 @@ impl<'a> Draft<'a> {
             ≡ (name.now, record { sort = sort; place = place }) ∷ seen_by self.old) }
         ensures base { self.new.base ≡ self.old.base }
         ensures labels { self.new.labels ≡ self.old.labels }
+        ensures nodes { self.new.nodes ≡ self.old.nodes }
     {
         self.scope.push(name, Bound { sort, place })
+    }
+
+    /// Adds the node of a term of this sort, which uses a variable from outside or doesn't.
+    #[inline(always)]
+    pub(crate) fn push(
+        &mut self,
+        node: &Node<'_>,
+        sort: &Sort,
+        is_open: bool,
+    ) -> Result<Checked, Memory>
+        ensures sort { IfOk result (λ c. c.sort ≡ sort.now) }
+        ensures open { IfOk result (λ c. c.is_open ≡ is_open) }
+        ensures added { IfOk result (λ c. AddsNode self.old self.new (node_view node.now) c) }
+        ensures longer { GrowsTo self.old self.new }
+        ensures scope { self.new.scope ≡ self.old.scope }
+        ensures base { self.new.base ≡ self.old.base }
+        ensures labels { self.new.labels ≡ self.old.labels }
+    {
+        let node = self.nodes.push(node, *sort)?;
+        Ok(Checked {
+            sort: *sort,
+            node,
+            is_open,
+        })
+    }
+
+    /// Adds the node of a term with one annotation more round it.
+    pub(crate) fn annotate(&mut self, term: Checked) -> Result<Checked, Memory>
+        requires { term.node < length (rows_of self.old.nodes) }
+        ensures sort { IfOk result (λ c. c.sort ≡ term.sort) }
+        ensures open { IfOk result (λ c. c.is_open ≡ term.is_open) }
+        ensures added { IfOk result (λ c. AddsAround self.old self.new term.node c.node) }
+        ensures longer { GrowsTo self.old self.new }
+        ensures scope { self.new.scope ≡ self.old.scope }
+        ensures base { self.new.base ≡ self.old.base }
+        ensures labels { self.new.labels ≡ self.old.labels }
+    {
+        let node = self.nodes.annotate(term.node)?;
+        Ok(Checked {
+            sort: term.sort,
+            node,
+            is_open: term.is_open,
+        })
     }
 }

@@ -6,14 +6,15 @@ ghost use Rattle.smt_terms.specs.Contents.{IsBelow, IsWithin, contents_of, first
 
 use crate::library::Library;
 
-/// How many names, declarations, definitions (labels are definitions), abbreviations and terms a library
-/// held.
+/// How many names, declarations, definitions (labels are definitions), abbreviations, nodes and trees a
+/// library held.
 #[derive(Clone, Copy, Debug, PartialEq, Eq)]
 pub struct Mark {
     pub(crate) names: usize,
     pub(crate) declared: usize,
     pub(crate) definitions: usize,
     pub(crate) abbreviations: usize,
+    pub(crate) nodes: usize,
     pub(crate) terms: usize,
 }
 
@@ -29,19 +30,22 @@ impl Library {
             declared: self.declared.len(),
             definitions: self.definitions.len(),
             abbreviations: self.sorts.abbreviations.len(),
+            nodes: self.nodes.len(),
             terms: self.terms.len(),
         }
     }
 
-    /// Leaves the first so many names, declarations, definitions, abbreviations and terms as a mark counts,
-    /// at the cost of what goes.
+    /// Leaves the first so many names, declarations, definitions, abbreviations, nodes and trees as a mark
+    /// counts, at the cost of what goes.
     pub fn cut(&mut self, mark: Mark)
         ensures { contents_of self.new ≡ first_of mark (contents_of self.old) }
     {
         self.names.truncate(mark.names);
         self.declared.truncate(mark.declared);
         self.definitions.truncate(mark.definitions);
+        self.bodies.truncate(mark.definitions);
         self.sorts.abbreviations.truncate(mark.abbreviations);
+        self.nodes.cut(mark.nodes);
         self.terms.truncate(mark.terms);
     }
 }

@@ -4,10 +4,25 @@ use Rattle.smt_values.specs.Element.{Truth}
 use Rattle.smt_values.specs.KnownOperations.{is_known}
 use Rattle.smt_terms.specs.Contents.{contents_of}
 use Rattle.smt_eval.specs.Structure.{structure_of}
-use Rattle.smt_dialogue.proofs.JudgementLemmas.{judged_from, left-none, left-open, left-opened, left-true}
-use Rattle.smt_dialogue.proofs.JudgementLemmas.{terms_left}
+use Rattle.smt_dialogue.proofs.JudgementLemmas.{judged_from, left-false, left-none, left-open}
+use Rattle.smt_dialogue.proofs.JudgementLemmas.{left-opened, left-true, term_left, terms_left}
 use Rattle.smt_dialogue.specs.Judgement.{open_or_confirmed}
 use Rattle.smt_dialogue.proofs.judgement.judge_assertions.Goals as goal
+
+pub eval_by-requires-clause-term : goal.eval_by-requires-clause-term
+eval_by-requires-clause-term c = term_left (contents_of c.args.library.now)
+    c.loop-assertion.left.now c.in-Some.rest.now c.in-Some.assertion.now c.in-Some.ensures.cases.0
+    c.loop-assertion.invariant.terms
+
+pub returns-in-Some-false : goal.returns-in-Some-false
+returns-in-Some-false c = λ script definitions all stands holds assertions.
+    let s = structure_of script definitions in
+    left-false (contents_of c.args.library.now)
+    c.loop-assertion.left.now c.in-Some.rest.now c.in-Some.assertion.now s c.loop-assertion.first_open
+    (judged_from s std.None all) c.in-Some.ensures.cases.0
+    (λ t term. sym (c.in_ok-eval_by.ensures script definitions t stands holds term) ∙ c.in-Some-false.ensures
+    ∙ ap (λ b. Some (Truth b)) c.in-Some-false.field-0-test)
+    (c.loop-assertion.invariant.judged script definitions all stands holds assertions)
 
 pub loop-assertion-preserved-in-Some-true : goal.loop-assertion-preserved-in-Some-true
 loop-assertion-preserved-in-Some-true c = record {
@@ -19,7 +34,7 @@ loop-assertion-preserved-in-Some-true c = record {
       left-true (contents_of c.args.library.now)
       c.loop-assertion.left.now c.in-Some.rest.now c.in-Some.assertion.now s c.loop-assertion.first_open
       (judged_from s std.None all) c.in-Some.ensures.cases.0
-      (λ t term. sym (c.in_ok-eval.ensures script definitions t stands holds term) ∙ c.in-Some-true.ensures
+      (λ t term. sym (c.in_ok-eval_by.ensures script definitions t stands holds term) ∙ c.in-Some-true.ensures
       ∙ ap (λ b. Some (Truth b)) c.in-Some-true.field-0-test)
       (c.loop-assertion.invariant.judged script definitions all stands holds assertions);
 }
@@ -35,7 +50,7 @@ loop-assertion-preserved c = record {
       c.loop-assertion.left.now c.in-Some.rest.now c.in-Some.assertion.now s c.loop-assertion.first_open
       (judged_from s std.None all) c.in-Some.ensures.cases.0
       (λ t term.
-      let known = c.in_ok-eval.ensures script definitions t stands holds term in (
+      let known = c.in_ok-eval_by.ensures script definitions t stands holds term in (
         ap (is_known std.false) (sym known) ∙ c.in-None.ensures.0,
         ap (is_known std.true) (sym known)
             ∙ c.in-None.ensures.1,
@@ -71,7 +86,7 @@ loop-assertion-preserved-then-is_none c = record {
       c.loop-assertion.left.now c.in-Some.rest.now c.in-Some.assertion.now s c.loop-assertion.first_open
       (judged_from s std.None all) c.in-Some.ensures.cases.0
       (λ t term.
-      let known = c.in_ok-eval.ensures script definitions t stands holds term in (
+      let known = c.in_ok-eval_by.ensures script definitions t stands holds term in (
         ap (is_known std.false) (sym known) ∙ c.in-None.ensures.0,
         ap (is_known std.true) (sym known)
             ∙ c.in-None.ensures.1,

@@ -1,4 +1,4 @@
-use Rattle.std.proofs.Common.{◌≡◌, ◌+◌, ◌*◌, ◌≤◌, ◌||◌, [], true, map}
+use Rattle.std.proofs.Common.{◌≡◌, ◌+◌, ◌*◌, ◌≤◌, ◌||◌, [], true, length, map}
 use Rattle.smallvec.specs.SmallVec.{HasRoomFor}
 use Rattle.smt_trees.specs.Sexp.{count, weight, weight_all}
 use Rattle.smt_trees.specs.Tree.{sexp_of, sexps_of}
@@ -13,6 +13,7 @@ use Rattle.smt_terms.specs.Internal.LabelsView.{labels_view}
 use Rattle.smt_terms.specs.Internal.LibraryView.{names_for, names_of_library}
 use Rattle.smt_terms.proofs.CheckerLemmas.{sorts_behind}
 use Rattle.smt_terms.proofs.LabelLemmas.{AreGivenOf}
+use Rattle.smt_terms.proofs.PartNodeLemmas.{BindingsSoFar, TermsSoFar}
 use Rattle.smt_terms.proofs.library.Library.+check.Given as goal
 
 abbrev pub decreases-sort_of : goal.decreases-sort_of
@@ -50,6 +51,9 @@ invariant-sorts_of-loop-term l = record {
   opened : are_open l.fn.draft (sexps_of l.terms) ≡ (l.is_open || are_open l.fn.draft (sexps_of l.left));
   lighter : weight_all (sexps_of l.left) ≤ weight_all (sexps_of l.terms);
   room : HasRoomFor l.sorts (count (sexps_of l.left));
+  nodes_room : HasRoomFor l.nodes (count (sexps_of l.left));
+  counted : length l.nodes.items ≡ length l.sorts.items;
+  stand : TermsSoFar l.self l.fn.draft l.draft (sexps_of l.terms) (sexps_of l.left) l.nodes.items l.is_open;
 }
 
 abbrev pub decreases-sorts_of-loop-term : goal.decreases-sorts_of-loop-term
@@ -69,6 +73,9 @@ invariant-bound_by-loop-name l = record {
   names : names_in l.names ≡ map (λ v. v.0) (scope_view l.bound.items);
   named : are_named_trees (sexps_of l.left) ≡ true;
   lighter : weight_all (sexps_of l.left) ≤ weight_all (sexps_of l.bindings);
+  room : HasRoomFor l.nodes (count (sexps_of l.left));
+  stand : BindingsSoFar l.self l.fn.draft l.draft (sexps_of l.bindings) (sexps_of l.left) l.nodes.items
+      l.is_open;
 }
 
 abbrev pub decreases-bound_by-loop-name : goal.decreases-bound_by-loop-name

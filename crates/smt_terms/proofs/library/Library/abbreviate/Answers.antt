@@ -20,7 +20,7 @@ returns-clause-abbreviated c =
       ap (λ n. abbreviated_in n c.args.name.now (sexp_of c.args.sort.now))
           (sym (sorts_as old s stands)) ∙ more.1,
       stands_abbreviated (contents_of old) _ s c.args.name.now more.0 c.abbreviate.ensures.theories more.2
-          refl refl refl refl (λ i t is. is) stands,
+          refl refl refl refl refl refl refl stands,
     ))
     c.abbreviate.ensures.abbreviated
 
@@ -38,8 +38,17 @@ returns-clause-refused c =
 pub returns-clause-unchanged : goal.returns-clause-unchanged
 returns-clause-unchanged c =
     on_err_weaker c.abbreviate.result
-    (λ same s stands. stands_still (contents_of c.args.self.now) _ s c.abbreviate.ensures.theories same
-    refl refl refl refl (λ i t is. is) stands) c.abbreviate.ensures.unchanged
+    (λ same s stands. stands_still (contents_of c.args.self.now) _ s (record {
+      theories = c.abbreviate.ensures.theories;
+      abbreviations = same;
+      ranks = refl;
+      heads = refl;
+      declared = refl;
+      definitions = refl;
+      bodies = refl;
+      rows = nothing_more _ _ refl;
+      terms = nothing_more _ _ refl;
+    }) stands) c.abbreviate.ensures.unchanged
 
 pub returns-clause-grown : goal.returns-clause-grown
 returns-clause-grown c = record {
@@ -50,8 +59,10 @@ returns-clause-grown c = record {
       (abbreviations_of c.abbreviate.new.self) c.args.name.now c.abbreviate.ensures.abbreviated
       c.abbreviate.ensures.unchanged;
   ranks = nothing_more _ _ refl;
-  places = nothing_more _ _ refl;
+  heads = nothing_more _ _ refl;
   declared = nothing_more _ _ refl;
   definitions = nothing_more _ _ refl;
+  bodies = nothing_more _ _ refl;
+  rows = nothing_more _ _ refl;
   terms = nothing_more _ _ refl;
 }

@@ -3,9 +3,11 @@ use Rattle.std.proofs.Common.{◌≡◌, ℕ, List, ◌++◌, ◌∷◌, [], map
 use Rattle.std.proofs.lemmas.Grind.{common_steps}
 use Rattle.std.proofs.lemmas.List.{length-map, map-append}
 use Rattle.smt_trees.specs.Tree.{sexp_of}
+use Rattle.smt_nodes.specs.Nodes.{rows_of}
 use Rattle.smt_theory.specs.declared.sort.Sort.{Sort}
 use Rattle.smt_terms.specs.Contents.{contents_of, declaration_view}
-use Rattle.smt_terms.specs.Internal.LibraryView.{abbreviations_of, places_of_library, ranks_of_library}
+use Rattle.smt_terms.specs.Internal.LibraryView.{abbreviations_of, ranks_of_library}
+use Rattle.smt_terms.specs.Internal.TableView.{heads_of_library}
 use Rattle.smt_terms.specs.declared.library.Found.TheVariants as place
 use Rattle.smt_terms.specs.declared.sorts.SortNames.{SortNames}
 use Rattle.smt_terms.proofs.ContentsLemmas.{nothing_more}
@@ -15,17 +17,28 @@ use Rattle.smt_terms.proofs.library.Library.add_declared.Goals as goal
 pub returns-in_err-push-clause-unchanged : goal.returns-in_err-push-clause-unchanged
 returns-in_err-push-clause-unchanged c =
     on_err c.from_residual-in_err-push.result
-    (λ s stands. stands_still (contents_of c.args.self.now) _ s refl refl refl refl
-    (ap (map declaration_view) c.in_err-push.ensures.items) refl (λ i t h. h) stands)
+    (λ s stands. stands_still (contents_of c.args.self.now) _ s (record {
+      theories = refl;
+      abbreviations = refl;
+      ranks = refl;
+      heads = refl;
+      declared = ap (map declaration_view) c.in_err-push.ensures.items;
+      definitions = refl;
+      bodies = refl;
+      rows = nothing_more _ _ refl;
+      terms = nothing_more _ _ refl;
+    }) stands)
 
 pub returns-in_err-push-clause-grown : goal.returns-in_err-push-clause-grown
 returns-in_err-push-clause-grown c = record {
   theories = refl;
   abbreviations = nothing_more _ _ refl;
   ranks = nothing_more _ _ refl;
-  places = nothing_more _ _ refl;
+  heads = nothing_more _ _ refl;
   declared = nothing_more _ _ (ap (map declaration_view) c.in_err-push.ensures.items);
   definitions = nothing_more _ _ refl;
+  bodies = nothing_more _ _ refl;
+  rows = nothing_more _ _ refl;
   terms = nothing_more _ _ refl;
 }
 
@@ -41,10 +54,17 @@ returns-in-Err-clause-unchanged c =
       c.in_ok-push.ensures.items,
     ) in
     λ s stands.
-    stands_still (contents_of c.args.self.now) _ s (ap (λ (z : SortNames). z.theories) c.insert.ensures.sorts)
-    (ap abbreviations_of c.insert.ensures.sorts) c.in-Err.ensures.unchanged.0 c.in-Err.ensures.unchanged.1
-    (ap (map declaration_view) same) c.insert.ensures.definitions
-    (λ i t is. rw c.insert.ensures.terms is) stands
+    stands_still (contents_of c.args.self.now) _ s (record {
+      theories = ap (λ (z : SortNames). z.theories) c.insert.ensures.sorts;
+      abbreviations = ap abbreviations_of c.insert.ensures.sorts;
+      ranks = c.in-Err.ensures.unchanged.0;
+      heads = c.in-Err.ensures.unchanged.1;
+      declared = ap (map declaration_view) same;
+      definitions = c.insert.ensures.definitions;
+      bodies = c.insert.ensures.bodies;
+      rows = nothing_more _ _ (ap rows_of c.insert.ensures.nodes);
+      terms = nothing_more _ _ (ap (map sexp_of) c.insert.ensures.terms);
+    }) stands
 
 pub returns-in-Err-clause-grown : goal.returns-in-Err-clause-grown
 returns-in-Err-clause-grown c =
@@ -61,9 +81,11 @@ returns-in-Err-clause-grown c =
       theories = ap (λ (z : SortNames). z.theories) c.insert.ensures.sorts;
       abbreviations = nothing_more _ _ (ap abbreviations_of c.insert.ensures.sorts);
       ranks = nothing_more _ _ c.in-Err.ensures.unchanged.0;
-      places = nothing_more _ _ c.in-Err.ensures.unchanged.1;
+      heads = nothing_more _ _ c.in-Err.ensures.unchanged.1;
       declared = nothing_more _ _ (ap (map declaration_view) same);
       definitions = nothing_more _ _ c.insert.ensures.definitions;
+      bodies = nothing_more _ _ c.insert.ensures.bodies;
+      rows = nothing_more _ _ (ap rows_of c.insert.ensures.nodes);
       terms = nothing_more _ _ (ap (map sexp_of) c.insert.ensures.terms);
     }
 
@@ -76,30 +98,46 @@ returns-in-Ok-clause-added c =
     in
     λ s stands.
     stands_declared (contents_of old) (contents_of c.insert.new.self) s c.args.name.now
-    (declaration_view c.args.declared) c.requires.absent c.requires.next
+    (declaration_view c.args.declared) c.requires.absent c.requires.free c.requires.next
     (ap (λ (z : SortNames). z.theories) c.insert.ensures.sorts)
     (ap abbreviations_of c.insert.ensures.sorts)
     (c.in-Ok.ensures.ranks ∙ ap
     (λ (ps : List Sort). ranks_of_library old
     ++ (c.args.name.now, record { parameters = ps; sort = c.args.declared.result }) ∷ []) params)
-    (c.in-Ok.ensures.places ∙ ap
-    (λ (n : ℕ). places_of_library old ++ (c.args.name.now, place.Declared n) ∷ []) stood)
+    (c.in-Ok.ensures.heads ∙ ap
+    (λ (ps : List Sort). heads_of_library old ++ (
+      c.args.name.now,
+      record {
+        place = place.Declared c.len.result;
+        arity = length ps;
+      },
+    ) ∷ []) params ∙ ap
+    (λ (n : ℕ). heads_of_library old ++ (
+      c.args.name.now,
+      record {
+        place = place.Declared n;
+        arity = length c.args.declared.params.items;
+      },
+    ) ∷ []) stood)
     (ap (map declaration_view)
     (c.insert.ensures.declared ∙ c.in_ok-push.ensures.items) ∙ map-append declaration_view
-    c.args.self.now.declared.items (c.args.declared ∷ [])) c.insert.ensures.definitions
-    (λ i t is. rw c.insert.ensures.terms is) stands
+    c.args.self.now.declared.items (c.args.declared ∷ [])) c.insert.ensures.definitions c.insert.ensures.bodies
+    (nothing_more _ _ (ap rows_of c.insert.ensures.nodes))
+    (nothing_more _ _ (ap (map sexp_of) c.insert.ensures.terms)) stands
 
 pub returns-in-Ok-clause-grown : goal.returns-in-Ok-clause-grown
 returns-in-Ok-clause-grown c = record {
   theories = ap (λ (z : SortNames). z.theories) c.insert.ensures.sorts;
   abbreviations = nothing_more _ _ (ap abbreviations_of c.insert.ensures.sorts);
   ranks = (_, c.in-Ok.ensures.ranks);
-  places = (_, c.in-Ok.ensures.places);
+  heads = (_, c.in-Ok.ensures.heads);
   declared = (
     _,
     ap (map declaration_view) (c.insert.ensures.declared ∙ c.in_ok-push.ensures.items) ∙
         map-append declaration_view c.args.self.now.declared.items (c.args.declared ∷ []),
   );
   definitions = nothing_more _ _ c.insert.ensures.definitions;
+  bodies = nothing_more _ _ c.insert.ensures.bodies;
+  rows = nothing_more _ _ (ap rows_of c.insert.ensures.nodes);
   terms = nothing_more _ _ (ap (map sexp_of) c.insert.ensures.terms);
 }

@@ -1,81 +1,159 @@
-use Rattle.std.proofs.Common.{rules, true, false, inr, sym, subst, ◌∙◌}
+use Rattle.std.proofs.Common.{rules, ℕ, List, ◌++◌, ◌∷◌, [], true, false, inr, ap, sym, ◌∙◌, refl}
 use Rattle.std.proofs.lemmas.Result.{err_from_is_err_and}
+use Rattle.smt_nodes.specs.Nodes.{rows_of}
 use Rattle.smt_trees.specs.Tree.{sexp_of}
-use Rattle.smt_terms.specs.Definitions.{definition}
-use Rattle.smt_terms.specs.Internal.DraftView.{IsPlaced, seen_by}
-use Rattle.smt_terms.specs.Internal.LibraryView.{names_of_library}
 use Rattle.smt_forms.specs.ScopeView.{scope_view}
-use Rattle.smt_terms.specs.Signature.{names_of}
-use Rattle.smt_terms.proofs.ContentsLemmas.{extends_on}
-use Rattle.smt_terms.proofs.DefinitionLemmas.{definition_by, fault_of_body}
-use Rattle.smt_terms.proofs.DraftLemmas.{placed_more, placed_none, sort_over_parameters, tells_same}
+use Rattle.smt_terms.specs.Checking.{sort_in}
+use Rattle.smt_terms.specs.Contents.{contents_of}
+use Rattle.smt_terms.specs.Definitions.{definition}
+use Rattle.smt_terms.specs.Internal.LabelsView.{labels_view}
+use Rattle.smt_terms.specs.Internal.LibraryView.{names_for, names_of_library}
+use Rattle.smt_terms.specs.Library.{terms_of}
+use Rattle.smt_terms.specs.Signature.{names_of, with_entry}
+use Rattle.smt_terms.proofs.BodyLemmas.{ready}
+use Rattle.smt_terms.proofs.ContentsLemmas.{extends_on, grown_by, keeps_on, nothing_more}
+use Rattle.smt_terms.proofs.DefinitionLemmas.{definition_by, fault_of_body, same_fault}
 use Rattle.smt_terms.proofs.ItemLemmas.{names_as}
+use Rattle.smt_terms.proofs.StandsLemmas.{on_err, stands_kept, stands_still, under, under_more, whole}
+use Rattle.smt_terms.proofs.WholeLemmas.{body_checked, checked_keeps, checked_longer, none_given, none_more}
+use Rattle.smt_terms.proofs.WholeLemmas.{without_labels}
 use Rattle.smt_terms.proofs.library.Library.add_definition.Goals as goal
 
-pub sort_of-requires : goal.sort_of-requires
-sort_of-requires c =
-    let placed =
-    placed_more 0 (scope_view c.args.parameters.now) (seen_by c.new-draft.result) (seen_by c.bind.new.self)
-    (placed_none (seen_by c.new-draft.result) c.new-draft.ensures.variables) c.in_ok-bind.ensures.bound in
-    subst (λ n. IsPlaced (seen_by c.bind.new.self) n) (sym (c.bind.ensures.base ∙ c.new-draft.ensures.base))
-    placed
-
-pub returns-clause-added : goal.returns-clause-added
-returns-clause-added c =
-    let ps = scope_view c.args.parameters.now in
-    let body = sexp_of c.args.body.now in
-    λ s stands. (
-      definition c.args.name.now ps c.args.sort body,
-      definition_by (names_of s) (names_of_library c.args.self.now) c.args.name.now ps c.args.sort
-          c.in_ok-sort_of.field-0.sort body true (names_as c.args.self.now s stands)
-          (sort_over_parameters c.args.self.now c.refused.result c.new-draft.result c.bind.new.self ps body
-          c.refused.ensures.view c.new-draft.ensures.labels c.new-draft.ensures.variables c.bind.ensures.labels
-          c.in_ok-bind.ensures.bound
-          ∙ c.in_ok-sort_of.ensures.sort)
-          (sym c.are_equal.ensures ∙ c.if-not-are_equal.false),
-      c.in_ok-insert_definition.ensures.added s body (c.in_ok-body.ensures.kept s stands)
-          c.in_ok-body.ensures.term,
-    )
-
-pub returns-clause-grown : goal.returns-clause-grown
-returns-clause-grown c = extends_on _ _ _ c.in_ok-body.ensures.grown c.insert_definition.ensures.grown
-
-pub returns-in_err-sort_of-clause-refused : goal.returns-in_err-sort_of-clause-refused
-returns-in_err-sort_of-clause-refused c =
+pub returns-in_err-checked-clause-refused : goal.returns-in_err-checked-clause-refused
+returns-in_err-checked-clause-refused c =
     let p =
-    err_from_is_err_and c.from_residual-in_err-sort_of.result c.from_residual-in_err-sort_of.ensures.1 in
+    err_from_is_err_and c.from_residual.result c.from_residual.ensures.1 in
+    let old = c.args.self.now in
     let ps = scope_view c.args.parameters.now in
     let body = sexp_of c.args.body.now in
+    let labels = labels_view c.refused.result in
     rw (p.1, p.2)
-    (λ s stands. fault_of_body (names_of s) (names_of_library c.args.self.now) c.args.name.now ps c.args.sort
-    body _ (names_as c.args.self.now s stands)
-    (tells_same _ _ _
-    (sort_over_parameters c.args.self.now c.refused.result c.new-draft.result c.bind.new.self ps body
-    c.refused.ensures.view c.new-draft.ensures.labels c.new-draft.ensures.variables c.bind.ensures.labels
-    c.in_ok-bind.ensures.bound) c.in_err-sort_of.ensures.sort))
+    (λ s stands. fault_of_body (names_of s) (names_of_library old) c.args.name.now ps c.args.sort body _
+    (names_as old s stands)
+    (same_fault (sort_in (names_for old labels) ps body) (sort_in (names_of_library old) ps body) _
+    (without_labels old labels ps body _ c.refused.ensures.view refl) c.in_err-checked.ensures.sort))
 
-pub returns-in_err-sort_of-clause-unchanged : goal.returns-in_err-sort_of-clause-unchanged
-returns-in_err-sort_of-clause-unchanged c = search rules
+pub returns-in_err-checked-clause-unchanged : goal.returns-in_err-checked-clause-unchanged
+returns-in_err-checked-clause-unchanged c =
+    let e = c.check_whole.ensures in
+    on_err c.from_residual.result
+    (λ s stands. stands_still (contents_of c.args.self.now) (contents_of c.check_whole.new.self) s
+    (checked_keeps c.check_whole.result c.args.self.now c.check_whole.new.self e.grown e.unchanged e.names e.sorts
+    e.declared e.definitions e.bodies e.terms) stands)
+
+pub returns-in_err-checked-clause-grown : goal.returns-in_err-checked-clause-grown
+returns-in_err-checked-clause-grown c =
+    let e = c.check_whole.ensures in
+    grown_by (contents_of c.args.self.now) (contents_of c.check_whole.new.self)
+    (checked_keeps c.check_whole.result c.args.self.now c.check_whole.new.self e.grown e.unchanged e.names e.sorts
+    e.declared e.definitions e.bodies e.terms)
 
 pub returns-then-not-are_equal-clause-refused : goal.returns-then-not-are_equal-clause-refused
 returns-then-not-are_equal-clause-refused c =
+    let old = c.args.self.now in
     let ps = scope_view c.args.parameters.now in
     let body = sexp_of c.args.body.now in
-    λ s stands. inr (definition_by (names_of s) (names_of_library c.args.self.now) c.args.name.now ps c.args.sort
-    c.in_ok-sort_of.field-0.sort body false (names_as c.args.self.now s stands)
-    (sort_over_parameters c.args.self.now c.refused.result c.new-draft.result c.bind.new.self ps body
-    c.refused.ensures.view c.new-draft.ensures.labels c.new-draft.ensures.variables c.bind.ensures.labels
-    c.in_ok-bind.ensures.bound ∙ c.in_ok-sort_of.ensures.sort)
+    λ s stands. inr (definition_by (names_of s) (names_of_library old) c.args.name.now ps c.args.sort
+    c.in_ok-checked.checked.sort body false (names_as old s stands)
+    (without_labels old (labels_view c.refused.result) ps body _ c.refused.ensures.view c.in_ok-checked.ensures.sort)
     (sym c.are_equal.ensures ∙ c.if-not-are_equal.true))
 
 pub returns-then-not-are_equal-clause-unchanged : goal.returns-then-not-are_equal-clause-unchanged
-returns-then-not-are_equal-clause-unchanged c = search rules
+returns-then-not-are_equal-clause-unchanged c =
+    let e = c.check_whole.ensures in
+    λ s stands. stands_still (contents_of c.args.self.now) (contents_of c.check_whole.new.self) s
+    (checked_keeps c.check_whole.result c.args.self.now c.check_whole.new.self e.grown e.unchanged e.names e.sorts
+    e.declared e.definitions e.bodies e.terms) stands
 
-pub returns-in_err-body-clause-refused : goal.returns-in_err-body-clause-refused
-returns-in_err-body-clause-refused c = search rules
+pub returns-then-not-are_equal-clause-grown : goal.returns-then-not-are_equal-clause-grown
+returns-then-not-are_equal-clause-grown c =
+    let e = c.check_whole.ensures in
+    grown_by (contents_of c.args.self.now) (contents_of c.check_whole.new.self)
+    (checked_keeps c.check_whole.result c.args.self.now c.check_whole.new.self e.grown e.unchanged e.names e.sorts
+    e.declared e.definitions e.bodies e.terms)
 
-pub returns-in_err-body-clause-unchanged : goal.returns-in_err-body-clause-unchanged
-returns-in_err-body-clause-unchanged c = search rules
+pub returns-in_err-tree-clause-refused : goal.returns-in_err-tree-clause-refused
+returns-in_err-tree-clause-refused c = search rules
 
-pub returns-in_err-body-clause-grown : goal.returns-in_err-body-clause-grown
-returns-in_err-body-clause-grown c = search rules
+pub returns-in_err-tree-clause-unchanged : goal.returns-in_err-tree-clause-unchanged
+returns-in_err-tree-clause-unchanged c =
+    let e = c.check_whole.ensures in
+    on_err c.from_residual-in_err-tree.result
+    (λ s stands. stands_still (contents_of c.args.self.now) (contents_of c.add_tree.new.self) s
+    (keeps_on (contents_of c.args.self.now) (contents_of c.check_whole.new.self) (contents_of c.add_tree.new.self)
+    (checked_keeps c.check_whole.result c.args.self.now c.check_whole.new.self e.grown e.unchanged e.names e.sorts
+    e.declared e.definitions e.bodies e.terms) c.add_tree.ensures.kept) stands)
+
+pub returns-in_err-tree-clause-grown : goal.returns-in_err-tree-clause-grown
+returns-in_err-tree-clause-grown c =
+    let e = c.check_whole.ensures in
+    grown_by (contents_of c.args.self.now) (contents_of c.add_tree.new.self)
+    (keeps_on (contents_of c.args.self.now) (contents_of c.check_whole.new.self) (contents_of c.add_tree.new.self)
+    (checked_keeps c.check_whole.result c.args.self.now c.check_whole.new.self e.grown e.unchanged e.names e.sorts
+    e.declared e.definitions e.bodies e.terms) c.add_tree.ensures.kept)
+
+pub returns-in_err-insert_definition-clause-unchanged : goal.returns-in_err-insert_definition-clause-unchanged
+returns-in_err-insert_definition-clause-unchanged c =
+    let e = c.check_whole.ensures in
+    on_err c.from_residual-in_err-insert_definition.result
+    (λ s stands. stands_still (contents_of c.args.self.now) (contents_of c.insert_definition.new.self) s
+    (keeps_on (contents_of c.args.self.now) (contents_of c.add_tree.new.self)
+    (contents_of c.insert_definition.new.self)
+    (keeps_on (contents_of c.args.self.now) (contents_of c.check_whole.new.self) (contents_of c.add_tree.new.self)
+    (checked_keeps c.check_whole.result c.args.self.now c.check_whole.new.self e.grown e.unchanged e.names e.sorts
+    e.declared e.definitions e.bodies e.terms) c.add_tree.ensures.kept)
+    c.in_err-insert_definition.ensures.unchanged) stands)
+
+pub returns-in_err-insert_definition-clause-grown : goal.returns-in_err-insert_definition-clause-grown
+returns-in_err-insert_definition-clause-grown c =
+    let e = c.check_whole.ensures in
+    extends_on _ _ _ (grown_by (contents_of c.args.self.now) (contents_of c.add_tree.new.self)
+    (keeps_on (contents_of c.args.self.now) (contents_of c.check_whole.new.self) (contents_of c.add_tree.new.self)
+    (checked_keeps c.check_whole.result c.args.self.now c.check_whole.new.self e.grown e.unchanged e.names e.sorts
+    e.declared e.definitions e.bodies e.terms) c.add_tree.ensures.kept)) c.insert_definition.ensures.grown
+
+pub returns-clause-grown : goal.returns-clause-grown
+returns-clause-grown c =
+    let e = c.check_whole.ensures in
+    extends_on _ _ _ (grown_by (contents_of c.args.self.now) (contents_of c.add_tree.new.self)
+    (keeps_on (contents_of c.args.self.now) (contents_of c.check_whole.new.self) (contents_of c.add_tree.new.self)
+    (checked_keeps c.check_whole.result c.args.self.now c.check_whole.new.self e.grown e.unchanged e.names e.sorts
+    e.declared e.definitions e.bodies e.terms) c.add_tree.ensures.kept)) c.insert_definition.ensures.grown
+
+pub returns-clause-added : goal.returns-clause-added
+returns-clause-added c = λ s stands.
+    let old = c.args.self.now in
+    let now = contents_of c.add_tree.new.self in
+    let ps = scope_view c.args.parameters.now in
+    let t = sexp_of c.args.body.now in
+    let e = c.check_whole.ensures in
+    let given = c.in_ok-checked.field-0-1.items in
+    let node = c.in_ok-checked.checked.node in
+    let rows = rows_of c.check_whole.new.self.nodes in
+    let bodies : List ℕ = old.bodies.items ++ node ∷ [] in
+    let kept =
+    (keeps_on (contents_of c.args.self.now) (contents_of c.check_whole.new.self) (contents_of c.add_tree.new.self)
+    (checked_keeps c.check_whole.result c.args.self.now c.check_whole.new.self e.grown e.unchanged e.names e.sorts
+    e.declared e.definitions e.bodies e.terms) c.add_tree.ensures.kept) in
+    let none =
+    none_given old (labels_view c.refused.result) ps t c.in_ok-checked.checked.sort given c.refused.ensures.view
+    c.in_ok-checked.ensures.sort c.in_ok-checked.ensures.given.0 in
+    let longer =
+    checked_longer old now given rows bodies kept.theories (nothing_more _ _ kept.heads)
+    (none_more old.bodies.items given bodies none (node ∷ [], refl)) c.add_tree.ensures.kept.rows in (
+      definition c.args.name.now ps c.args.sort t,
+      definition_by (names_of s) (names_of_library old) c.args.name.now ps c.args.sort
+          c.in_ok-checked.checked.sort t true (names_as old s stands)
+          (without_labels old (labels_view c.refused.result) ps t _ c.refused.ensures.view
+          c.in_ok-checked.ensures.sort)
+          (sym c.are_equal.ensures ∙ c.if-not-are_equal.false),
+      λ free. whole bodies (contents_of c.insert_definition.new.self)
+          (with_entry s (definition c.args.name.now ps c.args.sort t))
+          (c.in_ok-insert_definition.ensures.bodies ∙ ap (λ (bs : List ℕ). bs ++ node ∷ []) kept.bodies)
+          (c.in_ok-insert_definition.ensures.added bodies s t
+          (under_more old.bodies.items (node ∷ []) now s
+          (stands_kept old.bodies.items (contents_of old) now s kept (under (contents_of old) s stands)))
+          free c.in_ok-tree.ensures.tree
+          (body_checked old now given rows bodies c.args.parameters.now node t longer
+          (c.in_ok-checked.ensures.node (ready (terms_of old) s stands.terms)).0)),
+    )

@@ -1,6 +1,7 @@
 use Rattle.std.proofs.Common.{List, [], ◌∷◌, ◌≡◌, arith, length, refl}
 use Rattle.smt_terms.specs.declared.labels.Label.{Label}
-use Rattle.smt_terms.proofs.AssertionLemmas.{AreAdded-all, AreAdded-first, AreAdded-next, AreAdded-none}
+use Rattle.smt_terms.proofs.AssertionLemmas.{AreAdded-all, AreAdded-bodies, AreAdded-first, AreAdded-next}
+use Rattle.smt_terms.proofs.AssertionLemmas.{AreAdded-none}
 use Rattle.smt_terms.proofs.ContentsLemmas.{extends_on}
 use Rattle.smt_terms.proofs.library.Library.add_labels.Goals as goal
 
@@ -24,7 +25,8 @@ loop-label-preserved c =
     AreAdded-next c.args.self.now c.loop-label.self c.add_label.new.self c.args.labels.now
     c.loop-label.left.now c.in-Some.rest.now c.in-Some.label.now c.loop-label.invariant
     c.in-Some.ensures.cases.0
-    c.in_ok-add_label.ensures.added c.in_ok-add_label.ensures.ranks c.in_ok-add_label.ensures.grown
+    c.in_ok-add_label.ensures.added c.in_ok-add_label.ensures.ranks c.in_ok-add_label.ensures.bodies
+    c.in_ok-add_label.ensures.grown
 
 none_left : (ls : List Label) → length ls ≡ 0 → ls ≡ []
 none_left [] h = refl
@@ -32,6 +34,10 @@ none_left (l ∷ ls) h = absurd (omega (arith, h))
 
 pub returns-clause-added : goal.returns-clause-added
 returns-clause-added c = AreAdded-all c.args.self.now c.loop-label.self c.args.labels.now
+    c.loop-label.left.now c.loop-label.invariant (none_left c.loop-label.left.now c.in_default.ensures.cases)
+
+pub returns-clause-bodies : goal.returns-clause-bodies
+returns-clause-bodies c = AreAdded-bodies c.args.self.now c.loop-label.self c.args.labels.now
     c.loop-label.left.now c.loop-label.invariant (none_left c.loop-label.left.now c.in_default.ensures.cases)
 
 pub returns-clause-grown : goal.returns-clause-grown

@@ -1,9 +1,13 @@
 use Rattle.std.proofs.Common.{rules, sym}
+use Rattle.smt_terms.proofs.ClosedLemmas.{neither}
 use Rattle.smt_terms.proofs.NameLookUps.{not_taken}
 use Rattle.smt_terms.proofs.library.Library.declare.Goals as goal
 
 pub add_declared-requires-clause-absent : goal.add_declared-requires-clause-absent
 add_declared-requires-clause-absent c = not_taken _ _ (sym c.if-is_taken.ensures)
+
+pub add_declared-requires-clause-free : goal.add_declared-requires-clause-free
+add_declared-requires-clause-free c = (neither _ _ (sym c.if-is_taken.ensures)).1
 
 pub returns-in_err-declared-clause-refused : goal.returns-in_err-declared-clause-refused
 returns-in_err-declared-clause-refused c = search rules

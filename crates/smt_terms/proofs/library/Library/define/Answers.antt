@@ -6,6 +6,7 @@ use Rattle.smt_forms.specs.ParamView.{param_view}
 use Rattle.smt_forms.specs.ScopeView.{scope_view}
 use Rattle.smt_terms.specs.Signature.{names_of}
 use Rattle.smt_terms.proofs.DefinitionLemmas.{define_step, same_fault}
+use Rattle.smt_terms.proofs.ItemLemmas.{not_operator}
 use Rattle.smt_terms.proofs.NameLookUps.{not_taken}
 use Rattle.smt_terms.proofs.library.Library.define.Goals as goal
 
@@ -26,7 +27,7 @@ returns-clause-defined c =
           (scope_view c.in_ok-parameters.parameters.items) rs c.in_ok-sort.sort stands
           (sym c.if-is_taken.ensures) c.in_ok-parameters.ensures
           c.in_ok-sort.ensures (ap scope_view c.as_slice.ensures.value) ∙ more.1,
-      more.2,
+      more.2 (not_operator c.args.self.now s c.args.name.now stands (sym c.if-is_taken.ensures)),
     ))
     c.add_definition.ensures.added
 

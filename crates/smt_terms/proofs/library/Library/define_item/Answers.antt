@@ -7,7 +7,7 @@ use Rattle.smt_terms.specs.Items.{item_in}
 use Rattle.smt_forms.specs.ScopeView.{scope_view}
 use Rattle.smt_terms.specs.Signature.{names_of}
 use Rattle.smt_terms.proofs.DefinitionLemmas.{same_fault}
-use Rattle.smt_terms.proofs.ItemLemmas.{item_step}
+use Rattle.smt_terms.proofs.ItemLemmas.{item_is_free, item_step}
 use Rattle.smt_terms.proofs.library.Library.define_item.Goals as goal
 
 pub returns-clause-defined : goal.returns-clause-defined
@@ -28,7 +28,8 @@ returns-clause-defined c =
           (ap scope_view c.as_slice.ensures.value)
           (ap scope_view c.as_slice-2.ensures.value)
           ∙ more.1,
-      more.2,
+      more.2 (item_is_free c.args.self.now c.args.script.now s m form.name c.requires stands items
+          (c.in_ok-check_name.ensures.flaw s m stands items)),
     ))
     c.add_definition.ensures.added
 

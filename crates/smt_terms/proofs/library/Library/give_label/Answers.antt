@@ -1,7 +1,8 @@
-use Rattle.std.proofs.Common.{rules}
+use Rattle.std.proofs.Common.{rules, [], ◌∷◌}
 use Rattle.smt_trees.specs.Tree.{sexp_of}
 use Rattle.smt_terms.specs.Internal.LibraryView.{names_of_library}
 use Rattle.smt_terms.proofs.LabelLemmas.{AreGiven-push}
+use Rattle.smt_terms.proofs.LabelNodeLemmas.{named_pushed, nodes_pushed}
 use Rattle.smt_terms.proofs.library.Library.give_label.Goals as goal
 
 pub returns-clause-labels : goal.returns-clause-labels
@@ -10,3 +11,15 @@ returns-clause-labels c =
     AreGiven-push (names_of_library c.args.self.now) c.args.labels.now c.push.new.self c.args.name.now
     c.args.checked.now.sort (sexp_of c.args.term.now) p.0 c.push.ensures.refuses p.1 p.2 p.3 p.4
     (c.requires (search rules))
+
+pub returns-clause-longer : goal.returns-clause-longer
+returns-clause-longer c =
+    let p = c.in_ok-push.ensures.pushed in (
+      c.args.checked.now.node ∷ [],
+      nodes_pushed c.args.labels.now c.push.new.self p.0 c.args.checked.now.node p.1 p.5,
+    )
+
+pub returns-clause-named : goal.returns-clause-named
+returns-clause-named c =
+    let p = c.in_ok-push.ensures.pushed in
+    named_pushed c.args.labels.now c.push.new.self p.0 c.args.checked.now.node (sexp_of c.args.term.now) p.1 p.5 p.4

@@ -6,8 +6,11 @@ use Rattle.smt_forms.specs.Labels.{label_of_tree}
 use Rattle.smt_terms.specs.Internal.LabelsView.{labels_view}
 use Rattle.smt_terms.specs.Internal.LibraryView.{names_for, names_of_library}
 use Rattle.smt_forms.specs.Labels.{labels_among}
+use Rattle.smt_terms.specs.Internal.NodesView.{nodes_given}
 use Rattle.smt_terms.proofs.LabelLemmas.{AreGivenOf-next, carried_fault, faults-fault, faults-next}
 use Rattle.smt_terms.proofs.LabelLemmas.{labels_among-first, names_behind, with_term}
+use Rattle.smt_terms.proofs.LabelNodeLemmas.{nodes_all, nodes_next}
+use Rattle.smt_terms.proofs.TableLemmas.{behind_behind}
 use Rattle.smt_terms.proofs.library.Library.give_labels.Goals as goal
 
 pub returns-in_err-give_label_at-clause-fault : goal.returns-in_err-give_label_at-clause-fault
@@ -44,4 +47,26 @@ loop-tree-preserved c =
           (with_term term (labels_among (sexps_of c.loop-tree.left.now)))
           (with_term term xs) (with_term term ys) c.loop-tree.invariant.given
           (ap (with_term term) split ∙ map-append _ xs ys) c.in_ok-give_label_at.ensures.labels;
+      nodes = nodes_next c.args.checked.now.node _ (nodes_given c.loop-tree.labels)
+          (nodes_given c.give_label_at.new.labels) (labels_among (sexps_of c.loop-tree.left.now)) xs ys
+          c.loop-tree.invariant.nodes split c.in_ok-give_label_at.ensures.nodes;
+      longer = (
+        _,
+        behind_behind (nodes_given c.args.labels.now) (nodes_given c.loop-tree.labels)
+            (nodes_given c.give_label_at.new.labels) c.loop-tree.invariant.longer.0
+            c.give_label_at.ensures.longer.0 c.loop-tree.invariant.longer.1 c.give_label_at.ensures.longer.1,
+      );
+      named = λ t h d. c.in_ok-give_label_at.ensures.named t (c.loop-tree.invariant.named t h d) d;
     }
+
+pub returns-in_err-give_label_at-clause-longer : goal.returns-in_err-give_label_at-clause-longer
+returns-in_err-give_label_at-clause-longer c = (
+  _,
+  behind_behind (nodes_given c.args.labels.now) (nodes_given c.loop-tree.labels)
+      (nodes_given c.give_label_at.new.labels) c.loop-tree.invariant.longer.0
+      c.give_label_at.ensures.longer.0 c.loop-tree.invariant.longer.1 c.give_label_at.ensures.longer.1,
+)
+
+pub returns-clause-nodes : goal.returns-clause-nodes
+returns-clause-nodes c = nodes_all c.args.checked.now.node _ (nodes_given c.loop-tree.labels) _
+    c.loop-tree.invariant.nodes (ap labels_among c.in_default.ensures)

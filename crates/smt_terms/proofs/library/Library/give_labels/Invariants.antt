@@ -1,4 +1,4 @@
-use Rattle.std.proofs.Common.{◌≡◌, ℕ, List}
+use Rattle.std.proofs.Common.{◌≡◌, ◌++◌, [], ℕ, List, map}
 use Rattle.smt_trees.specs.Sexp.{weight_all}
 use Rattle.smt_trees.specs.Tree.{sexp_of, sexps_of}
 use Rattle.smt_theory.specs.declared.sort.Sort.{Sort}
@@ -7,6 +7,9 @@ use Rattle.smt_terms.specs.Internal.LabelsView.{labels_view}
 use Rattle.smt_terms.specs.Internal.LibraryView.{names_for, names_of_library}
 use Rattle.smt_forms.specs.Labels.{labels_among}
 use Rattle.smt_forms.specs.Variables.{uses_variable}
+use Rattle.smt_terms.specs.Denotes.{Denotes, Table}
+use Rattle.smt_terms.specs.Internal.NodesView.{nodes_given}
+use Rattle.smt_terms.specs.Internal.TableView.{AreNamed}
 use Rattle.smt_terms.proofs.LabelLemmas.{AreGivenOf, with_term}
 use Rattle.smt_terms.proofs.library.Library.give_labels.Given as goal
 
@@ -20,6 +23,11 @@ invariant-loop-tree l = record {
   given : AreGivenOf (names_of_library l.self) l.fn.labels l.labels
       (with_term (sexp_of l.term) (labels_among (sexps_of l.attributes)))
       (with_term (sexp_of l.term) (labels_among (sexps_of l.left)));
+  nodes : nodes_given l.fn.labels ++ map (λ x. l.checked.node) (labels_among (sexps_of l.attributes))
+      ≡ nodes_given l.labels ++ map (λ x. l.checked.node) (labels_among (sexps_of l.left));
+  longer : (more : List ℕ) × (nodes_given l.labels ≡ nodes_given l.fn.labels ++ more);
+  named : (t : Table) → AreNamed t l.fn.labels.given.items → Denotes t [] 0 0 l.checked.node (sexp_of l.term)
+      → AreNamed t l.labels.given.items;
 }
 
 abbrev pub decreases-loop-tree : goal.decreases-loop-tree

@@ -1,103 +1,145 @@
--- The new name goes last, among the names and among the definitions.
-use Rattle.std.proofs.Common.{◌≡◌, ℕ, List, ◌++◌, ◌∷◌, [], map, refl, ap, ◌∙◌, arith}
-use Rattle.std.proofs.lemmas.Grind.{common_steps}
+-- The new name goes last, among the names and among the definitions, with the node of its body.
+use Rattle.std.proofs.Common.{◌≡◌, ℕ, List, ◌++◌, ◌∷◌, [], length, map, refl, ap, ◌∙◌}
 use Rattle.smt_trees.specs.Tree.{sexp_of}
+use Rattle.smt_nodes.specs.Nodes.{rows_of}
 use Rattle.smt_theory.specs.declared.sort.Sort.{Sort}
 use Rattle.smt_terms.specs.Contents.{contents_of, declaration_view}
-use Rattle.smt_terms.specs.Internal.LibraryView.{abbreviations_of, places_of_library, ranks_of_library}
+use Rattle.smt_terms.specs.Denotes.{Head}
+use Rattle.smt_terms.specs.Internal.LibraryView.{abbreviations_of, ranks_of_library}
+use Rattle.smt_terms.specs.Internal.TableView.{heads_of_library}
 use Rattle.smt_terms.specs.declared.library.Found.TheVariants as place
 use Rattle.smt_terms.specs.declared.sorts.SortNames.{SortNames}
-use Rattle.smt_terms.proofs.ContentsLemmas.{nothing_more}
+use Rattle.smt_terms.proofs.ContentsLemmas.{grown_by, nothing_more}
 use Rattle.smt_forms.specs.ScopeView.{scope_view}
-use Rattle.smt_terms.proofs.StandsLemmas.{counted, on_err, stands_defined, stands_still}
+use Rattle.smt_terms.proofs.StandsLemmas.{counted, on_err, stands_defined, undone_push}
 use Rattle.smt_terms.proofs.library.Library.insert_definition.Goals as goal
 
-pub returns-in_err-push-clause-unchanged : goal.returns-in_err-push-clause-unchanged
-returns-in_err-push-clause-unchanged c =
-    on_err c.from_residual-in_err-push.result
-    (λ s stands. stands_still (contents_of c.args.self.now) _ s refl refl refl refl refl
-    c.in_err-push.ensures.items (λ i t h. h) stands)
+pub returns-in_err-push_definition-clause-unchanged : goal.returns-in_err-push_definition-clause-unchanged
+returns-in_err-push_definition-clause-unchanged c = on_err c.from_residual-in_err-push_definition.result (record {
+  theories = ap (λ (z : SortNames). z.theories) c.push_definition.ensures.sorts;
+  abbreviations = ap abbreviations_of c.push_definition.ensures.sorts;
+  ranks = rw c.push_definition.ensures.names refl;
+  heads = rw c.push_definition.ensures.names refl;
+  declared = rw c.push_definition.ensures.declared refl;
+  definitions = c.in_err-push_definition.ensures.unchanged.0;
+  bodies = c.in_err-push_definition.ensures.unchanged.1;
+  rows = nothing_more _ _ (ap rows_of c.push_definition.ensures.nodes);
+  terms = nothing_more _ _ (rw c.push_definition.ensures.terms refl);
+})
 
-pub returns-in_err-push-clause-grown : goal.returns-in_err-push-clause-grown
-returns-in_err-push-clause-grown c = record {
-  theories = refl;
-  abbreviations = nothing_more _ _ refl;
-  ranks = nothing_more _ _ refl;
-  places = nothing_more _ _ refl;
-  declared = nothing_more _ _ refl;
-  definitions = nothing_more _ _ c.in_err-push.ensures.items;
-  terms = nothing_more _ _ refl;
+pub returns-in_err-push_definition-clause-grown : goal.returns-in_err-push_definition-clause-grown
+returns-in_err-push_definition-clause-grown c = record {
+  theories = ap (λ (z : SortNames). z.theories) c.push_definition.ensures.sorts;
+  abbreviations = nothing_more _ _ (ap abbreviations_of c.push_definition.ensures.sorts);
+  ranks = nothing_more _ _ (rw c.push_definition.ensures.names refl);
+  heads = nothing_more _ _ (rw c.push_definition.ensures.names refl);
+  declared = nothing_more _ _ (rw c.push_definition.ensures.declared refl);
+  definitions = nothing_more _ _ c.in_err-push_definition.ensures.unchanged.0;
+  bodies = nothing_more _ _ c.in_err-push_definition.ensures.unchanged.1;
+  rows = nothing_more _ _ (ap rows_of c.push_definition.ensures.nodes);
+  terms = nothing_more _ _ (rw c.push_definition.ensures.terms refl);
 }
 
 pub returns-in-Err-clause-unchanged : goal.returns-in-Err-clause-unchanged
 returns-in-Err-clause-unchanged c =
-    let same : c.pop.new.self.items ≡ c.args.self.now.definitions.items =
-    grind (
-      arith,
-      common_steps,
-      c.pop.ensures.items,
-      c.pop.ensures.variant,
-      c.insert.ensures.definitions,
-      c.in_ok-push.ensures.items,
-    ) in
-    λ s stands.
-    stands_still (contents_of c.args.self.now) _ s (ap (λ (z : SortNames). z.theories) c.insert.ensures.sorts)
-    (ap abbreviations_of c.insert.ensures.sorts) c.in-Err.ensures.unchanged.0 c.in-Err.ensures.unchanged.1
-    (ap (map declaration_view) c.insert.ensures.declared) same
-    (λ i t is. rw c.insert.ensures.terms is) stands
-
-pub returns-in-Err-clause-grown : goal.returns-in-Err-clause-grown
-returns-in-Err-clause-grown c =
-    let same : c.pop.new.self.items ≡ c.args.self.now.definitions.items =
-    grind (
-      arith,
-      common_steps,
-      c.pop.ensures.items,
-      c.pop.ensures.variant,
-      c.insert.ensures.definitions,
-      c.in_ok-push.ensures.items,
-    ) in
+    let first = c.push_definition.ensures in
+    let then = c.insert.ensures in
+    let last = c.pop_definition.ensures in
     record {
-      theories = ap (λ (z : SortNames). z.theories) c.insert.ensures.sorts;
-      abbreviations = nothing_more _ _ (ap abbreviations_of c.insert.ensures.sorts);
-      ranks = nothing_more _ _ c.in-Err.ensures.unchanged.0;
-      places = nothing_more _ _ c.in-Err.ensures.unchanged.1;
-      declared = nothing_more _ _ (ap (map declaration_view) c.insert.ensures.declared);
-      definitions = nothing_more _ _ same;
-      terms = nothing_more _ _ (ap (map sexp_of) c.insert.ensures.terms);
+      theories = ap (λ (z : SortNames). z.theories) (last.sorts ∙ then.sorts ∙ first.sorts);
+      abbreviations = ap abbreviations_of (last.sorts ∙ then.sorts ∙ first.sorts);
+      ranks = rw last.names (c.in-Err.ensures.unchanged.0 ∙ rw first.names refl);
+      heads = rw last.names (c.in-Err.ensures.unchanged.1 ∙ rw first.names refl);
+      declared = rw last.declared (ap (map declaration_view) then.declared ∙ rw first.declared refl);
+      definitions = undone_push c.args.self.now.definitions.items _ _ _
+          (then.definitions ∙ c.in_ok-push_definition.ensures.definitions) last.definitions;
+      bodies = undone_push c.args.self.now.bodies.items _ _ _
+          (then.bodies ∙ c.in_ok-push_definition.ensures.bodies) last.bodies;
+      rows = nothing_more _ _ (ap rows_of (last.nodes ∙ then.nodes ∙ first.nodes));
+      terms = nothing_more _ _ (rw last.terms (ap (map sexp_of) then.terms ∙ rw first.terms refl));
     }
 
-pub returns-in-Ok-clause-added : goal.returns-in-Ok-clause-added
-returns-in-Ok-clause-added c = λ s t stands body.
-    stands_defined (contents_of c.args.self.now) (contents_of c.insert.new.self) s c.args.name.now
-    (scope_view c.args.parameters.now) _ t c.requires c.in_ok-from_slice.ensures.items
-    c.in_ok-named_parameters.ensures body
-    (ap (λ (z : SortNames). z.theories) c.insert.ensures.sorts) (ap abbreviations_of c.insert.ensures.sorts)
-    (c.in-Ok.ensures.ranks ∙ ap
-    (λ (ps : List Sort). ranks_of_library c.args.self.now
-    ++ (c.args.name.now, record { parameters = ps; sort = c.args.sort }) ∷ [])
-    c.in_ok-sorts_of_variables.ensures)
-    (c.in-Ok.ensures.places ∙ ap
-    (λ (n : ℕ). places_of_library c.args.self.now ++ (c.args.name.now, place.Defined n) ∷ [])
-    (counted c.args.self.now.definitions c.len.result c.len.ensures))
-    (ap (map declaration_view) c.insert.ensures.declared)
-    (c.insert.ensures.definitions ∙ c.in_ok-push.ensures.items)
-    (λ i t is. rw c.insert.ensures.terms is) stands
+pub returns-in-Err-clause-grown : goal.returns-in-Err-clause-grown
+returns-in-Err-clause-grown c = grown_by _ _ (returns-in-Err-clause-unchanged c)
 
 pub returns-in-Ok-clause-ranks : goal.returns-in-Ok-clause-ranks
 returns-in-Ok-clause-ranks c =
-    c.in-Ok.ensures.ranks ∙ ap
+    c.in-Ok.ensures.ranks ∙ rw c.push_definition.ensures.names refl ∙ ap
     (λ (ps : List Sort). ranks_of_library c.args.self.now
     ++ (c.args.name.now, record { parameters = ps; sort = c.args.sort }) ∷ [])
     c.in_ok-sorts_of_variables.ensures
 
+pub returns-in-Ok-clause-added : goal.returns-in-Ok-clause-added
+returns-in-Ok-clause-added c = λ bodies s t stands free tree node.
+    let first = c.push_definition.ensures in
+    let then = c.insert.ensures in
+    let old = c.args.self.now in
+    let names : heads_of_library c.push_definition.new.self ≡ heads_of_library old = rw first.names refl in
+    stands_defined bodies (contents_of old) (contents_of c.insert.new.self) s c.args.name.now
+    (scope_view c.args.parameters.now) _ t c.args.node c.requires free c.in_ok-from_slice.ensures.items
+    c.in_ok-named_parameters.ensures tree node
+    (ap (λ (z : SortNames). z.theories) (then.sorts ∙ first.sorts))
+    (ap abbreviations_of (then.sorts ∙ first.sorts))
+    (returns-in-Ok-clause-ranks c)
+    (c.in-Ok.ensures.heads ∙ ap (λ (hs : List (List ℕ × Head)). hs ++ (
+      c.args.name.now,
+      record {
+        place = place.Defined c.len.result;
+        arity = length c.in_ok-sorts_of_variables.field-0.items;
+      },
+    ) ∷ []) names ∙ ap
+    (λ (ps : List Sort). heads_of_library old ++ (
+      c.args.name.now,
+      record {
+        place = place.Defined c.len.result;
+        arity = length ps;
+      },
+    ) ∷ []) c.in_ok-sorts_of_variables.ensures ∙ ap
+    (λ (n : ℕ). heads_of_library old ++ (
+      c.args.name.now,
+      record {
+        place = place.Defined n;
+        arity = length (map (λ p. p.1) (scope_view c.args.parameters.now));
+      },
+    ) ∷ []) (counted old.definitions c.len.result c.len.ensures))
+    (ap (map declaration_view) then.declared ∙ rw first.declared refl)
+    (then.definitions ∙ c.in_ok-push_definition.ensures.definitions)
+    (then.bodies ∙ c.in_ok-push_definition.ensures.bodies)
+    (nothing_more _ _ (ap rows_of (then.nodes ∙ first.nodes)))
+    (nothing_more _ _ (ap (map sexp_of) then.terms ∙ rw first.terms refl)) stands
+
+pub returns-in-Ok-clause-bodies : goal.returns-in-Ok-clause-bodies
+returns-in-Ok-clause-bodies c = c.insert.ensures.bodies ∙ c.in_ok-push_definition.ensures.bodies
+
 pub returns-in-Ok-clause-grown : goal.returns-in-Ok-clause-grown
-returns-in-Ok-clause-grown c = record {
-  theories = ap (λ (z : SortNames). z.theories) c.insert.ensures.sorts;
-  abbreviations = nothing_more _ _ (ap abbreviations_of c.insert.ensures.sorts);
-  ranks = (_, c.in-Ok.ensures.ranks);
-  places = (_, c.in-Ok.ensures.places);
-  declared = nothing_more _ _ (ap (map declaration_view) c.insert.ensures.declared);
-  definitions = (_, c.insert.ensures.definitions ∙ c.in_ok-push.ensures.items);
-  terms = nothing_more _ _ (ap (map sexp_of) c.insert.ensures.terms);
-}
+returns-in-Ok-clause-grown c =
+    let first = c.push_definition.ensures in
+    let then = c.insert.ensures in
+    let names : heads_of_library c.push_definition.new.self ≡ heads_of_library c.args.self.now =
+    rw first.names refl in
+    record {
+      theories = ap (λ (z : SortNames). z.theories) (then.sorts ∙ first.sorts);
+      abbreviations = nothing_more _ _ (ap abbreviations_of (then.sorts ∙ first.sorts));
+      ranks = (_, returns-in-Ok-clause-ranks c);
+      heads = (
+        (
+          c.args.name.now,
+          record {
+            place = place.Defined c.len.result;
+            arity = length c.in_ok-sorts_of_variables.field-0.items;
+          },
+        ) ∷ [],
+        c.in-Ok.ensures.heads ∙ ap (λ (hs : List (List ℕ × Head)). hs ++ (
+          c.args.name.now,
+          record {
+            place = place.Defined c.len.result;
+            arity = length c.in_ok-sorts_of_variables.field-0.items;
+          },
+        ) ∷ []) names,
+      );
+      declared = nothing_more _ _ (ap (map declaration_view) then.declared ∙ rw first.declared refl);
+      definitions = (_, then.definitions ∙ c.in_ok-push_definition.ensures.definitions);
+      bodies = (_, then.bodies ∙ c.in_ok-push_definition.ensures.bodies);
+      rows = nothing_more _ _ (ap rows_of (then.nodes ∙ first.nodes));
+      terms = nothing_more _ _ (ap (map sexp_of) then.terms ∙ rw first.terms refl);
+    }

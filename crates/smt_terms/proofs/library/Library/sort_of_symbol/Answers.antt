@@ -1,39 +1,56 @@
-use Rattle.std.proofs.Common.{Ok, option_map, ap, sym, ◌∙◌}
+use Rattle.std.proofs.Common.{Ok, [], option_map, ap, sym, subst, ◌∙◌}
+use Rattle.smt_trees.specs.Sexp.{Atom, Symbol}
+use Rattle.smt_nodes.specs.Node as node
 use Rattle.smt_theory.specs.declared.sort.Sort.{Sort}
+use Rattle.smt_forms.specs.Identifier.{Plain}
 use Rattle.smt_terms.specs.Checking as checking
-use Rattle.smt_terms.specs.Internal.DraftView.{seen_by}
+use Rattle.smt_terms.specs.Internal.DraftView.{is_open, seen_by}
 use Rattle.smt_terms.specs.Internal.LibraryView.{names_of_library}
+use Rattle.smt_terms.specs.Internal.NodesView.{AddsApplied, AddsNode, Stands}
 use Rattle.smt_terms.specs.declared.library.draft.Bound.{Bound}
-use Rattle.smt_terms.proofs.DraftLemmas.{look_up-sorts, open-none, open-some}
+use Rattle.smt_terms.proofs.DraftLemmas.{carried_open, carried_sort, look_up-sorts, open-none, open-some}
+use Rattle.smt_terms.proofs.NodeLemmas.{if_answered, symbol_stands, variable_stands}
 use Rattle.smt_terms.proofs.library.Library.sort_of_symbol.Goals as goal
 
-pub returns-in-Some-clause-sort : goal.returns-in-Some-clause-sort
-returns-in-Some-clause-sort c =
+pub returns-in_ok-push-in-Some-clause-sort : goal.returns-in_ok-push-in-Some-clause-sort
+returns-in_ok-push-in-Some-clause-sort c =
     ap (checking.sort_of_symbol (names_of_library c.args.self.now) c.args.name.now)
     (look_up-sorts (seen_by c.args.draft.now) c.args.name.now
     ∙ ap (option_map (λ (b : Bound). b.sort)) (sym c.find.ensures ∙ c.in-Some.is))
+    ∙ ap (λ (s : Sort). Ok s) (sym c.in_ok-push-in-Some.ensures.sort)
 
-pub returns-in-Some-clause-open : goal.returns-in-Some-clause-open
-returns-in-Some-clause-open c =
-    open-some (seen_by c.args.draft.now) c.args.draft.now.base c.args.name.now c.in-Some.variable c.requires
+pub returns-in_ok-push-in-Some-clause-open : goal.returns-in_ok-push-in-Some-clause-open
+returns-in_ok-push-in-Some-clause-open c =
+    c.in_ok-push-in-Some.ensures.open
+    ∙ open-some (seen_by c.args.draft.now) c.args.draft.now.base c.args.name.now c.in-Some.variable c.requires
     (sym c.find.ensures ∙ c.in-Some.is)
 
-pub returns-in-Ok-clause-sort : goal.returns-in-Ok-clause-sort
-returns-in-Ok-clause-sort c =
-    ap (checking.sort_of_symbol (names_of_library c.args.self.now) c.args.name.now)
-    (look_up-sorts (seen_by c.args.draft.now) c.args.name.now
-    ∙ ap (option_map (λ (b : Bound). b.sort)) (sym c.find.ensures ∙ c.in-None.is))
-    ∙ sym c.sort_of_plain.ensures ∙ c.in-Ok.is ∙ ap (λ (s : Sort). Ok s) (sym c.closed.ensures.sort)
+pub returns-in_ok-push-in-Some-clause-node : goal.returns-in_ok-push-in-Some-clause-node
+returns-in_ok-push-in-Some-clause-node c =
+    variable_stands c.args.self.now c.args.draft.now c.push.new.self c.args.name.now c.in-Some.variable
+    c.in_ok-push-in-Some.field-0 c.requires (sym c.find.ensures ∙ c.in-Some.is)
+    c.in_ok-push-in-Some.ensures.open c.push.ensures.longer
+    (subst (λ n. AddsNode c.args.draft.now c.push.new.self (node.Slot n) c.in_ok-push-in-Some.field-0)
+    c.saturating_sub.ensures c.in_ok-push-in-Some.ensures.added)
 
-pub returns-in-Ok-clause-open : goal.returns-in-Ok-clause-open
-returns-in-Ok-clause-open c =
-    c.closed.ensures.open
-    ∙ sym (open-none (seen_by c.args.draft.now) c.args.draft.now.base c.args.name.now
-    (sym c.find.ensures ∙ c.in-None.is))
-
-pub returns-in-Err-clause-sort : goal.returns-in-Err-clause-sort
-returns-in-Err-clause-sort c =
-    ap (checking.sort_of_symbol (names_of_library c.args.self.now) c.args.name.now)
+pub returns-in-None-clause-sort : goal.returns-in-None-clause-sort
+returns-in-None-clause-sort c =
+    carried_sort c.sort_applied.result _ _
+    (ap (checking.sort_of_symbol (names_of_library c.args.self.now) c.args.name.now)
     (look_up-sorts (seen_by c.args.draft.now) c.args.name.now
-    ∙ ap (option_map (λ (b : Bound). b.sort)) (sym c.find.ensures ∙ c.in-None.is))
-    ∙ sym c.sort_of_plain.ensures ∙ c.in-Err.is
+    ∙ ap (option_map (λ (b : Bound). b.sort)) (sym c.find.ensures ∙ c.in-None.is))) c.sort_applied.ensures.sort
+
+pub returns-in-None-clause-open : goal.returns-in-None-clause-open
+returns-in-None-clause-open c =
+    carried_open c.sort_applied.result _ (is_open c.args.draft.now (Atom Symbol c.args.name.now))
+    (open-none (seen_by c.args.draft.now) c.args.draft.now.base c.args.name.now
+    (sym c.find.ensures ∙ c.in-None.is)) c.sort_applied.ensures.open
+
+pub returns-in-None-clause-node : goal.returns-in-None-clause-node
+returns-in-None-clause-node c =
+    if_answered c.sort_applied.result
+    (AddsApplied c.args.self.now c.args.draft.now c.sort_applied.new.draft (Plain c.args.name.now) [] [])
+    (Stands c.args.self.now c.args.draft.now c.sort_applied.new.draft (Atom Symbol c.args.name.now))
+    (λ found. symbol_stands c.args.self.now c.args.draft.now c.sort_applied.new.draft c.args.name.now found
+    (sym c.find.ensures ∙ c.in-None.is) c.sort_applied.ensures.longer)
+    c.sort_applied.ensures.added

@@ -8,6 +8,7 @@ invariant-loop-left l = record {
   seen : seen_by l.self ≡ placed_from (l.first + l.left) (scope_view (drop l.left l.variables)) ++ seen_by l.fn.self;
   base : l.self.base ≡ l.fn.self.base;
   labels : l.self.labels ≡ l.fn.self.labels;
+  nodes : l.self.nodes ≡ l.fn.self.nodes;
   within : l.left ≤ length l.variables;
 }
 

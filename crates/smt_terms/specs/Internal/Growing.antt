@@ -1,0 +1,56 @@
+-- What contents stand for while names are added to them, where bodies of definitions are still to come.
+use Rattle.std.specs.List.{All}
+use Rattle.std.specs.Prelude.{◌≡◌, ℕ, List, [], ◌∷◌, ◌++◌, false, length, map}
+use Rattle.smt_nodes.specs.Node.{Row}
+use Rattle.smt_theory.specs.Operators.{is_plain_operator}
+use Rattle.smt_theory.specs.declared.sort.Sort.{Sort}
+use Rattle.smt_trees.specs.Sexp.{Sexp}
+use Rattle.smt_trees.specs.Tree.{sexp_of}
+use Rattle.smt_terms.specs.Contents.{Contents, terms_in}
+use Rattle.smt_terms.specs.Denotes.{Denotes, Table, slots_from}
+use Rattle.smt_terms.specs.Library.{AreDefinitions, declarations_from, defined_among}
+use Rattle.smt_terms.specs.Signature.{AreDistinct, Signature, ranks_of}
+use Rattle.smt_terms.specs.TermsOf.{AreBodies, heads_of}
+use Rattle.smt_terms.specs.declared.labels.Label.{Label}
+
+-- no name has come or gone, and perhaps more nodes and trees have come
+pub record KeepsNames (old new : Contents) : Type 0 where
+  pub theories : new.theories ≡ old.theories
+  pub abbreviations : new.abbreviations ≡ old.abbreviations
+  pub ranks : new.ranks ≡ old.ranks
+  pub heads : new.heads ≡ old.heads
+  pub declared : new.declared ≡ old.declared
+  pub definitions : new.definitions ≡ old.definitions
+  pub bodies : new.bodies ≡ old.bodies
+  pub rows : (more : List Row) × (new.rows ≡ old.rows ++ more)
+  pub terms : (more : List Sexp) × (new.terms ≡ old.terms ++ more)
+
+-- the table of contents, where the definitions have these bodies
+abbrev pub terms_under : List ℕ → Contents → Table
+terms_under bodies c = record (terms_in c) { bodies = bodies }
+
+-- the node is a body that sees all names, and these as its parameters
+abbrev pub IsBodyUnder : List ℕ → Contents → List (List ℕ × Sort) → ℕ → Sexp → Type 0
+IsBodyUnder bodies c parameters node t =
+    Denotes (terms_under bodies c) (slots_from 0 (map (λ p. p.0) parameters)) (length parameters) 0 node t
+
+-- as `Holds`, where the bodies of the contents are seen among these
+pub record HoldsUnder (bodies : List ℕ) (c : Contents) (s : Signature) : Type 0 where
+  pub theories : c.theories ≡ s.theories
+  pub distinct : AreDistinct s.entries
+  pub abbreviations : c.abbreviations ≡ s.abbreviations
+  pub ranks : c.ranks ≡ ranks_of s.entries
+  pub declared : c.declared ≡ declarations_from 0 s.entries
+  pub definitions : AreDefinitions c c.definitions (defined_among s.entries)
+  pub heads : c.heads ≡ heads_of s.entries
+  pub free : All (λ e. is_plain_operator s.theories e.name ≡ false) s.entries
+  pub seen : AreBodies (terms_under bodies c) 0 c.bodies s.entries
+
+-- the name of a label is no plain operator's, and its node stands for its term
+pub record IsFitUnder (bodies : List ℕ) (c : Contents) (s : Signature) (l : Label) : Type 0 where
+  pub free : is_plain_operator s.theories l.name.items ≡ false
+  pub named : Denotes (terms_under bodies c) [] 0 0 l.node (sexp_of l.body)
+
+abbrev pub AreFitUnder : List ℕ → Contents → Signature → List Label → Type 0
+AreFitUnder bodies c s [] = Unit {0}
+AreFitUnder bodies c s (l ∷ ls) = IsFitUnder bodies c s l × AreFitUnder bodies c s ls

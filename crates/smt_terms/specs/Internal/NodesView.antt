@@ -1,0 +1,89 @@
+-- What the sort checker adds to a table of nodes.
+use Rattle.std.specs.Prelude.{◌≡◌, ◌<◌, ◌+◌, ℕ, List, [], ◌∷◌, ◌++◌, Bool, false, Some, length, map}
+use Rattle.std.specs.Prelude.{slice_get}
+use Rattle.smt_nodes.specs.Node.{Node, Row}
+use Rattle.smt_nodes.specs.Nodes.{rows_of}
+use Rattle.smt_forms.specs.Identifier.{Identifier}
+use Rattle.smt_theory.specs.Operators.{is_plain_operator}
+use Rattle.smt_theory.specs.Words.{look_up}
+use Rattle.smt_theory.specs.declared.sort.Sort.{Sort}
+use Rattle.smt_trees.specs.Sexp.{Sexp, Sexps}
+use Rattle.smt_terms.specs.Denotes.{AreBound, AreDenoted, Denotes, Head, IsLonger, Slots, Table, node_of}
+use Rattle.smt_terms.specs.Internal.TableView.{AreNamed, IsReady, places_seen, slots_seen, table_in}
+use Rattle.smt_terms.specs.Internal.TableView.{table_of}
+use Rattle.smt_terms.specs.declared.labels.Labels.{Labels}
+use Rattle.smt_terms.specs.declared.library.Library.{Library}
+use Rattle.smt_terms.specs.declared.library.draft.Checked.{Checked}
+use Rattle.smt_terms.specs.declared.library.draft.Draft.{Draft}
+
+-- no name in force is a plain operator's
+abbrev pub AreFree : Table → Type 0
+AreFree t = (x : List ℕ) (head : Head) → look_up t.heads x ≡ Some head → is_plain_operator t.theories x ≡ false
+
+-- where no name is an operator's, and there are as many arguments as sorts, this is the node of an identifier
+-- applied to these arguments
+abbrev pub IsNodeOf : Library → Identifier → List Sort → List ℕ → Node → Type 0
+IsNodeOf library f sorts args node = AreFree (table_of library) → length args ≡ length sorts
+    → node_of (table_of library) f args ≡ Some node
+
+-- a node of a sort, without annotations
+abbrev pub bare_row : Node → Sort → Row
+bare_row node sort = record { node = node; sort = sort; around = 0 }
+
+-- the nodes of the labels that were given
+abbrev pub nodes_given : Labels → List ℕ
+nodes_given labels = map (λ l. l.node) labels.given.items
+
+-- the nodes of a draft are among those of a later one, and its labels too
+abbrev pub GrowsTo : (old new : Draft) → Type 0
+GrowsTo old new = (library : Library) → IsLonger (table_in library old) (table_in library new)
+
+-- the answer is this node, which is added alone
+pub record AddsNode (old new : Draft) (node : Node) (c : Checked) : Type 0 where
+  pub rows : rows_of new.nodes ≡ rows_of old.nodes ++ bare_row node c.sort ∷ []
+  pub number : c.node ≡ length (rows_of old.nodes)
+  pub labels : new.labels ≡ old.labels
+
+-- the answer is the node of an identifier applied to these arguments, which is added alone
+pub record AddsApplied (library : Library) (old new : Draft) (f : Identifier) (sorts : List Sort)
+    (args : List ℕ) (c : Checked) : Type 0 where
+  pub node : Node
+  pub added : AddsNode old new node c
+  pub is : IsNodeOf library f sorts args node
+
+-- the row of the first number is added once more, with one annotation more round it
+pub record AddsAround (old new : Draft) (inner added : ℕ) : Type 0 where
+  pub row : (r : Row) × (slice_get (rows_of old.nodes) inner ≡ Some r)
+      × (rows_of new.nodes ≡ rows_of old.nodes ++ (record r { around = r.around + 1 }) ∷ [])
+  pub number : added ≡ length (rows_of old.nodes)
+  pub labels : new.labels ≡ old.labels
+
+-- if the node of each label stood for its term, it does so with the new labels
+abbrev pub KeepsNamed : Library → (old new : Draft) → Type 0
+KeepsNamed library old new = IsReady (table_in library old)
+    → AreNamed (table_in library old) old.labels.given.items
+    → AreNamed (table_in library new) new.labels.given.items
+
+-- the node that was found stands for the term, unless that uses a variable from outside
+pub record Stands (library : Library) (old new : Draft) (term : Sexp) (c : Checked) : Type 0 where
+  pub number : c.node < length (rows_of new.nodes)
+  pub denotes : IsReady (table_in library old) → c.is_open ≡ false
+      → Denotes (table_in library new) (slots_seen old) (places_seen old) 0 c.node term
+  pub named : KeepsNamed library old new
+
+-- what nodes of terms are, below a row, and what those of bindings are
+abbrev pub Denoting : Type 1
+Denoting = Table → Slots → (next i : ℕ) → List ℕ → Sexps → Type 0
+
+-- nodes stand so for the parts of a term, unless one of these uses a variable from outside
+pub record PartsStand (Are : Denoting) (library : Library) (old new : Draft) (parts : Sexps)
+    (nodes : List ℕ) (is_open : Bool) : Type 0 where
+  pub denote : IsReady (table_in library old) → is_open ≡ false
+      → Are (table_in library new) (slots_seen old) (places_seen old) (length (rows_of new.nodes)) nodes parts
+  pub named : KeepsNamed library old new
+
+abbrev pub TermsStand : Library → (old new : Draft) → Sexps → List ℕ → Bool → Type 0
+TermsStand = PartsStand AreDenoted
+
+abbrev pub BindingsStand : Library → (old new : Draft) → Sexps → List ℕ → Bool → Type 0
+BindingsStand = PartsStand AreBound

@@ -1,0 +1,48 @@
+#!/bin/sh
+# Runs the program on terms that are evaluated deep, with a small machine's stack, and on definitions that no term uses: evaluation takes
+# memory for each call that waits, no stack, and nothing for what isn't used. Needs what `rt ci` has built. Says nothing where all is well.
+set -e
+cd "$(dirname "$0")/.."
+program=$PWD/crates/smtcheck/out/smtcheck
+work=$(mktemp -d)
+trap 'rm -rf "$work"' EXIT
+
+# report WHAT LINE [ANSWERS]: the report on the script on standard input and the answers, `sat ()` where none are given, begins with this
+# line.
+report() {
+    cat >"$work/script"
+    echo "${3:-sat ()}" >"$work/answers"
+    timeout 120 "$program" --print-success off "$work/script" "$work/answers" >"$work/report" || [ $? -lt 4 ] ||
+        { echo "deep terms: $1: no report"; exit 1; }
+    [ "$(head -n 1 "$work/report")" = "$2" ] || { echo "deep terms: $1: $(head -n 1 "$work/report")"; exit 1; }
+}
+
+# chain N VALUE: N functions, each calling the one before, and the assertion that the last gives this value for 0.
+chain() {
+    awk -v n="$1" -v value="$2" 'BEGIN {
+        print "(define-fun f0 ((x Int)) Int (+ x 1))"
+        for (i = 1; i < n; i++) printf "(define-fun f%d ((x Int)) Int (f%d x))\n", i, i - 1
+        printf "(assert (= (f%d 0) %d))(check-sat)(get-model)\n", n - 1, value }'
+}
+
+chain 1000000 1 | report 'a chain of 1,000,000 functions' 'check 1 at command 1000002: sat, confirmed'
+chain 1000000 2 | report 'a chain with a wrong value' \
+    'check 1 at command 1000002: sat, model of command 1000003: refuted by the assertion of command 1000001'
+
+# Four functions nested 884 deep, each calling the one before.
+awk 'BEGIN { for (i = 0; i < 4; i++) {
+        printf "(define-fun f%d ((x Int)) Int ", i; for (k = 0; k < 884; k++) printf "(- "
+        if (i) printf "(f%d x)", i - 1; else printf "x"
+        for (k = 0; k < 884; k++) printf ")"; print ")" }
+    print "(assert (= 0 (f3 0)))(check-sat)(get-model)" }' |
+    report 'four functions nested deep' 'check 1 at command 6: sat, confirmed'
+
+# Constants that take no time, since no assertion names them: each function calls the one before twice.
+doubling() {
+    awk 'BEGIN { print "(define-fun f0 ((x Int)) Int x)"
+        for (i = 1; i < 64; i++) printf "(define-fun f%d ((x Int)) Int (+ (f%d x) (f%d x)))\n", i, i - 1, i - 1 }'
+}
+{ doubling; echo '(define-fun c () Int (f63 0))(assert true)(check-sat)(get-model)'; } |
+    report 'an unused constant of the script' 'check 1 at command 67: sat, confirmed'
+echo '(assert true)(check-sat)(get-model)' | report 'an unused constant of the model' 'check 1 at command 2: sat, confirmed' \
+    "sat ($(doubling)(define-fun c () Int (f63 0)))"
