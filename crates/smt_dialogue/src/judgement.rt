@@ -6,7 +6,7 @@ ghost use Rattle.smt_values.specs.KnownOperations.{is_known};
 ghost use Rattle.smt_terms.specs.Contents.{contents_of};
 ghost use Rattle.smt_terms.specs.Library as libraries;
 ghost use Rattle.smt_terms.specs.Signature.{Signature};
-ghost use Rattle.smt_eval.specs.Interpretation.{Fits, IsInterpretation};
+ghost use Rattle.smt_eval.specs.Interpretation.{Fits, IsInterpretation, Serves};
 ghost use Rattle.smt_eval.specs.Structure.{structure_of};
 ghost use Rattle.smt_script.specs.Stack as stacks;
 ghost use Rattle.smt_script.specs.Stack.{Numbered, assertions_in_force, signature_in_force};
@@ -87,6 +87,7 @@ fn judge_assertions(
     requires terms { (all : List stacks.Assertion)
         × AreAssertions (contents_of library.now) assertions.now all }
     requires fits { Fits interpretation.now library.now }
+    requires serves { Serves machine.old interpretation.now library.now }
     ensures { (script definitions : Signature) (all : List stacks.Assertion)
         → libraries.StandsFor library.now script → IsInterpretation interpretation.now script definitions
         → AreAssertions (contents_of library.now) assertions.now all

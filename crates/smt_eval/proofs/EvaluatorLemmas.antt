@@ -1,13 +1,12 @@
 -- What is known over definitions, one step at a time.
-use Rattle.std.proofs.Common.{◌≡◌, ℕ, zero, suc, ◌+◌, ◌<◌, ◌≤◌, Bool, true, false, cond, List, [], ◌∷◌, ◌++◌}
-use Rattle.std.proofs.Common.{length, take, get_or, slice_get, Option, Some, None, Result, Ok, IfOk, refl, ap}
-use Rattle.std.proofs.Common.{sym, ◌∙◌, subst, arith, add-one}
+use Rattle.std.proofs.Common.{◌≡◌, ℕ, zero, suc, ◌<◌, Bool, true, false, cond, List, [], ◌∷◌, ◌++◌}
+use Rattle.std.proofs.Common.{length, take, slice_get, Option, Some, None, Result, Ok, IfOk, refl, ap}
+use Rattle.std.proofs.Common.{sym, ◌∙◌, subst, arith}
 use Rattle.std.proofs.Math.Seq.{take-length}
 use Rattle.std.proofs.lemmas.List.{map-append}
-use Rattle.std.specs.Bool.{◌==◌}
 use Rattle.std.specs.Prelude.{bytes_eq, ok_or, option_map, unwrap_or}
-use Rattle.smt_trees.specs.Sexp.{Sexp, Sexps, Atom, Reserved, Items, Nil, Cons, Symbol, weight}
-use Rattle.smt_trees.specs.Tree.{sexp_of, sexps_of}
+use Rattle.smt_trees.specs.Sexp.{Sexp, Sexps, Atom, Reserved, Items, Nil, Cons, Symbol}
+use Rattle.smt_trees.specs.Tree.{sexp_of}
 use Rattle.smt_trees.specs.declared.reserved.Word.{Word}
 use Rattle.smt_trees.specs.declared.reserved.Word.TheVariants.{Let}
 use Rattle.smt_trees.specs.declared.tree.Tree.{Tree}
@@ -15,14 +14,12 @@ use Rattle.smt_trees.specs.declared.tree.Tree.TheVariants as tree
 use Rattle.smt_theory.specs.Index.{IndexView}
 use Rattle.smt_theory.specs.Operators.{op_by}
 use Rattle.smt_theory.specs.Words.{look_up}
-use Rattle.smt_theory.specs.declared.op.Op.{Op}
-use Rattle.smt_theory.specs.declared.op.OpFault.{OpFault}
-use Rattle.smt_values.specs.Element.{Element, known_element, known_elements}
+use Rattle.smt_values.specs.Element.{Element, known_element}
 use Rattle.smt_values.specs.declared.value.Value.{Value}
 use Rattle.smt_forms.specs.Bindings.{let_form}
 use Rattle.smt_forms.specs.Identifier.{Identifier, Plain, Indexed, all_indexes, applied, indexed, operator_of}
 use Rattle.smt_forms.specs.ScopeView.{scope_view}
-use Rattle.smt_terms.specs.Signature.{AreDistinct, Entry, Origin, Defined, Signature, entry_named}
+use Rattle.smt_terms.specs.Signature.{AreDistinct, Entry, Signature, entry_named}
 use Rattle.smt_faults.specs.declared.term_flaw.TermFlaw.TheVariants.{Form}
 use Rattle.smt_forms.specs.declared.scope.Variable.{Variable}
 use Rattle.smt_eval.proofs.EntryLemmas.{entry_named-take}
@@ -31,7 +28,6 @@ use Rattle.smt_eval.specs.Internal.DefinitionValues.{first}
 use Rattle.smt_eval.specs.Internal.PlainEvaluation.{known_scope}
 use Rattle.smt_eval.specs.Known.{KnownMeaning, known_after, known_by, known_defined, known_in, known_of}
 use Rattle.smt_eval.specs.Known.{known_of_op, known_operators, knowns_bound, knowns_of, with_known}
-use Rattle.smt_eval.proofs.FoundLemmas.{empty_of}
 
 -- ---- names
 

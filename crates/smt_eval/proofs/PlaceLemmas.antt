@@ -1,12 +1,10 @@
 -- Where the definitions of a structure stand, and in which library.
 use Rattle.std.proofs.Common.{◌≡◌, ◌≤◌, ℕ, zero, suc, ◌+◌, true, false, cond, not, Bool, List, [], ◌∷◌, ◌++◌}
 use Rattle.std.proofs.Common.{length, take, slice_get, Some, None, refl, ap, sym, ◌∙◌, subst, arith}
-use Rattle.std.proofs.Common.{length-append}
-use Rattle.std.proofs.lemmas.List.{length-map}
 use Rattle.std.specs.Prelude.{bytes_eq}
 use Rattle.smt_terms.specs.Library.{declared_among, defined_among}
 use Rattle.smt_terms.specs.Library.{is_declared}
-use Rattle.smt_terms.specs.Signature.{AreDistinct, Entry, Origin, Declared, Defined, IsDeclared, Signature}
+use Rattle.smt_terms.specs.Signature.{AreDistinct, Entry, Origin, Declared, Defined, IsDeclared}
 use Rattle.smt_terms.specs.Signature.{entry_named}
 use Rattle.smt_eval.proofs.EntryLemmas.{entry_named-skip, none_before}
 use Rattle.smt_eval.proofs.NameLemmas.{none_step, same_name}

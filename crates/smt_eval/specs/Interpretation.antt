@@ -1,10 +1,12 @@
 -- What a contract sees of an interpretation: the definitions that it was read from.
 use Rattle.std.specs.Prelude.{◌≡◌}
+use Rattle.smt_machine.specs.Memory.{Remembers}
+use Rattle.smt_machine.specs.declared.machine.Machine.{Machine}
 use Rattle.smt_terms.specs.Library.{StandsFor, terms_of}
 use Rattle.smt_terms.specs.Signature.{AreDistinct, Signature}
 use Rattle.smt_terms.specs.declared.library.Library.{Library}
 use Rattle.smt_eval.specs.Internal.DefinitionValues.{AllDefined}
-use Rattle.smt_eval.specs.NodeValues.{GivesBodies}
+use Rattle.smt_eval.specs.NodeValues.{GivesBodies, nodes_over}
 use Rattle.smt_eval.specs.Structure.{structure_of}
 use Rattle.smt_eval.specs.declared.interpretation.Interpretation.{Interpretation}
 
@@ -25,3 +27,8 @@ pub record Fits (interpretation : Interpretation) (library : Library) : Type 0 w
   pub definitions : Signature
   pub names : StandsFor library script
   pub holds : IsInterpretation interpretation script definitions
+
+-- the values that the machine keeps are those of this interpretation, over the script's library
+abbrev pub Serves : Machine → Interpretation → Library → Type 0
+Serves machine interpretation library = Remembers machine
+    (nodes_over (terms_of interpretation.definitions) (terms_of library) interpretation.declared.items)

@@ -6,7 +6,7 @@ ghost use Rattle.smt_values.specs.Element.{known_element};
 ghost use Rattle.smt_machine.specs.Tables.{model_count, nodes_of};
 ghost use Rattle.smt_terms.specs.Library.{IsTerm, StandsFor, terms_of};
 ghost use Rattle.smt_terms.specs.Signature.{Signature};
-ghost use Rattle.smt_eval.specs.Interpretation.{Fits, IsInterpretation};
+ghost use Rattle.smt_eval.specs.Interpretation.{Fits, IsInterpretation, Serves};
 ghost use Rattle.smt_eval.specs.Known.{known_over};
 ghost use Rattle.smt_eval.specs.NodeValues.{nodes_over};
 ghost use Rattle.smt_eval.specs.Structure.{structure_of};
@@ -59,7 +59,8 @@ pub fn eval(
     )
 }
 
-/// The same by a machine, whose memory serves one term after another.
+/// The same by a machine, whose memory serves one term after another: it keeps the values of constants. The
+/// machine is new, or has evaluated terms of this library over this interpretation alone.
 pub fn eval_by(
     machine: &mut Machine,
     library: &Library,
@@ -68,7 +69,9 @@ pub fn eval_by(
 ) -> Result<Option<Value>, Memory>
     requires term { (t : Sexp) × IsTerm library.now term t }
     requires fits { Fits interpretation.now library.now }
-    ensures { (script definitions : Signature) (t : Sexp) → StandsFor library.now script
+    requires serves { Serves machine.old interpretation.now library.now }
+    ensures serves { IfOk result (λ _. Serves machine.new interpretation.now library.now) }
+    ensures known { (script definitions : Signature) (t : Sexp) → StandsFor library.now script
         → IsInterpretation interpretation.now script definitions → IsTerm library.now term t
         → IfOk result (λ v. known_element v ≡ known_over (structure_of script definitions) t) }
 {

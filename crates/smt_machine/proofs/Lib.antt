@@ -2,3 +2,4 @@ pub mod GivenLemmas
 pub mod RunLemmas
 pub mod StateLemmas
 pub mod StepLemmas
+pub mod KeptLemmas

@@ -11,8 +11,10 @@ use Rattle.smt_machine.specs.Given.{given}
 use Rattle.smt_machine.specs.Internal.Costs.{cost, first_cost, part_cost, parts_cost}
 use Rattle.smt_machine.specs.Internal.States.{State, before_last, frame_of, last_of, state_of, with_last}
 use Rattle.smt_machine.specs.Internal.States.{with_value}
-use Rattle.smt_machine.specs.Internal.Tasks.{IsAt, IsBased, IsPlanned, IsStep, finished, part_task, run}
-use Rattle.smt_machine.specs.Internal.Tasks.{run_all, task_work, visits, work}
+use Rattle.smt_machine.specs.Internal.Tasks.{AreDue, IsAt, IsBased, IsDone, IsDue, IsPlanned, IsStep, finished}
+use Rattle.smt_machine.specs.Internal.Tasks.{part_task, run, run_all, task_work, visits, work}
+use Rattle.smt_machine.specs.Internal.KeptView.{kept_at}
+use Rattle.smt_machine.specs.Memory.{Remembers}
 use Rattle.smt_machine.specs.Nodes.{Frame, Node, Known, Slot, Apply, Call, Let, node_value, part, parts}
 use Rattle.smt_machine.specs.declared.machine.Machine.{Machine}
 use Rattle.smt_machine.specs.declared.task.Task.{Task}
@@ -82,6 +84,45 @@ work_visits nodes i (j ∷ js) = omega (
   work_part nodes i j,
 )
 
+-- ---- values that are due
+
+pub due-append : (nodes : List Node) (xs ys : List Task) (s : State)
+    → AreDue nodes xs (run_all nodes ys s) → AreDue nodes ys s → AreDue nodes (xs ++ ys) s
+due-append nodes [] ys s due later = later
+due-append nodes (t ∷ xs) ys s due later =
+    let P : State → Type 0 = λ z. IsDue nodes t z in
+    (subst P (sym (run_all-append nodes xs ys s)) due.0, due-append nodes xs ys s due.1 later)
+
+pub due_before : (nodes : List Node) (xs ys : List Task) (s : State)
+    → AreDue nodes (xs ++ ys) s → AreDue nodes xs (run_all nodes ys s)
+due_before nodes [] ys s due = tt
+due_before nodes (t ∷ xs) ys s due =
+    let P : State → Type 0 = λ z. IsDue nodes t z in
+    (subst P (run_all-append nodes xs ys s) due.0, due_before nodes xs ys s due.1)
+
+pub due_later : (nodes : List Node) (xs ys : List Task) (s : State)
+    → AreDue nodes (xs ++ ys) s → AreDue nodes ys s
+due_later nodes [] ys s due = due
+due_later nodes (t ∷ xs) ys s due = due_later nodes xs ys s due.1
+
+due_part_by : (nodes : List Node) (j : ℕ) (s : State) (b : Bool) → IsDue nodes (cond b (Visit j) Open) s
+due_part_by nodes j s true = tt
+due_part_by nodes j s false = tt
+
+pub due_part : (nodes : List Node) (i j : ℕ) (s : State) → AreDue nodes (part_task i j ∷ []) s
+due_part nodes i j s = (due_part_by nodes j s (nat_lt j i), tt)
+
+pub due_visits : (nodes : List Node) (i : ℕ) (js : List ℕ) (s : State) → AreDue nodes (visits i js) s
+due_visits nodes i [] s = tt
+due_visits nodes i (j ∷ js) s = due-append nodes (visits i js) (part_task i j ∷ []) s
+    (due_visits nodes i js (run nodes (part_task i j) s)) (due_part nodes i j s)
+
+-- what another machine keeps alike
+pub remembered : (nodes : List Node) (before after : Machine) → after.kept ≡ before.kept
+    → Remembers before nodes → Remembers after nodes
+remembered nodes before after same remembers number v is =
+    remembers number v (ap (λ k. kept_at k number) (sym same) ∙ is)
+
 -- ---- the last values
 
 pub last_of_more : {A : Type 0} (xs ys : List A) (n : ℕ) → n ≡ length ys → last_of n (xs ++ ys) ≡ ys
@@ -144,13 +185,21 @@ pub grown : (nodes : List Node) (task : Task) (before after : Machine) (more : L
     → run_all nodes more (state_of after) ≡ run nodes task (state_of before)
     → IsBased (state_of after)
     → work nodes more < task_work nodes task
-    → IsStep nodes task before after
-grown nodes task before after more tasks leads based less = record {
+    → Remembers after nodes
+    → AreDue nodes more (state_of after)
+    → IsDone nodes task before after
+grown nodes task before after more tasks leads based less remembers due = record {
   answer = ap (λ ts. run_all nodes ts (state_of after)) tasks
       ∙ run_all-append nodes before.tasks.items more (state_of after)
       ∙ ap (run_all nodes before.tasks.items) leads;
   based = based;
   falls = let e = ap (work nodes) tasks in omega (arith, e, work-append nodes before.tasks.items more);
+  remembers = remembers;
+  due = λ earlier.
+      let P : State → Type 0 = λ s. AreDue nodes before.tasks.items s in
+      let Q : List Task → Type 0 = λ ts. AreDue nodes ts (state_of after) in
+      subst Q (sym tasks)
+      (due-append nodes before.tasks.items more (state_of after) (subst P (sym leads) earlier) due);
 }
 
 pub settled : (nodes : List Node) (task : Task) (before after : Machine)
@@ -158,19 +207,23 @@ pub settled : (nodes : List Node) (task : Task) (before after : Machine)
     → IsBased (run nodes task (state_of before))
     → 0 < task_work nodes task
     → IsStep nodes task before after
-settled nodes task before after is based less =
+settled nodes task before after is based less = λ remembers due.
     grown nodes task before after [] (is.tasks ∙ sym (append-nil before.tasks.items)) is.state
     (let P : State → Type 0 = λ s. IsBased s in subst P (sym is.state) based) less
+    (remembered nodes before after is.kept remembers) tt
 
 pub planned : (nodes : List Node) (task : Task) (before after : Machine) (more : List Task) (s : State)
     → IsPlanned more s before after
     → run_all nodes more s ≡ run nodes task (state_of before)
     → IsBased s
     → work nodes more < task_work nodes task
+    → AreDue nodes more s
     → IsStep nodes task before after
-planned nodes task before after more s is leads based less =
+planned nodes task before after more s is leads based less dues = λ remembers due.
     grown nodes task before after more is.tasks (ap (run_all nodes more) is.state ∙ leads)
     (let P : State → Type 0 = λ s. IsBased s in subst P (sym is.state) based) less
+    (remembered nodes before after is.kept remembers)
+    (let P : State → Type 0 = λ s. AreDue nodes more s in subst P (sym is.state) dues)
 
 -- ---- visits
 
@@ -215,6 +268,7 @@ visit_planned nodes i n before after at compound is based =
     (let firsts = work_visits nodes i (first_parts n) in
     let first = ap (first_cost i (cost nodes)) (sym at) ∙ first_cost_is i (cost nodes) n in
     omega (arith, firsts, first, cost_law nodes i))
+    (tt, due_visits nodes i (first_parts n) s)
 
 -- ---- the loop that plans visits, from the last part on
 

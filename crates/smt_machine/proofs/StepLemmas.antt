@@ -1,9 +1,11 @@
 -- What a step of the machine does for each task and each form of node.
 use Rattle.std.proofs.Common.{◌≡◌, ℕ, ◌+◌, ◌-◌, ◌*◌, ◌<◌, ◌≤◌, Bool, true, false, cond, List, [], ◌∷◌, ◌++◌}
 use Rattle.std.proofs.Common.{length, take, min, slice_get, Option, Some, None, refl, ap, sym, ◌∙◌, subst}
-use Rattle.std.proofs.Common.{arith, length-append, length-drop, Result, Ok, Err, IfOk}
+use Rattle.std.proofs.Common.{arith, append-nil, length-append, length-drop, nat_eq, nat_lt, Result, Ok, Err}
+use Rattle.std.proofs.Common.{IfOk}
 use Rattle.std.proofs.Math.Seq.{drop-append_seam}
-use Rattle.std.proofs.lemmas.List.{drop-append-le, take-append-le, take_all}
+use Rattle.std.proofs.lemmas.Bool.Decides.{nat_tests}
+use Rattle.std.proofs.lemmas.List.{drop_all, drop-append-le, take-append-le, take_all}
 use Rattle.std.specs.Prelude.{option_and_then, if◌then◌else◌}
 use Rattle.smt_theory.specs.declared.op.CoreOp.TheVariants.{Ite}
 use Rattle.smt_theory.specs.declared.op.Op.{Op}
@@ -11,20 +13,25 @@ use Rattle.smt_theory.specs.declared.op.Op.TheVariants.{Core}
 use Rattle.smt_values.specs.Element.{Element}
 use Rattle.smt_values.specs.KnownOperations.{known_choice, known_step, known_truth}
 use Rattle.smt_machine.proofs.GivenLemmas.{given_law, cost_law}
-use Rattle.smt_machine.proofs.RunLemmas.{made_of_last, planned, run_all-append, run_part, run_visits, settled}
-use Rattle.smt_machine.proofs.RunLemmas.{work-append, work_part, work_visits, with_values}
+use Rattle.smt_machine.proofs.RunLemmas.{due_before, due_later, due_part, due_visits, grown, last_of_more}
+use Rattle.smt_machine.proofs.RunLemmas.{made_of_last, planned, remembered, run_all-append, run_part}
+use Rattle.smt_machine.proofs.RunLemmas.{run_visits, settled, visited, work-append, work_part, work_visits}
+use Rattle.smt_machine.proofs.RunLemmas.{with_values}
 use Rattle.smt_machine.specs.Given.{given}
 use Rattle.smt_machine.specs.Internal.Costs.{cost, first_cost, last_cost, part_cost}
 use Rattle.smt_machine.specs.Internal.States.{State, before_last, first_of, frame_of, last_of, state_of}
-use Rattle.smt_machine.specs.Internal.States.{with_last, with_moved, with_value, without_last}
-use Rattle.smt_machine.specs.Internal.Tasks.{IsAt, IsBased, IsBegun, IsChoice, IsPlanned, IsRunning, IsStep}
+use Rattle.smt_machine.specs.Internal.KeptView.{kept_at}
+use Rattle.smt_machine.specs.Internal.States.{with_base, with_last, with_moved, with_value, without_last}
+use Rattle.smt_machine.specs.Internal.Tasks.{AreDue, IsAt, IsBased, IsBegun, IsChoice, IsDone, IsDue}
+use Rattle.smt_machine.specs.Internal.Tasks.{IsKeeping, IsPlanned, IsRunning, IsStep}
 use Rattle.smt_machine.specs.Internal.Tasks.{branches_cost, branches_of, empty_state, chosen, chosen_between}
 use Rattle.smt_machine.specs.Internal.Tasks.{chosen_cost, finished, part_task, run, run_all, task_work}
 use Rattle.smt_machine.specs.Internal.Tasks.{visits, work}
-use Rattle.smt_machine.specs.Nodes.{Node, Apply, Call, Let, node_value, part}
+use Rattle.smt_machine.specs.Memory.{Remembers}
+use Rattle.smt_machine.specs.Nodes.{Frame, Node, Apply, Call, Let, node_value, part}
 use Rattle.smt_machine.specs.declared.machine.Machine.{Machine}
 use Rattle.smt_machine.specs.declared.task.Task.{Task}
-use Rattle.smt_machine.specs.declared.task.Task.TheVariants.{Visit, Finish, Choose, Return, Unbind}
+use Rattle.smt_machine.specs.declared.task.Task.TheVariants.{Visit, Finish, Choose, Return, Unbind, Keep}
 
 -- what follows from what holds unless memory was refused
 pub if_done : {T E : Type 0} {P Q : Type 0} (r : Result T E) → IfOk r (λ _. P) → (P → Q) → IfOk r (λ _. Q)
@@ -36,7 +43,7 @@ pub idle : (nodes : List Node) (task : Task) (m : Machine)
     → run nodes task (state_of m) ≡ state_of m
     → IsBased (state_of m) → 0 < task_work nodes task → IsStep nodes task m m
 idle nodes task m same based less =
-    settled nodes task m m (record { tasks = refl; state = sym same })
+    settled nodes task m m (record { tasks = refl; state = sym same; kept = refl })
     (let P : State → Type 0 = λ s. IsBased s in subst P (sym same) based) less
 
 -- ---- a choice
@@ -59,6 +66,7 @@ choice_planned_at nodes i c a b before after at is based =
     (let first = ap (first_cost i (cost nodes)) (sym at) in
     let later = ap (chosen_cost i (cost nodes)) (sym at) in
     omega (arith, work_visits nodes i (c ∷ []), first, later, cost_law nodes i))
+    (tt, due_visits nodes i (c ∷ []) s)
 
 pub choice_planned : (nodes : List Node) (i : ℕ) (op : Op) (args condition : List ℕ) (before after : Machine)
     → Some (Apply op args) ≡ slice_get nodes i → IsChoice op args condition
@@ -128,6 +136,7 @@ chosen_one nodes i a b op args t c before middle after at branches is some taken
     (record {
       tasks = is_planned.tasks ∙ ap (λ ts. ts ++ part_task i (if c then a else b) ∷ []) taken.tasks;
       state = is_planned.state ∙ taken.state;
+      kept = is_planned.kept ∙ taken.kept;
     })
     (run_part nodes i (if c then a else b) (without_last 1 s)
     ∙ ap (λ v. with_last 1 v s) (branch_value value c a b)
@@ -137,6 +146,7 @@ chosen_one nodes i a b op args t c before middle after at branches is some taken
     (let less = branch_less nodes i a b op args at branches in
     let one = branch_cost (part_cost i (cost nodes)) c a b in
     omega (arith, less, one, work_part nodes i (if c then a else b)))
+    (due_part nodes i (if c then a else b) (without_last 1 s))
 
 -- no truth value to choose by
 pub chosen_none : (nodes : List Node) (i a b : ℕ) (op : Op) (args : List ℕ) (t : Option Bool)
@@ -158,6 +168,7 @@ chosen_none nodes i a b op args t before middle after at branches is none taken 
     (record {
       tasks = left.tasks ∙ taken.tasks;
       state = left.state ∙ ap (with_value None) taken.state ∙ leads;
+      kept = left.kept ∙ taken.kept;
     })
     (let here : IsBased (with_last 1 None s) = based in subst B leads here)
     (omega arith)
@@ -220,6 +231,7 @@ entered_step nodes i n body args before after at count is based =
     ∙ ap (λ m. finished nodes i m s) at)
     (omega (arith, length-append s.frames (last_of n s.values)))
     (let last = ap (last_cost i (cost nodes)) (sym at) in omega (arith, last, work_part nodes i body))
+    (tt, due_part nodes i body inner)
 
 pub bound_step : (nodes : List Node) (i n body : ℕ) (values : List ℕ) (before after : Machine)
     → Some (Let values body) ≡ slice_get nodes i → length values ≡ n
@@ -245,16 +257,123 @@ bound_step nodes i n body values before after at count is based =
     ∙ ap (λ m. finished nodes i m s) at)
     (omega (arith, length-append s.frames (last_of n s.values)))
     (let last = ap (last_cost i (cost nodes)) (sym at) in omega (arith, last, work_part nodes i body))
+    (tt, due_part nodes i body inner)
+
+-- ---- constants
+
+-- the value of a constant is that of its closed body
+constant_value : (nodes : List Node) (i j : ℕ) (frame : Frame)
+    → Some (Call j []) ≡ slice_get nodes i → nat_lt j i ≡ true → given nodes i frame ≡ given nodes j []
+constant_value nodes i j frame at below =
+    given_law nodes i frame ∙ ap (node_value i (given nodes) frame) (sym at)
+    ∙ ap (λ b. cond b (given nodes j []) None) below
+
+constant_open : (nodes : List Node) (i j : ℕ) (frame : Frame)
+    → Some (Call j []) ≡ slice_get nodes i → nat_lt j i ≡ false → given nodes i frame ≡ None
+constant_open nodes i j frame at below =
+    given_law nodes i frame ∙ ap (node_value i (given nodes) frame) (sym at)
+    ∙ ap (λ b. cond b (given nodes j []) None) below
+
+-- a number that is below another's, or is not
+below_by : (b : Bool) (j k : ℕ) → Some k ≡ cond b (Some j) None → (b ≡ true) × (k ≡ j)
+below_by true j k is = (refl, cc)
+below_by false j k is = cc
+
+past_by : (b : Bool) (j : ℕ) → None ≡ cond b (Some j) None → b ≡ false
+past_by true j is = cc
+past_by false j is = refl
+
+-- a value that is kept
+pub kept_step : (nodes : List Node) (i j k : ℕ) (v : Option Element) (before after : Machine)
+    → Some (Call j []) ≡ slice_get nodes i → Some k ≡ (if nat_lt j i then Some j else None)
+    → Some v ≡ kept_at before.kept k
+    → IsAt (with_value v (state_of before)) before after
+    → IsBased (state_of before)
+    → IsStep nodes (Visit i) before after
+kept_step nodes i j k v before after at below kept is based = λ remembers due.
+    let here = below_by (nat_lt j i) j k below in
+    let made : given nodes i (frame_of (state_of before)) ≡ v =
+    constant_value nodes i j (frame_of (state_of before)) at here.0
+    ∙ ap (λ n. given nodes n []) (sym here.1) ∙ sym (remembers k v (sym kept)) in
+    visited nodes i (slice_get nodes i) v before after refl
+    (sym (given_law nodes i (frame_of (state_of before))) ∙ made) is based remembers due
+
+-- a body that is not below the constant
+pub open_step : (nodes : List Node) (i j : ℕ) (before after : Machine)
+    → Some (Call j []) ≡ slice_get nodes i → None ≡ (if nat_lt j i then Some j else None)
+    → IsAt (with_value None (state_of before)) before after
+    → IsBased (state_of before)
+    → IsStep nodes (Visit i) before after
+open_step nodes i j before after at past is based =
+    visited nodes i (slice_get nodes i) None before after refl
+    (sym (given_law nodes i (frame_of (state_of before)))
+    ∙ constant_open nodes i j (frame_of (state_of before)) at (past_by (nat_lt j i) j past)) is based
+
+-- the closed body is evaluated in an empty frame
+pub closed_step : (nodes : List Node) (i j k : ℕ) (before after : Machine)
+    → Some (Call j []) ≡ slice_get nodes i → Some k ≡ (if nat_lt j i then Some j else None)
+    → IsPlanned (Keep k ∷ Return (state_of before).base ∷ Visit k ∷ [])
+    (with_base (length (state_of before).frames) (state_of before)) before after
+    → IsBased (state_of before)
+    → IsStep nodes (Visit i) before after
+closed_step nodes i j k before after at below is based =
+    let s : State = state_of before in
+    let len : ℕ = length s.frames in
+    let inner : State = with_base len s in
+    let here = below_by (nat_lt j i) j k below in
+    let value : Option Element = given nodes k [] in
+    let frame : frame_of inner ≡ [] = drop_all len s.frames (omega arith) in
+    let back : take len s.frames ≡ s.frames = take_all len s.frames (omega arith) in
+    let base : min s.base (length (take len s.frames)) ≡ s.base =
+    ap (λ fs. min s.base (length fs)) back ∙ lesser_is s.base len based in
+    let body : run_all nodes (Return s.base ∷ Visit k ∷ []) inner ≡ with_value value s =
+    state_is (s.values ++ given nodes k (frame_of inner) ∷ []) _ _ _ _ back base
+    ∙ ap (λ f. with_value (given nodes k f) s) frame in
+    planned nodes (Visit i) before after (Keep k ∷ Return s.base ∷ Visit k ∷ []) inner is
+    (body ∙ ap (λ v. with_value v s)
+    (ap (λ n. given nodes n []) here.1 ∙ sym (constant_value nodes i j (frame_of s) at here.0)))
+    (omega arith)
+    (let last = ap (last_cost i (cost nodes)) (sym at) in
+    let part = ap (λ b. cond b (cost nodes j) 1) here.0 in
+    let same = ap (cost nodes) here.1 in
+    omega (arith, last, part, same, cost_law nodes i)) (
+      ap (λ z. first_of (last_of 1 z.values)) body
+          ∙ ap first_of (last_of_more s.values (value ∷ []) 1 refl),
+      (tt, (tt, tt)),
+    )
+
+kept_by : (nodes : List Node) (k number : ℕ) (b : Bool) (v : Option Element) (before : Machine)
+    (w : Option Element) → nat_eq number k ≡ b → Remembers before nodes → w ≡ given nodes k []
+    → cond b (Some w) (kept_at before.kept number) ≡ Some v
+    → v ≡ given nodes number []
+kept_by nodes k number true v before w same remembers due is =
+    let e : w ≡ v = cc in
+    let here : k ≡ number = grind (arith, nat_tests) in
+    sym e ∙ due ∙ ap (λ n. given nodes n []) here
+kept_by nodes k number false v before w same remembers due is = remembers number v is
+
+-- the value that is due is kept
+pub keeping_step : (nodes : List Node) (k : ℕ) (before after : Machine)
+    → IsKeeping k before after → IsBased (state_of before) → IsStep nodes (Keep k) before after
+keeping_step nodes k before after is based = λ remembers due.
+    grown nodes (Keep k) before after [] (is.tasks ∙ sym (append-nil before.tasks.items)) is.state
+    (let P : State → Type 0 = λ s. IsBased s in subst P (sym is.state) based) (omega arith)
+    (λ number v here. kept_by nodes k number (nat_eq number k) v before
+    (first_of (last_of 1 (state_of before).values)) refl remembers due (sym (is.kept number) ∙ here)) tt
 
 -- ---- the loop
 
-pub started : (nodes : List Node) (i : ℕ) (m : Machine) → IsBegun (Visit i) m
-    → IsRunning nodes (given nodes i []) m
-started nodes i m begun =
+pub started : (nodes : List Node) (i : ℕ) (before m : Machine) → IsBegun (Visit i) before m
+    → Remembers before nodes → IsRunning nodes (given nodes i []) m
+started nodes i before m begun remembers =
     let B : State → Type 0 = λ z. IsBased z in
     record {
       answer = ap (λ ts. run_all nodes ts (state_of m)) begun.tasks ∙ ap (run nodes (Visit i)) begun.state;
       based = let here : IsBased empty_state = omega arith in subst B (sym begun.state) here;
+      remembers = remembered nodes before m begun.kept remembers;
+      due = let D : List Task → Type 0 = λ ts. AreDue nodes ts (state_of m) in
+          let here : AreDue nodes (Visit i ∷ []) (state_of m) = (tt, tt) in
+          subst D (sym begun.tasks) here;
     }
 
 -- with a task that is taken off
@@ -263,27 +382,57 @@ pub taken_based : (nodes : List Node) (v : Option Element) (before middle : Mach
 taken_based nodes v before middle running state =
     let B : State → Type 0 = λ z. IsBased z in subst B (sym state) running.based
 
+dues_of : (nodes : List Node) (v : Option Element) (task : Task) (before middle : Machine)
+    → IsRunning nodes v before → before.tasks.items ≡ middle.tasks.items ++ task ∷ []
+    → AreDue nodes (middle.tasks.items ++ task ∷ []) (state_of before)
+dues_of nodes v task before middle running tasks =
+    let D : List Task → Type 0 = λ ts. AreDue nodes ts (state_of before) in subst D tasks running.due
+
+-- what a task does that is due
+done_of : (nodes : List Node) (v : Option Element) (task : Task) (before middle after : Machine)
+    → IsRunning nodes v before
+    → state_of middle ≡ state_of before → middle.kept ≡ before.kept
+    → before.tasks.items ≡ middle.tasks.items ++ task ∷ []
+    → IsStep nodes task middle after
+    → IsDone nodes task middle after
+done_of nodes v task before middle after running state kept tasks step =
+    let D : State → Type 0 = λ s. IsDue nodes task s in
+    step (remembered nodes before middle kept running.remembers)
+    (subst D (sym state) (due_later nodes middle.tasks.items (task ∷ []) (state_of before)
+    (dues_of nodes v task before middle running tasks)).0)
+
 pub turned : (nodes : List Node) (v : Option Element) (task : Task) (before middle after : Machine)
     → IsRunning nodes v before
-    → state_of middle ≡ state_of before → before.tasks.items ≡ middle.tasks.items ++ task ∷ []
+    → state_of middle ≡ state_of before → middle.kept ≡ before.kept
+    → before.tasks.items ≡ middle.tasks.items ++ task ∷ []
     → IsStep nodes task middle after
     → IsRunning nodes v after
-turned nodes v task before middle after running state tasks step = record {
-  answer = step.answer
-      ∙ ap (λ s. run_all nodes middle.tasks.items (run nodes task s)) state
-      ∙ sym (run_all-append nodes middle.tasks.items (task ∷ []) (state_of before))
-      ∙ ap (λ ts. run_all nodes ts (state_of before)) (sym tasks)
-      ∙ running.answer;
-  based = step.based;
-}
+turned nodes v task before middle after running state kept tasks step =
+    let done = done_of nodes v task before middle after running state kept tasks step in
+    let D : State → Type 0 = λ s. AreDue nodes middle.tasks.items (run nodes task s) in
+    record {
+      answer = done.answer
+          ∙ ap (λ s. run_all nodes middle.tasks.items (run nodes task s)) state
+          ∙ sym (run_all-append nodes middle.tasks.items (task ∷ []) (state_of before))
+          ∙ ap (λ ts. run_all nodes ts (state_of before)) (sym tasks)
+          ∙ running.answer;
+      based = done.based;
+      remembers = done.remembers;
+      due = done.due (subst D (sym state)
+          (due_before nodes middle.tasks.items (task ∷ []) (state_of before)
+          (dues_of nodes v task before middle running tasks)));
+    }
 
-pub turned_less : (nodes : List Node) (task : Task) (before middle after : Machine)
+pub turned_less : (nodes : List Node) (v : Option Element) (task : Task) (before middle after : Machine)
+    → IsRunning nodes v before
+    → state_of middle ≡ state_of before → middle.kept ≡ before.kept
     → before.tasks.items ≡ middle.tasks.items ++ task ∷ []
     → IsStep nodes task middle after
     → work nodes after.tasks.items < work nodes before.tasks.items
-turned_less nodes task before middle after tasks step =
+turned_less nodes v task before middle after running state kept tasks step =
+    let done = done_of nodes v task before middle after running state kept tasks step in
     let e = ap (work nodes) tasks in
-    omega (arith, e, work-append nodes middle.tasks.items (task ∷ []), step.falls)
+    omega (arith, e, work-append nodes middle.tasks.items (task ∷ []), done.falls)
 
 pub ended : (nodes : List Node) (v w : Option Element) (before middle : Machine)
     → IsRunning nodes v before

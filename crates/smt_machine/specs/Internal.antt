@@ -1,4 +1,5 @@
 pub mod Parts
 pub mod States
+pub mod KeptView
 pub mod Tasks
 pub mod Costs

@@ -1,7 +1,7 @@
 //! Evaluation of nodes, one task after another. This file knows no stack.
 
-ghost use Rattle.std.specs.Prelude.{◌≡◌, ◌+◌, [], IfOk, IfSome, IsTrue, List, None, Option, Some, option_map};
-ghost use Rattle.std.specs.Prelude.{slice_get};
+ghost use Rattle.std.specs.Prelude.{◌≡◌, ◌+◌, ℕ, [], IfOk, IfSome, IsTrue, List, None, Option, Some, nat_lt};
+ghost use Rattle.std.specs.Prelude.{if◌then◌else◌, option_map, slice_get};
 ghost use Rattle.smt_theory.specs.declared.op.CoreOp.TheVariants.{Ite};
 ghost use Rattle.smt_theory.specs.declared.op.Op.{Op};
 ghost use Rattle.smt_theory.specs.declared.op.Op.TheVariants.{Core};
@@ -11,7 +11,8 @@ ghost use Rattle.smt_machine.specs.Given.{given};
 ghost use Rattle.smt_machine.specs.Internal.States.{state_of};
 ghost use Rattle.smt_machine.specs.Internal.Parts.{meaning, number_of, numbers_of};
 ghost use Rattle.smt_machine.specs.Internal.Tasks.{IsBased, IsChoice, IsStep, branches_of};
-ghost use Rattle.smt_machine.specs.Nodes.{Apply, Node as MachineNode};
+ghost use Rattle.smt_machine.specs.Memory.{Remembers};
+ghost use Rattle.smt_machine.specs.Nodes.{Apply, Call, Node as MachineNode};
 ghost use Rattle.smt_machine.specs.Tables.{call, model_count, nodes_of};
 ghost use Rattle.smt_machine.specs.declared.task.Task.TheVariants.{Choose, Finish, Visit};
 
@@ -25,10 +26,12 @@ use smt_theory::{CoreOp, Op};
 use smt_values::{Value, bin, hex, numeral};
 
 impl Machine {
-    /// What is known of the value of a closed term of the script, whatever was evaluated before. Refused is
-    /// only the growth of the machine's stacks.
+    /// What is known of the value of a closed term of the script. The machine is new, or has evaluated terms
+    /// over these tables alone. Refused is only the growth of the machine.
     pub fn eval(&mut self, tables: Tables<'_>, term: TermId) -> Result<Option<Value>, Memory>
-        ensures { IfOk result (λ v. known_element v
+        requires { Remembers self.old (nodes_of tables) }
+        ensures serves { IfOk result (λ _. Remembers self.new (nodes_of tables.entry)) }
+        ensures value { IfOk result (λ v. known_element v
             ≡ given (nodes_of tables.entry) (model_count tables.entry + term) []) }
     {
         match tables.shift().checked_add(term.number()) {
@@ -40,7 +43,9 @@ impl Machine {
 
     // What is known of the value of a closed node.
     fn run(&mut self, tables: &Tables<'_>, root: usize) -> Result<Option<Value>, Memory>
-        ensures { IfOk result (λ v. known_element v ≡ given (nodes_of tables.now) root []) }
+        requires { Remembers self.old (nodes_of tables.now) }
+        ensures serves { IfOk result (λ _. Remembers self.new (nodes_of tables.now)) }
+        ensures value { IfOk result (λ v. known_element v ≡ given (nodes_of tables.now) root []) }
     {
         self.begin(Task::Visit(root))?;
         while let Some(task) = self.take_task() {
@@ -68,6 +73,7 @@ impl Machine {
                 self.unbind(len);
                 Ok(())
             }
+            Task::Keep(number) => self.keep(number),
         }
     }
 
@@ -112,7 +118,7 @@ impl Machine {
         }
     }
 
-    // Plans a body behind its arguments, if there is one.
+    // Plans a body behind its arguments, if there is one; without arguments it is a constant's.
     #[inline(always)]
     fn visit_call(
         &mut self,
@@ -126,7 +132,26 @@ impl Machine {
             → IsStep nodes (Visit number) self.old self.new) }
     {
         match body {
+            Some(body) if args.ids.is_empty() => self.visit_constant(body.below(number)),
             Some(_) => self.plan(Task::Finish(number), number, args),
+            None => self.leave(None),
+        }
+    }
+
+    // Leaves the value of a constant with this body, or has it found and kept.
+    #[inline(always)]
+    fn visit_constant(&mut self, body: Option<usize>) -> Result<(), Memory>
+        requires { IsBased (state_of self.old) }
+        ensures { IfOk result (λ _. (nodes : List MachineNode) (number part : ℕ)
+            → Some (Call part []) ≡ slice_get nodes number
+            → body ≡ (if nat_lt part number then Some part else None)
+            → IsStep nodes (Visit number) self.old self.new) }
+    {
+        match body {
+            Some(body) => match self.kept(body) {
+                Some(value) => self.leave(value),
+                None => self.enter_closed(body),
+            },
             None => self.leave(None),
         }
     }

@@ -20,6 +20,7 @@
 
 mod evaluation;
 mod items;
+mod kept;
 pub mod laws;
 mod machine;
 mod parts;

@@ -1,17 +1,20 @@
 //! A machine's stacks, and how values move between them. This file fetches no node.
 
-ghost use Rattle.std.specs.Prelude.{◌≡◌, ◌∷◌, [], ◌++◌, IfOk, MatchOption, None, Some, length};
+ghost use Rattle.std.specs.Prelude.{◌≡◌, ◌∷◌, [], ◌++◌, IfOk, List, MatchOption, None, Some, length, option_map};
 ghost use Rattle.smt_values.specs.Element.{known_element};
 ghost use Rattle.smt_values.specs.KnownOperations.{known_step};
 ghost use Rattle.smt_machine.specs.Internal.States.{first_of, frame_of, last_of, state_of, with_frames};
-ghost use Rattle.smt_machine.specs.Internal.States.{with_last, with_moved, with_value, without_last};
+ghost use Rattle.smt_machine.specs.Internal.States.{with_base, with_last, with_moved, with_value};
+ghost use Rattle.smt_machine.specs.Internal.States.{without_last};
 ghost use Rattle.smt_machine.specs.Internal.Parts.{number_of, numbers_of};
-ghost use Rattle.smt_machine.specs.Internal.Tasks.{IsAt, IsBegun, IsPlanned, part_task, visits};
-ghost use Rattle.smt_machine.specs.Memory.{HasNoMemory};
-ghost use Rattle.smt_machine.specs.Nodes.{at_place};
-ghost use Rattle.smt_machine.specs.declared.task.Task.TheVariants.{Return, Unbind};
+ghost use Rattle.smt_machine.specs.Internal.KeptView.{kept_at};
+ghost use Rattle.smt_machine.specs.Internal.Tasks.{IsAt, IsBegun, IsKeeping, IsPlanned, part_task, visits};
+ghost use Rattle.smt_machine.specs.Memory.{HasNoMemory, Remembers};
+ghost use Rattle.smt_machine.specs.Nodes.{Node, at_place};
+ghost use Rattle.smt_machine.specs.declared.task.Task.TheVariants.{Keep, Return, Unbind, Visit};
 
 use crate::items::{items_from, lesser};
+use crate::kept::Kept;
 use crate::parts::{Part, Parts};
 use crate::task::{Task, task_of};
 use smt_faults::Memory;
@@ -19,32 +22,35 @@ use smt_theory::Op;
 use smt_values::{Value, apply};
 use std::alloc::Global;
 
-/// Stacks for the evaluation of nodes, bounded by memory alone. One machine serves many evaluations, and
-/// keeps its memory from one to the next.
+/// Stacks for the evaluation of nodes, bounded by memory alone, and the values that closed nodes were found to
+/// have. One machine serves many evaluations over the same tables, and keeps its memory from one to the next.
 #[derive(Drop)]
 pub struct Machine {
     values: Vec<Option<Value>>,
     frames: Vec<Option<Value>>,
     base: usize,
     tasks: Vec<Task>,
+    kept: Kept,
 }
 
 impl Machine {
-    /// A machine that has no memory yet.
+    /// A machine that has no memory yet, and serves any tables.
     pub fn new(alloc: Global) -> Machine
-        ensures { HasNoMemory result }
+        ensures memory { HasNoMemory result }
+        ensures serves { (nodes : List Node) → Remembers result nodes }
     {
         Machine {
             values: Vec::new(alloc),
             frames: Vec::new(alloc),
             base: 0,
             tasks: Vec::new(alloc),
+            kept: Kept::new(alloc),
         }
     }
 
     /// Empty stacks but for one task.
     pub(crate) fn begin(&mut self, task: Task) -> Result<(), Memory>
-        ensures { IfOk result (λ _. IsBegun task self.new) }
+        ensures { IfOk result (λ _. IsBegun task self.old self.new) }
     {
         self.values.clear();
         self.frames.clear();
@@ -58,6 +64,7 @@ impl Machine {
     #[inline(always)]
     pub(crate) fn take_task(&mut self) -> Option<Task>
         ensures state { state_of self.new ≡ state_of self.old }
+        ensures kept { self.new.kept ≡ self.old.kept }
         ensures tasks { MatchOption result ((self.old.tasks.items ≡ []) × (self.new.tasks.items ≡ []))
             (λ task. self.old.tasks.items ≡ self.new.tasks.items ++ task ∷ []) }
     {
@@ -138,6 +145,47 @@ impl Machine {
         ensures { IfOk result (λ _. IsPlanned (task ∷ []) (state_of self.old) self.old self.new) }
     {
         self.tasks.push(task)?;
+        Ok(())
+    }
+
+    /// The value that is kept of a closed node.
+    #[inline(always)]
+    pub(crate) fn kept(&self, number: usize) -> Option<Option<Value>>
+        ensures { option_map known_element result ≡ kept_at self.now.kept number }
+    {
+        self.kept.get(number)
+    }
+
+    /// Keeps the last value for a closed node.
+    #[inline(always)]
+    pub(crate) fn keep(&mut self, number: usize) -> Result<(), Memory>
+        ensures { IfOk result (λ _. IsKeeping number self.old self.new) }
+    {
+        let value = self.last_value();
+        self.kept.insert(number, value)
+    }
+
+    #[inline(always)]
+    fn last_value(&self) -> Option<Value>
+        ensures { known_element result ≡ first_of (last_of 1 (state_of self.now).values) }
+    {
+        match self.values.as_slice().last() {
+            Some(value) => *value,
+            None => None,
+        }
+    }
+
+    /// An empty frame for a closed node, whose value is kept.
+    #[inline(always)]
+    pub(crate) fn enter_closed(&mut self, number: usize) -> Result<(), Memory>
+        ensures { let before = state_of self.old in IfOk result (λ _.
+            IsPlanned (Keep number ∷ Return before.base ∷ Visit number ∷ [])
+            (with_base (length before.frames) before) self.old self.new) }
+    {
+        self.tasks.push(Task::Keep(number))?;
+        self.tasks.push(Task::Return(self.base))?;
+        self.tasks.push(Task::Visit(number))?;
+        self.base = self.frames.as_slice().len();
         Ok(())
     }
 

@@ -21,6 +21,8 @@ pub(crate) enum Task {
     Return(usize),
     /// Shortens the frames to this length.
     Unbind(usize),
+    /// Keeps the last value, which is that of the closed node.
+    Keep(usize),
 }
 
 /// The task that leaves the value of a part of a node; of a number that is too large, an open one.

@@ -51,6 +51,10 @@ with_frames base len s = record {
   base = min base (length (take len s.frames));
 }
 
+-- an empty frame begins at `base`
+abbrev pub with_base : ℕ → State → State
+with_base base s = record { values = s.values; frames = s.frames; base = base }
+
 -- the last k values go to the frames, of which the innermost begins at `base`
 abbrev pub with_moved : ℕ → ℕ → State → State
 with_moved base k s = record {

@@ -1,6 +1,6 @@
 -- What a task does to the machine's state, in one step, and what a stack of tasks does.
 use Rattle.std.specs.Prelude.{ℕ, ◌+◌, ◌*◌, ◌<◌, ◌≤◌, ◌≡◌, List, [], ◌∷◌, ◌++◌, Option, Some, None, length}
-use Rattle.std.specs.Prelude.{nat_lt, slice_get, if◌then◌else◌}
+use Rattle.std.specs.Prelude.{nat_lt, slice_get, ◌==◌, if◌then◌else◌}
 use Rattle.smt_theory.specs.declared.op.CoreOp.TheVariants.{Ite}
 use Rattle.smt_theory.specs.declared.op.Op.{Op}
 use Rattle.smt_theory.specs.declared.op.Op.TheVariants.{Core}
@@ -8,12 +8,14 @@ use Rattle.smt_values.specs.Element.{Element}
 use Rattle.smt_values.specs.KnownOperations.{known_choice, known_step}
 use Rattle.smt_machine.specs.Given.{given}
 use Rattle.smt_machine.specs.Internal.Costs.{cost, last_cost, part_cost}
-use Rattle.smt_machine.specs.Internal.States.{State, frame_of, last_of, state_of, with_frames, with_last}
-use Rattle.smt_machine.specs.Internal.States.{with_value}
+use Rattle.smt_machine.specs.Internal.KeptView.{kept_at}
+use Rattle.smt_machine.specs.Internal.States.{State, first_of, frame_of, last_of, state_of, with_frames}
+use Rattle.smt_machine.specs.Internal.States.{with_last, with_value}
+use Rattle.smt_machine.specs.Memory.{Remembers}
 use Rattle.smt_machine.specs.Nodes.{Node, Known, Slot, Apply, Call, Let, part}
 use Rattle.smt_machine.specs.declared.machine.Machine.{Machine}
 use Rattle.smt_machine.specs.declared.task.Task.{Task}
-use Rattle.smt_machine.specs.declared.task.Task.TheVariants.{Visit, Open, Finish, Choose, Return, Unbind}
+use Rattle.smt_machine.specs.declared.task.Task.TheVariants.{Visit, Open, Finish, Choose, Return, Unbind, Keep}
 
 -- node i, when the values of its arguments are the last
 abbrev pub finished : List Node → ℕ → Option Node → State → State
@@ -50,6 +52,7 @@ run nodes (Finish i) s = finished nodes i (slice_get nodes i) s
 run nodes (Choose i) s = chosen nodes i (slice_get nodes i) s
 run nodes (Return base) s = with_frames base s.base s
 run nodes (Unbind len) s = with_frames s.base len s
+run nodes (Keep i) s = s
 
 -- the last task is the first to be done
 abbrev pub run_all : List Node → List Task → State → State
@@ -71,6 +74,17 @@ abbrev pub IsChoice : Op → (args condition : List ℕ) → Type 0
 IsChoice op args condition = (c : ℕ) × (a : ℕ) × (b : ℕ)
     × (op ≡ Core Ite) × (args ≡ c ∷ a ∷ b ∷ []) × (condition ≡ c ∷ [])
 
+-- ---- what is kept
+
+-- the value that a task keeps is what is known of its closed node
+abbrev pub IsDue : List Node → Task → State → Type 0
+IsDue nodes (Keep i) s = first_of (last_of 1 s.values) ≡ given nodes i []
+IsDue nodes _ s = Unit {0}
+
+abbrev pub AreDue : List Node → List Task → State → Type 0
+AreDue nodes [] s = Unit {0}
+AreDue nodes (t ∷ ts) s = IsDue nodes t (run_all nodes ts s) × AreDue nodes ts s
+
 -- ---- the measure
 
 abbrev pub branches_cost : ℕ → (ℕ → ℕ) → Option (ℕ × ℕ) → ℕ
@@ -89,6 +103,7 @@ task_work nodes (Finish i) = 3 * last_cost i (cost nodes) (slice_get nodes i) + 
 task_work nodes (Choose i) = 3 * chosen_cost i (cost nodes) (slice_get nodes i) + 2
 task_work nodes (Return base) = 1
 task_work nodes (Unbind len) = 1
+task_work nodes (Keep i) = 1
 
 abbrev pub work : List Node → List Task → ℕ
 work nodes [] = 0
@@ -103,29 +118,49 @@ IsBased s = s.base ≤ length s.frames
 abbrev pub empty_state : State
 empty_state = record { values = []; frames = []; base = 0 }
 
--- a machine has one task, and nothing else
-pub record IsBegun (task : Task) (m : Machine) : Type 0 where
-  pub tasks : m.tasks.items ≡ task ∷ []
-  pub state : state_of m ≡ empty_state
+-- a machine has one task, what another keeps, and nothing else
+pub record IsBegun (task : Task) (before after : Machine) : Type 0 where
+  pub tasks : after.tasks.items ≡ task ∷ []
+  pub state : state_of after ≡ empty_state
+  pub kept : after.kept ≡ before.kept
 
--- a machine has the tasks of another, and this state
+-- a machine has the tasks of another, what it keeps, and this state
 pub record IsAt (s : State) (before after : Machine) : Type 0 where
   pub tasks : after.tasks.items ≡ before.tasks.items
   pub state : state_of after ≡ s
+  pub kept : after.kept ≡ before.kept
 
--- a machine has more tasks than another, and this state
+-- a machine has more tasks than another, what it keeps, and this state
 pub record IsPlanned (more : List Task) (s : State) (before after : Machine) : Type 0 where
   pub tasks : after.tasks.items ≡ before.tasks.items ++ more
   pub state : state_of after ≡ s
+  pub kept : after.kept ≡ before.kept
+
+-- a machine keeps the last value for a number, and is as another besides
+pub record IsKeeping (number : ℕ) (before after : Machine) : Type 0 where
+  pub tasks : after.tasks.items ≡ before.tasks.items
+  pub state : state_of after ≡ state_of before
+  pub kept : (other : ℕ) → kept_at after.kept other ≡ (if other == number
+      then Some (first_of (last_of 1 (state_of before).values)) else kept_at before.kept other)
 
 -- a machine has done a task that was taken off already: what is left to do leads to the same, and is less
-pub record IsStep (nodes : List Node) (task : Task) (before after : Machine) : Type 0 where
+pub record IsDone (nodes : List Node) (task : Task) (before after : Machine) : Type 0 where
   pub answer : run_all nodes after.tasks.items (state_of after)
       ≡ run_all nodes before.tasks.items (run nodes task (state_of before))
   pub based : IsBased (state_of after)
   pub falls : work nodes after.tasks.items < work nodes before.tasks.items + task_work nodes task
+  pub remembers : Remembers after nodes
+  pub due : AreDue nodes before.tasks.items (run nodes task (state_of before))
+      → AreDue nodes after.tasks.items (state_of after)
+
+-- it has, where it remembered what is known and the value was due
+abbrev pub IsStep : List Node → Task → (before after : Machine) → Type 0
+IsStep nodes task before after =
+    Remembers before nodes → IsDue nodes task (state_of before) → IsDone nodes task before after
 
 -- a machine is on its way to one value, and nothing else
 pub record IsRunning (nodes : List Node) (v : Option Element) (m : Machine) : Type 0 where
   pub answer : run_all nodes m.tasks.items (state_of m) ≡ with_value v empty_state
   pub based : IsBased (state_of m)
+  pub remembers : Remembers m nodes
+  pub due : AreDue nodes m.tasks.items (state_of m)

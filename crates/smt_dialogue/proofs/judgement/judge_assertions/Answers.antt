@@ -20,12 +20,13 @@ returns-in-Some-false c = λ script definitions all stands holds assertions.
     left-false (contents_of c.args.library.now)
     c.loop-assertion.left.now c.in-Some.rest.now c.in-Some.assertion.now s c.loop-assertion.first_open
     (judged_from s std.None all) c.in-Some.ensures.cases.0
-    (λ t term. sym (c.in_ok-eval_by.ensures script definitions t stands holds term) ∙ c.in-Some-false.ensures
+    (λ t term. sym (c.in_ok-eval_by.ensures.known script definitions t stands holds term) ∙ c.in-Some-false.ensures
     ∙ ap (λ b. Some (Truth b)) c.in-Some-false.field-0-test)
     (c.loop-assertion.invariant.judged script definitions all stands holds assertions)
 
 pub loop-assertion-preserved-in-Some-true : goal.loop-assertion-preserved-in-Some-true
 loop-assertion-preserved-in-Some-true c = record {
+  serves = c.in_ok-eval_by.ensures.serves;
   terms = terms_left (contents_of c.args.library.now)
       c.loop-assertion.left.now c.in-Some.rest.now c.in-Some.assertion.now c.in-Some.ensures.cases.0
       c.loop-assertion.invariant.terms;
@@ -34,13 +35,14 @@ loop-assertion-preserved-in-Some-true c = record {
       left-true (contents_of c.args.library.now)
       c.loop-assertion.left.now c.in-Some.rest.now c.in-Some.assertion.now s c.loop-assertion.first_open
       (judged_from s std.None all) c.in-Some.ensures.cases.0
-      (λ t term. sym (c.in_ok-eval_by.ensures script definitions t stands holds term) ∙ c.in-Some-true.ensures
+      (λ t term. sym (c.in_ok-eval_by.ensures.known script definitions t stands holds term) ∙ c.in-Some-true.ensures
       ∙ ap (λ b. Some (Truth b)) c.in-Some-true.field-0-test)
       (c.loop-assertion.invariant.judged script definitions all stands holds assertions);
 }
 
 pub loop-assertion-preserved : goal.loop-assertion-preserved
 loop-assertion-preserved c = record {
+  serves = c.in_ok-eval_by.ensures.serves;
   terms = terms_left (contents_of c.args.library.now)
       c.loop-assertion.left.now c.in-Some.rest.now c.in-Some.assertion.now c.in-Some.ensures.cases.0
       c.loop-assertion.invariant.terms;
@@ -50,7 +52,7 @@ loop-assertion-preserved c = record {
       c.loop-assertion.left.now c.in-Some.rest.now c.in-Some.assertion.now s c.loop-assertion.first_open
       (judged_from s std.None all) c.in-Some.ensures.cases.0
       (λ t term.
-      let known = c.in_ok-eval_by.ensures script definitions t stands holds term in (
+      let known = c.in_ok-eval_by.ensures.known script definitions t stands holds term in (
         ap (is_known std.false) (sym known) ∙ c.in-None.ensures.0,
         ap (is_known std.true) (sym known)
             ∙ c.in-None.ensures.1,
@@ -77,6 +79,7 @@ returns-in-None-first_open c = λ script definitions all stands holds assertions
 
 pub loop-assertion-preserved-then-is_none : goal.loop-assertion-preserved-then-is_none
 loop-assertion-preserved-then-is_none c = record {
+  serves = c.in_ok-eval_by.ensures.serves;
   terms = terms_left (contents_of c.args.library.now)
       c.loop-assertion.left.now c.in-Some.rest.now c.in-Some.assertion.now c.in-Some.ensures.cases.0
       c.loop-assertion.invariant.terms;
@@ -86,7 +89,7 @@ loop-assertion-preserved-then-is_none c = record {
       c.loop-assertion.left.now c.in-Some.rest.now c.in-Some.assertion.now s c.loop-assertion.first_open
       (judged_from s std.None all) c.in-Some.ensures.cases.0
       (λ t term.
-      let known = c.in_ok-eval_by.ensures script definitions t stands holds term in (
+      let known = c.in_ok-eval_by.ensures.known script definitions t stands holds term in (
         ap (is_known std.false) (sym known) ∙ c.in-None.ensures.0,
         ap (is_known std.true) (sym known)
             ∙ c.in-None.ensures.1,

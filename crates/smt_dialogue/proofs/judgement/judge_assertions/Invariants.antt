@@ -3,7 +3,7 @@ use Rattle.std.proofs.Common.{◌≡◌, List, None, length}
 use Rattle.smt_terms.specs.Contents.{contents_of}
 use Rattle.smt_terms.specs.Library as libraries
 use Rattle.smt_terms.specs.Signature.{Signature}
-use Rattle.smt_eval.specs.Interpretation.{IsInterpretation}
+use Rattle.smt_eval.specs.Interpretation.{IsInterpretation, Serves}
 use Rattle.smt_eval.specs.Structure.{structure_of}
 use Rattle.smt_script.specs.Stack as stacks
 use Rattle.smt_script.specs.StackView.{AreAssertions}
@@ -12,6 +12,7 @@ use Rattle.smt_dialogue.proofs.judgement.judge_assertions.Given as goal
 
 abbrev pub invariant-loop-assertion : goal.invariant-loop-assertion
 invariant-loop-assertion l = record {
+  serves : Serves l.machine l.interpretation l.library;
   terms : (rest : List stacks.Assertion) × AreAssertions (contents_of l.library) l.left rest;
   judged : (script definitions : Signature) (all : List stacks.Assertion)
       → libraries.StandsFor l.library script → IsInterpretation l.interpretation script definitions

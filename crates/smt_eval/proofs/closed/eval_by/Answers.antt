@@ -6,11 +6,11 @@ use Rattle.smt_terms.specs.Library.{terms_of}
 use Rattle.smt_eval.proofs.EvaluatorLemmas.{if_known}
 use Rattle.smt_eval.proofs.closed.eval_by.Goals as goal
 
-pub returns : goal.returns
-returns c = λ script definitions t names holds term.
+pub returns-clause-known : goal.returns-clause-known
+returns-clause-known c = λ script definitions t names holds term.
     let model = terms_of c.args.interpretation.now.definitions in
     let id = c.node.result in
-    if_known c.eval.result _ _ c.eval.ensures
+    if_known c.eval.result _ _ c.eval.ensures.value
     (ap (λ n. given (nodes_of c.tables.result) (n + id) []) c.tables.ensures.count
     ∙ ap (λ nodes. given nodes (length model.rows + id) []) c.tables.ensures.nodes
     ∙ c.nodes_give_the_values_of_their_terms.ensures model (terms_of c.args.library.now)

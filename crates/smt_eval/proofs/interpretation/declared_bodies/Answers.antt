@@ -1,4 +1,4 @@
-use Rattle.std.proofs.Common.{◌≡◌, ℕ, List, [], ◌∷◌, ◌++◌, length, map, Option, Some, None, inr, refl, ap, sym, ◌∙◌}
+use Rattle.std.proofs.Common.{◌≡◌, ℕ, List, [], ◌∷◌, ◌++◌, length, map, Option, inr, refl, ap, sym, ◌∙◌}
 use Rattle.std.proofs.Common.{subst, append_assoc, append-nil, arith}
 use Rattle.std.proofs.lemmas.List.{length-map}
 use Rattle.std.specs.Option.{option_or}

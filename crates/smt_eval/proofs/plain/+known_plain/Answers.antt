@@ -1,5 +1,5 @@
 use Rattle.std.proofs.Common.{map, refl, ap, sym, ◌∙◌}
-use Rattle.smt_trees.specs.Sexp.{Atom, Cons, Items, Reserved, Symbol}
+use Rattle.smt_trees.specs.Sexp.{Cons, Items, Reserved}
 use Rattle.smt_trees.specs.Tree.{sexp_of, sexps_of}
 use Rattle.smt_trees.specs.declared.reserved.Word.TheVariants.{Bang}
 use Rattle.smt_theory.specs.Index.{index_view}

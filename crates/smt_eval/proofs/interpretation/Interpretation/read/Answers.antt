@@ -1,4 +1,4 @@
-use Rattle.std.proofs.Common.{◌≡◌, ℕ, inl, inr, refl, [], Option, ap, sym, ◌∙◌}
+use Rattle.std.proofs.Common.{ℕ, refl, Option, ap, ◌∙◌}
 use Rattle.smt_trees.specs.Tree.{sexps_of}
 use Rattle.smt_terms.specs.Items.{items_before}
 use Rattle.smt_terms.specs.Library.{terms_of}

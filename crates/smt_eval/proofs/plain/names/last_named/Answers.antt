@@ -1,4 +1,4 @@
-use Rattle.std.proofs.Common.{◌≡◌, ◌-◌, ◌∷◌, ◌++◌, [], take, sym, ◌∙◌, arith}
+use Rattle.std.proofs.Common.{◌-◌, take, sym, ◌∙◌, arith}
 use Rattle.smt_eval.proofs.PlainLemmas.{last_is_meant, last_is_not_meant, last_of_first, weight-last}
 use Rattle.smt_eval.proofs.plain.names.last_named.Goals as goal
 

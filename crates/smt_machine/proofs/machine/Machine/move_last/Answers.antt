@@ -19,4 +19,5 @@ returns c =
       state = states_same _ _ _ _ _ _
           (ap known_elements c.truncate.ensures.items ∙ sym (before_known items c.args.count start from))
           (ap known_elements new ∙ moved frames items c.args.count start from) (refl {A = ℕ});
+      kept = refl;
     }

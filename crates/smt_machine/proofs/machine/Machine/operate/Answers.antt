@@ -22,4 +22,5 @@ returns c =
       state = states_same _ _ _ _ _ _
           (ap known_elements new ∙ operated c.args.op items c.args.count start value from is)
           (refl {A = List (Option Element)}) (refl {A = ℕ});
+      kept = refl;
     }

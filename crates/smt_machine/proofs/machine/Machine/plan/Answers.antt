@@ -8,4 +8,5 @@ loop-last-preserved c = record {
       c.in-Some.last.now c.task_of.result _ c.loop-last.self.tasks.items c.push-in-Some.new.self.items
       c.in-Some.ensures.cases.0 c.task_of.ensures c.loop-last.invariant.tasks c.in_ok-push-2.ensures.items;
   state = c.loop-last.invariant.state;
+  kept = c.loop-last.invariant.kept;
 }

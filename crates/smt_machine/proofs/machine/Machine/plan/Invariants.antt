@@ -9,6 +9,7 @@ invariant-loop-last l = record {
   tasks : l.fn.self.tasks.items ++ (l.fn.task ∷ visits l.number (numbers_of l.parts))
       ≡ l.self.tasks.items ++ visits l.number (map (λ id. l.parts.shift + id) l.left);
   state : state_of l.self ≡ state_of l.fn.self;
+  kept : l.self.kept ≡ l.fn.self.kept;
 }
 
 abbrev pub decreases-loop-last : goal.decreases-loop-last

@@ -16,4 +16,5 @@ returns c =
       tasks = refl;
       state = states_same _ _ _ _ _ _ refl shorter
           (c.lesser-self.ensures ∙ ap (λ k. min c.args.base k) left);
+      kept = refl;
     }
