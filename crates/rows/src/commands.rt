@@ -97,7 +97,9 @@ fn take(stack: &mut Stack, number: u64, tree: Tree) -> Result<(), CommandFault>
     ensures { last_of stack.new ≤ number }
 {
     let command = read_command(tree)?;
-    stack.take(number, command)
+    let outcome = stack.apply(number, &command);
+    drop(command);
+    outcome
 }
 
 // Prints what is in force: names, the numbers of the commands of the assertions, levels, and what the solver

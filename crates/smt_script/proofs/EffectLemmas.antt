@@ -223,7 +223,6 @@ extends_itself c = record {
   definitions = ([], sym (append-nil c.definitions));
   bodies = ([], sym (append-nil c.bodies));
   rows = ([], sym (append-nil c.rows));
-  terms = ([], sym (append-nil c.terms));
 }
 
 -- a signature to which a command brings nothing
