@@ -225,15 +225,6 @@ fit_longer bodies c d s t l same longer fits = record {
       fits.named;
 }
 
-pub fits_longer : (bodies : List ℕ) (c d : Contents) (s t : Signature) (ls : List Label)
-    → t.theories ≡ s.theories → IsLonger (terms_under bodies c) (terms_under bodies d)
-    → AreFitUnder bodies c s ls → AreFitUnder bodies d t ls
-fits_longer bodies c d s t [] same longer fits = tt
-fits_longer bodies c d s t (l ∷ ls) same longer fits = (
-  fit_longer bodies c d s t l same longer fits.0,
-  fits_longer bodies c d s t ls same longer fits.1,
-)
-
 pub AreAdded-none : (library : Library) (all : List Label) → AreNew (ranks_of_library library) all
     → AreAdded library library all all
 AreAdded-none library all new = record {
@@ -277,32 +268,6 @@ AreAdded-next old mid now all left rest l first split added ranks joined grown =
           (subst (λ ls. AreNew (ranks_of_library mid) ls) split first.new).1;
       grown = extends_on (contents_of old) (contents_of mid) (contents_of now) first.grown grown;
     }
-
--- the first that is left is new
-pub AreAdded-first : (old now : Library) (all left rest : List Label) (l : Label) → AreAdded old now all left
-    → left ≡ l ∷ rest → look_up (ranks_of_library now) l.name.items ≡ None
-AreAdded-first old now all left rest l added split =
-    (subst (λ ls. AreNew (ranks_of_library now) ls) split added.new).0
-
--- where none is left, all were added
-all_done : (old now : Library) (all left : List Label) (added : AreAdded old now all left) → left ≡ []
-    → added.done ≡ all
-all_done old now all left added none =
-    sym (added.are ∙ ap (λ (ls : List Label). added.done ++ ls) none ∙ append-nil added.done)
-
-pub AreAdded-all : (old now : Library) (all left : List Label) → AreAdded old now all left → left ≡ []
-    → (bodies : List ℕ) (s : Signature) → HoldsUnder bodies (contents_of old) s
-    → AreFitUnder bodies (contents_of old) s all
-    → HoldsUnder bodies (contents_of now) (with_entries s (map label_entry all))
-AreAdded-all old now all left added none bodies s h fits =
-    subst (λ ls. HoldsUnder bodies (contents_of now) (with_entries s (map label_entry ls)))
-    (all_done old now all left added none) (added.stands bodies s h fits)
-
-pub AreAdded-bodies : (old now : Library) (all left : List Label) → AreAdded old now all left → left ≡ []
-    → now.bodies.items ≡ old.bodies.items ++ map (λ l. l.node) all
-AreAdded-bodies old now all left added none =
-    added.bodies ∙ ap (λ (ls : List Label). old.bodies.items ++ map (λ l. l.node) ls)
-    (all_done old now all left added none)
 
 -- ## Undoing
 

@@ -176,18 +176,6 @@ extends_itself c = record {
 
 -- ---- where no name comes
 
-pub keeps_itself : (c : Contents) → KeepsNames c c
-keeps_itself c = record {
-  theories = refl;
-  abbreviations = refl;
-  ranks = refl;
-  heads = refl;
-  declared = refl;
-  definitions = refl;
-  bodies = refl;
-  rows = nothing_more _ _ refl;
-}
-
 pub keeps_on : (c d e : Contents) → KeepsNames c d → KeepsNames d e → KeepsNames c e
 keeps_on c d e first second = record {
   theories = second.theories ∙ first.theories;

@@ -428,17 +428,6 @@ stands_defined bodies old new s x ps d t j absent free named bound node theories
           (body-next bodies old new s.entries ps t j theories (_, heads) rows stands.heads node, refl);
     }
 
--- at the place of a defined entry stands its definition
-pub definition_at : (ds : List Definition) (es : List Entry) (n : ℕ) (e : Entry)
-    → AreDefinitions ds es → slice_get es n ≡ Some e
-    → (d : Definition) × (slice_get ds n ≡ Some d) × IsDefinitionOf d e
-definition_at [] [] n e h at = cc
-definition_at [] (y ∷ es) n e h at = absurd h
-definition_at (d ∷ ds) [] n e h at = absurd h
-definition_at (d ∷ ds) (y ∷ es) zero e h at =
-    let same : y ≡ e = cc in (d, refl, subst (IsDefinitionOf d) same h.0)
-definition_at (d ∷ ds) (y ∷ es) (suc n) e h at = definition_at ds es n e h.1 at
-
 -- what stands at this place is the declaration of the entry
 abbrev pub IsDeclarationAt : List Declaration → ℕ → Entry → Type 0
 IsDeclarationAt ds n e =
