@@ -1,6 +1,6 @@
 -- What each command does to a stack.
-use Rattle.std.proofs.Common.{◌≡◌, ◌≤◌, ℕ, ◌+◌, zero, suc, List, [], ◌∷◌, ◌++◌, ◌⊎◌, inl, inr, Bool, false}
-use Rattle.std.proofs.Common.{◌||◌, Option, None, Some, Result, Ok, Err, length, slice_get, take, refl, ap}
+use Rattle.std.proofs.Common.{◌≡◌, ◌≤◌, ℕ, ◌+◌, zero, suc, List, [], ◌∷◌, ◌++◌, inl, inr, Bool, false}
+use Rattle.std.proofs.Common.{◌||◌, Option, None, Some, Result, Ok, length, slice_get, take, refl, ap}
 use Rattle.std.proofs.Common.{sym, subst, ◌∙◌, arith}
 use Rattle.std.proofs.lemmas.List.{append-nil, length-append}
 use Rattle.std.specs.Global.{Vec}

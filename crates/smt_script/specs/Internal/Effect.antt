@@ -1,6 +1,6 @@
 -- What a command did to a stack, before it was noted whether a logic may be set, whether `success` is
 -- printed, and that it was applied.
-use Rattle.std.specs.Prelude.{◌≡◌, ℕ, zero, suc, List, [], ◌∷◌, ◌++◌, ◌⊎◌, ◌||◌, None, Some, length}
+use Rattle.std.specs.Prelude.{◌≡◌, ℕ, zero, suc, List, [], ◌∷◌, ◌++◌, ◌||◌, None, Some, length}
 use Rattle.std.specs.Prelude.{slice_get, take}
 use Rattle.smt_trees.specs.Sexp.{Sexp}
 use Rattle.smt_theory.specs.declared.theories.Theories.{Theories}
