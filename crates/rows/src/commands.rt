@@ -91,7 +91,7 @@ pub(crate) fn is_on(field: &Field) -> Result<bool> {
     }
 }
 
-// Reads a command, and has the stack take it.
+// Reads a command, and applies it to the stack.
 fn take(stack: &mut Stack, number: u64, tree: Tree) -> Result<(), CommandFault>
     requires { last_of stack.old < number }
     ensures { last_of stack.new ≤ number }

@@ -44,7 +44,7 @@ declarations_from place (e ∷ es) = declaration_at place e e.origin ++ declarat
 abbrev pub definitions_of : Library → List Definition
 definitions_of library = library.definitions.items
 
--- this is the definition of the entry (of whose body the table's node speaks)
+-- this is the definition of the entry, but for its body, which is a node of the table (AreTermsOf)
 pub record IsDefinitionOf (d : Definition) (e : Entry) : Type 0 where
   pub name : d.name.items ≡ e.name
   pub parameters : map (λ p. p.1) d.params.items ≡ e.parameters
