@@ -1,7 +1,7 @@
 #!/bin/sh
 # Runs the program on terms with many variables, parameters and labels, whose check has to take time in proportion to their text (and the
-# logarithm of how many names there are): comparing each name with each would take minutes. Needs what `rt ci` has built. Says nothing
-# where all is well.
+# logarithm of how many names there are): comparing each name with each would take minutes, and a copy of the term of each label gigabytes.
+# Needs what `rt ci` has built. Says nothing where all is well.
 set -e
 cd "$(dirname "$0")/.."
 program=$PWD/crates/smtcheck/out/smtcheck
@@ -27,6 +27,9 @@ awk 'BEGIN { n = 100000
     printf ") Bool (and"; for (i = 0; i < n; i++) printf " p%d", n - 1; print "))" }' | check '100,000 parameters' "$valid"
 awk 'BEGIN { n = 100000
     printf "(assert (! true"; for (i = 0; i < n; i++) printf " :named a%d", i; print "))" }' | check '100,000 labels' "$valid"
+awk 'BEGIN { printf "(assert "; for (i = 0; i < 900; i++) printf "(! "
+    printf "(and"; for (i = 0; i < 100000; i++) printf " true"; printf ")"
+    for (i = 0; i < 900; i++) printf " :named a%d)", i; print ")" }' | check '900 labels around a term of 100,000 parts' "$valid"
 awk 'BEGIN { n = 200000
     printf "(define-fun f () Bool (let ("; for (i = 0; i < n; i++) printf "(v%d true)", i
     printf ") "; for (i = 0; i < 900; i++) printf "(let ((y v%d)) ", i

@@ -91,13 +91,15 @@ pub(crate) fn is_on(field: &Field) -> Result<bool> {
     }
 }
 
-// Reads a command, and has the stack take it.
+// Reads a command, and applies it to the stack.
 fn take(stack: &mut Stack, number: u64, tree: Tree) -> Result<(), CommandFault>
     requires { last_of stack.old < number }
     ensures { last_of stack.new ≤ number }
 {
     let command = read_command(tree)?;
-    stack.take(number, command)
+    let outcome = stack.apply(number, &command);
+    drop(command);
+    outcome
 }
 
 // Prints what is in force: names, the numbers of the commands of the assertions, levels, and what the solver

@@ -107,5 +107,5 @@ fn assert<W: Write>(
     field: &Field,
 ) -> Result<()> {
     let term = tree_of(alloc, field)?;
-    print_answer(out, field, "asserted", library.check_assert(&term).err())
+    print_answer(out, field, "asserted", library.assert(&term).err())
 }

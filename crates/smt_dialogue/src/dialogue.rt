@@ -128,11 +128,14 @@ fn apply_if(
         → stacks.StandsFor stack.new commands) × (last_of stack.new ≡ last_of stack.old)) }
     ensures start { initial_print_success_of stack.new ≡ initial_print_success_of stack.old }
 {
-    if effective {
-        return stack.take(number, command);
-    }
+    let outcome = if effective {
+        stack.apply(number, &command)
+    } else {
+        Ok(())
+    };
+    // dropped by name: what the prover has to say of a drop at the end, variant by variant, takes it long
     drop(command);
-    Ok(())
+    outcome
 }
 
 // How many answers that are: one or none.

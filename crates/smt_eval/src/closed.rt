@@ -76,7 +76,7 @@ pub fn eval_by(
         → IfOk result (λ v. known_element v ≡ known_over (structure_of script definitions) t) }
 {
     nodes_give_the_values_of_their_terms();
-    machine.eval(tables(library, interpretation), term.node())
+    machine.eval(tables(library, interpretation), term)
 }
 
 // The tables of the model and of the script.

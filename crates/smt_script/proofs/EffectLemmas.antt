@@ -1,6 +1,6 @@
 -- What each command does to a stack.
-use Rattle.std.proofs.Common.{◌≡◌, ◌≤◌, ℕ, ◌+◌, zero, suc, List, [], ◌∷◌, ◌++◌, ◌⊎◌, inl, inr, Bool, false}
-use Rattle.std.proofs.Common.{◌||◌, Option, None, Some, Result, Ok, Err, length, slice_get, take, refl, ap}
+use Rattle.std.proofs.Common.{◌≡◌, ◌≤◌, ℕ, ◌+◌, zero, suc, List, [], ◌∷◌, ◌++◌, inl, inr, Bool, false}
+use Rattle.std.proofs.Common.{◌||◌, Option, None, Some, Result, Ok, length, slice_get, take, refl, ap}
 use Rattle.std.proofs.Common.{sym, subst, ◌∙◌, arith}
 use Rattle.std.proofs.lemmas.List.{append-nil, length-append}
 use Rattle.std.specs.Global.{Vec}
@@ -223,7 +223,6 @@ extends_itself c = record {
   definitions = ([], sym (append-nil c.definitions));
   bodies = ([], sym (append-nil c.bodies));
   rows = ([], sym (append-nil c.rows));
-  terms = ([], sym (append-nil c.terms));
 }
 
 -- a signature to which a command brings nothing

@@ -5,7 +5,7 @@ use Rattle.std.proofs.Common.{append_assoc, append-nil}
 use Rattle.std.specs.Prelude.{bytes_eq, nat_le}
 use Rattle.std.specs.List.{filter}
 use Rattle.std.proofs.lemmas.Grind.{flat_map-append}
-use Rattle.smt_trees.specs.Sexp.{Sexp, Sexps, Nil}
+use Rattle.smt_trees.specs.Sexp.{Sexp, Sexps}
 use Rattle.smt_theory.specs.Operators.{is_plain_operator}
 use Rattle.smt_theory.specs.Theories.{theories_named}
 use Rattle.smt_theory.specs.Words.{look_up, result_and_then}

@@ -164,41 +164,7 @@ impl Stack {
     ///   more than there are (section 4.2.2).
     ///
     /// The others have none. `Pop` removes what came at the levels that it removes, and takes time for that
-    /// alone. The term of an assertion is moved into the library, and not copied.
-    pub fn take(&mut self, number: u64, command: Command) -> Result<(), CommandFault>
-        requires { last_of self.old < number }
-        ensures faultless { OnOk result
-            ((commands : List Numbered) → StandsFor self.old commands
-            → flaw_of_effect commands number (command_view command) ≡ None) }
-        ensures applied { OnOk result ((commands : List Numbered) → StandsFor self.old commands
-            → StandsFor self.new (commands ++ record { number = number; command = command_view command }
-            ∷ [])) }
-        ensures last { OnOk result (last_of self.new ≡ number) }
-        ensures refused { IfErr result (λ fault. (commands : List Numbered) → StandsFor self.old commands
-            → TellsCommand (flaw_of_effect commands number (command_view command)) fault) }
-        ensures unchanged { OnErr result
-            (((commands : List Numbered) → StandsFor self.old commands → StandsFor self.new commands)
-            × (last_of self.new ≡ last_of self.old)) }
-        ensures start { initial_print_success_of self.new ≡ initial_print_success_of self.old }
-    {
-        match command {
-            Command::Assert { term } => {
-                self.assert(number, term)?;
-                self.note_assertion();
-                self.last = number;
-                Ok(())
-            }
-            // dropped by name: what the prover has to say of a drop at the end, variant by variant, takes it
-            // long
-            command => {
-                let outcome = self.apply(number, &command);
-                drop(command);
-                outcome
-            }
-        }
-    }
-
-    /// As `take`, but leaves the command whole: the term of an assertion is copied.
+    /// alone. The stack keeps no tree of the command: the nodes of its terms stand in the library.
     pub fn apply(&mut self, number: u64, command: &Command) -> Result<(), CommandFault>
         requires { last_of self.old < number }
         ensures faultless { OnOk result

@@ -74,14 +74,14 @@ none_of (Some r) h = cc
 
 -- labels that fit are new
 fit_are_new : (names : Names) (ranks : List (List ℕ × Rank)) (ks : List Label) → IsGivenList names.labels
-    → Leaves names ranks → AreFit names (map (λ k. (k.name.items, sexp_of k.body)) ks) → AreNew ranks ks
+    → Leaves names ranks → AreFit names (map (λ k. (k.name.items, sexp_of k.body.now)) ks) → AreNew ranks ks
 fit_are_new names ranks [] is leaves fits = tt
 fit_are_new names ranks (k ∷ ks) is leaves fits =
     let n =
     neither (is_some (look_up names.ranks k.name.items))
     (is_plain_operator names.theories k.name.items) fits.0.free in (
       leaves k.name.items (none_of (look_up names.ranks k.name.items) n.0) fits.0.new,
-      fit_are_new (behind ((k.name.items, sexp_of k.body) ∷ []) names)
+      fit_are_new (behind ((k.name.items, sexp_of k.body.now) ∷ []) names)
           (ranks ++ (k.name.items, rank_of_entry (label_entry k)) ∷ []) ks
           (IsGivenList-behind (k.name.items ∷ []) names.labels is)
           (leaves-push names names.labels ranks k.name.items (rank_of_entry (label_entry k)) is leaves)
@@ -109,11 +109,11 @@ given_are_new library labels given term sort view has same =
 -- ## What labels bring
 
 entries-sorted : (names : Names) (ks : List Label) → AreSorted names ks
-    → label_entries names (map (λ k. (k.name.items, sexp_of k.body)) ks) ≡ map label_entry ks
+    → label_entries names (map (λ k. (k.name.items, sexp_of k.body.now)) ks) ≡ map label_entry ks
 entries-sorted names [] h = refl
 entries-sorted names (k ∷ ks) h =
-    ap (λ r. label_or_none (k.name.items, sexp_of k.body) r
-    ++ label_entries names (map (λ l. (l.name.items, sexp_of l.body)) ks)) h.0 ∙ ap
+    ap (λ r. label_or_none (k.name.items, sexp_of k.body.now) r
+    ++ label_entries names (map (λ l. (l.name.items, sexp_of l.body.now)) ks)) h.0 ∙ ap
     (λ (es : List Entry). label_entry k ∷ es) (entries-sorted names ks h.1)
 
 -- what an asserted term brings by the labels that it gave
@@ -168,9 +168,9 @@ fits_named names t bodies c s (l ∷ ls) same longer fits named = (
     free = ap (λ ts. is_plain_operator ts l.name.items) (sym same)
         ∙ (neither (is_some (look_up names.ranks l.name.items))
         (is_plain_operator names.theories l.name.items) fits.0.free).1;
-    named = denotes_kept t (terms_under bodies c) longer [] 0 0 l.node (sexp_of l.body) named.0;
+    named = denotes_kept t (terms_under bodies c) longer [] 0 0 l.node (sexp_of l.body.now) named.0;
   },
-  fits_named (behind ((l.name.items, sexp_of l.body) ∷ []) names) t bodies c s ls same longer fits.1 named.1,
+  fits_named (behind ((l.name.items, sexp_of l.body.now) ∷ []) names) t bodies c s ls same longer fits.1 named.1,
 )
 
 -- those of an assertion, over the bodies with their own
@@ -221,18 +221,9 @@ pub fit_longer : (bodies : List ℕ) (c d : Contents) (s t : Signature) (l : Lab
     → IsFitUnder bodies d t l
 fit_longer bodies c d s t l same longer fits = record {
   free = ap (λ ts. is_plain_operator ts l.name.items) same ∙ fits.free;
-  named = denotes_kept (terms_under bodies c) (terms_under bodies d) longer [] 0 0 l.node (sexp_of l.body)
+  named = denotes_kept (terms_under bodies c) (terms_under bodies d) longer [] 0 0 l.node (sexp_of l.body.now)
       fits.named;
 }
-
-pub fits_longer : (bodies : List ℕ) (c d : Contents) (s t : Signature) (ls : List Label)
-    → t.theories ≡ s.theories → IsLonger (terms_under bodies c) (terms_under bodies d)
-    → AreFitUnder bodies c s ls → AreFitUnder bodies d t ls
-fits_longer bodies c d s t [] same longer fits = tt
-fits_longer bodies c d s t (l ∷ ls) same longer fits = (
-  fit_longer bodies c d s t l same longer fits.0,
-  fits_longer bodies c d s t ls same longer fits.1,
-)
 
 pub AreAdded-none : (library : Library) (all : List Label) → AreNew (ranks_of_library library) all
     → AreAdded library library all all
@@ -277,32 +268,6 @@ AreAdded-next old mid now all left rest l first split added ranks joined grown =
           (subst (λ ls. AreNew (ranks_of_library mid) ls) split first.new).1;
       grown = extends_on (contents_of old) (contents_of mid) (contents_of now) first.grown grown;
     }
-
--- the first that is left is new
-pub AreAdded-first : (old now : Library) (all left rest : List Label) (l : Label) → AreAdded old now all left
-    → left ≡ l ∷ rest → look_up (ranks_of_library now) l.name.items ≡ None
-AreAdded-first old now all left rest l added split =
-    (subst (λ ls. AreNew (ranks_of_library now) ls) split added.new).0
-
--- where none is left, all were added
-all_done : (old now : Library) (all left : List Label) (added : AreAdded old now all left) → left ≡ []
-    → added.done ≡ all
-all_done old now all left added none =
-    sym (added.are ∙ ap (λ (ls : List Label). added.done ++ ls) none ∙ append-nil added.done)
-
-pub AreAdded-all : (old now : Library) (all left : List Label) → AreAdded old now all left → left ≡ []
-    → (bodies : List ℕ) (s : Signature) → HoldsUnder bodies (contents_of old) s
-    → AreFitUnder bodies (contents_of old) s all
-    → HoldsUnder bodies (contents_of now) (with_entries s (map label_entry all))
-AreAdded-all old now all left added none bodies s h fits =
-    subst (λ ls. HoldsUnder bodies (contents_of now) (with_entries s (map label_entry ls)))
-    (all_done old now all left added none) (added.stands bodies s h fits)
-
-pub AreAdded-bodies : (old now : Library) (all left : List Label) → AreAdded old now all left → left ≡ []
-    → now.bodies.items ≡ old.bodies.items ++ map (λ l. l.node) all
-AreAdded-bodies old now all left added none =
-    added.bodies ∙ ap (λ (ls : List Label). old.bodies.items ++ map (λ l. l.node) ls)
-    (all_done old now all left added none)
 
 -- ## Undoing
 

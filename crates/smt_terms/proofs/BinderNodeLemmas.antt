@@ -1,5 +1,5 @@
 -- Nodes of terms that bind variables, and of annotated ones.
-use Rattle.std.proofs.Common.{◌≡◌, ◌<◌, ◌≤◌, ◌-◌, ◌+◌, ℕ, zero, suc, Bool, true, false, ◌||◌, List, [], ◌∷◌, ◌++◌}
+use Rattle.std.proofs.Common.{◌≡◌, ◌<◌, ◌≤◌, ◌-◌, ◌+◌, ℕ, suc, Bool, true, false, ◌||◌, List, [], ◌∷◌, ◌++◌}
 use Rattle.std.proofs.Common.{length, map, slice_get, Some, append_assoc, refl, ap, sym, ◌∙◌, subst, arith}
 use Rattle.std.proofs.lemmas.List.{length-append, length-map}
 use Rattle.smt_trees.specs.Sexp.{Sexp, Sexps, Atom, Reserved, Items, Nil, Cons, Symbol}
@@ -10,11 +10,11 @@ use Rattle.smt_forms.specs.Variables.{uses_variable}
 use Rattle.smt_nodes.specs.Node as node
 use Rattle.smt_nodes.specs.Node.{Row}
 use Rattle.smt_nodes.specs.Nodes.{rows_of}
-use Rattle.smt_terms.specs.Denotes.{AreBound, Denotes, Slots, Table, UsesNone, slots_bound, slots_from}
+use Rattle.smt_terms.specs.Denotes.{AreBound, Denotes, Slots, Table, slots_bound, slots_from}
 use Rattle.smt_terms.specs.Denotes.{unless_labelled}
 use Rattle.smt_terms.specs.Internal.Calls.{SeesTheSame, has_labels}
 use Rattle.smt_terms.specs.Internal.DraftView.{Variables, inside, placed_from, seen_by, sorts_seen}
-use Rattle.smt_terms.specs.Internal.NodesView.{AddsAround, AddsNode, BindingsStand, GrowsTo, KeepsNamed, Stands}
+use Rattle.smt_terms.specs.Internal.NodesView.{AddsAround, AddsNode, BindingsStand, GrowsTo, Stands}
 use Rattle.smt_terms.specs.Internal.NodesView.{nodes_given}
 use Rattle.smt_terms.specs.Internal.TableView.{AreNamed, IsReady, places_seen, slots_seen, table_in}
 use Rattle.smt_terms.specs.declared.labels.Labels.{Labels}
@@ -26,10 +26,9 @@ use Rattle.smt_terms.proofs.CheckerLemmas.{Scope}
 use Rattle.smt_terms.proofs.ClosedLemmas.{neither}
 use Rattle.smt_terms.proofs.DenotesLemmas.{bound_kept, denotes_kept, slice_get-append}
 use Rattle.smt_terms.proofs.DraftLemmas.{inside_none, names_of, no_labels, places_more, slots_more, uses_none}
-use Rattle.smt_terms.proofs.NodeLemmas.{made_stands}
+use Rattle.smt_terms.proofs.NodeLemmas.{added, made_stands}
 use Rattle.smt_terms.proofs.TableLemmas.{grows_on, grows_same, keeps_labels, keeps_on, named_kept, ready_kept}
 use Rattle.smt_terms.proofs.TableLemmas.{grows_given}
-use Rattle.smt_terms.proofs.TermLemmas.{added}
 
 -- ## Lets
 

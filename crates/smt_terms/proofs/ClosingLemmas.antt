@@ -1,20 +1,19 @@
 -- Terms that are checked whole: no variable stands outside.
-use Rattle.std.proofs.Common.{◌≡◌, ◌≤◌, ◌-◌, ℕ, zero, ◌||◌, not, ◌&&◌, Bool, true, false, List, [], ◌∷◌, ◌++◌, length, map}
+use Rattle.std.proofs.Common.{◌≡◌, ◌-◌, ℕ, ◌||◌, not, ◌&&◌, Bool, true, false, List, [], ◌∷◌, ◌++◌, length, map}
 use Rattle.std.proofs.Common.{drop, Result, Ok, Err, IfOk, OnOk, append-nil, refl, ap, sym, ◌∙◌, subst, arith}
 use Rattle.std.proofs.lemmas.List.{length-append}
 use Rattle.smt_trees.specs.Sexp.{Sexp, Sexps, Atom, Reserved, Items, Nil, Cons, Symbol, Keyword, Numeral}
 use Rattle.smt_trees.specs.Sexp.{Decimal, Hexadecimal, Binary, Text}
 use Rattle.smt_trees.specs.declared.reserved.Word.TheVariants.{Bang, Let, Underscore}
-use Rattle.smt_theory.specs.declared.sort.Sort.{Sort}
 use Rattle.smt_forms.specs.Bindings.{named_trees}
 use Rattle.smt_forms.specs.Variables.{any_uses_outer, bindings_use_outer, is_among, uses_outer}
 use Rattle.smt_terms.specs.Checking.{sort_in}
 use Rattle.smt_terms.specs.Denotes.{Denotes, Slots, slots_from}
 use Rattle.smt_terms.specs.Internal.DraftView.{IsPlaced, Variables, inside, is_open, names_inside, outside}
-use Rattle.smt_terms.specs.Internal.DraftView.{placed_from, seen_by, sorts_of, sorts_outside, sorts_seen}
+use Rattle.smt_terms.specs.Internal.DraftView.{placed_from, seen_by, sorts_of, sorts_seen}
 use Rattle.smt_terms.specs.Internal.LabelsView.{labels_view}
 use Rattle.smt_terms.specs.Internal.LibraryView.{names_for}
-use Rattle.smt_terms.specs.Internal.NodesView.{GrowsTo, KeepsNamed, Stands}
+use Rattle.smt_terms.specs.Internal.NodesView.{KeepsNamed, Stands}
 use Rattle.smt_terms.specs.Internal.TableView.{IsReady, places_seen, slots_seen, table_in}
 use Rattle.smt_terms.specs.declared.library.Library.{Library}
 use Rattle.smt_terms.specs.declared.library.draft.Checked.{Checked}

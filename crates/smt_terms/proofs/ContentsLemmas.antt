@@ -1,5 +1,5 @@
 -- The contents of libraries, cut and grown.
-use Rattle.std.proofs.Common.{◌≡◌, ◌≤◌, ℕ, zero, suc, ◌+◌, List, [], ◌∷◌, ◌++◌, length, map, take, slice_get}
+use Rattle.std.proofs.Common.{◌≡◌, ◌≤◌, ℕ, zero, suc, ◌+◌, List, [], ◌∷◌, ◌++◌, length, map, take}
 use Rattle.std.proofs.Common.{refl, ap, sym, ◌∙◌, arith, append_assoc, Result, Ok, Err, OnOk, OnErr}
 use Rattle.std.specs.Global.{Vec}
 use Rattle.std.proofs.lemmas.List.{append-nil, length-append, length-take-le, take-append-le, take-map}
@@ -12,22 +12,19 @@ use Rattle.smt_terms.specs.Contents.{first_of, terms_in}
 use Rattle.smt_terms.specs.Denotes.{IsLonger}
 use Rattle.smt_terms.specs.Internal.Growing.{KeepsNames}
 use Rattle.smt_terms.specs.Internal.LibraryView.{abbreviations_of}
-use Rattle.smt_terms.specs.Library.{IsTermOf, IsTreeOf}
+use Rattle.smt_terms.specs.Library.{IsTermOf}
 use Rattle.smt_terms.specs.declared.library.Declared.{Declared}
 use Rattle.smt_terms.specs.declared.library.Definition.{Definition}
 use Rattle.smt_terms.specs.declared.library.Library.{Library}
-use Rattle.smt_terms.specs.declared.library.TermId.{TermId}
-use Rattle.smt_terms.specs.declared.library.TreeId.{TreeId}
 use Rattle.smt_terms.specs.declared.library.marks.Mark.{Mark}
 use Rattle.smt_terms.specs.declared.sorts.SortNames.{SortNames}
 use Rattle.smt_terms.proofs.DenotesLemmas.{denotes_kept}
-use Rattle.smt_terms.proofs.TermLemmas.{stays}
 
 -- contents whose parts are the same
 pub same_contents : (c d : Contents) → c.theories ≡ d.theories → c.abbreviations ≡ d.abbreviations
     → c.ranks ≡ d.ranks → c.heads ≡ d.heads → c.declared ≡ d.declared → c.definitions ≡ d.definitions
-    → c.bodies ≡ d.bodies → c.rows ≡ d.rows → c.terms ≡ d.terms → c ≡ d
-same_contents c d theories abbreviations ranks heads declared definitions bodies rows terms = λ i. record {
+    → c.bodies ≡ d.bodies → c.rows ≡ d.rows → c ≡ d
+same_contents c d theories abbreviations ranks heads declared definitions bodies rows = λ i. record {
   theories = theories i;
   abbreviations = abbreviations i;
   ranks = ranks i;
@@ -36,7 +33,6 @@ same_contents c d theories abbreviations ranks heads declared definitions bodies
   definitions = definitions i;
   bodies = bodies i;
   rows = rows i;
-  terms = terms i;
 }
 
 -- ---- lists
@@ -89,7 +85,6 @@ mark_kept mark c d within more =
     (take_kept mark.definitions c.definitions d.definitions within.definitions more.definitions)
     (take_kept mark.definitions c.bodies d.bodies within.bodies more.bodies)
     (take_kept mark.nodes c.rows d.rows within.rows more.rows)
-    (take_kept mark.terms c.terms d.terms within.terms more.terms)
 
 pub mark_within : (mark : Mark) (c d : Contents) → IsWithin mark c → Extends c d → IsWithin mark d
 mark_within mark c d within more = record {
@@ -101,7 +96,6 @@ mark_within mark c d within more = record {
   definitions = within_kept mark.definitions c.definitions d.definitions within.definitions more.definitions;
   bodies = within_kept mark.definitions c.bodies d.bodies within.bodies more.bodies;
   rows = within_kept mark.nodes c.rows d.rows within.rows more.rows;
-  terms = within_kept mark.terms c.terms d.terms within.terms more.terms;
 }
 
 pub earlier_kept : (mark later : Mark) (c : Contents) → IsBelow mark later
@@ -115,7 +109,6 @@ earlier_kept mark later c below =
     (take_earlier mark.definitions later.definitions c.definitions below.definitions)
     (take_earlier mark.definitions later.definitions c.bodies below.definitions)
     (take_earlier mark.nodes later.nodes c.rows below.nodes)
-    (take_earlier mark.terms later.terms c.terms below.terms)
 
 pub earlier_within : (mark later : Mark) (c : Contents) → IsBelow mark later → IsWithin later c
     → IsWithin mark (first_of later c)
@@ -129,14 +122,7 @@ earlier_within mark later c below within = record {
       within_earlier mark.definitions later.definitions c.definitions below.definitions within.definitions;
   bodies = within_earlier mark.definitions later.definitions c.bodies below.definitions within.bodies;
   rows = within_earlier mark.nodes later.nodes c.rows below.nodes within.rows;
-  terms = within_earlier mark.terms later.terms c.terms below.terms within.terms;
 }
-
--- a tree has its number among more
-pub tree_kept : (c d : Contents) (i : TreeId) (t : Sexp) → Goes c.terms d.terms → IsTreeOf c i t
-    → IsTreeOf d i t
-tree_kept c d i t (ms, same) is =
-    ap (λ (ts : List Sexp). slice_get ts i.number) same ∙ stays c.terms ms i.number t is
 
 -- the table of longer contents is longer
 pub terms_longer : (c d : Contents) → Extends c d → IsLonger (terms_in c) (terms_in d)
@@ -148,11 +134,8 @@ terms_longer c d more = record {
 }
 
 -- and so a term is one of longer contents
-pub term_kept : (c d : Contents) (i : TermId) (t : Sexp) → Extends c d → IsTermOf c i t → IsTermOf d i t
-term_kept c d i t more is = (
-  tree_kept c d i.tree t more.terms is.0,
-  denotes_kept (terms_in c) (terms_in d) (terms_longer c d more) [] 0 0 i.node t is.1,
-)
+pub term_kept : (c d : Contents) (i : ℕ) (t : Sexp) → Extends c d → IsTermOf c i t → IsTermOf d i t
+term_kept c d i t more is = denotes_kept (terms_in c) (terms_in d) (terms_longer c d more) [] 0 0 i t is
 
 -- ---- growing
 
@@ -172,7 +155,6 @@ extends_on c d e first second = record {
   definitions = goes_on c.definitions d.definitions e.definitions first.definitions second.definitions;
   bodies = goes_on c.bodies d.bodies e.bodies first.bodies second.bodies;
   rows = goes_on c.rows d.rows e.rows first.rows second.rows;
-  terms = goes_on c.terms d.terms e.terms first.terms second.terms;
 }
 
 -- nothing more
@@ -190,23 +172,9 @@ extends_itself c = record {
   definitions = nothing_more _ _ refl;
   bodies = nothing_more _ _ refl;
   rows = nothing_more _ _ refl;
-  terms = nothing_more _ _ refl;
 }
 
 -- ---- where no name comes
-
-pub keeps_itself : (c : Contents) → KeepsNames c c
-keeps_itself c = record {
-  theories = refl;
-  abbreviations = refl;
-  ranks = refl;
-  heads = refl;
-  declared = refl;
-  definitions = refl;
-  bodies = refl;
-  rows = nothing_more _ _ refl;
-  terms = nothing_more _ _ refl;
-}
 
 pub keeps_on : (c d e : Contents) → KeepsNames c d → KeepsNames d e → KeepsNames c e
 keeps_on c d e first second = record {
@@ -218,7 +186,6 @@ keeps_on c d e first second = record {
   definitions = second.definitions ∙ first.definitions;
   bodies = second.bodies ∙ first.bodies;
   rows = goes_on c.rows d.rows e.rows first.rows second.rows;
-  terms = goes_on c.terms d.terms e.terms first.terms second.terms;
 }
 
 pub grown_by : (c d : Contents) → KeepsNames c d → Extends c d
@@ -231,7 +198,6 @@ grown_by c d kept = record {
   definitions = nothing_more _ _ kept.definitions;
   bodies = nothing_more _ _ kept.bodies;
   rows = kept.rows;
-  terms = kept.terms;
 }
 
 -- where a term was checked, or refused
@@ -240,12 +206,11 @@ pub more_rows : {A E : Type 0} (r : Result A E) (old new : List Row) → OnOk r 
 more_rows (Ok a) old new h i = h
 more_rows (Err e) old new h i = nothing_more old new i
 
--- a library that differs in nodes and trees alone
+-- a library that differs in nodes alone
 pub keeps_names : (old new : Library) → new.names ≡ old.names → new.sorts ≡ old.sorts
     → new.declared ≡ old.declared → new.definitions ≡ old.definitions → new.bodies ≡ old.bodies
-    → Goes (rows_of old.nodes) (rows_of new.nodes) → Goes (contents_of old).terms (contents_of new).terms
-    → KeepsNames (contents_of old) (contents_of new)
-keeps_names old new names sorts declared definitions bodies rows terms = record {
+    → Goes (rows_of old.nodes) (rows_of new.nodes) → KeepsNames (contents_of old) (contents_of new)
+keeps_names old new names sorts declared definitions bodies rows = record {
   theories = ap (λ (z : SortNames). z.theories) sorts;
   abbreviations = ap abbreviations_of sorts;
   ranks = rw names refl;
@@ -254,7 +219,6 @@ keeps_names old new names sorts declared definitions bodies rows terms = record 
   definitions = ap (λ (v : Vec Definition). v.items) definitions;
   bodies = ap (λ (v : Vec ℕ). v.items) bodies;
   rows = rows;
-  terms = terms;
 }
 
 -- there is perhaps one abbreviation more

@@ -7,19 +7,17 @@ use Rattle.smt_forms.specs.Identifier.{Plain}
 use Rattle.smt_nodes.specs.Node as node
 use Rattle.smt_nodes.specs.NodeView.{node_view}
 use Rattle.smt_nodes.specs.declared.node.Node.{Node}
-use Rattle.smt_theory.specs.Operators.{is_plain_operator, op_by, plain_op}
+use Rattle.smt_theory.specs.Operators.{op_by, plain_op}
 use Rattle.smt_theory.specs.Words.{look_up}
 use Rattle.smt_theory.specs.declared.op.Op.{Op}
 use Rattle.smt_theory.specs.declared.op.OpFault.{OpFault}
 use Rattle.smt_theory.specs.declared.op.OpFault.TheVariants.{Unknown}
 use Rattle.smt_theory.specs.declared.sort.Sort.{Sort}
-use Rattle.smt_terms.specs.Denotes.{Head, applied_node, named_node, node_of}
+use Rattle.smt_terms.specs.Denotes.{Head, applied_node, named_node}
 use Rattle.smt_terms.specs.Internal.LibraryView.{names_of_library, places_of_library, rank_of}
-use Rattle.smt_terms.specs.Internal.NodesView.{AreFree, IsNodeOf}
-use Rattle.smt_terms.specs.Internal.TableView.{head_of, heads_of_library, table_of}
-use Rattle.smt_terms.specs.Signature.{Rank}
+use Rattle.smt_terms.specs.Internal.NodesView.{IsNodeOf}
+use Rattle.smt_terms.specs.Internal.TableView.{head_of, heads_of_library}
 use Rattle.smt_terms.specs.declared.library.Entry.{Entry}
-use Rattle.smt_terms.specs.declared.library.Found.{Found}
 use Rattle.smt_terms.specs.declared.library.Library.{Library}
 
 -- a sort with its node, or a flaw

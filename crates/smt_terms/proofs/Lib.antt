@@ -10,7 +10,6 @@ pub mod IntroducedLemmas
 pub mod AssertionLemmas
 pub mod BinderLemmas
 pub mod NameLookUps
-pub mod TermLemmas
 pub mod DeclarationLemmas
 pub mod PlaceLemmas
 pub mod ContentsLemmas

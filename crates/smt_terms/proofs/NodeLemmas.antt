@@ -1,6 +1,6 @@
 -- Nodes that are added stand for their terms.
-use Rattle.std.proofs.Common.{◌≡◌, ◌<◌, ◌-◌, ◌+◌, ℕ, Bool, true, false, List, [], ◌∷◌, ◌++◌, length, map, nat_lt}
-use Rattle.std.proofs.Common.{slice_get, Option, Some, None, option_map, Result, Ok, Err, refl, ap, sym, ◌∙◌, subst}
+use Rattle.std.proofs.Common.{◌≡◌, ◌<◌, ◌-◌, ℕ, Bool, true, false, List, [], ◌∷◌, ◌++◌, length, map, nat_lt}
+use Rattle.std.proofs.Common.{slice_get, Option, Some, None, Result, Ok, Err, refl, ap, sym, ◌∙◌, subst}
 use Rattle.std.proofs.Common.{arith, cond, ◌==◌, IfOk}
 use Rattle.std.proofs.lemmas.List.{length-append}
 use Rattle.smt_trees.specs.Sexp.{Sexp, Sexps, Atom, Reserved, Items, Cons, Symbol}
@@ -17,7 +17,7 @@ use Rattle.smt_nodes.specs.Node.{Node, Row}
 use Rattle.smt_nodes.specs.Nodes.{rows_of}
 use Rattle.smt_terms.specs.Denotes.{AreDenoted, Denotes, HasBodyBelow, Head, IsNode, IsRow, Slots, Table}
 use Rattle.smt_terms.specs.Denotes.{applied_node, named_node, node_at, node_of, symbol_node}
-use Rattle.smt_terms.specs.Internal.DraftView.{IsPlaced, Variables, inside, outside, seen_by}
+use Rattle.smt_terms.specs.Internal.DraftView.{IsPlaced, seen_by}
 use Rattle.smt_terms.specs.Internal.NodesView.{AddsApplied, AddsNode, GrowsTo, KeepsNamed, Stands, TermsStand}
 use Rattle.smt_terms.specs.Internal.NodesView.{bare_row}
 use Rattle.smt_terms.specs.Internal.TableView.{HasBody, IsReady, places_seen, slots_seen, table_in, table_of}
@@ -31,9 +31,13 @@ use Rattle.smt_terms.proofs.CheckerLemmas.{IsPlainHead, underscore_head}
 use Rattle.smt_terms.proofs.DenotesLemmas.{all_kept}
 use Rattle.smt_terms.proofs.DraftLemmas.{slot_inside, slot_none}
 use Rattle.smt_terms.proofs.TableLemmas.{grows_itself, keeps_itself, keeps_labels, keeps_on, ready_kept}
-use Rattle.smt_terms.proofs.TermLemmas.{added}
 
 -- ## Rows
+
+-- what is added at the end has the next number
+pub added : {A : Type 0} (xs : List A) (x : A) → slice_get (xs ++ x ∷ []) (length xs) ≡ Some x
+added [] x = refl
+added (y ∷ xs) x = added xs x
 
 -- what is found is this row
 pub is_row : (o : Option Row) (r : Row) → o ≡ Some r → IsRow o r.around (Some r.node)

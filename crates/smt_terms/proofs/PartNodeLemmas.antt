@@ -3,11 +3,9 @@ use Rattle.std.proofs.Common.{◌≡◌, ◌<◌, ℕ, Bool, true, false, ◌||�
 use Rattle.std.proofs.Common.{length, None, refl, ap, sym, ◌∙◌, subst}
 use Rattle.smt_trees.specs.Sexp.{Sexp, Sexps, Items, Nil, Cons, Atom, Symbol}
 use Rattle.smt_forms.specs.Bindings.{are_named_trees, first_named}
-use Rattle.smt_nodes.specs.Nodes.{rows_of}
 use Rattle.smt_terms.specs.Denotes.{AreBound, AreDenoted, Denotes, IsLonger, Slots, Table}
 use Rattle.smt_terms.specs.Internal.Calls.{SeesTheSame}
-use Rattle.smt_terms.specs.Internal.NodesView.{BindingsStand, Denoting, GrowsTo, KeepsNamed, PartsStand, Stands}
-use Rattle.smt_terms.specs.Internal.NodesView.{TermsStand}
+use Rattle.smt_terms.specs.Internal.NodesView.{Denoting, GrowsTo, KeepsNamed, PartsStand, Stands}
 use Rattle.smt_terms.specs.Internal.TableView.{IsReady, places_seen, slots_seen, table_in}
 use Rattle.smt_terms.specs.declared.library.Library.{Library}
 use Rattle.smt_terms.specs.declared.library.draft.Checked.{Checked}

@@ -16,7 +16,7 @@ use Rattle.smt_terms.specs.Contents.{Contents, Declaration, terms_in}
 use Rattle.smt_terms.specs.Definitions.{definition}
 use Rattle.smt_terms.specs.Denotes.{Denotes, Head, IsLonger, slots_from}
 use Rattle.smt_terms.specs.Internal.Growing.{HoldsUnder, IsBodyUnder, KeepsNames, terms_under}
-use Rattle.smt_terms.specs.Library.{AreDefinitions, Holds, IsDefinitionOf, IsTreeOf, declaration_at}
+use Rattle.smt_terms.specs.Library.{AreDefinitions, Holds, IsDefinitionOf, declaration_at}
 use Rattle.smt_terms.specs.Library.{declarations_from, declared_among, defined_among, is_declared}
 use Rattle.smt_terms.specs.Signature as signature
 use Rattle.smt_terms.specs.Declarations.{declaration}
@@ -26,9 +26,8 @@ use Rattle.smt_terms.specs.declared.library.Definition.{Definition}
 use Rattle.smt_terms.specs.TermsOf.{AreBodies, IsBody, first_heads, heads_from, heads_of, place_behind}
 use Rattle.smt_terms.specs.TermsOf.{with_declared, with_defined}
 use Rattle.smt_terms.specs.declared.library.Found.TheVariants as place
-use Rattle.smt_terms.specs.declared.library.TreeId.{TreeId}
 use Rattle.smt_terms.proofs.BodyLemmas.{IsLastBody, bodies_longer, bodies_push, heads-push}
-use Rattle.smt_terms.proofs.ContentsLemmas.{Goes, nothing_more, tree_kept}
+use Rattle.smt_terms.proofs.ContentsLemmas.{Goes, nothing_more}
 use Rattle.smt_terms.proofs.DenotesLemmas.{denotes_kept}
 use Rattle.smt_terms.proofs.DeclarationLemmas.{declarations-push, declared-push}
 use Rattle.smt_terms.proofs.EntryLemmas.{distinct-push, look_up-ranks}
@@ -60,45 +59,20 @@ undone_push {A = A} xs pushed left x is cut =
     cut ∙ ap (λ (n : ℕ). take n pushed) count ∙ ap (λ (ys : List A). take (length xs) ys) is
     ∙ take_front xs (x ∷ [])
 
--- each tree of the one is a tree of the other, under its number
-abbrev pub HasTreesOf : Contents → Contents → Type 0
-HasTreesOf new old = (i : TreeId) (t : Sexp) → IsTreeOf old i t → IsTreeOf new i t
-
--- definitions stay as trees are added
-definition_stays : (old new : Contents) (d : Definition) (e : Entry) → HasTreesOf new old
-    → IsDefinitionOf old d e → IsDefinitionOf new d e
-definition_stays old new d e terms is =
-    record {
-      name = is.name;
-      parameters = is.parameters;
-      sort = is.sort;
-      body = (is.body.0, terms d.body is.body.0 is.body.1, is.body.2);
-    }
-
-definitions_stay : (old new : Contents) (ds : List Definition) (es : List Entry) → HasTreesOf new old
-    → AreDefinitions old ds es → AreDefinitions new ds es
-definitions_stay old new [] [] terms h = tt
-definitions_stay old new [] (e ∷ es) terms h = absurd h
-definitions_stay old new (d ∷ ds) [] terms h = absurd h
-definitions_stay old new (d ∷ ds) (e ∷ es) terms h =
-    (definition_stays old new d e terms h.0, definitions_stay old new ds es terms h.1)
-
 -- one more definition
-definitions-push : (contents : Contents) (ds : List Definition) (es : List Entry) (d : Definition) (e : Entry)
-    → AreDefinitions contents ds es → IsDefinitionOf contents d e
-    → AreDefinitions contents (ds ++ d ∷ []) (es ++ e ∷ [])
-definitions-push contents [] [] d e h is = (is, tt)
-definitions-push contents [] (y ∷ es) d e h is = absurd h
-definitions-push contents (x ∷ ds) [] d e h is = absurd h
-definitions-push contents (x ∷ ds) (y ∷ es) d e h is = (h.0, definitions-push contents ds es d e h.1 is)
+definitions-push : (ds : List Definition) (es : List Entry) (d : Definition) (e : Entry)
+    → AreDefinitions ds es → IsDefinitionOf d e → AreDefinitions (ds ++ d ∷ []) (es ++ e ∷ [])
+definitions-push [] [] d e h is = (is, tt)
+definitions-push [] (y ∷ es) d e h is = absurd h
+definitions-push (x ∷ ds) [] d e h is = absurd h
+definitions-push (x ∷ ds) (y ∷ es) d e h is = (h.0, definitions-push ds es d e h.1 is)
 
 -- there is a definition for each defined entry
-length-definitions : (contents : Contents) (ds : List Definition) (es : List Entry)
-    → AreDefinitions contents ds es → length ds ≡ length es
-length-definitions contents [] [] h = refl
-length-definitions contents [] (e ∷ es) h = absurd h
-length-definitions contents (d ∷ ds) [] h = absurd h
-length-definitions contents (d ∷ ds) (e ∷ es) h = ap suc (length-definitions contents ds es h.1)
+length-definitions : (ds : List Definition) (es : List Entry) → AreDefinitions ds es → length ds ≡ length es
+length-definitions [] [] h = refl
+length-definitions [] (e ∷ es) h = absurd h
+length-definitions (d ∷ ds) [] h = absurd h
+length-definitions (d ∷ ds) (e ∷ es) h = ap suc (length-definitions ds es h.1)
 
 -- and a declaration for each declared one
 length-declarations : (n : ℕ) (es : List Entry) → length (declarations_from n es) ≡ length (declared_among es)
@@ -121,7 +95,7 @@ nothing_stands c theories same abbreviations ranks heads declared definitions bo
   abbreviations = abbreviations;
   ranks = ranks;
   declared = declared;
-  definitions = subst (λ ds. AreDefinitions c ds []) (sym definitions) tt;
+  definitions = subst (λ ds. AreDefinitions ds []) (sym definitions) tt;
   terms = record {
     theories = same;
     heads = heads;
@@ -194,7 +168,7 @@ under_longer bodies old new theories heads rows = record {
   rows = rows;
 }
 
--- nothing but nodes and trees has come
+-- nothing but nodes has come
 pub stands_kept : (bodies : List ℕ) (old new : Contents) (s : Signature) → KeepsNames old new
     → HoldsUnder bodies old s → HoldsUnder bodies new s
 stands_kept bodies old new s kept stands = record {
@@ -203,9 +177,8 @@ stands_kept bodies old new s kept stands = record {
   abbreviations = kept.abbreviations ∙ stands.abbreviations;
   ranks = kept.ranks ∙ stands.ranks;
   declared = kept.declared ∙ stands.declared;
-  definitions = subst (λ ds. AreDefinitions new ds (defined_among s.entries)) (sym kept.definitions)
-      (definitions_stay old new old.definitions (defined_among s.entries) (λ i t. tree_kept old new i t kept.terms)
-      stands.definitions);
+  definitions = subst (λ ds. AreDefinitions ds (defined_among s.entries)) (sym kept.definitions)
+      stands.definitions;
   heads = kept.heads ∙ stands.heads;
   free = stands.free;
   seen = bodies_longer (terms_under bodies old) (terms_under bodies new) 0 new.bodies s.entries
@@ -222,31 +195,28 @@ pub stands_abbreviated : (old new : Contents) (s : Signature) (x : List ℕ) (so
     → new.theories ≡ old.theories → new.abbreviations ≡ old.abbreviations ++ (x, sort) ∷ []
     → new.ranks ≡ old.ranks → new.heads ≡ old.heads
     → new.declared ≡ old.declared → new.definitions ≡ old.definitions → new.bodies ≡ old.bodies
-    → new.rows ≡ old.rows → new.terms ≡ old.terms → Holds old s
-    → Holds new (with_abbreviation s x sort)
-stands_abbreviated old new s x sort theories abbreviations ranks heads declared definitions bodies rows terms
-    stands = record {
-      theories = theories ∙ stands.theories;
-      distinct = stands.distinct;
-      abbreviations =
-          abbreviations ∙ ap (λ (ss : List (List ℕ × Sort)). ss ++ (x, sort) ∷ []) stands.abbreviations;
-      ranks = ranks ∙ stands.ranks;
-      declared = declared ∙ stands.declared;
-      definitions = subst (λ ds. AreDefinitions new ds (defined_among s.entries)) (sym definitions)
-          (definitions_stay old new old.definitions (defined_among s.entries)
-          (λ i t. tree_kept old new i t (nothing_more _ _ terms)) stands.definitions);
-      terms = record {
-        theories = theories ∙ stands.theories;
-        heads = heads ∙ stands.terms.heads;
-        free = stands.terms.free;
-        bodies = bodies_longer (terms_in old) (terms_in new) 0 new.bodies s.entries (record {
-          theories = theories;
-          heads = nothing_more _ _ heads;
-          bodies = nothing_more _ _ bodies;
-          rows = nothing_more _ _ rows;
-        }) (subst (λ bs. AreBodies (terms_in old) 0 bs s.entries) (sym bodies) stands.terms.bodies);
-      };
-    }
+    → new.rows ≡ old.rows → Holds old s → Holds new (with_abbreviation s x sort)
+stands_abbreviated old new s x sort theories abbreviations ranks heads declared definitions bodies rows stands = record {
+  theories = theories ∙ stands.theories;
+  distinct = stands.distinct;
+  abbreviations =
+      abbreviations ∙ ap (λ (ss : List (List ℕ × Sort)). ss ++ (x, sort) ∷ []) stands.abbreviations;
+  ranks = ranks ∙ stands.ranks;
+  declared = declared ∙ stands.declared;
+  definitions = subst (λ ds. AreDefinitions ds (defined_among s.entries)) (sym definitions)
+      stands.definitions;
+  terms = record {
+    theories = theories ∙ stands.theories;
+    heads = heads ∙ stands.terms.heads;
+    free = stands.terms.free;
+    bodies = bodies_longer (terms_in old) (terms_in new) 0 new.bodies s.entries (record {
+      theories = theories;
+      heads = nothing_more _ _ heads;
+      bodies = nothing_more _ _ bodies;
+      rows = nothing_more _ _ rows;
+    }) (subst (λ bs. AreBodies (terms_in old) 0 bs s.entries) (sym bodies) stands.terms.bodies);
+  };
+}
 
 -- the ranks with one more
 ranks-push : (es : List Entry) (e : Entry) (ranks : List (List ℕ × Rank)) → ranks ≡ ranks_of es
@@ -322,11 +292,11 @@ pub stands_declared : (old new : Contents) (s : Signature) (x : List ℕ) (d : D
     ) ∷ []
     → new.declared ≡ old.declared ++ d ∷ []
     → new.definitions ≡ old.definitions → new.bodies ≡ old.bodies → Goes old.rows new.rows
-    → Goes old.terms new.terms → Holds old s
+    → Holds old s
     → Holds new (with_entry s
     (declaration x d.command (record { parameters = d.parameters; sort = d.sort })))
 stands_declared old new s x d absent free next theories abbreviations ranks heads declared definitions bodies
-    rows terms stands =
+    rows stands =
     let e : Entry = declaration x d.command (record { parameters = d.parameters; sort = d.sort }) in
     let counted : length old.declared ≡ length (declared_among s.entries) =
     ap (λ (ds : List Declaration). length ds) stands.declared ∙ length-declarations 0 s.entries in
@@ -350,10 +320,8 @@ stands_declared old new s x d absent free next theories abbreviations ranks head
             command = d.command;
           } ∷ []) (sym named ∙ sym next));
       definitions =
-          subst (λ es. AreDefinitions new new.definitions es) (sym same)
-          (subst (λ ds. AreDefinitions new ds (defined_among s.entries)) (sym definitions)
-          (definitions_stay old new old.definitions (defined_among s.entries)
-          (λ i t. tree_kept old new i t terms) stands.definitions));
+          subst (λ es. AreDefinitions new.definitions es) (sym same)
+          (subst (λ ds. AreDefinitions ds (defined_among s.entries)) (sym definitions) stands.definitions);
       heads = heads ∙ heads-next s.entries e old.heads (length old.declared) _ stands.terms.heads counted refl;
       free = free-push s.theories s.entries e stands.terms.free
           (ap (λ ts. is_plain_operator ts x) (sym stands.theories) ∙ free);
@@ -410,7 +378,7 @@ body-next bodies old new es ps t j theories heads rows are node =
 pub stands_defined : (bodies : List ℕ) (old new : Contents) (s : Signature) (x : List ℕ)
     (ps : List (List ℕ × Sort)) (d : Definition) (t : Sexp) (j : ℕ) → look_up old.ranks x ≡ None
     → is_plain_operator s.theories x ≡ false → d.name.items ≡ x → parameters_of d ≡ ps
-    → IsTreeOf old d.body t → IsBodyUnder bodies old ps j t
+    → IsBodyUnder bodies old ps j t
     → new.theories ≡ old.theories → new.abbreviations ≡ old.abbreviations
     → new.ranks ≡ old.ranks ++ (x, record { parameters = map (λ p. p.1) ps; sort = d.result }) ∷ []
     → new.heads ≡ old.heads ++ (
@@ -422,22 +390,21 @@ pub stands_defined : (bodies : List ℕ) (old new : Contents) (s : Signature) (x
     ) ∷ []
     → new.declared ≡ old.declared → new.definitions ≡ old.definitions ++ d ∷ []
     → new.bodies ≡ old.bodies ++ j ∷ [] → Goes old.rows new.rows
-    → Goes old.terms new.terms → HoldsUnder bodies old s
+    → HoldsUnder bodies old s
     → HoldsUnder bodies new (with_entry s (definition x ps d.result t))
-stands_defined bodies old new s x ps d t j absent free named bound body node theories abbreviations ranks heads
-    declared definitions joined rows terms stands =
+stands_defined bodies old new s x ps d t j absent free named bound node theories abbreviations ranks heads
+    declared definitions joined rows stands =
     let e : Entry = definition x ps d.result t in
     let counted : length old.definitions ≡ length (defined_among s.entries) =
-    length-definitions old old.definitions (defined_among s.entries) stands.definitions in
+    length-definitions old.definitions (defined_among s.entries) stands.definitions in
     let more : defined_among (s.entries ++ e ∷ []) ≡ defined_among s.entries ++ e ∷ [] =
     filter-append _ s.entries (e ∷ []) in
-    let is : IsDefinitionOf new d e = record {
+    let is : IsDefinitionOf d e = record {
       name = named;
       parameters = sorts_of_own d.params.items ∙ ap (λ (qs : List (List ℕ × Sort)). map (λ p. p.1) qs) bound;
       sort = refl;
-      body = (
+      origin = (
         t,
-        tree_kept old new d.body t terms body,
         ap
             (λ (qs : List (List ℕ × Sort)). signature.Defined (map (λ p. p.0) qs) t) (sym bound) ∙ ap
             (λ (xs : List (List ℕ)). signature.Defined xs t) (names_of_own d.params.items),
@@ -452,28 +419,14 @@ stands_defined bodies old new s x ps d t j absent free named bound body node the
       declared = declared ∙ stands.declared ∙ sym
           (declarations-push 0 s.entries e ∙ append-nil (declarations_from 0 s.entries));
       definitions =
-          subst (λ es. AreDefinitions new new.definitions es) (sym more)
-          (subst (λ ds. AreDefinitions new ds (defined_among s.entries ++ e ∷ [])) (sym definitions)
-          (definitions-push new old.definitions (defined_among s.entries) d e
-          (definitions_stay old new old.definitions (defined_among s.entries)
-          (λ i t. tree_kept old new i t terms) stands.definitions)
-          is));
+          subst (λ es. AreDefinitions new.definitions es) (sym more)
+          (subst (λ ds. AreDefinitions ds (defined_among s.entries ++ e ∷ [])) (sym definitions)
+          (definitions-push old.definitions (defined_among s.entries) d e stands.definitions is));
       heads = heads ∙ heads-next s.entries e old.heads _ (length old.definitions) stands.heads refl counted;
       free = free-push s.theories s.entries e stands.free free;
       seen = seen-next bodies (j ∷ []) old new s.entries e theories (_, heads) rows joined stands.seen
           (body-next bodies old new s.entries ps t j theories (_, heads) rows stands.heads node, refl);
     }
-
--- at the place of a defined entry stands its definition
-pub definition_at : (contents : Contents) (ds : List Definition) (es : List Entry) (n : ℕ) (e : Entry)
-    → AreDefinitions contents ds es → slice_get es n ≡ Some e
-    → (d : Definition) × (slice_get ds n ≡ Some d) × IsDefinitionOf contents d e
-definition_at contents [] [] n e h at = cc
-definition_at contents [] (y ∷ es) n e h at = absurd h
-definition_at contents (d ∷ ds) [] n e h at = absurd h
-definition_at contents (d ∷ ds) (y ∷ es) zero e h at =
-    let same : y ≡ e = cc in (d, refl, subst (IsDefinitionOf contents d) same h.0)
-definition_at contents (d ∷ ds) (y ∷ es) (suc n) e h at = definition_at contents ds es n e h.1 at
 
 -- what stands at this place is the declaration of the entry
 abbrev pub IsDeclarationAt : List Declaration → ℕ → Entry → Type 0

@@ -63,7 +63,7 @@ body_stays t u longer (place.Defined n) h =
 pub named_kept : (t u : Table) → IsLonger t u → (ls : List Label) → AreNamed t ls → AreNamed u ls
 named_kept t u longer [] h = tt
 named_kept t u longer (l ∷ ls) h =
-    (denotes_kept t u longer [] 0 0 l.node (sexp_of l.body) h.0, named_kept t u longer ls h.1)
+    (denotes_kept t u longer [] 0 0 l.node (sexp_of l.body.now) h.0, named_kept t u longer ls h.1)
 
 -- ## Drafts that grow
 

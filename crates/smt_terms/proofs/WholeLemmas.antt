@@ -2,12 +2,10 @@
 use Rattle.std.proofs.Common.{◌≡◌, ℕ, List, [], ◌∷◌, ◌++◌, length, map, Result, Ok, OnErr, OnOk, refl, ap}
 use Rattle.std.proofs.Common.{sym, ◌∙◌, subst}
 use Rattle.std.proofs.lemmas.List.{append-nil, length-map}
-use Rattle.std.specs.Global.{Vec}
 use Rattle.smt_nodes.specs.Node.{Row}
 use Rattle.smt_nodes.specs.Nodes.{rows_of}
 use Rattle.smt_trees.specs.Sexp.{Sexp}
 use Rattle.smt_trees.specs.Tree.{sexp_of}
-use Rattle.smt_trees.specs.declared.tree.Tree.{Tree}
 use Rattle.smt_theory.specs.declared.sort.Sort.{Sort}
 use Rattle.smt_forms.specs.Labels.{labels_in}
 use Rattle.smt_forms.specs.ScopeView.{scope_view}
@@ -23,7 +21,7 @@ use Rattle.smt_terms.specs.declared.labels.Label.{Label}
 use Rattle.smt_terms.specs.declared.library.Library.{Library}
 use Rattle.smt_faults.specs.declared.term_flaw.TermFlaw.{TermFlaw}
 use Rattle.smt_terms.proofs.CheckerLemmas.{Scope}
-use Rattle.smt_terms.proofs.ContentsLemmas.{Goes, keeps_names, more_rows, nothing_more}
+use Rattle.smt_terms.proofs.ContentsLemmas.{Goes, keeps_names, more_rows}
 use Rattle.smt_terms.proofs.DenotesLemmas.{denotes_kept}
 use Rattle.smt_terms.proofs.IntroducedLemmas.{no_labels_given}
 
@@ -31,12 +29,10 @@ use Rattle.smt_terms.proofs.IntroducedLemmas.{no_labels_given}
 pub checked_keeps : {A E : Type 0} (r : Result A E) (old new : Library)
     → OnOk r (Goes (rows_of old.nodes) (rows_of new.nodes)) → OnErr r (rows_of new.nodes ≡ rows_of old.nodes)
     → new.names ≡ old.names → new.sorts ≡ old.sorts → new.declared ≡ old.declared
-    → new.definitions ≡ old.definitions → new.bodies ≡ old.bodies → new.terms ≡ old.terms
-    → KeepsNames (contents_of old) (contents_of new)
-checked_keeps r old new grown unchanged names sorts declared definitions bodies terms =
+    → new.definitions ≡ old.definitions → new.bodies ≡ old.bodies → KeepsNames (contents_of old) (contents_of new)
+checked_keeps r old new grown unchanged names sorts declared definitions bodies =
     keeps_names old new names sorts declared definitions bodies
     (more_rows r (rows_of old.nodes) (rows_of new.nodes) grown unchanged)
-    (nothing_more _ _ (ap (λ (v : Vec Tree). map sexp_of v.items) terms))
 
 -- the table that a term was checked over is the first part of a later one
 pub checked_longer : (old : Library) (now : Contents) (given : List Label) (rows : List Row) (bodies : List ℕ)
@@ -54,7 +50,7 @@ checked_longer old now given rows bodies theories heads more grown = record {
 
 -- labels with their terms
 abbrev pub given_as : List Label → List (List ℕ × Sexp)
-given_as given = map (λ l. (l.name.items, sexp_of l.body)) given
+given_as given = map (λ l. (l.name.items, sexp_of l.body.now)) given
 
 none_of : (given : List Label) → given_as given ≡ [] → given ≡ []
 none_of [] h = refl

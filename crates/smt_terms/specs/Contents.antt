@@ -1,7 +1,5 @@
 -- What a library holds, as plain lists, and its beginnings.
 use Rattle.std.specs.Prelude.{◌≡◌, ◌≤◌, ℕ, List, ◌++◌, length, map, take}
-use Rattle.smt_trees.specs.Sexp.{Sexp}
-use Rattle.smt_trees.specs.Tree.{sexp_of}
 use Rattle.smt_theory.specs.declared.sort.Sort.{Sort}
 use Rattle.smt_theory.specs.declared.theories.Theories.{Theories}
 use Rattle.smt_nodes.specs.Node.{Row}
@@ -27,8 +25,8 @@ declaration_view d =
     record { name = d.name; parameters = d.params.items; sort = d.result; command = d.command }
 
 -- the theories; the abbreviations, and the names with their ranks and with where they stand; the
--- declarations, the definitions and the nodes of their bodies; the nodes and the trees of terms; each in the
--- order in which they came
+-- declarations, the definitions and the nodes of their bodies; the nodes of terms; each in the order in which
+-- they came
 pub record Contents : Type 0 where
   pub theories : Theories
   pub abbreviations : List (List ℕ × Sort)
@@ -38,7 +36,6 @@ pub record Contents : Type 0 where
   pub definitions : List Definition
   pub bodies : List ℕ
   pub rows : List Row
-  pub terms : List Sexp
 
 abbrev pub contents_of : Library → Contents
 contents_of library = record {
@@ -50,7 +47,6 @@ contents_of library = record {
   definitions = library.definitions.items;
   bodies = library.bodies.items;
   rows = rows_of library.nodes;
-  terms = map sexp_of library.terms.items;
 }
 
 -- the table of terms that contents hold
@@ -70,7 +66,6 @@ first_of mark c = record {
   definitions = take mark.definitions c.definitions;
   bodies = take mark.definitions c.bodies;
   rows = take mark.nodes c.rows;
-  terms = take mark.terms c.terms;
 }
 
 -- there are so many of each
@@ -82,7 +77,6 @@ pub record IsWithin (mark : Mark) (c : Contents) : Type 0 where
   pub definitions : mark.definitions ≤ length c.definitions
   pub bodies : mark.definitions ≤ length c.bodies
   pub rows : mark.nodes ≤ length c.rows
-  pub terms : mark.terms ≤ length c.terms
 
 -- the first mark counts no more of any than the second
 pub record IsBelow (mark later : Mark) : Type 0 where
@@ -91,7 +85,6 @@ pub record IsBelow (mark later : Mark) : Type 0 where
   pub declared : mark.declared ≤ later.declared
   pub definitions : mark.definitions ≤ later.definitions
   pub nodes : mark.nodes ≤ later.nodes
-  pub terms : mark.terms ≤ later.terms
 
 -- the second contents are the first, and perhaps more of each behind them
 pub record Extends (c d : Contents) : Type 0 where
@@ -103,4 +96,3 @@ pub record Extends (c d : Contents) : Type 0 where
   pub definitions : (more : List Definition) × (d.definitions ≡ c.definitions ++ more)
   pub bodies : (more : List ℕ) × (d.bodies ≡ c.bodies ++ more)
   pub rows : (more : List Row) × (d.rows ≡ c.rows ++ more)
-  pub terms : (more : List Sexp) × (d.terms ≡ c.terms ++ more)

@@ -1,6 +1,6 @@
--- What a library stands for: a signature, with its declarations and definitions, and terms by their numbers,
--- each as a tree and as a node.
-use Rattle.std.specs.Prelude.{◌≡◌, ℕ, ◌+◌, List, [], ◌∷◌, ◌++◌, Option, Some, length}
+-- What a library stands for: a signature, with its declarations and definitions, and terms by the numbers of
+-- their nodes.
+use Rattle.std.specs.Prelude.{◌≡◌, ℕ, ◌+◌, List, [], ◌∷◌, ◌++◌, Some, length}
 use Rattle.std.specs.Prelude.{map, slice_get}
 use Rattle.smt_trees.specs.Sexp.{Sexp}
 use Rattle.smt_terms.specs.Contents.{Contents, Declaration, contents_of, terms_in}
@@ -14,27 +14,14 @@ use Rattle.smt_terms.specs.declared.library.Found.{Found}
 use Rattle.smt_terms.specs.declared.library.Found.TheVariants as place
 use Rattle.smt_terms.specs.TermsOf.{AreTermsOf}
 use Rattle.smt_terms.specs.declared.library.Library.{Library}
-use Rattle.smt_terms.specs.declared.library.TermId.{TermId}
-use Rattle.smt_terms.specs.declared.library.TreeId.{TreeId}
 
 -- ---- terms
 
--- the tree of this number among contents
-abbrev pub IsTreeOf : Contents → TreeId → Sexp → Type 0
-IsTreeOf c id t = slice_get c.terms id.number ≡ Some t
+-- the node of this number among contents stands for the term
+abbrev pub IsTermOf : Contents → ℕ → Sexp → Type 0
+IsTermOf c id t = Denotes (terms_in c) [] 0 0 id t
 
--- the term of this number: its tree is the term, and its node stands for it
-abbrev pub IsTermOf : Contents → TermId → Sexp → Type 0
-IsTermOf c id t = IsTreeOf c id.tree t × Denotes (terms_in c) [] 0 0 id.node t
-
--- the library's tree of this number, if it has one
-abbrev pub tree_at : Library → TreeId → Option Sexp
-tree_at library id = slice_get (contents_of library).terms id.number
-
-abbrev pub IsTree : Library → TreeId → Sexp → Type 0
-IsTree library id t = IsTreeOf (contents_of library) id t
-
-abbrev pub IsTerm : Library → TermId → Sexp → Type 0
+abbrev pub IsTerm : Library → ℕ → Sexp → Type 0
 IsTerm library id t = IsTermOf (contents_of library) id t
 
 -- the table of a library's terms
@@ -57,19 +44,18 @@ declarations_from place (e ∷ es) = declaration_at place e e.origin ++ declarat
 abbrev pub definitions_of : Library → List Definition
 definitions_of library = library.definitions.items
 
--- this is the definition of the entry, whose body is a tree of the contents
-pub record IsDefinitionOf (c : Contents) (d : Definition) (e : Entry) : Type 0 where
+-- this is the definition of the entry, but for its body, which is a node of the table (AreTermsOf)
+pub record IsDefinitionOf (d : Definition) (e : Entry) : Type 0 where
   pub name : d.name.items ≡ e.name
   pub parameters : map (λ p. p.1) d.params.items ≡ e.parameters
   pub sort : d.result ≡ e.sort
-  pub body : (t : Sexp) × IsTreeOf c d.body t
-      × (e.origin ≡ signature.Defined (map (λ p. p.0.items) d.params.items) t)
+  pub origin : (body : Sexp) × (e.origin ≡ signature.Defined (map (λ p. p.0.items) d.params.items) body)
 
 -- these are the definitions of the entries, in order
-abbrev pub AreDefinitions : Contents → List Definition → List Entry → Type 0
-AreDefinitions c [] [] = Unit {0}
-AreDefinitions c (d ∷ ds) (e ∷ es) = IsDefinitionOf c d e × AreDefinitions c ds es
-AreDefinitions c _ _ = ⊥
+abbrev pub AreDefinitions : List Definition → List Entry → Type 0
+AreDefinitions [] [] = Unit {0}
+AreDefinitions (d ∷ ds) (e ∷ es) = IsDefinitionOf d e × AreDefinitions ds es
+AreDefinitions _ _ = ⊥
 
 -- ---- where a name stands
 
@@ -92,7 +78,7 @@ pub record Holds (c : Contents) (s : Signature) : Type 0 where
   pub abbreviations : c.abbreviations ≡ s.abbreviations
   pub ranks : c.ranks ≡ ranks_of s.entries
   pub declared : c.declared ≡ declarations_from 0 s.entries
-  pub definitions : AreDefinitions c c.definitions (defined_among s.entries)
+  pub definitions : AreDefinitions c.definitions (defined_among s.entries)
   pub terms : AreTermsOf (terms_in c) s
 
 abbrev pub StandsFor : Library → Signature → Type 0

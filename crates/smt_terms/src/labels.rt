@@ -14,10 +14,10 @@ use std::mem;
 
 /// A label: its name, without bars, and the term that it names, with its sort and its node.
 #[derive(Drop)]
-pub(crate) struct Label {
+pub(crate) struct Label<'a> {
     pub(crate) name: Vec<u8>,
     pub(crate) sort: Sort,
-    pub(crate) body: Tree,
+    pub(crate) body: &'a Tree,
     pub(crate) node: TermId,
 }
 
@@ -25,7 +25,7 @@ pub(crate) struct Label {
 #[derive(Drop)]
 pub(crate) struct Labels<'a> {
     pub(crate) refused: bool,
-    pub(crate) given: Vec<Label>,
+    pub(crate) given: Vec<Label<'a>>,
     pub(crate) names: NameSet<'a>,
     ghost named: { names_in names ≡ map (λ l. l.name.items) given.items } by { Prim.hlevel props },
 }
@@ -76,7 +76,7 @@ impl<'a> Labels<'a> {
     }
 
     /// The labels that were given, of which none is left.
-    pub(crate) fn take_given(&mut self, alloc: Global) -> Vec<Label>
+    pub(crate) fn take_given(&mut self, alloc: Global) -> Vec<Label<'a>>
         ensures { result.items ≡ self.old.given.items }
     {
         let labels = mem::replace(self, Labels::new(alloc));
@@ -89,19 +89,19 @@ impl<'a> Labels<'a> {
         alloc: Global,
         name: &'a [u8],
         sort: Sort,
-        term: &Tree,
+        term: &'a Tree,
         node: TermId,
     ) -> Result<(), Memory>
         ensures pushed { OnOk result
             ((l : Label) × (self.new.given.items ≡ self.old.given.items ++ l ∷ []) × (l.name.items ≡ name.now)
-            × (l.sort ≡ sort) × (sexp_of l.body ≡ sexp_of term.now) × (l.node ≡ node)) }
+            × (l.sort ≡ sort) × (sexp_of l.body.now ≡ sexp_of term.now) × (l.node ≡ node)) }
         ensures unchanged { OnErr result (self.new.given.items ≡ self.old.given.items) }
         ensures refuses { self.new.refused ≡ self.old.refused }
     {
         let label = Label {
             name: Vec::from_slice(alloc, name)?,
             sort,
-            body: term.copy(alloc)?,
+            body: term,
             node,
         };
         self.given.push(label)?;

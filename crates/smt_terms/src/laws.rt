@@ -21,7 +21,6 @@ ghost use Rattle.smt_terms.specs.TermsOf.{AreTermsOf};
 ghost use Rattle.smt_terms.specs.Freshness.{is_taken};
 ghost use Rattle.smt_terms.specs.WellSorted.{AreIntroduced, IsWellSorted, Keeps};
 ghost use Rattle.smt_terms.specs.Written.{AreLabelsOf, IsDeclaredAs, IsDefinedAs, IsPrintedAs};
-ghost use Rattle.smt_terms.specs.declared.library.TermId.{TermId};
 ghost use Rattle.smt_terms.specs.declared.library.marks.Mark.{Mark};
 
 use smt_theory::laws::sorts_are_compared;
@@ -132,7 +131,7 @@ pub fn earlier_marks_are_kept()
 
 /// A term of contents is one of longer contents.
 pub fn terms_are_kept()
-    ensures { (c d : Contents) (i : TermId) (t : Sexp) → Extends c d → IsTermOf c i t → IsTermOf d i t }
+    ensures { (c d : Contents) (i : ℕ) (t : Sexp) → Extends c d → IsTermOf c i t → IsTermOf d i t }
 {}
 
 /// A node stands for a term in longer tables too (SMT-LIB 2.6, section 3.6).

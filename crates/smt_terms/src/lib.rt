@@ -13,6 +13,7 @@ pub mod laws;
 mod library;
 mod sorts;
 
-pub use library::{Declared, Definition, Found, Library, Mark, TermId, TreeId};
+pub use library::{Declared, Definition, Found, Library, Mark};
 pub use smt_faults::TermFault;
 pub use smt_forms::Param;
+pub use smt_nodes::TermId;

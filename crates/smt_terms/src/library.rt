@@ -1,5 +1,5 @@
-//! The names in force, in the order in which they came, where each stands, and the terms that were checked
-//! over them.
+//! The names in force, in the order in which they came, where each stands, and the nodes of the terms that
+//! were checked over them.
 
 ghost use Rattle.std.specs.Prelude.{◌≡◌, length, bytes_eq};
 ghost use Rattle.std.specs.List.{IsDistinct};
@@ -24,7 +24,7 @@ use crate::labels::Labels;
 use crate::sorts::SortNames;
 use indexmap::IndexMap;
 use smt_faults::{Memory, TermFault};
-use smt_nodes::{Node, Nodes};
+use smt_nodes::{Node, Nodes, TermId};
 use smt_theory::{Sort, Theories};
 use smt_trees::Tree;
 use std::alloc::Global;
@@ -62,7 +62,8 @@ pub struct Declared {
     pub command: u64,
 }
 
-/// A name that is defined (SMT-LIB 2.6, section 4.2.3).
+/// A name that is defined (SMT-LIB 2.6, section 4.2.3). The node of its body stands at the same place in
+/// `Library::bodies`.
 #[derive(Drop)]
 pub struct Definition {
     /// The bytes of its name, without bars.
@@ -71,40 +72,6 @@ pub struct Definition {
     pub params: Vec<(Vec<u8>, Sort)>,
     /// The sort of its result, and of its body.
     pub result: Sort,
-    /// Its body, over the earlier names and the parameters.
-    pub body: TreeId,
-}
-
-/// The number of a tree that a library holds. It means something in that library alone.
-#[derive(Clone, Copy, Debug, PartialEq, Eq)]
-pub struct TreeId {
-    number: usize,
-}
-
-/// The number of a term that a library has checked: that of its tree, and that of its node. It means
-/// something in that library alone.
-#[derive(Clone, Copy, Debug, PartialEq, Eq)]
-pub struct TermId {
-    tree: TreeId,
-    node: smt_nodes::TermId,
-}
-
-impl TermId {
-    ghost use Rattle.std.specs.Prelude.{◌≡◌};
-
-    /// The number of its tree.
-    pub fn tree(self) -> TreeId
-        ensures { result ≡ self.tree }
-    {
-        self.tree
-    }
-
-    /// The number of its node.
-    pub fn node(self) -> smt_nodes::TermId
-        ensures { result ≡ self.node }
-    {
-        self.node
-    }
 }
 
 /// The names of a signature in order of insertion, abbreviations of sorts, and terms over the names. No name
@@ -116,9 +83,8 @@ pub struct Library {
     names: IndexMap<Vec<u8>, Entry>,
     declared: Vec<Declared>,
     definitions: Vec<Definition>,
-    bodies: Vec<smt_nodes::TermId>,
+    bodies: Vec<TermId>,
     nodes: Nodes,
-    terms: Vec<Tree>,
     ghost distinct: { IsDistinct (λ a b. bytes_eq a.items b.items) (keys names) } by { Prim.hlevel props },
     ghost paired: { length bodies.items ≡ length definitions.items } by { Prim.hlevel props },
 }
@@ -138,9 +104,8 @@ impl Library {
     ghost use Rattle.smt_terms.specs.Contents.{Extends, contents_of, declaration_view};
     ghost use Rattle.smt_terms.specs.Internal.LibraryView.{names_of_library, places_of_library, rank_of};
     ghost use Rattle.smt_terms.specs.Internal.LibraryView.{ranks_of_library, sort_names};
-    ghost use Rattle.smt_terms.specs.Internal.Growing.{KeepsNames};
     ghost use Rattle.smt_terms.specs.Internal.TableView.{head_of, heads_of_library};
-    ghost use Rattle.smt_terms.specs.Library.{AreDefinitions, IsFound, IsTerm, IsTree, IsUnchanged};
+    ghost use Rattle.smt_terms.specs.Library.{AreDefinitions, IsFound, IsTerm, IsUnchanged};
     ghost use Rattle.smt_terms.specs.Library.{StandsFor, declarations_from, terms_of};
     ghost use Rattle.smt_terms.specs.Library.{defined_among, definitions_of, name_count};
     ghost use Rattle.smt_terms.specs.Signature as signature;
@@ -149,7 +114,6 @@ impl Library {
     ghost use Rattle.smt_terms.specs.Signature.{with_abbreviation, with_entry};
     ghost use Rattle.smt_theory.specs.declared.sort.Sort.{Sort};
     ghost use Rattle.smt_faults.specs.Outcome.{IsOutcome, Tells};
-    ghost use Rattle.smt_terms.specs.declared.library.TermId as id;
 
     /// A library of these theories without names.
     pub fn new(alloc: Global, theories: Theories) -> Self
@@ -163,7 +127,6 @@ impl Library {
             definitions: Vec::new(alloc),
             bodies: Vec::new(alloc),
             nodes: Nodes::new(alloc),
-            terms: Vec::new(alloc),
         }
     }
 
@@ -190,7 +153,7 @@ impl Library {
     /// The definitions, in order.
     pub fn definitions(&self) -> &[Definition]
         ensures stands { (s : Signature) → StandsFor self.now s
-            → AreDefinitions (contents_of self.now) result.now (defined_among s.entries) }
+            → AreDefinitions result.now (defined_among s.entries) }
         ensures view { result.now ≡ definitions_of self.now }
     {
         self.definitions.as_slice()
@@ -269,29 +232,16 @@ impl Library {
         ensures grown { Extends (contents_of self.old) (contents_of self.new) }
     {
         let (checked, _) = self.check_whole(&[], Labels::refused(self.alloc), term)?;
-        let tree = self.add_tree(term)?;
-        let id = TermId {
-            tree,
-            node: checked.node,
-        };
-        Ok((id, checked.sort))
-    }
-
-    /// The tree of this number, which is one of this library.
-    pub fn tree(&self, tree: TreeId) -> &Tree
-        requires { (t : Sexp) × IsTree self.now tree t }
-        ensures { (t : Sexp) → IsTree self.now tree t → sexp_of result.now ≡ t }
-    {
-        &self.terms.as_slice()[tree.number]
+        Ok((checked.node, checked.sort))
     }
 
     /// The node of a term, which is one of this library.
     pub fn node(&self, term: TermId) -> Node<'_>
         requires { (t : Sexp) × IsTerm self.now term t }
-        ensures { (row : Row) × (slice_get (terms_of self.now).rows term.node ≡ Some row)
+        ensures { (row : Row) × (slice_get (terms_of self.now).rows term ≡ Some row)
             × (node_view result ≡ row.node) }
     {
-        match self.nodes.get(term.node.number()) {
+        match self.nodes.get(term.number()) {
             Some(node) => node,
             None => unreachable!(),
         }
@@ -305,33 +255,10 @@ impl Library {
     }
 
     /// The nodes that are the bodies of the definitions, in order.
-    pub fn bodies(&self) -> &[smt_nodes::TermId]
+    pub fn bodies(&self) -> &[TermId]
         ensures { result.now ≡ (terms_of self.now).bodies }
     {
         self.bodies.as_slice()
-    }
-
-    // Adds a copy of a tree.
-    pub(super) fn add_tree(&mut self, tree: &Tree) -> Result<TreeId, Memory>
-        ensures tree { IfOk result (λ i. IsTree self.new i (sexp_of tree.now)) }
-        ensures kept { KeepsNames (contents_of self.old) (contents_of self.new) }
-        ensures sorts { self.new.sorts ≡ self.old.sorts }
-    {
-        match tree.copy(self.alloc) {
-            Ok(copy) => self.push_tree(copy),
-            Err(_) => Err(Memory),
-        }
-    }
-
-    // Adds a tree.
-    pub(super) fn push_tree(&mut self, tree: Tree) -> Result<TreeId, Memory>
-        ensures tree { IfOk result (λ i. IsTree self.new i (sexp_of tree)) }
-        ensures kept { KeepsNames (contents_of self.old) (contents_of self.new) }
-        ensures sorts { self.new.sorts ≡ self.old.sorts }
-    {
-        let number = self.terms.len();
-        self.terms.push(tree)?;
-        Ok(TreeId { number })
     }
 
     // What a name stands for.
@@ -440,7 +367,6 @@ impl Library {
         ensures definitions { self.new.definitions.items ≡ self.old.definitions.items }
         ensures bodies { self.new.bodies.items ≡ self.old.bodies.items }
         ensures nodes { self.new.nodes ≡ self.old.nodes }
-        ensures terms { self.new.terms.items ≡ self.old.terms.items }
     {
         let key = Vec::from_slice(self.alloc, name)?;
         self.names.insert(key, entry)?;

@@ -1,6 +1,6 @@
 -- What a command did to a stack, before it was noted whether a logic may be set, whether `success` is
 -- printed, and that it was applied.
-use Rattle.std.specs.Prelude.{◌≡◌, ℕ, zero, suc, List, [], ◌∷◌, ◌++◌, ◌⊎◌, ◌||◌, None, Some, length}
+use Rattle.std.specs.Prelude.{◌≡◌, ℕ, zero, suc, List, [], ◌∷◌, ◌++◌, ◌||◌, None, Some, length}
 use Rattle.std.specs.Prelude.{slice_get, take}
 use Rattle.smt_trees.specs.Sexp.{Sexp}
 use Rattle.smt_theory.specs.declared.theories.Theories.{Theories}
@@ -8,7 +8,6 @@ use Rattle.smt_terms.specs.Contents.{Contents, Extends, IsBelow, IsWithin, conte
 use Rattle.smt_terms.specs.Library as library
 use Rattle.smt_terms.specs.Library.{IsTermOf}
 use Rattle.smt_terms.specs.Signature.{no_names}
-use Rattle.smt_terms.specs.declared.library.TermId.{TermId}
 use Rattle.smt_terms.specs.declared.library.marks.Mark.{Mark}
 use Rattle.smt_script.specs.Command.{Command}
 use Rattle.smt_script.specs.Stack.{Numbered, flaw_of_effect, is_exit, is_late_after, is_set_after}
@@ -30,7 +29,7 @@ pub record ContentsAreKept : Type 0 where
   pub first : (mark : Mark) (c d : Contents) → IsWithin mark c → Extends c d
       → first_of mark d ≡ first_of mark c
   pub within : (mark : Mark) (c d : Contents) → IsWithin mark c → Extends c d → IsWithin mark d
-  pub terms : (c d : Contents) (i : TermId) (t : Sexp) → Extends c d → IsTermOf c i t → IsTermOf d i t
+  pub terms : (c d : Contents) (i : ℕ) (t : Sexp) → Extends c d → IsTermOf c i t → IsTermOf d i t
 
 -- the stack once this is noted
 abbrev pub with_notes : Command → Stack → Stack

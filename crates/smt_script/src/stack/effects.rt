@@ -3,7 +3,6 @@
 
 ghost use Rattle.std.specs.Prelude.{◌≡◌, ◌∷◌, ℕ, List, [], IfErr, OnOk, OnErr};
 ghost use Rattle.std.specs.Str.Parse.{digits_value};
-ghost use Rattle.smt_trees.specs.Sexp.{Sexp};
 ghost use Rattle.smt_trees.specs.Tree.{sexp_of, sexps_of};
 ghost use Rattle.smt_forms.specs.Bindings.{named_trees};
 ghost use Rattle.smt_script.specs.Command as commands;
@@ -57,7 +56,7 @@ impl Stack {
                 body,
             } => self.define(name.as_slice(), params.as_slice(), sort, body),
             Command::DefineSort { name, sort } => self.define_sort(name.as_slice(), sort),
-            Command::Assert { term } => self.assert_copy(number, term),
+            Command::Assert { term } => self.assert(number, term),
             Command::Push { levels } => self.push(levels.as_slice()),
             Command::Pop { levels } => self.pop(levels.as_slice()),
             Command::Reset => self.reset(),
@@ -90,13 +89,6 @@ impl Stack {
             kind,
         );
         self.exited |= matches!(kind, Kind::Exit);
-    }
-
-    // Notes the same of an assertion.
-    pub(super) fn note_assertion(&mut self)
-        ensures { (term : Sexp) → self.new ≡ with_notes (Assert term) self.old }
-    {
-        self.logic.late = true;
     }
 
     // A logic is set while nothing is in force and there are no levels.
@@ -178,19 +170,9 @@ impl Stack {
         Ok(self.library.abbreviate(name, sort)?)
     }
 
-    fn assert_copy(&mut self, number: u64, term: &Tree) -> Result<(), CommandFault>
+    fn assert(&mut self, number: u64, term: &Tree) -> Result<(), CommandFault>
         ensures effect { OnOk result (HasEffect self.old self.new number (Assert (sexp_of term.now))) }
         ensures refused { IfErr result (λ fault. IsRefused self.old number (Assert (sexp_of term.now)) fault) }
-        ensures unchanged { OnErr result (IsUnchanged self.old self.new) }
-    {
-        let copy = term.copy(self.alloc)?;
-        self.assert(number, copy)
-    }
-
-    // What an assertion does, but for what is noted of it.
-    pub(super) fn assert(&mut self, number: u64, term: Tree) -> Result<(), CommandFault>
-        ensures effect { OnOk result (HasEffect self.old self.new number (Assert (sexp_of term))) }
-        ensures refused { IfErr result (λ fault. IsRefused self.old number (Assert (sexp_of term)) fault) }
         ensures unchanged { OnErr result (IsUnchanged self.old self.new) }
     {
         contents_are_kept();

@@ -13,7 +13,7 @@ use Rattle.smt_terms.specs.Signature.{AreDistinct, Signature, ranks_of}
 use Rattle.smt_terms.specs.TermsOf.{AreBodies, heads_of}
 use Rattle.smt_terms.specs.declared.labels.Label.{Label}
 
--- no name has come or gone, and perhaps more nodes and trees have come
+-- no name has come or gone, and perhaps more nodes have come
 pub record KeepsNames (old new : Contents) : Type 0 where
   pub theories : new.theories ≡ old.theories
   pub abbreviations : new.abbreviations ≡ old.abbreviations
@@ -23,7 +23,6 @@ pub record KeepsNames (old new : Contents) : Type 0 where
   pub definitions : new.definitions ≡ old.definitions
   pub bodies : new.bodies ≡ old.bodies
   pub rows : (more : List Row) × (new.rows ≡ old.rows ++ more)
-  pub terms : (more : List Sexp) × (new.terms ≡ old.terms ++ more)
 
 -- the table of contents, where the definitions have these bodies
 abbrev pub terms_under : List ℕ → Contents → Table
@@ -41,7 +40,7 @@ pub record HoldsUnder (bodies : List ℕ) (c : Contents) (s : Signature) : Type 
   pub abbreviations : c.abbreviations ≡ s.abbreviations
   pub ranks : c.ranks ≡ ranks_of s.entries
   pub declared : c.declared ≡ declarations_from 0 s.entries
-  pub definitions : AreDefinitions c c.definitions (defined_among s.entries)
+  pub definitions : AreDefinitions c.definitions (defined_among s.entries)
   pub heads : c.heads ≡ heads_of s.entries
   pub free : All (λ e. is_plain_operator s.theories e.name ≡ false) s.entries
   pub seen : AreBodies (terms_under bodies c) 0 c.bodies s.entries
@@ -49,7 +48,7 @@ pub record HoldsUnder (bodies : List ℕ) (c : Contents) (s : Signature) : Type 
 -- the name of a label is no plain operator's, and its node stands for its term
 pub record IsFitUnder (bodies : List ℕ) (c : Contents) (s : Signature) (l : Label) : Type 0 where
   pub free : is_plain_operator s.theories l.name.items ≡ false
-  pub named : Denotes (terms_under bodies c) [] 0 0 l.node (sexp_of l.body)
+  pub named : Denotes (terms_under bodies c) [] 0 0 l.node (sexp_of l.body.now)
 
 abbrev pub AreFitUnder : List ℕ → Contents → Signature → List Label → Type 0
 AreFitUnder bodies c s [] = Unit {0}

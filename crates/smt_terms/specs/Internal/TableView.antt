@@ -55,7 +55,7 @@ pub record IsReady (t : Table) : Type 0 where
 -- the node of each label stands for its term
 abbrev pub AreNamed : Table → List Label → Type 0
 AreNamed t [] = Unit {0}
-AreNamed t (l ∷ ls) = Denotes t [] 0 0 l.node (sexp_of l.body) × AreNamed t ls
+AreNamed t (l ∷ ls) = Denotes t [] 0 0 l.node (sexp_of l.body.now) × AreNamed t ls
 
 -- the variables that are bound inside, with their places in the frame of the innermost labelled term; and how
 -- many they are

@@ -10,15 +10,16 @@ ghost use Rattle.smt_terms.specs.Contents.{Extends, contents_of};
 ghost use Rattle.smt_terms.specs.Internal.Growing.{AreFitUnder, HoldsUnder, IsFitUnder};
 ghost use Rattle.smt_terms.specs.Internal.LabelsView.{AreNew, label_entry};
 ghost use Rattle.smt_terms.specs.Internal.LibraryView.{ranks_of_library};
-ghost use Rattle.smt_terms.specs.Library.{IsTerm, IsTree, IsUnchanged, StandsFor};
+ghost use Rattle.smt_terms.specs.Library.{IsTerm, IsUnchanged, StandsFor};
 ghost use Rattle.smt_terms.specs.Signature as signature;
 ghost use Rattle.smt_terms.specs.Signature.{Signature, names_of, rank_of_entry, with_entries, with_entry};
 ghost use Rattle.smt_faults.specs.Outcome.{Tells};
 
 use crate::labels::{Label, Labels};
-use crate::library::{Library, TermId, TreeId};
+use crate::library::Library;
 use crate::sorts::are_equal;
 use smt_faults::{Memory, TermFault};
+use smt_nodes::TermId;
 use smt_theory::Sort;
 use smt_trees::Tree;
 
@@ -32,38 +33,7 @@ impl Library {
     /// of the assertion (`NotFresh`). Then a term that is no formula (`IllSorted`). Then, and where memory is
     /// refused (`Memory`), no name is added; a term that nothing names may be.
     #[tactic(auto, using(crate::proofs::ContentsLemmas::extends_itself))]
-    pub fn assert(&mut self, term: Tree) -> Result<TermId, TermFault>
-        ensures asserted { OnOk result
-            ((s : Signature) → StandsFor self.old s → (labels : List signature.Entry)
-            × (asserted_in (names_of s) (sexp_of term) ≡ Ok labels)
-            × StandsFor self.new (with_entries s labels)) }
-        ensures term { IfOk result (λ i. (s : Signature) → StandsFor self.old s
-            → IsTerm self.new i (sexp_of term)) }
-        ensures refused { IfErr result (λ fault. (s : Signature) → StandsFor self.old s
-            → Tells (asserted_in (names_of s) (sexp_of term)) fault) }
-        ensures unchanged { OnErr result (IsUnchanged self.old self.new) }
-        ensures grown { Extends (contents_of self.old) (contents_of self.new) }
-    {
-        let (checked, given) = self.check_whole(&[], Labels::new(self.alloc), &term)?;
-        if !are_equal(checked.sort, Sort::Bool) {
-            return Err(TermFault::IllSorted);
-        }
-        let mark = self.mark();
-        match self.add_assertion(given.as_slice(), term) {
-            Ok(tree) => Ok(TermId {
-                tree,
-                node: checked.node,
-            }),
-            Err(Memory) => {
-                self.cut(mark);
-                Err(TermFault::Memory)
-            }
-        }
-    }
-
-    /// As `assert`, but keeps a copy of the term in place of the term itself.
-    #[tactic(auto, using(crate::proofs::ContentsLemmas::extends_itself))]
-    pub fn check_assert(&mut self, term: &Tree) -> Result<TermId, TermFault>
+    pub fn assert(&mut self, term: &Tree) -> Result<TermId, TermFault>
         ensures asserted { OnOk result
             ((s : Signature) → StandsFor self.old s → (labels : List signature.Entry)
             × (asserted_in (names_of s) (sexp_of term.now) ≡ Ok labels)
@@ -75,31 +45,23 @@ impl Library {
         ensures unchanged { OnErr result (IsUnchanged self.old self.new) }
         ensures grown { Extends (contents_of self.old) (contents_of self.new) }
     {
-        let copy = term.copy(self.alloc)?;
-        self.assert(copy)
-    }
-
-    // Adds the tree of an assertion, and the labels that it gave. Where memory is refused, some of them may
-    // have been added.
-    fn add_assertion(&mut self, labels: &[Label], tree: Tree) -> Result<TreeId, Memory>
-        requires { AreNew (ranks_of_library self.old) labels.now }
-        ensures added { OnOk result ((bodies : List ℕ) (s : Signature)
-            → HoldsUnder bodies (contents_of self.old) s
-            → AreFitUnder bodies (contents_of self.old) s labels.now
-            → HoldsUnder bodies (contents_of self.new) (with_entries s (map label_entry labels.now))) }
-        ensures bodies { OnOk result
-            (self.new.bodies.items ≡ self.old.bodies.items ++ map (λ l. l.node) labels.now) }
-        ensures tree { IfOk result (λ i. IsTree self.new i (sexp_of tree)) }
-        ensures grown { Extends (contents_of self.old) (contents_of self.new) }
-    {
-        let number = self.push_tree(tree)?;
-        self.add_labels(labels)?;
-        Ok(number)
+        let (checked, given) = self.check_whole(&[], Labels::new(self.alloc), term)?;
+        if !are_equal(checked.sort, Sort::Bool) {
+            return Err(TermFault::IllSorted);
+        }
+        let mark = self.mark();
+        match self.add_labels(given.as_slice()) {
+            Ok(()) => Ok(checked.node),
+            Err(Memory) => {
+                self.cut(mark);
+                Err(TermFault::Memory)
+            }
+        }
     }
 
     // Adds labels, each as a constant that its term defines. Where memory is refused, some of them may have
     // been added.
-    fn add_labels(&mut self, labels: &[Label]) -> Result<(), Memory>
+    fn add_labels(&mut self, labels: &[Label<'_>]) -> Result<(), Memory>
         requires { AreNew (ranks_of_library self.old) labels.now }
         ensures added { OnOk result ((bodies : List ℕ) (s : Signature)
             → HoldsUnder bodies (contents_of self.old) s
@@ -109,15 +71,13 @@ impl Library {
             (self.new.bodies.items ≡ self.old.bodies.items ++ map (λ l. l.node) labels.now) }
         ensures grown { Extends (contents_of self.old) (contents_of self.new) }
     {
-        let mut left = labels;
-        while let Some((label, rest)) = left.split_first() {
+        for label in labels {
             self.add_label(label)?;
-            left = rest;
         }
         Ok(())
     }
 
-    fn add_label(&mut self, label: &Label) -> Result<(), Memory>
+    fn add_label(&mut self, label: &Label<'_>) -> Result<(), Memory>
         requires { look_up (ranks_of_library self.old) label.now.name.items ≡ None }
         ensures added { OnOk result ((bodies : List ℕ) (s : Signature)
             → HoldsUnder bodies (contents_of self.old) s
@@ -130,7 +90,6 @@ impl Library {
         ensures bodies { OnOk result (self.new.bodies.items ≡ self.old.bodies.items ++ label.now.node ∷ []) }
         ensures grown { Extends (contents_of self.old) (contents_of self.new) }
     {
-        let body = self.add_tree(&label.body)?;
-        self.insert_definition(label.name.as_slice(), &[], label.sort, body, label.node)
+        self.insert_definition(label.name.as_slice(), &[], label.sort, label.node)
     }
 }

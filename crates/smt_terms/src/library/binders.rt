@@ -181,7 +181,7 @@ impl Library {
     fn give_labels<'a>(
         &self,
         labels: &mut Labels<'a>,
-        term: &Tree,
+        term: &'a Tree,
         checked: &Checked,
         attributes: &'a [Tree],
     ) -> Result<(), TermFault>
@@ -210,7 +210,7 @@ impl Library {
     fn give_label_at<'a>(
         &self,
         labels: &mut Labels<'a>,
-        term: &Tree,
+        term: &'a Tree,
         checked: &Checked,
         tree: &'a Tree,
         rest: &'a [Tree],
@@ -237,7 +237,7 @@ impl Library {
     fn give_label<'a>(
         &self,
         labels: &mut Labels<'a>,
-        term: &Tree,
+        term: &'a Tree,
         checked: &Checked,
         name: &'a [u8],
     ) -> Result<(), TermFault>

@@ -34,12 +34,12 @@ impl Library {
         variables: &[Variable<'a, Sort>],
         labels: Labels<'a>,
         term: &'a Tree,
-    ) -> Result<(Checked, Vec<Label>), TermFault>
+    ) -> Result<(Checked, Vec<Label<'a>>), TermFault>
         requires { labels.given.items ≡ [] }
         ensures sort { IsOutcome (λ found. found.0.sort) (sort_in (names_for self.old (labels_view labels.entry))
             (scope_view variables.now) (sexp_of term.now)) result }
         ensures given { IfOk result (λ found.
-            (map (λ l. (l.name.items, sexp_of l.body)) found.1.items ≡ labels_in (sexp_of term.now))
+            (map (λ l. (l.name.items, sexp_of l.body.now)) found.1.items ≡ labels_in (sexp_of term.now))
             × AreSorted (names_of_library self.old) found.1.items) }
         ensures node { IfOk result (λ found. IsReady (table_of self.old)
             → Denotes (table_with self.old found.1.items (rows_of self.new.nodes))
@@ -54,7 +54,6 @@ impl Library {
         ensures declared { self.new.declared ≡ self.old.declared }
         ensures definitions { self.new.definitions ≡ self.old.definitions }
         ensures bodies { self.new.bodies ≡ self.old.bodies }
-        ensures terms { self.new.terms ≡ self.old.terms }
     {
         let count = self.nodes.len();
         let nodes = mem::replace(&mut self.nodes, Nodes::new(self.alloc));

@@ -11,7 +11,7 @@ ghost use Rattle.smt_terms.specs.Contents.{Extends, contents_of};
 ghost use Rattle.smt_terms.specs.Definitions.{defined_in, definition, definition_in};
 ghost use Rattle.smt_terms.specs.Internal.Growing.{HoldsUnder, IsBodyUnder, KeepsNames};
 ghost use Rattle.smt_terms.specs.Internal.LibraryView.{names_of_library, ranks_of_library};
-ghost use Rattle.smt_terms.specs.Library.{IsTree, IsUnchanged, StandsFor};
+ghost use Rattle.smt_terms.specs.Library.{IsUnchanged, StandsFor};
 ghost use Rattle.smt_forms.specs.ParamView.{param_view};
 ghost use Rattle.smt_forms.specs.ScopeView.{scope_view};
 ghost use Rattle.smt_terms.specs.Signature as signature;
@@ -20,7 +20,7 @@ ghost use Rattle.smt_faults.specs.Outcome.{Tells};
 
 use crate::labels::Labels;
 use crate::library::params::{named_parameters, sorted_params, sorts_of_variables};
-use crate::library::{Definition, Entry, Found, Library, TreeId};
+use crate::library::{Definition, Entry, Found, Library};
 use crate::sorts::are_equal;
 use smt_faults::{Memory, TermFault};
 use smt_forms::{Param, Variable};
@@ -87,25 +87,22 @@ impl Library {
         if !are_equal(checked.sort, sort) {
             return Err(TermFault::IllSorted);
         }
-        let tree = self.add_tree(body)?;
-        Ok(self.insert_definition(name, parameters, sort, tree, checked.node)?)
+        Ok(self.insert_definition(name, parameters, sort, checked.node)?)
     }
 
-    // Adds the definition of a new name at the end, whose body has this tree and this node, or changes no
-    // name.
+    // Adds the definition of a new name at the end, whose body has this node, or changes no name.
     #[tactic(auto, using(crate::proofs::ContentsLemmas::extends_itself))]
     pub(super) fn insert_definition(
         &mut self,
         name: &[u8],
         parameters: &[Variable<'_, Sort>],
         sort: Sort,
-        tree: TreeId,
         node: TermId,
     ) -> Result<(), Memory>
         requires { look_up (names_of_library self.old).ranks name.now ≡ None }
         ensures added { OnOk result
             ((bodies : List ℕ) (s : Signature) (t : Sexp) → HoldsUnder bodies (contents_of self.old) s
-            → is_plain_operator s.theories name.now ≡ false → IsTree self.old tree t
+            → is_plain_operator s.theories name.now ≡ false
             → IsBodyUnder bodies (contents_of self.old) (scope_view parameters.now) node t
             → HoldsUnder bodies (contents_of self.new)
             (with_entry s (definition name.now (scope_view parameters.now) sort t))) }
@@ -123,7 +120,6 @@ impl Library {
             name: Vec::from_slice(self.alloc, name)?,
             params: named_parameters(self.alloc, parameters)?,
             result: sort,
-            body: tree,
         };
         let entry = Entry {
             parameters: sorts_of_variables(self.alloc, parameters)?,
@@ -151,7 +147,6 @@ impl Library {
         ensures sorts { self.new.sorts ≡ self.old.sorts }
         ensures declared { self.new.declared ≡ self.old.declared }
         ensures nodes { self.new.nodes ≡ self.old.nodes }
-        ensures terms { self.new.terms ≡ self.old.terms }
     {
         self.definitions.push(definition)?;
         match self.bodies.push(node) {
@@ -173,7 +168,6 @@ impl Library {
         ensures sorts { self.new.sorts ≡ self.old.sorts }
         ensures declared { self.new.declared ≡ self.old.declared }
         ensures nodes { self.new.nodes ≡ self.old.nodes }
-        ensures terms { self.new.terms ≡ self.old.terms }
     {
         let _ = self.definitions.pop();
         let _ = self.bodies.pop();

@@ -6,8 +6,8 @@ ghost use Rattle.smt_terms.specs.Contents.{IsBelow, IsWithin, contents_of, first
 
 use crate::library::Library;
 
-/// How many names, declarations, definitions (labels are definitions), abbreviations, nodes and trees a
-/// library held.
+/// How many names, declarations, definitions (labels are definitions), abbreviations and nodes a library
+/// held.
 #[derive(Clone, Copy, Debug, PartialEq, Eq)]
 pub struct Mark {
     pub(crate) names: usize,
@@ -15,7 +15,6 @@ pub struct Mark {
     pub(crate) definitions: usize,
     pub(crate) abbreviations: usize,
     pub(crate) nodes: usize,
-    pub(crate) terms: usize,
 }
 
 impl Library {
@@ -31,12 +30,11 @@ impl Library {
             definitions: self.definitions.len(),
             abbreviations: self.sorts.abbreviations.len(),
             nodes: self.nodes.len(),
-            terms: self.terms.len(),
         }
     }
 
-    /// Leaves the first so many names, declarations, definitions, abbreviations, nodes and trees as a mark
-    /// counts, at the cost of what goes.
+    /// Leaves the first so many names, declarations, definitions, abbreviations and nodes as a mark counts,
+    /// at the cost of what goes.
     pub fn cut(&mut self, mark: Mark)
         ensures { contents_of self.new ≡ first_of mark (contents_of self.old) }
     {
@@ -46,6 +44,5 @@ impl Library {
         self.bodies.truncate(mark.definitions);
         self.sorts.abbreviations.truncate(mark.abbreviations);
         self.nodes.cut(mark.nodes);
-        self.terms.truncate(mark.terms);
     }
 }

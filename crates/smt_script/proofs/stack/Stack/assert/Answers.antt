@@ -12,7 +12,7 @@ use Rattle.smt_script.proofs.stack.Stack.assert.Goals as goal
 pub returns-in_err-term-clause-refused : goal.returns-in_err-term-clause-refused
 returns-in_err-term-clause-refused c =
     let p = err_from_is_err_and c.from_residual.result c.from_residual.ensures.1 in
-    let term = sexp_of c.args.term in
+    let term = sexp_of c.args.term.now in
     rw p.1
     (λ cs h.
     let s = signature_in_force cs in
@@ -28,7 +28,7 @@ returns-in_err-term-clause-unchanged c =
 pub returns-in-Ok-clause-effect : goal.returns-in-Ok-clause-effect
 returns-in-Ok-clause-effect c =
     assert_effect c.contents_are_kept.ensures c.args.self.now c.assert.new.self c.push.new.self
-    (record { command = c.args.number; term = c.in_ok-term.term }) (sexp_of c.args.term)
+    (record { command = c.args.number; term = c.in_ok-term.term }) (sexp_of c.args.term.now)
     c.in_ok-term.ensures.asserted c.in_ok-term.ensures.term c.in_ok-term.ensures.grown c.in-Ok.ensures.items
 
 pub returns-in-Err-clause-unchanged : goal.returns-in-Err-clause-unchanged

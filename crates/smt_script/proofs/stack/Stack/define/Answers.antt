@@ -1,4 +1,4 @@
-use Rattle.std.proofs.Common.{◌≡◌, ◌⊎◌, Err, ℕ, List, map, ap, subst, ◌∙◌, refl}
+use Rattle.std.proofs.Common.{ℕ, List, map, ap, subst, ◌∙◌, refl}
 use Rattle.std.proofs.lemmas.Result.{err_from_is_err_and}
 use Rattle.smt_trees.specs.Sexp.{Sexp}
 use Rattle.smt_trees.specs.Tree.{sexp_of, sexps_of}

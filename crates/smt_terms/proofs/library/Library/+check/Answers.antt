@@ -24,7 +24,7 @@ use Rattle.smt_terms.specs.Internal.NodesView.{AddsApplied, AddsNode, Stands, Te
 use Rattle.smt_terms.proofs.BinderLemmas.{annotated, bang_in, bound_in-fault, bound_in-next, bound_in-twice}
 use Rattle.smt_terms.proofs.BinderLemmas.{fault_of_annotated, fault_of_annotation, fault_of_bindings, let_in, let_of_body}
 use Rattle.smt_terms.proofs.CheckerLemmas.{bang_head, fault_of_args, let_head}
-use Rattle.smt_terms.proofs.CheckerLemmas.{count-trees, sorts_behind-next, sorts_behind-start, told}
+use Rattle.smt_terms.proofs.CheckerLemmas.{count-trees, sorts_behind-next, sorts_behind-start}
 use Rattle.smt_terms.proofs.ClosedLemmas.{bound-names, closed}
 use Rattle.smt_terms.proofs.DraftLemmas.{among, annotated_alone, bound_sorts, carried_open, carried_sort}
 use Rattle.smt_terms.proofs.DraftLemmas.{closed_by_labels, closed_within, kept_on, no_labels, open_args}

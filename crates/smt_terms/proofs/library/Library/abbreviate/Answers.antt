@@ -20,7 +20,7 @@ returns-clause-abbreviated c =
       ap (λ n. abbreviated_in n c.args.name.now (sexp_of c.args.sort.now))
           (sym (sorts_as old s stands)) ∙ more.1,
       stands_abbreviated (contents_of old) _ s c.args.name.now more.0 c.abbreviate.ensures.theories more.2
-          refl refl refl refl refl refl refl stands,
+          refl refl refl refl refl refl stands,
     ))
     c.abbreviate.ensures.abbreviated
 
@@ -47,7 +47,6 @@ returns-clause-unchanged c =
       definitions = refl;
       bodies = refl;
       rows = nothing_more _ _ refl;
-      terms = nothing_more _ _ refl;
     }) stands) c.abbreviate.ensures.unchanged
 
 pub returns-clause-grown : goal.returns-clause-grown
@@ -64,5 +63,4 @@ returns-clause-grown c = record {
   definitions = nothing_more _ _ refl;
   bodies = nothing_more _ _ refl;
   rows = nothing_more _ _ refl;
-  terms = nothing_more _ _ refl;
 }

@@ -2,7 +2,6 @@
 use Rattle.std.proofs.Common.{◌≡◌, ℕ, List, ◌++◌, ◌∷◌, [], map, refl, ap, ◌∙◌, arith, length, sym}
 use Rattle.std.proofs.lemmas.Grind.{common_steps}
 use Rattle.std.proofs.lemmas.List.{length-map, map-append}
-use Rattle.smt_trees.specs.Tree.{sexp_of}
 use Rattle.smt_nodes.specs.Nodes.{rows_of}
 use Rattle.smt_theory.specs.declared.sort.Sort.{Sort}
 use Rattle.smt_terms.specs.Contents.{contents_of, declaration_view}
@@ -26,7 +25,6 @@ returns-in_err-push-clause-unchanged c =
       definitions = refl;
       bodies = refl;
       rows = nothing_more _ _ refl;
-      terms = nothing_more _ _ refl;
     }) stands)
 
 pub returns-in_err-push-clause-grown : goal.returns-in_err-push-clause-grown
@@ -39,7 +37,6 @@ returns-in_err-push-clause-grown c = record {
   definitions = nothing_more _ _ refl;
   bodies = nothing_more _ _ refl;
   rows = nothing_more _ _ refl;
-  terms = nothing_more _ _ refl;
 }
 
 pub returns-in-Err-clause-unchanged : goal.returns-in-Err-clause-unchanged
@@ -63,7 +60,6 @@ returns-in-Err-clause-unchanged c =
       definitions = c.insert.ensures.definitions;
       bodies = c.insert.ensures.bodies;
       rows = nothing_more _ _ (ap rows_of c.insert.ensures.nodes);
-      terms = nothing_more _ _ (ap (map sexp_of) c.insert.ensures.terms);
     }) stands
 
 pub returns-in-Err-clause-grown : goal.returns-in-Err-clause-grown
@@ -86,7 +82,6 @@ returns-in-Err-clause-grown c =
       definitions = nothing_more _ _ c.insert.ensures.definitions;
       bodies = nothing_more _ _ c.insert.ensures.bodies;
       rows = nothing_more _ _ (ap rows_of c.insert.ensures.nodes);
-      terms = nothing_more _ _ (ap (map sexp_of) c.insert.ensures.terms);
     }
 
 pub returns-in-Ok-clause-added : goal.returns-in-Ok-clause-added
@@ -122,8 +117,7 @@ returns-in-Ok-clause-added c =
     (ap (map declaration_view)
     (c.insert.ensures.declared ∙ c.in_ok-push.ensures.items) ∙ map-append declaration_view
     c.args.self.now.declared.items (c.args.declared ∷ [])) c.insert.ensures.definitions c.insert.ensures.bodies
-    (nothing_more _ _ (ap rows_of c.insert.ensures.nodes))
-    (nothing_more _ _ (ap (map sexp_of) c.insert.ensures.terms)) stands
+    (nothing_more _ _ (ap rows_of c.insert.ensures.nodes)) stands
 
 pub returns-in-Ok-clause-grown : goal.returns-in-Ok-clause-grown
 returns-in-Ok-clause-grown c = record {
@@ -139,5 +133,4 @@ returns-in-Ok-clause-grown c = record {
   definitions = nothing_more _ _ c.insert.ensures.definitions;
   bodies = nothing_more _ _ c.insert.ensures.bodies;
   rows = nothing_more _ _ (ap rows_of c.insert.ensures.nodes);
-  terms = nothing_more _ _ (ap (map sexp_of) c.insert.ensures.terms);
 }

@@ -1,4 +1,4 @@
-use Rattle.std.proofs.Common.{rules, ℕ, List, ◌++◌, ◌∷◌, [], true, false, inr, ap, sym, ◌∙◌, refl}
+use Rattle.std.proofs.Common.{ℕ, List, ◌++◌, ◌∷◌, [], true, false, inr, ap, sym, ◌∙◌, refl}
 use Rattle.std.proofs.lemmas.Result.{err_from_is_err_and}
 use Rattle.smt_nodes.specs.Nodes.{rows_of}
 use Rattle.smt_trees.specs.Tree.{sexp_of}
@@ -39,14 +39,14 @@ returns-in_err-checked-clause-unchanged c =
     on_err c.from_residual.result
     (λ s stands. stands_still (contents_of c.args.self.now) (contents_of c.check_whole.new.self) s
     (checked_keeps c.check_whole.result c.args.self.now c.check_whole.new.self e.grown e.unchanged e.names e.sorts
-    e.declared e.definitions e.bodies e.terms) stands)
+    e.declared e.definitions e.bodies) stands)
 
 pub returns-in_err-checked-clause-grown : goal.returns-in_err-checked-clause-grown
 returns-in_err-checked-clause-grown c =
     let e = c.check_whole.ensures in
     grown_by (contents_of c.args.self.now) (contents_of c.check_whole.new.self)
     (checked_keeps c.check_whole.result c.args.self.now c.check_whole.new.self e.grown e.unchanged e.names e.sorts
-    e.declared e.definitions e.bodies e.terms)
+    e.declared e.definitions e.bodies)
 
 pub returns-then-not-are_equal-clause-refused : goal.returns-then-not-are_equal-clause-refused
 returns-then-not-are_equal-clause-refused c =
@@ -63,67 +63,44 @@ returns-then-not-are_equal-clause-unchanged c =
     let e = c.check_whole.ensures in
     λ s stands. stands_still (contents_of c.args.self.now) (contents_of c.check_whole.new.self) s
     (checked_keeps c.check_whole.result c.args.self.now c.check_whole.new.self e.grown e.unchanged e.names e.sorts
-    e.declared e.definitions e.bodies e.terms) stands
+    e.declared e.definitions e.bodies) stands
 
 pub returns-then-not-are_equal-clause-grown : goal.returns-then-not-are_equal-clause-grown
 returns-then-not-are_equal-clause-grown c =
     let e = c.check_whole.ensures in
     grown_by (contents_of c.args.self.now) (contents_of c.check_whole.new.self)
     (checked_keeps c.check_whole.result c.args.self.now c.check_whole.new.self e.grown e.unchanged e.names e.sorts
-    e.declared e.definitions e.bodies e.terms)
-
-pub returns-in_err-tree-clause-refused : goal.returns-in_err-tree-clause-refused
-returns-in_err-tree-clause-refused c = search rules
-
-pub returns-in_err-tree-clause-unchanged : goal.returns-in_err-tree-clause-unchanged
-returns-in_err-tree-clause-unchanged c =
-    let e = c.check_whole.ensures in
-    on_err c.from_residual-in_err-tree.result
-    (λ s stands. stands_still (contents_of c.args.self.now) (contents_of c.add_tree.new.self) s
-    (keeps_on (contents_of c.args.self.now) (contents_of c.check_whole.new.self) (contents_of c.add_tree.new.self)
-    (checked_keeps c.check_whole.result c.args.self.now c.check_whole.new.self e.grown e.unchanged e.names e.sorts
-    e.declared e.definitions e.bodies e.terms) c.add_tree.ensures.kept) stands)
-
-pub returns-in_err-tree-clause-grown : goal.returns-in_err-tree-clause-grown
-returns-in_err-tree-clause-grown c =
-    let e = c.check_whole.ensures in
-    grown_by (contents_of c.args.self.now) (contents_of c.add_tree.new.self)
-    (keeps_on (contents_of c.args.self.now) (contents_of c.check_whole.new.self) (contents_of c.add_tree.new.self)
-    (checked_keeps c.check_whole.result c.args.self.now c.check_whole.new.self e.grown e.unchanged e.names e.sorts
-    e.declared e.definitions e.bodies e.terms) c.add_tree.ensures.kept)
+    e.declared e.definitions e.bodies)
 
 pub returns-in_err-insert_definition-clause-unchanged : goal.returns-in_err-insert_definition-clause-unchanged
 returns-in_err-insert_definition-clause-unchanged c =
     let e = c.check_whole.ensures in
     on_err c.from_residual-in_err-insert_definition.result
     (λ s stands. stands_still (contents_of c.args.self.now) (contents_of c.insert_definition.new.self) s
-    (keeps_on (contents_of c.args.self.now) (contents_of c.add_tree.new.self)
+    (keeps_on (contents_of c.args.self.now) (contents_of c.check_whole.new.self)
     (contents_of c.insert_definition.new.self)
-    (keeps_on (contents_of c.args.self.now) (contents_of c.check_whole.new.self) (contents_of c.add_tree.new.self)
     (checked_keeps c.check_whole.result c.args.self.now c.check_whole.new.self e.grown e.unchanged e.names e.sorts
-    e.declared e.definitions e.bodies e.terms) c.add_tree.ensures.kept)
+    e.declared e.definitions e.bodies)
     c.in_err-insert_definition.ensures.unchanged) stands)
 
 pub returns-in_err-insert_definition-clause-grown : goal.returns-in_err-insert_definition-clause-grown
 returns-in_err-insert_definition-clause-grown c =
     let e = c.check_whole.ensures in
-    extends_on _ _ _ (grown_by (contents_of c.args.self.now) (contents_of c.add_tree.new.self)
-    (keeps_on (contents_of c.args.self.now) (contents_of c.check_whole.new.self) (contents_of c.add_tree.new.self)
+    extends_on _ _ _ (grown_by (contents_of c.args.self.now) (contents_of c.check_whole.new.self)
     (checked_keeps c.check_whole.result c.args.self.now c.check_whole.new.self e.grown e.unchanged e.names e.sorts
-    e.declared e.definitions e.bodies e.terms) c.add_tree.ensures.kept)) c.insert_definition.ensures.grown
+    e.declared e.definitions e.bodies)) c.insert_definition.ensures.grown
 
 pub returns-clause-grown : goal.returns-clause-grown
 returns-clause-grown c =
     let e = c.check_whole.ensures in
-    extends_on _ _ _ (grown_by (contents_of c.args.self.now) (contents_of c.add_tree.new.self)
-    (keeps_on (contents_of c.args.self.now) (contents_of c.check_whole.new.self) (contents_of c.add_tree.new.self)
+    extends_on _ _ _ (grown_by (contents_of c.args.self.now) (contents_of c.check_whole.new.self)
     (checked_keeps c.check_whole.result c.args.self.now c.check_whole.new.self e.grown e.unchanged e.names e.sorts
-    e.declared e.definitions e.bodies e.terms) c.add_tree.ensures.kept)) c.insert_definition.ensures.grown
+    e.declared e.definitions e.bodies)) c.insert_definition.ensures.grown
 
 pub returns-clause-added : goal.returns-clause-added
 returns-clause-added c = λ s stands.
     let old = c.args.self.now in
-    let now = contents_of c.add_tree.new.self in
+    let now = contents_of c.check_whole.new.self in
     let ps = scope_view c.args.parameters.now in
     let t = sexp_of c.args.body.now in
     let e = c.check_whole.ensures in
@@ -132,15 +109,14 @@ returns-clause-added c = λ s stands.
     let rows = rows_of c.check_whole.new.self.nodes in
     let bodies : List ℕ = old.bodies.items ++ node ∷ [] in
     let kept =
-    (keeps_on (contents_of c.args.self.now) (contents_of c.check_whole.new.self) (contents_of c.add_tree.new.self)
     (checked_keeps c.check_whole.result c.args.self.now c.check_whole.new.self e.grown e.unchanged e.names e.sorts
-    e.declared e.definitions e.bodies e.terms) c.add_tree.ensures.kept) in
+    e.declared e.definitions e.bodies) in
     let none =
     none_given old (labels_view c.refused.result) ps t c.in_ok-checked.checked.sort given c.refused.ensures.view
     c.in_ok-checked.ensures.sort c.in_ok-checked.ensures.given.0 in
     let longer =
     checked_longer old now given rows bodies kept.theories (nothing_more _ _ kept.heads)
-    (none_more old.bodies.items given bodies none (node ∷ [], refl)) c.add_tree.ensures.kept.rows in (
+    (none_more old.bodies.items given bodies none (node ∷ [], refl)) (nothing_more _ _ refl) in (
       definition c.args.name.now ps c.args.sort t,
       definition_by (names_of s) (names_of_library old) c.args.name.now ps c.args.sort
           c.in_ok-checked.checked.sort t true (names_as old s stands)
@@ -153,7 +129,7 @@ returns-clause-added c = λ s stands.
           (c.in_ok-insert_definition.ensures.added bodies s t
           (under_more old.bodies.items (node ∷ []) now s
           (stands_kept old.bodies.items (contents_of old) now s kept (under (contents_of old) s stands)))
-          free c.in_ok-tree.ensures.tree
+          free
           (body_checked old now given rows bodies c.args.parameters.now node t longer
           (c.in_ok-checked.ensures.node (ready (terms_of old) s stands.terms)).0)),
     )

@@ -1,4 +1,4 @@
-use Rattle.std.proofs.Common.{[], ap, sym, ◌∙◌}
+use Rattle.std.proofs.Common.{[], ap, refl, sym, ◌∙◌}
 use Rattle.smt_nodes.specs.Nodes.{rows_of}
 use Rattle.smt_trees.specs.Tree.{sexp_of}
 use Rattle.smt_terms.specs.Checking.{sort_in}
@@ -7,7 +7,7 @@ use Rattle.smt_terms.specs.Internal.LabelsView.{labels_view}
 use Rattle.smt_terms.specs.Internal.TableView.{table_with}
 use Rattle.smt_terms.specs.Library.{terms_of}
 use Rattle.smt_terms.proofs.BodyLemmas.{ready}
-use Rattle.smt_terms.proofs.ContentsLemmas.{grown_by, keeps_on, nothing_more}
+use Rattle.smt_terms.proofs.ContentsLemmas.{grown_by, nothing_more}
 use Rattle.smt_terms.proofs.DenotesLemmas.{denotes_kept}
 use Rattle.smt_terms.proofs.ItemLemmas.{names_as}
 use Rattle.smt_terms.proofs.StandsLemmas.{stands_still}
@@ -19,72 +19,50 @@ returns-in_err-checked-clause-kept c = λ s stands.
     let e = c.check_whole.ensures in
     stands_still (contents_of c.args.self.now) (contents_of c.check_whole.new.self) s
     (checked_keeps c.check_whole.result c.args.self.now c.check_whole.new.self e.grown e.unchanged e.names e.sorts
-    e.declared e.definitions e.bodies e.terms) stands
+    e.declared e.definitions e.bodies) stands
 
 pub returns-in_err-checked-clause-grown : goal.returns-in_err-checked-clause-grown
 returns-in_err-checked-clause-grown c =
     let e = c.check_whole.ensures in
     grown_by (contents_of c.args.self.now) (contents_of c.check_whole.new.self)
     (checked_keeps c.check_whole.result c.args.self.now c.check_whole.new.self e.grown e.unchanged e.names e.sorts
-    e.declared e.definitions e.bodies e.terms)
-
-pub returns-in_err-tree-clause-kept : goal.returns-in_err-tree-clause-kept
-returns-in_err-tree-clause-kept c = λ s stands.
-    let e = c.check_whole.ensures in
-    stands_still (contents_of c.check_whole.new.self) (contents_of c.add_tree.new.self) s c.add_tree.ensures.kept
-    (stands_still (contents_of c.args.self.now) (contents_of c.check_whole.new.self) s
-    (checked_keeps c.check_whole.result c.args.self.now c.check_whole.new.self e.grown e.unchanged e.names e.sorts
-    e.declared e.definitions e.bodies e.terms) stands)
-
-pub returns-in_err-tree-clause-grown : goal.returns-in_err-tree-clause-grown
-returns-in_err-tree-clause-grown c =
-    let e = c.check_whole.ensures in
-    grown_by (contents_of c.args.self.now) (contents_of c.add_tree.new.self)
-    (keeps_on (contents_of c.args.self.now) (contents_of c.check_whole.new.self) (contents_of c.add_tree.new.self)
-    (checked_keeps c.check_whole.result c.args.self.now c.check_whole.new.self e.grown e.unchanged e.names e.sorts
-    e.declared e.definitions e.bodies e.terms) c.add_tree.ensures.kept)
+    e.declared e.definitions e.bodies)
 
 pub returns-clause-kept : goal.returns-clause-kept
 returns-clause-kept c = λ s stands.
     let e = c.check_whole.ensures in
-    stands_still (contents_of c.check_whole.new.self) (contents_of c.add_tree.new.self) s c.add_tree.ensures.kept
-    (stands_still (contents_of c.args.self.now) (contents_of c.check_whole.new.self) s
+    stands_still (contents_of c.args.self.now) (contents_of c.check_whole.new.self) s
     (checked_keeps c.check_whole.result c.args.self.now c.check_whole.new.self e.grown e.unchanged e.names e.sorts
-    e.declared e.definitions e.bodies e.terms) stands)
+    e.declared e.definitions e.bodies) stands
 
 pub returns-clause-grown : goal.returns-clause-grown
 returns-clause-grown c =
     let e = c.check_whole.ensures in
-    grown_by (contents_of c.args.self.now) (contents_of c.add_tree.new.self)
-    (keeps_on (contents_of c.args.self.now) (contents_of c.check_whole.new.self) (contents_of c.add_tree.new.self)
+    grown_by (contents_of c.args.self.now) (contents_of c.check_whole.new.self)
     (checked_keeps c.check_whole.result c.args.self.now c.check_whole.new.self e.grown e.unchanged e.names e.sorts
-    e.declared e.definitions e.bodies e.terms) c.add_tree.ensures.kept)
+    e.declared e.definitions e.bodies)
 
 pub returns-clause-answer : goal.returns-clause-answer
 returns-clause-answer c = λ s stands.
     let old = c.args.self.now in
-    let new = c.add_tree.new.self in
+    let new = c.check_whole.new.self in
     let t = sexp_of c.args.term.now in
     let e = c.check_whole.ensures in
     let given = c.in_ok-checked.field-0-1.items in
-    let rows = rows_of c.check_whole.new.self.nodes in
+    let rows = rows_of new.nodes in
     let kept =
-    keeps_on (contents_of old) (contents_of c.check_whole.new.self) (contents_of new)
-    (checked_keeps c.check_whole.result old c.check_whole.new.self e.grown e.unchanged e.names e.sorts
-    e.declared e.definitions e.bodies e.terms) c.add_tree.ensures.kept in
+    checked_keeps c.check_whole.result old new e.grown e.unchanged e.names e.sorts e.declared e.definitions
+    e.bodies in
     let none =
     none_given old (labels_view c.refused.result) [] t c.in_ok-checked.checked.sort given c.refused.ensures.view
     c.in_ok-checked.ensures.sort c.in_ok-checked.ensures.given.0 in
     let longer =
     checked_longer old (contents_of new) given rows new.bodies.items kept.theories (nothing_more _ _ kept.heads)
     (none_more old.bodies.items given new.bodies.items none (nothing_more _ _ kept.bodies))
-    c.add_tree.ensures.kept.rows in (
+    (nothing_more _ _ refl) in (
       ap (λ n. sort_in n [] t) (sym (names_as old s stands))
           ∙ without_labels old (labels_view c.refused.result) [] t _ c.refused.ensures.view
           c.in_ok-checked.ensures.sort,
-      (
-        c.in_ok-tree.ensures.tree,
-        denotes_kept (table_with old given rows) (terms_of new) longer [] 0 0 c.in_ok-checked.checked.node t
-            (c.in_ok-checked.ensures.node (ready (terms_of old) s stands.terms)).0,
-      ),
+      denotes_kept (table_with old given rows) (terms_of new) longer [] 0 0 c.in_ok-checked.checked.node t
+          (c.in_ok-checked.ensures.node (ready (terms_of old) s stands.terms)).0,
     )

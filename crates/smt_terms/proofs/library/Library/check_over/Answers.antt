@@ -1,4 +1,4 @@
-use Rattle.std.proofs.Common.{◌≡◌, length, map, ap, sym, ◌∙◌, subst}
+use Rattle.std.proofs.Common.{◌≡◌, length, subst}
 use Rattle.std.proofs.lemmas.List.{length-map}
 use Rattle.smt_trees.specs.Tree.{sexp_of}
 use Rattle.smt_forms.specs.ScopeView.{scope_view}

@@ -1,4 +1,4 @@
-use Rattle.std.proofs.Common.{◌≡◌, ◌++◌, length, take, ap, ◌∙◌}
+use Rattle.std.proofs.Common.{◌++◌, length, take, ap, ◌∙◌}
 use Rattle.std.proofs.Math.Seq.{take-append_seam}
 use Rattle.smt_nodes.specs.Nodes.{rows_of}
 use Rattle.smt_terms.proofs.library.Library.check_whole.Goals as goal

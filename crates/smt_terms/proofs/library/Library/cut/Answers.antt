@@ -1,5 +1,4 @@
 use Rattle.std.proofs.Common.{refl}
-use Rattle.smt_trees.specs.Tree.{sexp_of}
 use Rattle.smt_terms.specs.Contents.{contents_of, declaration_view, first_of}
 use Rattle.smt_terms.specs.Internal.LibraryView.{rank_of}
 use Rattle.smt_terms.specs.Internal.TableView.{head_of}
@@ -19,4 +18,3 @@ returns c =
     c.truncate.ensures.entries)
     (mapped declaration_view mark.declared old.declared.items c.truncate-2.new.self.items
     c.truncate-2.ensures.items) c.truncate-3.ensures.items c.truncate-4.ensures.items c.cut.ensures
-    (mapped sexp_of mark.terms old.terms.items c.truncate-6.new.self.items c.truncate-6.ensures.items)

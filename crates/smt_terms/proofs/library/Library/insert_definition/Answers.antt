@@ -1,6 +1,5 @@
 -- The new name goes last, among the names and among the definitions, with the node of its body.
 use Rattle.std.proofs.Common.{◌≡◌, ℕ, List, ◌++◌, ◌∷◌, [], length, map, refl, ap, ◌∙◌}
-use Rattle.smt_trees.specs.Tree.{sexp_of}
 use Rattle.smt_nodes.specs.Nodes.{rows_of}
 use Rattle.smt_theory.specs.declared.sort.Sort.{Sort}
 use Rattle.smt_terms.specs.Contents.{contents_of, declaration_view}
@@ -24,7 +23,6 @@ returns-in_err-push_definition-clause-unchanged c = on_err c.from_residual-in_er
   definitions = c.in_err-push_definition.ensures.unchanged.0;
   bodies = c.in_err-push_definition.ensures.unchanged.1;
   rows = nothing_more _ _ (ap rows_of c.push_definition.ensures.nodes);
-  terms = nothing_more _ _ (rw c.push_definition.ensures.terms refl);
 })
 
 pub returns-in_err-push_definition-clause-grown : goal.returns-in_err-push_definition-clause-grown
@@ -37,7 +35,6 @@ returns-in_err-push_definition-clause-grown c = record {
   definitions = nothing_more _ _ c.in_err-push_definition.ensures.unchanged.0;
   bodies = nothing_more _ _ c.in_err-push_definition.ensures.unchanged.1;
   rows = nothing_more _ _ (ap rows_of c.push_definition.ensures.nodes);
-  terms = nothing_more _ _ (rw c.push_definition.ensures.terms refl);
 }
 
 pub returns-in-Err-clause-unchanged : goal.returns-in-Err-clause-unchanged
@@ -56,7 +53,6 @@ returns-in-Err-clause-unchanged c =
       bodies = undone_push c.args.self.now.bodies.items _ _ _
           (then.bodies ∙ c.in_ok-push_definition.ensures.bodies) last.bodies;
       rows = nothing_more _ _ (ap rows_of (last.nodes ∙ then.nodes ∙ first.nodes));
-      terms = nothing_more _ _ (rw last.terms (ap (map sexp_of) then.terms ∙ rw first.terms refl));
     }
 
 pub returns-in-Err-clause-grown : goal.returns-in-Err-clause-grown
@@ -70,14 +66,14 @@ returns-in-Ok-clause-ranks c =
     c.in_ok-sorts_of_variables.ensures
 
 pub returns-in-Ok-clause-added : goal.returns-in-Ok-clause-added
-returns-in-Ok-clause-added c = λ bodies s t stands free tree node.
+returns-in-Ok-clause-added c = λ bodies s t stands free node.
     let first = c.push_definition.ensures in
     let then = c.insert.ensures in
     let old = c.args.self.now in
     let names : heads_of_library c.push_definition.new.self ≡ heads_of_library old = rw first.names refl in
     stands_defined bodies (contents_of old) (contents_of c.insert.new.self) s c.args.name.now
     (scope_view c.args.parameters.now) _ t c.args.node c.requires free c.in_ok-from_slice.ensures.items
-    c.in_ok-named_parameters.ensures tree node
+    c.in_ok-named_parameters.ensures node
     (ap (λ (z : SortNames). z.theories) (then.sorts ∙ first.sorts))
     (ap abbreviations_of (then.sorts ∙ first.sorts))
     (returns-in-Ok-clause-ranks c)
@@ -105,8 +101,7 @@ returns-in-Ok-clause-added c = λ bodies s t stands free tree node.
     (ap (map declaration_view) then.declared ∙ rw first.declared refl)
     (then.definitions ∙ c.in_ok-push_definition.ensures.definitions)
     (then.bodies ∙ c.in_ok-push_definition.ensures.bodies)
-    (nothing_more _ _ (ap rows_of (then.nodes ∙ first.nodes)))
-    (nothing_more _ _ (ap (map sexp_of) then.terms ∙ rw first.terms refl)) stands
+    (nothing_more _ _ (ap rows_of (then.nodes ∙ first.nodes))) stands
 
 pub returns-in-Ok-clause-bodies : goal.returns-in-Ok-clause-bodies
 returns-in-Ok-clause-bodies c = c.insert.ensures.bodies ∙ c.in_ok-push_definition.ensures.bodies
@@ -141,5 +136,4 @@ returns-in-Ok-clause-grown c =
       definitions = (_, then.definitions ∙ c.in_ok-push_definition.ensures.definitions);
       bodies = (_, then.bodies ∙ c.in_ok-push_definition.ensures.bodies);
       rows = nothing_more _ _ (ap rows_of (then.nodes ∙ first.nodes));
-      terms = nothing_more _ _ (ap (map sexp_of) then.terms ∙ rw first.terms refl);
     }

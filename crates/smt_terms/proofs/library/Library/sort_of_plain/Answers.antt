@@ -1,4 +1,4 @@
-use Rattle.std.proofs.Common.{Ok, Option, ap, ◌∙◌, sym}
+use Rattle.std.proofs.Common.{Option, ap, ◌∙◌, sym}
 use Rattle.smt_terms.specs.Checking as checking
 use Rattle.smt_terms.specs.Internal.LibraryView.{names_of_library}
 use Rattle.smt_terms.specs.Signature.{Rank}
