@@ -17,16 +17,8 @@ report() {
     [ "$(head -n 1 "$work/report")" = "$2" ] || { echo "deep terms: $1: $(head -n 1 "$work/report")"; exit 1; }
 }
 
-# chain N VALUE: N functions, each calling the one before, and the assertion that the last gives this value for 0.
-chain() {
-    awk -v n="$1" -v value="$2" 'BEGIN {
-        print "(define-fun f0 ((x Int)) Int (+ x 1))"
-        for (i = 1; i < n; i++) printf "(define-fun f%d ((x Int)) Int (f%d x))\n", i, i - 1
-        printf "(assert (= (f%d 0) %d))(check-sat)(get-model)\n", n - 1, value }'
-}
-
-chain 1000000 1 | report 'a chain of 1,000,000 functions' 'check 1 at command 1000002: sat, confirmed'
-chain 1000000 2 | report 'a chain with a wrong value' \
+tests/chain.sh 1000000 1 | report 'a chain of 1,000,000 functions' 'check 1 at command 1000002: sat, confirmed'
+tests/chain.sh 1000000 2 | report 'a chain with a wrong value' \
     'check 1 at command 1000002: sat, model of command 1000003: refuted by the assertion of command 1000001'
 
 # Four functions nested 884 deep, each calling the one before.

@@ -1,7 +1,7 @@
 #!/bin/sh
 # Runs the reader, which rows calls, and the program with each of their requests for memory refused in turn, until a run meets none. Each
-# run has to give the right answer, or to say that memory was refused. Needs what `rt ci` has built, and a C compiler. Says nothing
-# where all is well.
+# run has to give the right answer, or to say that memory was refused. So does each copy of one long run, where thousands of requests are
+# refused. Needs what `rt ci` has built, and a C compiler. Says nothing where all is well.
 set -e
 cd "$(dirname "$0")/.."
 top=$PWD
@@ -9,6 +9,7 @@ work=$(mktemp -d)
 trap 'rm -rf "$work"' EXIT
 refuse=$work/refuse.so
 "${CC:-cc}" -shared -fPIC -O1 -o "$refuse" tests/refuse_memory.c
+"${CC:-cc}" -shared -fPIC -O1 -o "$work/each.so" tests/refuse_each.c
 
 fail() {
     echo "refused memory: $1, request $number: $2"
@@ -87,6 +88,27 @@ program() {
     each_request "$what" "$top/crates/smtcheck/out/smtcheck" "$@"
 }
 
+# The same of a run with many requests, each of which is refused in a copy of the program. At least so many are said to be refused.
+copies() {
+    what=$1
+    least=$2
+    number=any
+    shift 2
+    right=0
+    "$top/crates/smtcheck/out/smtcheck" "$@" >"$work/right" 2>"$work/errors" || right=$?
+    status=0
+    OUTCOMES=$work/outcomes LD_PRELOAD=$work/each.so "$top/crates/smtcheck/out/smtcheck" "$@" >"$work/output" || status=$?
+    [ "$status" = "$right" ] || fail "$what" "status $status of the program that was copied"
+    cmp -s "$work/output" "$work/right" || fail "$what" 'another report of the program that was copied'
+    {
+        echo "status $right, output: $(tr '\n' '|' <"$work/right"), errors: "
+        for word in memory script answers; do echo "status 4, output: , errors: smtcheck: $word|"; done
+    } >"$work/rightly"
+    if grep -vxF -f "$work/rightly" "$work/outcomes" >"$work/wrong"; then fail "$what" "$(head -n 1 "$work/wrong")"; fi
+    refused=$(grep -c 'smtcheck: memory' "$work/outcomes")
+    [ "$refused" -ge "$least" ] || fail "$what" "only $refused were met"
+}
+
 judge=judge_program
 data=$top/crates/smtcheck/data
 program 'a valid dialogue' "$data/script.smt2" "$data/answers.txt"
@@ -98,4 +120,7 @@ program 'the texts swapped' "$data/answers.txt" "$data/script.smt2"
 program 'a missing file' "$data/script.smt2" "$work/none"
 program 'a word too many' "$data/script.smt2" "$data/answers.txt" "$data/script.smt2"
 program 'help' --help
+tests/chain.sh 1000 1 >"$work/script"
+echo 'sat ()' >"$work/answers"
+copies 'a chain of 1,000 functions' 5000 --print-success off "$work/script" "$work/answers"
 wait "$reader"

@@ -1,1 +1,2 @@
+pub mod DeclaredLemmas
 pub mod WeightLemmas

@@ -1,5 +1,7 @@
 //! Rows of models: each with the names that it defines, or its first fault. This file evaluates nothing.
 
+ghost use Rattle.std.specs.Prelude.{IfOk, MatchOption};
+ghost use Rattle.smt_eval.specs.Interpretation.{Fits};
 ghost use Rattle.smt_terms.specs.Library.{HasTheoriesOf, StandsFor};
 ghost use Rattle.smt_terms.specs.Signature.{Signature};
 
@@ -54,6 +56,7 @@ pub(crate) fn print_model<W: Write>(
     field: &Field,
 ) -> Result<Option<Interpretation>>
     requires { (s : Signature) × StandsFor declared.now s }
+    ensures { IfOk result (λ found. MatchOption found (Unit {0}) (λ model. Fits model declared.now)) }
 {
     let parts = parts_of(alloc, field)?;
     let read = Interpretation::read(declared, &parts);

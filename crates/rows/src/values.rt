@@ -1,113 +1,102 @@
-//! Rows of values: terms over the definitions of a model, each with its known value. This file computes no
-//! value itself.
+//! Rows of values: terms over the definitions of a model, each with its known value, which is found twice: by
+//! the term's tree, and by its node. This file computes no value itself.
 
+ghost use Rattle.smt_eval.specs.Interpretation.{Fits};
 ghost use Rattle.smt_terms.specs.Library.{StandsFor};
 ghost use Rattle.smt_terms.specs.Signature.{Signature};
 
+mod nodes;
+mod plain;
+
 use crate::models::{definitions_of, print_model};
 use crate::trees::{parts_of, tree_of, want_key};
+use crate::values::nodes::{declare_items, known_by_node};
+use crate::values::plain::plain_definitions;
 use anyhow::{Result, bail};
 use row_texts::Field;
 use smt_eval::plain::{Closed, Definition};
-use smt_eval::{Checked, Memory};
-use smt_forms::{ItemForm, item_form};
-use smt_terms::{Definition as Defined, Library};
-use smt_theory::Theories;
-use smt_trees::Trees;
+use smt_eval::{Checked, Interpretation};
+use smt_faults::TermFlaw;
+use smt_terms::Library;
+use smt_trees::{Tree, Trees};
 use smt_values::Value;
 use std::alloc::Global;
 use std::io;
 use std::io::Write;
 
-/// Prints what is answered to a model and to terms over it, in order.
+/// Prints what is answered to a model and to terms over it, in order. The library gets the names that the
+/// model defines.
 pub(crate) fn print<W: Write>(
     alloc: Global,
     out: &mut W,
-    declared: &Library,
+    script: &mut Library,
     title: &Field,
     fields: &[Field],
 ) -> Result<()>
-    requires { (s : Signature) × StandsFor declared.now s }
+    requires { (s : Signature) × StandsFor script.old s }
 {
     let Some((first, terms)) = fields.split_first() else {
         bail!("line {}: a row of values has a model", title.line);
     };
-    print_values(alloc, out, declared, first, terms)
+    want_key(first, "model")?;
+    let model = parts_of(alloc, first)?;
+    declare_items(alloc, script, &model)?;
+    print_values(alloc, out, script, first, &model, terms)
 }
 
 fn print_values<W: Write>(
     alloc: Global,
     out: &mut W,
-    declared: &Library,
+    script: &mut Library,
     first: &Field,
+    model: &Trees,
     terms: &[Field],
 ) -> Result<()>
-    requires { (s : Signature) × StandsFor declared.now s }
+    requires { (s : Signature) × StandsFor script.old s }
 {
-    want_key(first, "model")?;
-    let Some(_) = print_model(alloc, out, declared, first)? else {
+    let Some(interpretation) = print_model(alloc, out, script, first)? else {
         bail!("line {}: the model has a fault", first.line);
     };
-    let parts = parts_of(alloc, first)?;
-    let library = definitions_of(declared, &parts)?;
-    let Ok(definitions) = plain_definitions(alloc, &library, &parts) else {
+    print_over(alloc, out, script, &interpretation, model, terms)
+}
+
+fn print_over<W: Write>(
+    alloc: Global,
+    out: &mut W,
+    script: &mut Library,
+    interpretation: &Interpretation,
+    model: &Trees,
+    terms: &[Field],
+) -> Result<()>
+    requires { Fits interpretation.now script.old }
+{
+    let library = definitions_of(script, model)?;
+    let Ok(definitions) = plain_definitions(alloc, &library, model) else {
         bail!("memory was refused");
     };
     print_terms(
         alloc,
         out,
-        declared.theories(),
+        script,
+        interpretation,
         definitions.as_slice(),
         terms,
     )
 }
 
-// The definitions of a model with their bodies, which a library of them doesn't keep as trees.
-fn plain_definitions<'a>(
-    alloc: Global,
-    library: &'a Library,
-    model: &'a Trees,
-) -> Result<Vec<Definition<'a>>, Memory> {
-    let mut definitions = Vec::new(alloc);
-    let mut left = library.definitions();
-    for item in model.as_slice() {
-        if let Ok(form) = item_form(item)
-            && let Some((defined, rest)) = left.split_first()
-        {
-            push_definition(&mut definitions, defined, &form)?;
-            left = rest;
-        }
-    }
-    Ok(definitions)
-}
-
-// Puts a definition behind others.
-fn push_definition<'a>(
-    definitions: &mut Vec<Definition<'a>>,
-    defined: &'a Defined,
-    form: &ItemForm<'a>,
-) -> Result<(), Memory> {
-    match definitions.push(Definition {
-        name: form.name,
-        params: defined.params.as_slice(),
-        result: defined.result,
-        body: form.body,
-    }) {
-        Ok(()) => Ok(()),
-        Err(_) => Err(Memory),
-    }
-}
-
 fn print_terms<W: Write>(
     alloc: Global,
     out: &mut W,
-    theories: Theories,
+    script: &mut Library,
+    interpretation: &Interpretation,
     definitions: &[Definition<'_>],
     fields: &[Field],
-) -> Result<()> {
+) -> Result<()>
+    requires { Fits interpretation.now script.old }
+{
     for field in fields {
         want_key(field, "term")?;
-        print_value(alloc, out, theories, definitions, field)?;
+        print_value(alloc, out, script, interpretation, definitions, field)?;
     }
     Ok(())
 }
@@ -115,41 +104,76 @@ fn print_terms<W: Write>(
 fn print_value<W: Write>(
     alloc: Global,
     out: &mut W,
-    theories: Theories,
+    script: &mut Library,
+    interpretation: &Interpretation,
     definitions: &[Definition<'_>],
     field: &Field,
-) -> Result<()> {
+) -> Result<()>
+    requires { Fits interpretation.now script.old }
+    ensures { Fits interpretation.now script.new }
+{
     let tree = tree_of(alloc, field)?;
-    let term = Closed {
-        alloc,
-        theories,
-        definitions,
-        tree: &tree,
-    };
-    write_value(out, field, &term.known())
+    let by_tree = known_by_tree(alloc, script, definitions, &tree)?;
+    let by_node = known_by_node(script, interpretation, &tree)?;
+    write_value(out, field, &by_tree, &by_node)?;
+    Ok(())
 }
 
+// What is known of a term by its tree.
+fn known_by_tree(
+    alloc: Global,
+    script: &Library,
+    definitions: &[Definition<'_>],
+    tree: &Tree,
+) -> Result<Option<Value>> {
+    let term = Closed {
+        alloc,
+        theories: script.theories(),
+        definitions,
+        tree,
+    };
+    match term.known() {
+        Ok(known) => Ok(known),
+        Err(_) => bail!("out of memory"),
+    }
+}
+
+// Writes what is known of a term by its tree, and of what by its node says something else.
 fn write_value<W: Write>(
     out: &mut W,
     field: &Field,
-    known: &Result<Option<Value>, Memory>,
-) -> Result<()> {
-    let Ok(known) = known else {
-        bail!("out of memory");
-    };
+    by_tree: &Option<Value>,
+    by_node: &Result<Option<Value>, TermFlaw>,
+) -> io::Result<()> {
     write!(out, "{} => ", field.text)?;
-    write_known(out, known)?;
+    write_known(out, by_tree)?;
+    match by_node {
+        Ok(known) => write_other(out, by_tree, known)?,
+        Err(flaw) => write!(out, ", and no term: {flaw}")?,
+    }
+    writeln!(out)
+}
+
+fn write_other<W: Write>(
+    out: &mut W,
+    by_tree: &Option<Value>,
+    by_node: &Option<Value>,
+) -> io::Result<()> {
+    if by_node != by_tree {
+        write!(out, ", but by its node ")?;
+        write_known(out, by_node)?;
+    }
     Ok(())
 }
 
 fn write_known<W: Write>(out: &mut W, known: &Option<Value>) -> io::Result<()> {
     match known {
-        Some(Value::Bool(value)) => writeln!(out, "{value}"),
-        Some(Value::Int(value)) => writeln!(out, "{value}"),
+        Some(Value::Bool(value)) => write!(out, "{value}"),
+        Some(Value::Int(value)) => write!(out, "{value}"),
         Some(Value::Bits(value)) => {
             let bits = value.width().bits();
-            writeln!(out, "(_ bv{} {bits})", value.number())
+            write!(out, "(_ bv{} {bits})", value.number())
         }
-        None => writeln!(out, "open"),
+        None => write!(out, "open"),
     }
 }

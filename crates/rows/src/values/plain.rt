@@ -1,0 +1,44 @@
+//! The definitions of a model as their trees.
+
+use smt_eval::Memory;
+use smt_eval::plain::Definition;
+use smt_forms::{ItemForm, item_form};
+use smt_terms::{Definition as Defined, Library};
+use smt_trees::Trees;
+use std::alloc::Global;
+
+/// The definitions of a model with their bodies, which a library of them doesn't keep as trees.
+pub(crate) fn plain_definitions<'a>(
+    alloc: Global,
+    library: &'a Library,
+    model: &'a Trees,
+) -> Result<Vec<Definition<'a>>, Memory> {
+    let mut definitions = Vec::new(alloc);
+    let mut left = library.definitions();
+    for item in model.as_slice() {
+        if let Ok(form) = item_form(item)
+            && let Some((defined, rest)) = left.split_first()
+        {
+            push_definition(&mut definitions, defined, &form)?;
+            left = rest;
+        }
+    }
+    Ok(definitions)
+}
+
+// Puts a definition behind others.
+fn push_definition<'a>(
+    definitions: &mut Vec<Definition<'a>>,
+    defined: &'a Defined,
+    form: &ItemForm<'a>,
+) -> Result<(), Memory> {
+    match definitions.push(Definition {
+        name: form.name,
+        params: defined.params.as_slice(),
+        result: defined.result,
+        body: form.body,
+    }) {
+        Ok(()) => Ok(()),
+        Err(_) => Err(Memory),
+    }
+}
