@@ -9,6 +9,11 @@ pub mod FirstFaultLemmas
 pub mod PairingUnique
 pub mod ReportUnique
 pub mod ReportExists
+pub mod GrowthLemmas
+pub mod WaitLemmas
+pub mod LinesStayLemmas
+pub mod SoFarLemmas
+pub mod ReadSoFarLemmas
 pub mod ConfirmedLemmas
 pub mod ValidityLemmas
 pub mod VerdictLawLemmas

@@ -101,7 +101,7 @@ OneReading = (bound : ℕ) (ended : Bool) (text : List ℕ) (xs ys : Sexps) (f g
     → Reads bound ended text xs f → Reads bound ended text ys g → (xs ≡ ys) × (f ≡ g)
 
 -- so a text is read as one
-same_text : OneReading → (told : Bool) (bytes : List ℕ) (x y : TextSoFar) → IsRead told bytes x
+pub same_text : OneReading → (told : Bool) (bytes : List ℕ) (x y : TextSoFar) → IsRead told bytes x
     → IsRead told bytes y → x ≡ y
 same_text one told bytes x y f g =
     let both = one limit told bytes x.trees y.trees x.fault y.fault f.reads g.reads in

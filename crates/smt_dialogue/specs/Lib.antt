@@ -7,6 +7,7 @@ pub mod Judgement
 pub mod Lines
 pub mod FirstFault
 pub mod Report
+pub mod SoFar
 pub mod Validity
 pub mod VerdictLaws
 pub mod Internal

@@ -1,6 +1,8 @@
 //! What holds of the definitions of a dialogue. Nothing here does anything: each contract is a law, and each
 //! call is of a law that it rests on.
 
+pub mod so_far;
+
 ghost use Rattle.std.specs.Prelude.{◌≡◌, ◌≤◌, ℕ, ◌+◌, List, [], ◌∷◌, ◌++◌, length, Bool, true, false, ◌&&◌};
 ghost use Rattle.std.specs.Prelude.{Option, Ok, Err};
 ghost use Rattle.smt_text.specs.Grammar.{Forest, limit};

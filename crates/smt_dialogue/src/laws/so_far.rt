@@ -1,0 +1,55 @@
+//! What holds of the lines of two texts so far, of which more may come. Nothing here does anything: each
+//! contract is a law, and each call is of a law that it rests on.
+
+ghost use Rattle.std.specs.Prelude.{◌≡◌, ℕ, List, Bool, true};
+ghost use Rattle.smt_dialogue.specs.FirstFault.{TextSoFar};
+ghost use Rattle.smt_dialogue.specs.Report.{IsReport};
+ghost use Rattle.smt_dialogue.specs.SoFar.{AreGrown, AreLinesSoFar, IsBeginning, IsGrown, IsSoFar};
+ghost use Rattle.smt_dialogue.specs.declared.options.Options.{Options};
+ghost use Rattle.smt_report.specs.declared.line.Line.{Line};
+
+use smt_text::laws::{every_text_reads, one_reading, read_faults_stay, read_trees_stay};
+
+/// Two texts so far, with their ends told or not, have lines, and these are one answer.
+pub fn lines_so_far_are_one_answer()
+    ensures some { (options : Options) (script_told answers_told : Bool) (script answers : List ℕ)
+        → (ls : List Line) × IsSoFar options script_told script answers_told answers ls }
+    ensures one { (options : Options) (script_told answers_told : Bool) (script answers : List ℕ)
+        (ls ms : List Line) → IsSoFar options script_told script answers_told answers ls
+        → IsSoFar options script_told script answers_told answers ms → ls ≡ ms }
+{
+    every_text_reads();
+    one_reading();
+}
+
+/// Where both ends were told, the lines so far are the report.
+pub fn told_lines_are_the_report()
+    ensures report { (options : Options) (script answers : List ℕ) (ls : List Line)
+        → IsSoFar options true script true answers ls → IsReport options script answers ls }
+    ensures so_far { (options : Options) (script answers : List ℕ) (ls : List Line)
+        → IsReport options script answers ls → IsSoFar options true script true answers ls }
+{}
+
+/// Lines that are decided stay, in their order, whatever trees, ends and faults come.
+pub fn decided_lines_stay()
+    ensures { (initial : Bool) (script answers grown_script grown_answers : TextSoFar) (ls ms : List Line)
+        → IsGrown script grown_script → IsGrown answers grown_answers
+        → AreLinesSoFar initial script answers ls → AreLinesSoFar initial grown_script grown_answers ms
+        → IsBeginning ls ms }
+{}
+
+/// The same of bytes: the lines so far are the first of those of more of both texts.
+pub fn lines_so_far_stay()
+    ensures { (options : Options) (script_told answers_told grown_script_told grown_answers_told : Bool)
+        (script answers grown_script grown_answers : List ℕ) (ls ms : List Line)
+        → AreGrown script_told script grown_script_told grown_script
+        → AreGrown answers_told answers grown_answers_told grown_answers
+        → IsSoFar options script_told script answers_told answers ls
+        → IsSoFar options grown_script_told grown_script grown_answers_told grown_answers ms
+        → IsBeginning ls ms }
+{
+    one_reading();
+    read_faults_stay();
+    read_trees_stay();
+    decided_lines_stay();
+}
