@@ -138,7 +138,8 @@ fn known_by_tree(
     }
 }
 
-// Writes what is known of a term by its tree, and of what by its node says something else.
+// Writes what is known of a term by its tree, and behind it what its node gives, if that differs, or why the
+// term is refused.
 fn write_value<W: Write>(
     out: &mut W,
     field: &Field,
