@@ -326,40 +326,6 @@ fn name_of(alloc: Global, bytes: &mut Vec<u8>) -> Result<Tree, AllocError>
     }
 }
 
-// The reserved word or the simple symbol at the beginning of a text, of so many bytes.
-#[inline(always)]
-fn name_at(alloc: Global, text: &[u8], count: usize) -> Result<Tree, AllocError>
-    requires { count ≤ length text.now }
-    ensures { IfOk result (λ tree. let name = take count text.now
-        in sexp_of tree ≡ machine.name_or_word (machine.word_named name) name) }
-{
-    match word_of(&text[..count]) {
-        Some(word) => Ok(Tree::Reserved(word)),
-        None => Ok(Tree::Symbol(Bytes::first_of(alloc, text, count)?)),
-    }
-}
-
-/// The atom that a token which says so many bytes at the beginning of a text is if it ends here.
-#[inline(always)]
-pub(crate) fn atom_at(
-    alloc: Global,
-    token: AtomState,
-    text: &[u8],
-    count: usize,
-) -> Result<Option<Tree>, AllocError>
-    requires { count ≤ length text.now }
-    ensures { IfOk result (λ tree. option_map sexp_of tree ≡ machine.atom_of token (take count text.now)) }
-{
-    let atom = match token {
-        AtomState::Name => name_at(alloc, text, count)?,
-        AtomState::Digits => Tree::Numeral(Bytes::first_of(alloc, text, count)?),
-        AtomState::HexDigits => Tree::Hex(Bytes::first_of(alloc, text, count)?),
-        AtomState::BinDigits => Tree::Bin(Bytes::first_of(alloc, text, count)?),
-        _ => return atom_of(alloc, token, &mut Vec::from_slice(alloc, &text[..count])?),
-    };
-    Ok(Some(atom))
-}
-
 /// How many bytes at the beginning of a text belong to a comment that has begun.
 pub(crate) fn comment_length(text: &[u8]) -> usize
     ensures within { result ≤ length text.now }

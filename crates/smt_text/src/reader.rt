@@ -18,14 +18,15 @@ ghost use Rattle.smt_faults.specs.declared.text_flaw.TextFlaw.{TextFlaw};
 ghost use Rattle.smt_faults.specs.Faults.{flaw_in};
 ghost use Rattle.smt_faults.specs.declared.failure.Failure.TheVariants as failures;
 ghost use Rattle.smt_text.specs.declared.refusal.Refusal.TheVariants.{TooDeep, Unfit};
-ghost use Rattle.smt_text.specs.declared.lexer.AtomState.TheVariants.{InComment, Nothing};
+ghost use Rattle.smt_text.specs.declared.lexer.AtomState.TheVariants.{InComment, Name, Nothing};
 
 use crate::builder::Builder;
 use crate::byte_class::{is_letter, is_nonzero_digit, is_white};
-use crate::lexer::{AtomState, LexerStep, atom_at, atom_of, comment_length};
+use crate::lexer::{AtomState, LexerStep, atom_of, comment_length};
 use crate::refusal::Refusal;
+use crate::reserved::word_of;
 use smt_faults::{Failure, Memory, TextFault, TextFlaw};
-use smt_trees::{Tree, Trees};
+use smt_trees::{Bytes, Tree, Trees};
 use std::alloc::Global;
 use std::mem;
 
@@ -271,7 +272,54 @@ impl Reader {
         ensures added { IfOk result (λ _. levels_of self.new.builder
             ≡ add_if (atom_of token (take count text.now)) (levels_of self.old.builder)) }
     {
-        match atom_at(self.alloc, token, text, count)? {
+        match token {
+            AtomState::Name => self.add_name(text, count),
+            AtomState::Digits => {
+                let digits = Bytes::first_of(self.alloc, text, count)?;
+                self.builder.add(Tree::Numeral(digits))
+            }
+            AtomState::HexDigits => {
+                let digits = Bytes::first_of(self.alloc, text, count)?;
+                self.builder.add(Tree::Hex(digits))
+            }
+            AtomState::BinDigits => {
+                let digits = Bytes::first_of(self.alloc, text, count)?;
+                self.builder.add(Tree::Bin(digits))
+            }
+            _ => self.add_other(token, text, count),
+        }
+    }
+
+    // Adds the reserved word or the simple symbol of so many bytes at the beginning of a text.
+    #[inline(always)]
+    fn add_name(&mut self, text: &[u8], count: usize) -> Result<(), Memory>
+        requires { count ≤ length text.now }
+        ensures beside { IsBeside self.old self.new }
+        ensures token { self.new.token ≡ self.old.token }
+        ensures bytes { self.new.bytes ≡ self.old.bytes }
+        ensures added { IfOk result (λ _. levels_of self.new.builder
+            ≡ add_if (atom_of Name (take count text.now)) (levels_of self.old.builder)) }
+    {
+        match word_of(&text[..count]) {
+            Some(word) => self.builder.add(Tree::Reserved(word)),
+            None => {
+                let name = Bytes::first_of(self.alloc, text, count)?;
+                self.builder.add(Tree::Symbol(name))
+            }
+        }
+    }
+
+    // Adds the atom of another token.
+    fn add_other(&mut self, token: AtomState, text: &[u8], count: usize) -> Result<(), Memory>
+        requires { count ≤ length text.now }
+        ensures beside { IsBeside self.old self.new }
+        ensures token { self.new.token ≡ self.old.token }
+        ensures bytes { self.new.bytes ≡ self.old.bytes }
+        ensures added { IfOk result (λ _. levels_of self.new.builder
+            ≡ add_if (atom_of token (take count text.now)) (levels_of self.old.builder)) }
+    {
+        let mut bytes = Vec::from_slice(self.alloc, &text[..count])?;
+        match atom_of(self.alloc, token, &mut bytes)? {
             Some(tree) => self.builder.add(tree),
             None => Ok(()),
         }

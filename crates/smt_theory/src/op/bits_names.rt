@@ -18,6 +18,7 @@ use crate::width::Width;
 
 /// The plain operator of this name. Each symbol of a script is asked, so one operator is found by the length
 /// and three bytes, and then compared.
+#[inline(always)]
 pub(crate) fn bits_op(symbol: &[u8]) -> Option<BitsOp>
     ensures { result ≡ bits_named symbol.now }
 {

@@ -18,6 +18,7 @@ use crate::theories::Theories;
 /// `Unknown` where they have none of that name in that form; `Index` where the indexes are wrong in number,
 /// kind or range.
 #[tactic(auto, using(crate::proofs::OperatorLemmas::op_by_indexed))]
+#[inline(always)]
 pub fn op_of(theories: Theories, symbol: &[u8], indexes: &[Index]) -> Result<Op, OpFault>
     ensures { result ≡ op_by theories symbol.now (map index_view indexes.now) }
 {
@@ -31,6 +32,7 @@ pub fn op_of(theories: Theories, symbol: &[u8], indexes: &[Index]) -> Result<Op,
     }
 }
 
+#[inline(always)]
 fn plain(theories: Theories, symbol: &[u8]) -> Option<Op>
     ensures { result ≡ plain_op theories symbol.now }
 {
@@ -70,6 +72,7 @@ fn divisible(indexes: &[Index]) -> Option<Op>
     }
 }
 
+#[inline(always)]
 fn core_op(symbol: &[u8]) -> Option<CoreOp>
     ensures { result ≡ core_named symbol.now }
 {
@@ -115,6 +118,7 @@ fn core_name(op: CoreOp) -> &'static [u8]
     }
 }
 
+#[inline(always)]
 fn ints_op(symbol: &[u8]) -> Option<IntsOp>
     ensures { result ≡ ints_named symbol.now }
 {
