@@ -132,7 +132,8 @@ impl Nodes {
     {
         let number = narrow(self.rows.len())?;
         let ends = self.tables.ends()?;
-        self.rows.push(StoredRow { stored, sort, ends })?;
+        self.rows.reserve(1)?;
+        self.rows.push_reserved(StoredRow { stored, sort, ends });
         Ok(TermId::new(number))
     }
 
