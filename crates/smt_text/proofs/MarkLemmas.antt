@@ -5,7 +5,7 @@ use Rattle.std.specs.Prelude.{◌==◌, if◌then◌else◌}
 use Rattle.smt_text.proofs.ByteLemmas.{digit_begins, letter_begins, lex_ended, push_first_bin, push_first_hex}
 use Rattle.smt_text.proofs.ReaderCompleteness.{step-at, run-cons}
 use Rattle.smt_text.specs.Internal.Machine.{Levels, At, lex, run, separated}
-use Rattle.smt_text.specs.Internal.ReaderState.{Begins}
+use Rattle.smt_text.specs.Internal.ReaderState.{BeginsAtom}
 use Rattle.smt_text.specs.Lexical.{is_binary_digit, is_hexadecimal_digit, is_letter, is_nonzero_digit, is_white}
 use Rattle.smt_text.specs.declared.lexer.AtomState.{AtomState}
 use Rattle.smt_text.specs.declared.lexer.AtomState.TheVariants.{Nothing, Digits, Hash, HexMark, HexDigits}
@@ -48,9 +48,9 @@ at_start P token bytes e f p = subst (λ t. P t bytes) (sym e) (subst (λ b. P N
 
 pub hexadecimal_begins : (token : AtomState) (bytes text : List ℕ) (levels : Levels) (d : ℕ) → token ≡ Nothing
     → bytes ≡ [] → true ≡ nat_lt 1 (length text) → get_or text 0 0 ≡ 35 → get_or text 1 d ≡ 120
-    → Begins (At token bytes levels) text 2 HexDigits
+    → BeginsAtom (At token bytes levels) text 2 HexDigits
 hexadecimal_begins token bytes text levels d e f lt first second =
-    at_start (λ t b. Begins (At t b levels) text 2 HexDigits) token bytes e f (record {
+    at_start (λ t b. BeginsAtom (At t b levels) text 2 HexDigits) token bytes e f (record {
       start = HexMark;
       marked = mark_run levels HexMark text 120 d (ltb-true 1 (length text) (sym lt)) first second refl;
       first = λ h. push_first_hex (get_or text 2 0)
@@ -60,9 +60,9 @@ hexadecimal_begins token bytes text levels d e f lt first second =
 
 pub binary_begins : (token : AtomState) (bytes text : List ℕ) (levels : Levels) (d : ℕ) → token ≡ Nothing
     → bytes ≡ [] → true ≡ nat_lt 1 (length text) → get_or text 0 0 ≡ 35 → get_or text 1 d ≡ 98
-    → Begins (At token bytes levels) text 2 BinDigits
+    → BeginsAtom (At token bytes levels) text 2 BinDigits
 binary_begins token bytes text levels d e f lt first second =
-    at_start (λ t b. Begins (At t b levels) text 2 BinDigits) token bytes e f (record {
+    at_start (λ t b. BeginsAtom (At t b levels) text 2 BinDigits) token bytes e f (record {
       start = BinMark;
       marked = mark_run levels BinMark text 98 d (ltb-true 1 (length text) (sym lt)) first second refl;
       first = λ h. push_first_bin (get_or text 2 0)
@@ -71,9 +71,9 @@ binary_begins token bytes text levels d e f lt first second =
     })
 
 pub name_begins : (token : AtomState) (bytes text : List ℕ) (levels : Levels) → token ≡ Nothing → bytes ≡ []
-    → is_letter (get_or text 0 0) ≡ true → Begins (At token bytes levels) text 0 Name
+    → is_letter (get_or text 0 0) ≡ true → BeginsAtom (At token bytes levels) text 0 Name
 name_begins token bytes text levels e f letter =
-    at_start (λ t b. Begins (At t b levels) text 0 Name) token bytes e f (record {
+    at_start (λ t b. BeginsAtom (At t b levels) text 0 Name) token bytes e f (record {
       start = Nothing;
       marked = refl;
       first = λ h. letter_begins (get_or text 0 0) letter;
@@ -81,9 +81,9 @@ name_begins token bytes text levels e f letter =
     })
 
 pub numeral_begins : (token : AtomState) (bytes text : List ℕ) (levels : Levels) → token ≡ Nothing
-    → bytes ≡ [] → is_nonzero_digit (get_or text 0 0) ≡ true → Begins (At token bytes levels) text 0 Digits
+    → bytes ≡ [] → is_nonzero_digit (get_or text 0 0) ≡ true → BeginsAtom (At token bytes levels) text 0 Digits
 numeral_begins token bytes text levels e f digit =
-    at_start (λ t b. Begins (At t b levels) text 0 Digits) token bytes e f (record {
+    at_start (λ t b. BeginsAtom (At t b levels) text 0 Digits) token bytes e f (record {
       start = Nothing;
       marked = refl;
       first = λ h. digit_begins (get_or text 0 0) digit;

@@ -9,7 +9,7 @@ use Rattle.smt_text.proofs.ReaderCompleteness.{step-at, run-push, run-cons, run-
 use Rattle.smt_text.specs.Lexical.{ends_token, is_white}
 use Rattle.smt_text.specs.Internal.Machine.{Levels, State, At, add_if, atom_of, ended, levels_in, lex}
 use Rattle.smt_text.specs.Internal.Machine.{separated, token_in, step, run, depth_of, blame, refusal_of, flaw_at}
-use Rattle.smt_text.specs.Internal.ReaderState.{Begins, GoesOver, GoesThrough}
+use Rattle.smt_text.specs.Internal.ReaderState.{BeginsAtom, GoesOver, GoesThrough}
 use Rattle.smt_text.specs.declared.lexer.AtomState.{AtomState}
 use Rattle.smt_text.specs.declared.lexer.AtomState.TheVariants.{Nothing, InComment}
 use Rattle.smt_text.specs.declared.lexer.LexerStep.{LexerStep}
@@ -113,7 +113,7 @@ further limit s mid next piece place n e f =
     ∙ ap (λ x. run limit mid (take n x)) (sym (rest_is piece place)) ∙ f
 
 -- an atom behind its mark
-marked_run : (s : State) (text : List ℕ) (mark n : ℕ) (token : AtomState) → Begins s text mark token → 0 < n
+marked_run : (s : State) (text : List ℕ) (mark n : ℕ) (token : AtomState) → BeginsAtom s text mark token → 0 < n
     → mark + n ≤ length text
     → ((k : ℕ) → k < n → lex token (get_or (rest_of text mark) k 0) ≡ Push token)
     → run MAX_DEPTH s (take (mark + n) text) ≡ Some (At token (take n (rest_of text mark)) (levels_in s))
@@ -126,7 +126,7 @@ marked_run s text mark n token begins some le h =
     (omega (arith, rest_length text mark)) first h)
 
 pub atom_white : (s : State) (next : Levels) (token new : AtomState) (left text : List ℕ) (mark n : ℕ)
-    → Begins s text mark token → new ≡ Nothing → left ≡ [] → 0 < n → mark + n < length text
+    → BeginsAtom s text mark token → new ≡ Nothing → left ≡ [] → 0 < n → mark + n < length text
     → ((k : ℕ) → k < n → lex token (get_or (rest_of text mark) k 0) ≡ Push token)
     → is_white (get_or text (mark + n) 0) ≡ true
     → next ≡ add_if (atom_of token (take n (rest_of text mark))) (levels_in s)
@@ -143,7 +143,7 @@ atom_white s next token new left text mark n begins e f some lt h white adds =
     )
 
 pub atom_close : (s : State) (mid next : Levels) (token new : AtomState) (left text : List ℕ) (mark n : ℕ)
-    → Begins s text mark token → new ≡ Nothing → left ≡ [] → 0 < n → mark + n < length text
+    → BeginsAtom s text mark token → new ≡ Nothing → left ≡ [] → 0 < n → mark + n < length text
     → ((k : ℕ) → k < n → lex token (get_or (rest_of text mark) k 0) ≡ Push token)
     → get_or text (mark + n) 0 ≡ 41 → 0 < depth_of (levels_in s)
     → mid ≡ add_if (atom_of token (take n (rest_of text mark))) (levels_in s) → ended mid ≡ next
@@ -160,7 +160,7 @@ atom_close s mid next token new left text mark n begins e f some lt h close deep
     )
 
 pub atom_kept : (s : State) (token : AtomState) (bytes longer text : List ℕ) (mark n : ℕ)
-    → Begins s text mark token → bytes ≡ [] → 0 < n → mark + n ≤ length text
+    → BeginsAtom s text mark token → bytes ≡ [] → 0 < n → mark + n ≤ length text
     → ((k : ℕ) → k < n → lex token (get_or (rest_of text mark) k 0) ≡ Push token)
     → longer ≡ bytes ++ take n (rest_of text mark)
     → Over MAX_DEPTH s text (mark + n) (At token longer (levels_in s))

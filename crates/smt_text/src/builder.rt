@@ -83,6 +83,7 @@ impl Builder {
     }
 
     // An empty vector, with the memory of a list that was closed, if there is one.
+    #[inline(always)]
     fn empty_list(&mut self) -> Vec<Tree>
         ensures empty { result.items ≡ [] }
         ensures lists { self.new.lists ≡ self.old.lists }

@@ -7,7 +7,7 @@ ghost use Rattle.smt_text.specs.Reader.{is_finished, bytes_fed, fault_of, trees_
 ghost use Rattle.smt_text.specs.Reader.{FewerWait, IsFound, with_answer};
 ghost use Rattle.smt_text.specs.Internal.Machine.{act, add_if, atom_of, finished, flush, lex, refusal_of};
 ghost use Rattle.smt_text.specs.Internal.Machine.{settle, step};
-ghost use Rattle.smt_text.specs.Internal.ReaderState.{levels_of, state_of, Begins, Ends, Goes, GoesOver};
+ghost use Rattle.smt_text.specs.Internal.ReaderState.{levels_of, state_of, BeginsAtom, Ends, Goes, GoesOver};
 ghost use Rattle.smt_text.specs.Internal.ReaderState.{GoesThrough};
 ghost use Rattle.smt_text.specs.Internal.ReaderState.{IsBeside};
 ghost use Rattle.smt_text.specs.Reading.{Reads};
@@ -235,7 +235,7 @@ impl Reader {
     ) -> Result<usize, Failure<Refusal>>
         requires some { 0 < length text.now }
         requires within { mark ≤ length text.now }
-        requires begins { Begins (state_of self.old) text.now mark token }
+        requires begins { BeginsAtom (state_of self.old) text.now mark token }
         requires token { self.old.token ≡ Nothing }
         requires bytes { self.old.bytes.items ≡ [] }
         ensures beside { IsBeside self.old self.new }

@@ -14,7 +14,6 @@ use crate::ranks::bits::rank_in_bits;
 use crate::sort::Sort;
 
 /// The sort of the operator's result for arguments of these sorts; `None` where it has no rank for them.
-#[inline(always)]
 pub fn rank(op: Op, args: &[Sort]) -> Option<Sort>
     ensures computed { result ≡ rank_of op args.now }
     ensures listed { (sort : Sort) → (result ≡ Some sort) ↔ HasRank op args.now sort }

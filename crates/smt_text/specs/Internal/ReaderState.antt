@@ -74,7 +74,7 @@ GoesOver old text (Err (Fault e)) new =
 GoesOver old text (Err Memory) new = Unit {0}
 
 -- behind a mark of so many bytes, of which no token keeps one, a token begins with a byte that it keeps
-pub record Begins (s : State) (text : List ℕ) (mark : ℕ) (token : AtomState) : Type 0 where
+pub record BeginsAtom (s : State) (text : List ℕ) (mark : ℕ) (token : AtomState) : Type 0 where
   pub start : AtomState
   pub marked : run MAX_DEPTH s (take mark text) ≡ Some (At start [] (levels_in s))
   pub first : lex token (get_or text mark 0) ≡ Push token → lex start (get_or text mark 0) ≡ Push token

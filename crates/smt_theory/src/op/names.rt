@@ -18,7 +18,6 @@ use crate::theories::Theories;
 /// `Unknown` where they have none of that name in that form; `Index` where the indexes are wrong in number,
 /// kind or range.
 #[tactic(auto, using(crate::proofs::OperatorLemmas::op_by_indexed))]
-#[inline(always)]
 pub fn op_of(theories: Theories, symbol: &[u8], indexes: &[Index]) -> Result<Op, OpFault>
     ensures { result ≡ op_by theories symbol.now (map index_view indexes.now) }
 {
