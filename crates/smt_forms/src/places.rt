@@ -55,10 +55,15 @@ impl<'a> Places<'a> {
     }
 
     // The place, from 0, of the last name that is this one.
+    #[inline(always)]
     pub fn find(&self, name: &[u8]) -> Option<usize>
         ensures { result ≡ place_from 0 self.now name.now }
     {
         let names = self.names.as_slice();
+        // Most terms have no variables.
+        if names.is_empty() {
+            return None;
+        }
         if names.len() <= FEW {
             return find_last(names, name);
         }
@@ -127,6 +132,7 @@ fn find_last(names: &[Placed<'_>], name: &[u8]) -> Option<usize>
     None
 }
 
+#[inline(always)]
 fn is_same(name: &[u8], other: &[u8]) -> bool
     ensures { result ≡ bytes_eq name.now other.now }
 {

@@ -39,6 +39,7 @@ impl<'a, V: Copy> Scope<'a, V> {
     }
 
     /// What stands for the innermost variable of this name, without bars; `None` where there is none.
+    #[inline(always)]
     pub fn find(&self, name: &[u8]) -> Option<V>
         ensures { result ≡ look_up (scope_of self.now) name.now }
     {
@@ -68,6 +69,7 @@ impl<'a, V: Copy> Scope<'a, V> {
     }
 }
 
+#[inline(always)]
 fn value_at<V: Copy>(values: &[V], place: usize) -> Option<V>
     ensures { result ≡ slice_get values.now place }
 {

@@ -80,6 +80,7 @@ impl PlainOp {
     }
 
     /// The plain form of an operator, unless it holds a number.
+    #[inline(always)]
     pub(crate) fn from_op(op: Op) -> Option<PlainOp>
         ensures same { IfSome result (λ plain. op_of_plain plain ≡ op) }
         ensures none { IfNone result (IsTrue (has_number op)) }
@@ -93,6 +94,7 @@ impl PlainOp {
 }
 
 // The plain form of an operator on integers.
+#[inline(always)]
 fn plain_ints(op: IntsOp) -> Option<PlainOp>
     ensures same { IfSome result (λ plain. op_of_plain plain ≡ Op.Ints op) }
     ensures none { IfNone result (IsTrue (has_number (Op.Ints op))) }
@@ -107,6 +109,7 @@ fn plain_ints(op: IntsOp) -> Option<PlainOp>
 }
 
 // The plain form of an operator on bit vectors.
+#[inline(always)]
 fn plain_bits(op: BitsOp) -> Option<PlainOp>
     ensures same { IfSome result (λ plain. op_of_plain plain ≡ Op.Bits op) }
     ensures none { IfNone result (IsTrue (has_number (Op.Bits op))) }

@@ -85,6 +85,7 @@ impl Nodes {
 
     /// Adds a node of a sort, without annotations round it, and answers its number. If memory is refused, no
     /// node is added.
+    #[inline(always)]
     pub fn push(&mut self, node: &Node<'_>, sort: Sort) -> Result<TermId, Memory>
         ensures pushed { OnOk result (rows_of self.new
             ≡ rows_of self.old ++ (record { node = node_view node.now; sort = sort; around = 0 }) ∷ []) }
@@ -119,6 +120,7 @@ impl Nodes {
     }
 
     // Adds a row behind lists that hold what it stores, and answers its number.
+    #[inline(always)]
     fn push_row(&mut self, stored: Stored, sort: Sort) -> Result<TermId, Memory>
         requires held { IsHeld (lengths (lists_of self.old.tables)) stored }
         requires below { rows_in stored ≤ length self.old.rows.items }
@@ -130,7 +132,8 @@ impl Nodes {
     {
         let number = narrow(self.rows.len())?;
         let ends = self.tables.ends()?;
-        self.rows.push(StoredRow { stored, sort, ends })?;
+        self.rows.reserve(1)?;
+        self.rows.push_reserved(StoredRow { stored, sort, ends });
         Ok(TermId::new(number))
     }
 

@@ -17,6 +17,9 @@ use smt_faults::Memory;
 use smt_theory::Op;
 use std::alloc::Global;
 
+/// How long a list may be.
+const MOST: usize = u32::MAX as usize;
+
 /// The lists behind the rows.
 #[derive(Drop)]
 pub(crate) struct Tables {
@@ -38,13 +41,20 @@ impl Tables {
     }
 
     /// How far the lists reach.
+    #[inline(always)]
     pub(crate) fn ends(&self) -> Result<Ends, Memory>
         ensures { IfOk result (λ ends. ends ≡ lengths (lists_of self.now)) }
     {
+        let parts = self.parts.len();
+        let digits = self.digits.len();
+        let ops = self.ops.len();
+        if parts > MOST || digits > MOST || ops > MOST {
+            return Err(Memory);
+        }
         Ok(Ends {
-            parts: narrow(self.parts.len())?,
-            digits: narrow(self.digits.len())?,
-            ops: narrow(self.ops.len())?,
+            parts: parts as u32,
+            digits: digits as u32,
+            ops: ops as u32,
         })
     }
 
@@ -95,6 +105,7 @@ impl Tables {
 
     /// Puts the digits, arguments or operator of a node at the ends of the lists. What was put there before a
     /// refusal of memory stays until the next cut, and belongs to no row.
+    #[inline(always)]
     pub(crate) fn store(&mut self, node: &Node<'_>) -> Result<Stored, Memory>
         ensures grown { Grows (lists_of self.old) (lists_of self.new) }
         ensures stored { IfOk result (λ s. IsStored (lists_of self.new) s (node_view node.now)) }
@@ -118,6 +129,7 @@ impl Tables {
     }
 
     // The same of an operator with its arguments.
+    #[inline(always)]
     fn store_apply(&mut self, op: &Op, args: &[TermId]) -> Result<Stored, Memory>
         ensures grown { Grows (lists_of self.old) (lists_of self.new) }
         ensures stored { IfOk result (λ s. IsStored (lists_of self.new) s (spec.Apply op.now args.now)) }
@@ -152,6 +164,7 @@ impl Tables {
     }
 
     // Adds arguments, and counts them.
+    #[inline(always)]
     fn push_parts(&mut self, parts: &[TermId]) -> Result<u32, Memory>
         ensures count { IfOk result (λ n. n ≡ length parts.now) }
         ensures pushed { OnOk result (self.new.parts.items ≡ self.old.parts.items ++ parts.now) }
@@ -159,6 +172,9 @@ impl Tables {
         ensures digits { self.new.digits ≡ self.old.digits }
         ensures ops { self.new.ops ≡ self.old.ops }
     {
+        if parts.is_empty() {
+            return Ok(0);
+        }
         let count = narrow(parts.len())?;
         self.parts.extend_from_slice(parts)?;
         Ok(count)
@@ -192,11 +208,12 @@ impl Tables {
 }
 
 /// A count in four bytes; no table that is longer is held.
+#[inline(always)]
 pub(crate) fn narrow(count: usize) -> Result<u32, Memory>
     ensures same { IfOk result (λ n. n ≡ count) }
     ensures refused { OnErr result (2 ^ 32 ≤ count) }
 {
-    if count > u32::MAX as usize {
+    if count > MOST {
         return Err(Memory);
     }
     Ok(count as u32)

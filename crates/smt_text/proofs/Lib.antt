@@ -12,6 +12,7 @@ pub mod ReadingLemmas
 pub mod BuilderLemmas
 pub mod ReaderLemmas
 pub mod RunLemmas
+pub mod MarkLemmas
 pub mod NestingLemmas
 pub mod ExampleLemmas
 mod KindLemmas

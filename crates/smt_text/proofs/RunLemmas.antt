@@ -4,14 +4,14 @@ use Rattle.std.proofs.Common.{get_or, Some, None, Err, true, refl, sym, ap, ◌�
 use Rattle.std.proofs.Math.Seq.{take-add}
 use Rattle.std.proofs.lemmas.List.{append-nil, append_assoc, take_more, take_all, get_or-drop, length-drop}
 use Rattle.smt_text.proofs.BuilderLemmas.{end_taken}
-use Rattle.smt_text.proofs.ByteLemmas.{lex_ended, letter_begins, white_ends, white_separates}
+use Rattle.smt_text.proofs.ByteLemmas.{white_ends, white_separates}
 use Rattle.smt_text.proofs.ReaderCompleteness.{step-at, run-push, run-cons, run-append}
-use Rattle.smt_text.specs.Lexical.{is_letter, is_white}
-use Rattle.smt_text.specs.Internal.Machine.{Levels, State, At, add, word_named, name_or_word, ended, lex}
-use Rattle.smt_text.specs.Internal.Machine.{token_in, step, run, depth_of, blame, refusal_of, flaw_at}
-use Rattle.smt_text.specs.Internal.ReaderState.{GoesOver, GoesThrough}
+use Rattle.smt_text.specs.Lexical.{ends_token, is_white}
+use Rattle.smt_text.specs.Internal.Machine.{Levels, State, At, add_if, atom_of, ended, levels_in, lex}
+use Rattle.smt_text.specs.Internal.Machine.{separated, token_in, step, run, depth_of, blame, refusal_of, flaw_at}
+use Rattle.smt_text.specs.Internal.ReaderState.{BeginsAtom, GoesOver, GoesThrough}
 use Rattle.smt_text.specs.declared.lexer.AtomState.{AtomState}
-use Rattle.smt_text.specs.declared.lexer.AtomState.TheVariants.{Nothing, Name, InComment}
+use Rattle.smt_text.specs.declared.lexer.AtomState.TheVariants.{Nothing, InComment}
 use Rattle.smt_text.specs.declared.lexer.LexerStep.{LexerStep}
 use Rattle.smt_text.specs.declared.lexer.LexerStep.TheVariants.{Push, Skip, Finish, Open, Close, Stuck}
 use Rattle.smt_faults.specs.declared.failure.Failure.TheVariants.{Fault}
@@ -49,23 +49,16 @@ skipped_run limit levels token bytes text n e le h =
         (step-at limit (At InComment bytes levels) b (Skip InComment) (h 0 (omega arith)))
         ∙ in_comment text n (omega arith) (λ k lt. h (suc k) (omega arith))
 
--- a name
-pub name_run : (limit : ℕ) (levels : Levels) (token : AtomState) (bytes text : List ℕ) (n : ℕ)
-    → token ≡ Nothing → bytes ≡ [] → 0 < n → n ≤ length text → is_letter (get_or text 0 0) ≡ true
-    → ((k : ℕ) → k < n → lex Name (get_or text k 0) ≡ Push Name)
-    → run limit (At token bytes levels) (take n text) ≡ Some (At Name (take n text) levels)
-name_run limit levels token bytes text n e f some le letter h =
-    ap (λ t. run limit (At t bytes levels) (take n text)) e ∙ ap
-    (λ x. run limit (At Nothing x levels) (take n text)) f ∙ by text n some le letter h
-  where
-    by : (text : List ℕ) (n : ℕ) → 0 < n → n ≤ length text → is_letter (get_or text 0 0) ≡ true
-        → ((k : ℕ) → k < n → lex Name (get_or text k 0) ≡ Push Name)
-        → run limit (At Nothing [] levels) (take n text) ≡ Some (At Name (take n text) levels)
-    by text zero some le letter h = absurd (omega arith)
-    by [] (suc n) some le letter h = absurd (omega arith)
-    by (b ∷ text) (suc n) some le letter h =
-        run-push limit levels Nothing Name [] b (take n text) (letter_begins b letter)
-        ∙ kept_run limit levels Name (b ∷ []) text n (omega arith) (λ k lt. h (suc k) (omega arith))
+-- an atom, from its first byte on
+pub atom_run : (limit : ℕ) (levels : Levels) (start token : AtomState) (text : List ℕ) (n : ℕ)
+    → 0 < n → n ≤ length text → lex start (get_or text 0 0) ≡ Push token
+    → ((k : ℕ) → k < n → lex token (get_or text k 0) ≡ Push token)
+    → run limit (At start [] levels) (take n text) ≡ Some (At token (take n text) levels)
+atom_run limit levels start token text zero some le first h = absurd (omega arith)
+atom_run limit levels start token [] (suc n) some le first h = absurd (omega arith)
+atom_run limit levels start token (b ∷ text) (suc n) some le first h =
+    run-push limit levels start token [] b (take n text) first
+    ∙ kept_run limit levels token (b ∷ []) text n (omega arith) (λ k lt. h (suc k) (omega arith))
 
 -- and the byte behind it
 one_more : (limit : ℕ) (s mid next : State) (text : List ℕ) (n : ℕ) → n < length text
@@ -78,72 +71,23 @@ one_more limit s mid next text n lt e k =
 abbrev pub Over : ℕ → State → List ℕ → ℕ → State → Type 0
 Over limit s text n next = (0 < n) × (n ≤ length text) × (run limit s (take n text) ≡ Some next)
 
-white_step : (limit : ℕ) (levels : Levels) (name : List ℕ) (b : ℕ) → is_white b ≡ true
-    → step limit (At Name name levels) b
-    ≡ Some (At Nothing [] (add (name_or_word (word_named name) name) levels))
-white_step limit levels name b h = step-at limit (At Name name levels) b (Finish Nothing)
-    (lex_ended Name b tt (white_ends b h) ∙ white_separates b h)
+white_step : (limit : ℕ) (levels : Levels) (token : AtomState) (said : List ℕ) (b : ℕ)
+    → lex token b ≡ separated b → is_white b ≡ true
+    → step limit (At token said levels) b ≡ Some (At Nothing [] (add_if (atom_of token said) levels))
+white_step limit levels token said b e h =
+    step-at limit (At token said levels) b (Finish Nothing) (e ∙ white_separates b h)
 
-close_step : (limit : ℕ) (levels next : Levels) (name : List ℕ) (b : ℕ) → b ≡ 41 → 0 < depth_of levels
-    → ended (add (name_or_word (word_named name) name) levels) ≡ next
-    → step limit (At Name name levels) b ≡ Some (At Nothing [] next)
-close_step limit levels next name b e h k =
-    step-at limit (At Name name levels) b Close (ap (λ x. lex Name x) e) ∙ end_taken limit
-    (At Name name levels) next h k
+close_step : (limit : ℕ) (levels next : Levels) (token : AtomState) (said : List ℕ) (b : ℕ)
+    → lex token b ≡ separated b → b ≡ 41 → 0 < depth_of levels
+    → ended (add_if (atom_of token said) levels) ≡ next
+    → step limit (At token said levels) b ≡ Some (At Nothing [] next)
+close_step limit levels next token said b s e h k =
+    step-at limit (At token said levels) b Close (s ∙ ap separated e) ∙ end_taken limit
+    (At token said levels) next h k
 
 at_nothing : (token : AtomState) (bytes : List ℕ) (levels : Levels) → token ≡ Nothing → bytes ≡ []
     → At Nothing [] levels ≡ At token bytes levels
 at_nothing token bytes levels e f = ap (λ t. At t [] levels) (sym e) ∙ ap (λ x. At token x levels) (sym f)
-
-pub name_white : (limit : ℕ) (levels next : Levels) (token new : AtomState) (bytes left text : List ℕ) (n : ℕ)
-    → token ≡ Nothing → bytes ≡ [] → new ≡ token → left ≡ bytes → 0 < n → n < length text
-    → is_letter (get_or text 0 0) ≡ true → ((k : ℕ) → k < n → lex Name (get_or text k 0) ≡ Push Name)
-    → is_white (get_or text n 0) ≡ true
-    → next ≡ add (name_or_word (word_named (take n text)) (take n text)) levels
-    → Over limit (At token bytes levels) text (n + 1) (At new left next)
-name_white limit levels next token new bytes left text n e f g h some lt letter run white adds =
-    let runs = name_run limit levels token bytes text n e f some (omega arith) letter run in (
-      omega arith,
-      omega arith,
-      one_more limit (At token bytes levels) (At Name (take n text) levels)
-          (At new left next) text n lt runs
-          (white_step limit levels (take n text) (get_or text n 0) white ∙ ap (λ x. Some (At Nothing [] x))
-          (sym adds) ∙ ap Some (at_nothing new left next (g ∙ e) (h ∙ f))),
-    )
-
-pub name_close : (limit : ℕ) (levels mid next : Levels) (token new : AtomState) (bytes left text : List ℕ)
-    (n : ℕ) → token ≡ Nothing → bytes ≡ [] → new ≡ token → left ≡ bytes → 0 < n → n < length text
-    → is_letter (get_or text 0 0) ≡ true → ((k : ℕ) → k < n → lex Name (get_or text k 0) ≡ Push Name)
-    → get_or text n 0 ≡ 41 → 0 < depth_of levels
-    → mid ≡ add (name_or_word (word_named (take n text)) (take n text)) levels → ended mid ≡ next
-    → Over limit (At token bytes levels) text (n + 1) (At new left next)
-name_close limit levels mid next token new bytes left text n e f g h some lt letter run close deep adds ends =
-    let runs = name_run limit levels token bytes text n e f some (omega arith) letter run in (
-      omega arith,
-      omega arith,
-      one_more limit (At token bytes levels) (At Name (take n text) levels)
-          (At new left next) text n lt runs
-          (close_step limit levels next (take n text) (get_or text n 0) close deep
-          (ap ended (sym adds) ∙ ends) ∙ ap Some (at_nothing new left next (g ∙ e) (h ∙ f))),
-    )
-
-pub name_kept : (limit : ℕ) (levels : Levels) (token : AtomState) (bytes longer text : List ℕ) (n : ℕ)
-    → token ≡ Nothing → bytes ≡ [] → 0 < n → n ≤ length text → is_letter (get_or text 0 0) ≡ true
-    → ((k : ℕ) → k < n → lex Name (get_or text k 0) ≡ Push Name) → longer ≡ bytes ++ take n text
-    → Over limit (At token bytes levels) text n (At Name longer levels)
-name_kept limit levels token bytes longer text n e f some le letter h is =
-    let same : take n text ≡ longer = ap (λ x. x ++ take n text) (sym f) ∙ sym is in (
-      some,
-      le,
-      name_run limit levels token bytes text n e f some le letter h ∙ ap
-          (λ x. Some (At Name x levels)) same,
-    )
-
-pub run_kept : (limit : ℕ) (levels : Levels) (token : AtomState) (bytes longer text : List ℕ) (n : ℕ) → 0 < n
-    → n ≤ length text → ((k : ℕ) → k < n → lex token (get_or text k 0) ≡ Push token)
-    → longer ≡ bytes ++ take n text → Over limit (At token bytes levels) text n (At token longer levels)
-run_kept limit levels token bytes longer text n some le h is =
-    (some, le, kept_run limit levels token bytes text n le h ∙ ap (λ x. Some (At token x levels)) (sym is))
 
 -- what is left of a piece
 abbrev pub rest_of : List ℕ → ℕ → List ℕ
@@ -167,6 +111,72 @@ further limit s mid next piece place n e f =
     ap (run limit s) (take-add place n piece) ∙ run-append limit s mid (take place piece)
     (take n (drop place piece)) e
     ∙ ap (λ x. run limit mid (take n x)) (sym (rest_is piece place)) ∙ f
+
+-- an atom behind its mark
+marked_run : (s : State) (text : List ℕ) (mark n : ℕ) (token : AtomState) → BeginsAtom s text mark token → 0 < n
+    → mark + n ≤ length text
+    → ((k : ℕ) → k < n → lex token (get_or (rest_of text mark) k 0) ≡ Push token)
+    → run MAX_DEPTH s (take (mark + n) text) ≡ Some (At token (take n (rest_of text mark)) (levels_in s))
+marked_run s text mark n token begins some le h =
+    let first : lex begins.start (get_or (rest_of text mark) 0 0) ≡ Push token = ap (lex begins.start)
+    (first_of_rest text mark) ∙ begins.first (ap (lex token) (sym (first_of_rest text mark)) ∙ h 0 some) in
+    further MAX_DEPTH s (At begins.start [] (levels_in s))
+    (At token (take n (rest_of text mark)) (levels_in s)) text mark n begins.marked
+    (atom_run MAX_DEPTH (levels_in s) begins.start token (rest_of text mark) n some
+    (omega (arith, rest_length text mark)) first h)
+
+pub atom_white : (s : State) (next : Levels) (token new : AtomState) (left text : List ℕ) (mark n : ℕ)
+    → BeginsAtom s text mark token → new ≡ Nothing → left ≡ [] → 0 < n → mark + n < length text
+    → ((k : ℕ) → k < n → lex token (get_or (rest_of text mark) k 0) ≡ Push token)
+    → is_white (get_or text (mark + n) 0) ≡ true
+    → next ≡ add_if (atom_of token (take n (rest_of text mark))) (levels_in s)
+    → Over MAX_DEPTH s text (mark + n + 1) (At new left next)
+atom_white s next token new left text mark n begins e f some lt h white adds =
+    let said = take n (rest_of text mark) in
+    let b = get_or text (mark + n) 0 in (
+      omega arith,
+      omega arith,
+      one_more MAX_DEPTH s (At token said (levels_in s)) (At new left next) text (mark + n) lt
+          (marked_run s text mark n token begins some (omega arith) h)
+          (white_step MAX_DEPTH (levels_in s) token said b (begins.ended b (white_ends b white)) white ∙ ap
+          (λ x. Some (At Nothing [] x)) (sym adds) ∙ ap Some (at_nothing new left next e f)),
+    )
+
+pub atom_close : (s : State) (mid next : Levels) (token new : AtomState) (left text : List ℕ) (mark n : ℕ)
+    → BeginsAtom s text mark token → new ≡ Nothing → left ≡ [] → 0 < n → mark + n < length text
+    → ((k : ℕ) → k < n → lex token (get_or (rest_of text mark) k 0) ≡ Push token)
+    → get_or text (mark + n) 0 ≡ 41 → 0 < depth_of (levels_in s)
+    → mid ≡ add_if (atom_of token (take n (rest_of text mark))) (levels_in s) → ended mid ≡ next
+    → Over MAX_DEPTH s text (mark + n + 1) (At new left next)
+atom_close s mid next token new left text mark n begins e f some lt h close deep adds ends =
+    let said = take n (rest_of text mark) in
+    let b = get_or text (mark + n) 0 in (
+      omega arith,
+      omega arith,
+      one_more MAX_DEPTH s (At token said (levels_in s)) (At new left next) text (mark + n) lt
+          (marked_run s text mark n token begins some (omega arith) h)
+          (close_step MAX_DEPTH (levels_in s) next token said b (begins.ended b (ap ends_token close)) close
+          deep (ap ended (sym adds) ∙ ends) ∙ ap Some (at_nothing new left next e f)),
+    )
+
+pub atom_kept : (s : State) (token : AtomState) (bytes longer text : List ℕ) (mark n : ℕ)
+    → BeginsAtom s text mark token → bytes ≡ [] → 0 < n → mark + n ≤ length text
+    → ((k : ℕ) → k < n → lex token (get_or (rest_of text mark) k 0) ≡ Push token)
+    → longer ≡ bytes ++ take n (rest_of text mark)
+    → Over MAX_DEPTH s text (mark + n) (At token longer (levels_in s))
+atom_kept s token bytes longer text mark n begins f some le h is =
+    let said = take n (rest_of text mark) in
+    let same : said ≡ longer = ap (λ x. x ++ said) (sym f) ∙ sym is in (
+      omega arith,
+      le,
+      marked_run s text mark n token begins some le h ∙ ap (λ x. Some (At token x (levels_in s))) same,
+    )
+
+pub run_kept : (limit : ℕ) (levels : Levels) (token : AtomState) (bytes longer text : List ℕ) (n : ℕ) → 0 < n
+    → n ≤ length text → ((k : ℕ) → k < n → lex token (get_or text k 0) ≡ Push token)
+    → longer ≡ bytes ++ take n text → Over limit (At token bytes levels) text n (At token longer levels)
+run_kept limit levels token bytes longer text n some le h is =
+    (some, le, kept_run limit levels token bytes text n le h ∙ ap (λ x. Some (At token x levels)) (sym is))
 
 blame-at : (place : ℕ) (what : LexerStep) → flaw_at place (refusal_of what) ≡ blame place what
 blame-at place (Push token) = refl

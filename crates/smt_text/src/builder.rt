@@ -48,7 +48,10 @@ impl Builder {
         ensures { IfOk result (λ _. levels_of self.new ≡ add (sexp_of tree) (levels_of self.old)) }
     {
         match self.lists.last_mut() {
-            Some(parts) => parts.push(tree)?,
+            Some(parts) => {
+                parts.reserve(1)?;
+                parts.push_reserved(tree);
+            }
             None => self.ready.push_back(tree)?,
         }
         Ok(())
@@ -59,8 +62,9 @@ impl Builder {
     pub(crate) fn begin_list(&mut self) -> Result<(), Memory>
         ensures { IfOk result (λ _. levels_of self.new ≡ begun (levels_of self.old)) }
     {
+        self.lists.reserve(1)?;
         let parts = self.empty_list();
-        self.lists.push(parts)?;
+        self.lists.push_reserved(parts);
         Ok(())
     }
 
@@ -79,6 +83,7 @@ impl Builder {
     }
 
     // An empty vector, with the memory of a list that was closed, if there is one.
+    #[inline(always)]
     fn empty_list(&mut self) -> Vec<Tree>
         ensures empty { result.items ≡ [] }
         ensures lists { self.new.lists ≡ self.old.lists }
@@ -102,7 +107,8 @@ impl Builder {
         let mut parts = parts;
         let mut exact = Vec::with_capacity(self.alloc, parts.len())?;
         exact.append(&mut parts)?;
-        self.spare.push(parts)?;
+        self.spare.reserve(1)?;
+        self.spare.push_reserved(parts);
         Ok(exact)
     }
 

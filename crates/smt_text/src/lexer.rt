@@ -326,19 +326,6 @@ fn name_of(alloc: Global, bytes: &mut Vec<u8>) -> Result<Tree, AllocError>
     }
 }
 
-/// The reserved word or the simple symbol at the beginning of a text, of so many bytes.
-#[inline(always)]
-pub(crate) fn name_at(alloc: Global, text: &[u8], count: usize) -> Result<Tree, AllocError>
-    requires { count ≤ length text.now }
-    ensures { IfOk result (λ tree. let name = take count text.now
-        in sexp_of tree ≡ machine.name_or_word (machine.word_named name) name) }
-{
-    match word_of(&text[..count]) {
-        Some(word) => Ok(Tree::Reserved(word)),
-        None => Ok(Tree::Symbol(Bytes::first_of(alloc, text, count)?)),
-    }
-}
-
 /// How many bytes at the beginning of a text belong to a comment that has begun.
 pub(crate) fn comment_length(text: &[u8]) -> usize
     ensures within { result ≤ length text.now }

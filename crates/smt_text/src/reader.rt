@@ -5,9 +5,10 @@ ghost use Rattle.std.specs.Prelude.{slice_index, take, true, false, None, Some, 
 ghost use Rattle.smt_text.specs.Grammar.{limit, OpenParenthesis, CloseParenthesis};
 ghost use Rattle.smt_text.specs.Reader.{is_finished, bytes_fed, fault_of, trees_waiting, StandsFor, Answers};
 ghost use Rattle.smt_text.specs.Reader.{FewerWait, IsFound, with_answer};
-ghost use Rattle.smt_text.specs.Internal.Machine.{act, add, finished, flush, lex, name_or_word, refusal_of};
-ghost use Rattle.smt_text.specs.Internal.Machine.{settle, step, word_named};
-ghost use Rattle.smt_text.specs.Internal.ReaderState.{levels_of, state_of, Ends, Goes, GoesOver, GoesThrough};
+ghost use Rattle.smt_text.specs.Internal.Machine.{act, add_if, atom_of, finished, flush, lex, refusal_of};
+ghost use Rattle.smt_text.specs.Internal.Machine.{settle, step};
+ghost use Rattle.smt_text.specs.Internal.ReaderState.{levels_of, state_of, BeginsAtom, Ends, Goes, GoesOver};
+ghost use Rattle.smt_text.specs.Internal.ReaderState.{GoesThrough};
 ghost use Rattle.smt_text.specs.Internal.ReaderState.{IsBeside};
 ghost use Rattle.smt_text.specs.Reading.{Reads};
 ghost use Rattle.smt_trees.specs.Sexp.{Sexps, Nil};
@@ -17,15 +18,15 @@ ghost use Rattle.smt_faults.specs.declared.text_flaw.TextFlaw.{TextFlaw};
 ghost use Rattle.smt_faults.specs.Faults.{flaw_in};
 ghost use Rattle.smt_faults.specs.declared.failure.Failure.TheVariants as failures;
 ghost use Rattle.smt_text.specs.declared.refusal.Refusal.TheVariants.{TooDeep, Unfit};
-ghost use Rattle.smt_text.specs.declared.lexer.AtomState.TheVariants.{InComment, Nothing};
-ghost use Rattle.smt_text.specs.Lexical.{is_letter};
+ghost use Rattle.smt_text.specs.declared.lexer.AtomState.TheVariants.{InComment, Name, Nothing};
 
 use crate::builder::Builder;
-use crate::byte_class::{is_letter, is_white};
-use crate::lexer::{AtomState, LexerStep, atom_of, comment_length, name_at};
+use crate::byte_class::{is_letter, is_nonzero_digit, is_white};
+use crate::lexer::{AtomState, LexerStep, atom_of, comment_length};
 use crate::refusal::Refusal;
+use crate::reserved::word_of;
 use smt_faults::{Failure, Memory, TextFault, TextFlaw};
-use smt_trees::{Tree, Trees};
+use smt_trees::{Bytes, Tree, Trees};
 use std::alloc::Global;
 use std::mem;
 
@@ -192,7 +193,7 @@ impl Reader {
         ensures goes { GoesOver (state_of self.old) text.now result (state_of self.new) }
     {
         match text[0] {
-            first if is_letter(first) => self.read_name(text),
+            first if is_letter(first) => self.read_atom(text, 0, AtomState::Name),
             b' ' | b'\n' => Ok(1),
             b'(' if self.builder.depth() < MAX_DEPTH => {
                 self.builder.begin_list()?;
@@ -202,50 +203,126 @@ impl Reader {
                 self.builder.end_list()?;
                 Ok(1)
             }
+            first if is_nonzero_digit(first) => self.read_atom(text, 0, AtomState::Digits),
+            b'#' => self.read_literal(text),
             _ => self.read_byte(text),
         }
     }
 
-    // Reads a name, and the byte behind it where it ends the name.
-    fn read_name(&mut self, text: &[u8]) -> Result<usize, Failure<Refusal>>
+    // Reads a literal of a bit vector, and the byte behind it where it ends the literal.
+    fn read_literal(&mut self, text: &[u8]) -> Result<usize, Failure<Refusal>>
         requires some { 0 < length text.now }
-        requires letter { is_letter (slice_index text.now 0) ≡ true }
+        requires first { slice_index text.now 0 ≡ 35 }
         requires token { self.old.token ≡ Nothing }
         requires bytes { self.old.bytes.items ≡ [] }
         ensures beside { IsBeside self.old self.new }
         ensures goes { GoesOver (state_of self.old) text.now result (state_of self.new) }
     {
-        let count = AtomState::Name.run_length(text);
+        match text.get(1) {
+            Some(b'x') => self.read_atom(text, 2, AtomState::HexDigits),
+            Some(b'b') => self.read_atom(text, 2, AtomState::BinDigits),
+            _ => self.read_byte(text),
+        }
+    }
+
+    // Reads an atom whose bytes stand behind a mark of so many, and the byte behind it where it ends the atom.
+    #[inline(always)]
+    fn read_atom(
+        &mut self,
+        text: &[u8],
+        mark: usize,
+        token: AtomState,
+    ) -> Result<usize, Failure<Refusal>>
+        requires some { 0 < length text.now }
+        requires within { mark ≤ length text.now }
+        requires begins { BeginsAtom (state_of self.old) text.now mark token }
+        requires token { self.old.token ≡ Nothing }
+        requires bytes { self.old.bytes.items ≡ [] }
+        ensures beside { IsBeside self.old self.new }
+        ensures goes { GoesOver (state_of self.old) text.now result (state_of self.new) }
+    {
+        let said = &text[mark..];
+        let count = token.run_length(said);
         if count == 0 {
             return self.read_byte(text);
         }
-        if count < text.len() {
-            let closes = text[count] == b')' && self.builder.depth() > 0;
-            if closes || is_white(text[count]) {
-                self.add_name(text, count)?;
+        let end = mark + count;
+        if end < text.len() {
+            let closes = text[end] == b')' && self.builder.depth() > 0;
+            if closes || is_white(text[end]) {
+                self.add_atom(token, said, count)?;
                 if closes {
                     self.builder.end_list()?;
                 }
-                return Ok(count + 1);
+                return Ok(end + 1);
             }
         }
-        self.bytes.extend_from_slice(&text[..count])?;
-        self.token = AtomState::Name;
-        Ok(count)
+        self.bytes.extend_from_slice(&said[..count])?;
+        self.token = token;
+        Ok(end)
     }
 
-    // Adds the name at the beginning of a text, of so many bytes.
+    // Adds the atom that a token which says so many bytes at the beginning of a text is, if it is one.
+    #[inline(always)]
+    fn add_atom(&mut self, token: AtomState, text: &[u8], count: usize) -> Result<(), Memory>
+        requires { count ≤ length text.now }
+        ensures beside { IsBeside self.old self.new }
+        ensures token { self.new.token ≡ self.old.token }
+        ensures bytes { self.new.bytes ≡ self.old.bytes }
+        ensures added { IfOk result (λ _. levels_of self.new.builder
+            ≡ add_if (atom_of token (take count text.now)) (levels_of self.old.builder)) }
+    {
+        match token {
+            AtomState::Name => self.add_name(text, count),
+            AtomState::Digits => {
+                let digits = Bytes::first_of(self.alloc, text, count)?;
+                self.builder.add(Tree::Numeral(digits))
+            }
+            AtomState::HexDigits => {
+                let digits = Bytes::first_of(self.alloc, text, count)?;
+                self.builder.add(Tree::Hex(digits))
+            }
+            AtomState::BinDigits => {
+                let digits = Bytes::first_of(self.alloc, text, count)?;
+                self.builder.add(Tree::Bin(digits))
+            }
+            _ => self.add_other(token, text, count),
+        }
+    }
+
+    // Adds the reserved word or the simple symbol of so many bytes at the beginning of a text.
     #[inline(always)]
     fn add_name(&mut self, text: &[u8], count: usize) -> Result<(), Memory>
         requires { count ≤ length text.now }
         ensures beside { IsBeside self.old self.new }
         ensures token { self.new.token ≡ self.old.token }
         ensures bytes { self.new.bytes ≡ self.old.bytes }
-        ensures added { IfOk result (λ _. let name = take count text.now
-            in levels_of self.new.builder
-            ≡ add (name_or_word (word_named name) name) (levels_of self.old.builder)) }
+        ensures added { IfOk result (λ _. levels_of self.new.builder
+            ≡ add_if (atom_of Name (take count text.now)) (levels_of self.old.builder)) }
     {
-        self.builder.add(name_at(self.alloc, text, count)?)
+        match word_of(&text[..count]) {
+            Some(word) => self.builder.add(Tree::Reserved(word)),
+            None => {
+                let name = Bytes::first_of(self.alloc, text, count)?;
+                self.builder.add(Tree::Symbol(name))
+            }
+        }
+    }
+
+    // Adds the atom of another token.
+    fn add_other(&mut self, token: AtomState, text: &[u8], count: usize) -> Result<(), Memory>
+        requires { count ≤ length text.now }
+        ensures beside { IsBeside self.old self.new }
+        ensures token { self.new.token ≡ self.old.token }
+        ensures bytes { self.new.bytes ≡ self.old.bytes }
+        ensures added { IfOk result (λ _. levels_of self.new.builder
+            ≡ add_if (atom_of token (take count text.now)) (levels_of self.old.builder)) }
+    {
+        let mut bytes = Vec::from_slice(self.alloc, &text[..count])?;
+        match atom_of(self.alloc, token, &mut bytes)? {
+            Some(tree) => self.builder.add(tree),
+            None => Ok(()),
+        }
     }
 
     // Reads on in a comment.

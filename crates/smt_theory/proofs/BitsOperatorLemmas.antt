@@ -1,19 +1,18 @@
 -- Operators on bit vectors are found by their own names and indexes, and by no others.
 use Rattle.std.proofs.Common.{◌≡◌, ℕ, ◌<◌, ◌≤◌, ◌^◌, ◌++◌, ◌==◌, Bool, true, false, cond, ◌&&◌, List, [], ◌∷◌}
-use Rattle.std.proofs.Common.{Option, Some, None, Result, Ok, nat_lt, nat_le, refl, sym, ap, ◌∙◌, subst}
+use Rattle.std.proofs.Common.{Option, Some, None, Result, Ok, nat_lt, nat_le, refl, sym, subst}
 use Rattle.std.proofs.Common.{rules}
-use Rattle.std.specs.Prelude.{IsTrue, bytes_eq, codes, find, option_map, ok_or}
+use Rattle.std.specs.Prelude.{IsTrue, bytes_eq, codes, option_map, ok_or}
 use Rattle.std.specs.Option.{option_and_then, option_or}
 use Rattle.std.specs.Str.Parse.{digits_value}
 use Rattle.std.proofs.Math.Pow.{pow_mono}
-use Rattle.std.proofs.lemmas.List.Folds.{find-append}
 use Rattle.std.proofs.lemmas.Slice.Eq.{bytes_eq-Decides}
 use Rattle.smt_theory.proofs.DigitLemmas.{large_below_word}
 use Rattle.smt_theory.proofs.LookUpLemmas.{map-some, ok_or-Ok}
-use Rattle.smt_theory.specs.BitsOperators.{AreInRange, IsBitsName, binary_plain, bits_indexes, bits_name}
-use Rattle.smt_theory.specs.BitsOperators.{bits_named, bitwise_plain, comparison_plain, constant_by}
+use Rattle.smt_theory.specs.BitsOperators.{AreInRange, IsBitsName, bits_indexes}
+use Rattle.smt_theory.specs.BitsOperators.{bits_named, constant_by}
 use Rattle.smt_theory.specs.BitsOperators.{constant_digits, extract_by, indexed_bits, indexed_constant}
-use Rattle.smt_theory.specs.BitsOperators.{named_among, only_number, repeat_by}
+use Rattle.smt_theory.specs.BitsOperators.{only_number, repeat_by}
 use Rattle.smt_theory.specs.Numbers.{below_word, is_numeral}
 use Rattle.smt_theory.specs.Operators.{core_named, divisible_by, ints_named, op_by}
 use Rattle.smt_theory.specs.Width.{width_of}
@@ -37,24 +36,6 @@ use Rattle.smt_theory.specs.declared.op.Op.TheVariants.{Bits}
 use Rattle.smt_theory.specs.declared.op.OpFault.{OpFault}
 use Rattle.smt_theory.specs.declared.op.OpFault.TheVariants.{Unknown, Index as WrongIndex}
 use Rattle.smt_theory.specs.declared.theories.Theories.{Theories}
-
-option_or-option_or : {A : Type 0} (a b c : Option A)
-    → option_or a (option_or b c) ≡ option_or (option_or a b) c
-option_or-option_or None b c = refl
-option_or-option_or (Some x) b c = refl
-
--- a name that is not `concat` is looked for in the three lists
-pub bits_named-lists : (symbol : List ℕ) → bytes_eq symbol (codes "concat") ≡ false
-    → bits_named symbol ≡ option_or
-    (option_or (named_among bitwise_plain symbol) (named_among binary_plain symbol))
-    (named_among comparison_plain symbol)
-bits_named-lists symbol h =
-    let named = λ (op : BitsOp). bytes_eq symbol (bits_name op) in
-    let e : bits_named symbol ≡ find named (bitwise_plain ++ (binary_plain ++ comparison_plain)) = rw h refl
-    in
-    e ∙ find-append named bitwise_plain (binary_plain ++ comparison_plain) ∙ ap
-    (option_or (find named bitwise_plain)) (find-append named binary_plain comparison_plain)
-    ∙ option_or-option_or (find named bitwise_plain) (find named binary_plain) (find named comparison_plain)
 
 -- a number that fits no word is no constant's
 within : (o : Option ℕ) (width : ℕ) → option_and_then width_of o ≡ Some width → width ≤ 128

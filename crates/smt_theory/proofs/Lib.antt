@@ -2,6 +2,7 @@ mod LookUpLemmas
 pub mod BitsOperatorLemmas
 pub mod OperatorLemmas
 pub mod OperatorFaultLemmas
+pub mod NamesLikeLemmas
 pub mod DigitLemmas
 pub mod RankLemmas
 pub mod BitsRankLemmas

@@ -7,3 +7,4 @@ pub mod Index
 pub mod BitsOperators
 pub mod Operators
 pub mod Ranks
+pub mod NamesLike

@@ -25,6 +25,7 @@ pub fn rank(op: Op, args: &[Sort]) -> Option<Sort>
     }
 }
 
+#[inline(always)]
 fn rank_in_core(op: CoreOp, args: &[Sort]) -> Option<Sort>
     ensures { result ≡ core_rank op args.now }
 {
@@ -41,6 +42,7 @@ fn rank_in_core(op: CoreOp, args: &[Sort]) -> Option<Sort>
     fits.then_some(Sort::Bool)
 }
 
+#[inline(always)]
 fn rank_in_ints(op: IntsOp, args: &[Sort]) -> Option<Sort>
     ensures { result ≡ ints_rank op args.now }
 {
@@ -67,24 +69,28 @@ fn rank_of_choice(args: &[Sort]) -> Option<Sort>
 }
 
 // Whether the sorts are these.
+#[inline(always)]
 pub(crate) fn are(args: &[Sort], sorts: &[Sort]) -> bool
     ensures { result ≡ are_exactly sorts.now args.now }
 {
     args == sorts
 }
 
+#[inline(always)]
 pub(crate) fn are_two_or_more(args: &[Sort], sort: Sort) -> bool
     ensures { result ≡ are_several sort args.now }
 {
     args.len() >= 2 && all_are(args, sort)
 }
 
+#[inline(always)]
 fn all_are(args: &[Sort], sort: Sort) -> bool
     ensures { result ≡ list_all (λ arg. is_same_sort arg sort) args.now }
 {
     args.iter().all(|arg| is_same(*arg, sort))
 }
 
+#[inline(always)]
 fn are_two_or_more_of_one(args: &[Sort]) -> bool
     ensures { result ≡ are_several_of_one args.now }
 {
@@ -94,6 +100,7 @@ fn are_two_or_more_of_one(args: &[Sort]) -> bool
     }
 }
 
+#[inline(always)]
 fn is_same(a: Sort, b: Sort) -> bool
     ensures { result ≡ is_same_sort a b }
 {

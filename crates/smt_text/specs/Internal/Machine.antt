@@ -221,6 +221,9 @@ move limit Stuck s b = None
 abbrev pub token_in : State → AtomState
 token_in (At token bytes levels) = token
 
+abbrev pub levels_in : State → Levels
+levels_in (At token bytes levels) = levels
+
 -- one byte of the text
 abbrev pub step : ℕ → State → ℕ → Option State
 step limit s b = move limit (lex (token_in s) b) s b

@@ -10,7 +10,10 @@ use Rattle.smt_text.specs.declared.reader.TheConstants.{MAX_DEPTH}
 use Rattle.std.specs.declared.alloc.Global.{Global}
 use Rattle.std.specs.declared.vec.Vec.{Vec}
 use Rattle.smt_text.specs.Internal.Machine.{Leaves, Levels, On, State, At, blame, depth_in, finished, lex}
-use Rattle.smt_text.specs.Internal.Machine.{may_end, refusal_of, run, step, token_in}
+use Rattle.smt_text.specs.Internal.Machine.{levels_in, may_end, refusal_of, run, separated, step, token_in}
+use Rattle.smt_text.specs.Lexical.{ends_token}
+use Rattle.smt_text.specs.declared.lexer.AtomState.{AtomState}
+use Rattle.smt_text.specs.declared.lexer.LexerStep.TheVariants.{Push}
 use Rattle.smt_trees.specs.Sexp.{Sexps, append}
 use Rattle.smt_trees.specs.Tree.{sexps_of}
 use Rattle.smt_text.specs.declared.lexer.AtomState.TheVariants.{Nothing}
@@ -69,6 +72,13 @@ GoesOver old text (Err (Fault e)) new =
     (step MAX_DEPTH old (get_or text 0 0) ≡ None)
     × (e ≡ refusal_of (lex (token_in old) (get_or text 0 0))) × (new ≡ old)
 GoesOver old text (Err Memory) new = Unit {0}
+
+-- behind a mark of so many bytes, of which no token keeps one, a token begins with a byte that it keeps
+pub record BeginsAtom (s : State) (text : List ℕ) (mark : ℕ) (token : AtomState) : Type 0 where
+  pub start : AtomState
+  pub marked : run MAX_DEPTH s (take mark text) ≡ Some (At start [] (levels_in s))
+  pub first : lex token (get_or text mark 0) ≡ Push token → lex start (get_or text mark 0) ≡ Push token
+  pub ended : (b : ℕ) → ends_token b ≡ true → lex token b ≡ separated b
 
 -- what reading a piece did: it went over it, or up to a byte with which no text goes on, or had no memory
 abbrev pub GoesThrough : State → ℕ → List ℕ → Result (Unit {0}) (Failure TextFlaw) → State → Type 0

@@ -3,118 +3,177 @@
 
 ghost use Rattle.std.specs.Prelude.{map, ◌≡◌, ◌==◌, option_map, bytes_eq, codes};
 ghost use Rattle.std.specs.Option.{option_copied};
-ghost use Rattle.smt_theory.specs.BitsOperators.{bits_named, bitwise_plain, binary_plain, comparison_plain};
-ghost use Rattle.smt_theory.specs.BitsOperators.{named_among, constant_by, extract_by, repeat_by};
+ghost use Rattle.smt_theory.specs.BitsOperators.{bits_named, constant_by, extract_by, repeat_by};
 ghost use Rattle.smt_theory.specs.BitsOperators.{indexed_bits};
 ghost use Rattle.smt_theory.specs.BitsOperators as names;
+ghost use Rattle.smt_theory.specs.NamesLike as like;
+ghost use Rattle.smt_theory.specs.declared.op.BitsOp.TheVariants as ops;
 ghost use Rattle.smt_theory.specs.Index.{index_view};
 
 use crate::index::Index;
 use crate::numbers::{is_numeral, number};
 use crate::op::{BitsBinary, BitsComparison, BitsFolded, BitsOp, BitsUnary, OpFault};
-use crate::symbols::is_named;
+use crate::symbols::{byte_at, is_named};
 use crate::width::Width;
 
-/// The plain operator of this name. All but one begin with `bv`: so most symbols of a script are told by two
-/// bytes.
+/// The plain operator of this name. Each symbol of a script is asked, so one operator is found by the length
+/// and three bytes, and then compared.
+#[inline(always)]
 pub(crate) fn bits_op(symbol: &[u8]) -> Option<BitsOp>
     ensures { result ≡ bits_named symbol.now }
 {
-    if is_named(symbol, b"concat") {
-        Some(BitsOp::Concat)
-    } else if is_of_bit_vectors(symbol) {
-        bitwise(symbol).or(binary(symbol)).or(comparison(symbol))
+    let third = byte_at(symbol, 2);
+    let fourth = byte_at(symbol, 3);
+    let fifth = byte_at(symbol, 4);
+    let op = bits_like(symbol.len(), third, fourth, fifth)?;
+    if is_named(symbol, bits_name(&op)) {
+        Some(op)
     } else {
         None
     }
 }
 
-fn is_of_bit_vectors(symbol: &[u8]) -> bool
-    ensures { result ≡ names.begins_with_bv symbol.now }
+// The plain operator that a name of so many bytes with these in it can be.
+#[inline(always)]
+fn bits_like(length: usize, third: u8, fourth: u8, fifth: u8) -> Option<BitsOp>
+    ensures { result ≡ like.bits_like length third fourth fifth }
 {
-    matches!(symbol, [b'b', b'v', ..])
-}
-
-fn bitwise(symbol: &[u8]) -> Option<BitsOp>
-    ensures { result ≡ named_among bitwise_plain symbol.now }
-{
-    if is_named(symbol, b"bvnot") {
-        Some(BitsOp::Unary(BitsUnary::Not))
-    } else if is_named(symbol, b"bvneg") {
-        Some(BitsOp::Unary(BitsUnary::Negate))
-    } else if is_named(symbol, b"bvand") {
-        Some(BitsOp::Folded(BitsFolded::And))
-    } else if is_named(symbol, b"bvor") {
+    if length == 5 {
+        bits_of_five(third, fourth, fifth)
+    } else if length == 6 {
+        bits_of_six(third, fourth)
+    } else if length == 4 && third == b'o' {
         Some(BitsOp::Folded(BitsFolded::Or))
-    } else if is_named(symbol, b"bvxor") {
-        Some(BitsOp::Folded(BitsFolded::Xor))
-    } else if is_named(symbol, b"bvadd") {
-        Some(BitsOp::Folded(BitsFolded::Add))
-    } else if is_named(symbol, b"bvmul") {
-        Some(BitsOp::Folded(BitsFolded::Multiply))
-    } else if is_named(symbol, b"bvcomp") {
-        Some(BitsOp::Comp)
     } else {
         None
     }
 }
 
-fn binary(symbol: &[u8]) -> Option<BitsOp>
-    ensures { result ≡ named_among binary_plain symbol.now }
+#[inline(always)]
+fn bits_of_five(third: u8, fourth: u8, fifth: u8) -> Option<BitsOp>
+    ensures { result ≡ like.bits_of_five third fourth fifth }
 {
-    let op = if is_named(symbol, b"bvnand") {
-        BitsBinary::Nand
-    } else if is_named(symbol, b"bvnor") {
-        BitsBinary::Nor
-    } else if is_named(symbol, b"bvxnor") {
-        BitsBinary::Xnor
-    } else if is_named(symbol, b"bvsub") {
-        BitsBinary::Subtract
-    } else if is_named(symbol, b"bvudiv") {
-        BitsBinary::DivideUnsigned
-    } else if is_named(symbol, b"bvurem") {
-        BitsBinary::RemainderUnsigned
-    } else if is_named(symbol, b"bvsdiv") {
-        BitsBinary::DivideSigned
-    } else if is_named(symbol, b"bvsrem") {
-        BitsBinary::RemainderSigned
-    } else if is_named(symbol, b"bvsmod") {
-        BitsBinary::ModuloSigned
-    } else if is_named(symbol, b"bvshl") {
-        BitsBinary::ShiftLeft
-    } else if is_named(symbol, b"bvlshr") {
-        BitsBinary::ShiftRight
-    } else if is_named(symbol, b"bvashr") {
-        BitsBinary::ShiftRightSigned
-    } else {
-        return None;
-    };
-    Some(BitsOp::Binary(op))
+    match (third, fourth, fifth) {
+        (b'a', b'd', _) => Some(BitsOp::Folded(BitsFolded::Add)),
+        (b'a', b'n', _) => Some(BitsOp::Folded(BitsFolded::And)),
+        (b'm', _, _) => Some(BitsOp::Folded(BitsFolded::Multiply)),
+        (b'n', b'e', _) => Some(BitsOp::Unary(BitsUnary::Negate)),
+        (b'n', b'o', b't') => Some(BitsOp::Unary(BitsUnary::Not)),
+        (b'n', b'o', b'r') => Some(BitsOp::Binary(BitsBinary::Nor)),
+        (b's', b'h', _) => Some(BitsOp::Binary(BitsBinary::ShiftLeft)),
+        (b's', b'u', _) => Some(BitsOp::Binary(BitsBinary::Subtract)),
+        (b's', b'g', b'e') => Some(BitsOp::Comparison(BitsComparison::SignedAtLeast)),
+        (b's', b'g', b't') => Some(BitsOp::Comparison(BitsComparison::SignedGreater)),
+        (b's', b'l', b'e') => Some(BitsOp::Comparison(BitsComparison::SignedAtMost)),
+        (b's', b'l', b't') => Some(BitsOp::Comparison(BitsComparison::SignedLess)),
+        (b'u', b'g', b'e') => Some(BitsOp::Comparison(BitsComparison::UnsignedAtLeast)),
+        (b'u', b'g', b't') => Some(BitsOp::Comparison(BitsComparison::UnsignedGreater)),
+        (b'u', b'l', b'e') => Some(BitsOp::Comparison(BitsComparison::UnsignedAtMost)),
+        (b'u', b'l', b't') => Some(BitsOp::Comparison(BitsComparison::UnsignedLess)),
+        (b'x', _, _) => Some(BitsOp::Folded(BitsFolded::Xor)),
+        _ => None,
+    }
 }
 
-fn comparison(symbol: &[u8]) -> Option<BitsOp>
-    ensures { result ≡ named_among comparison_plain symbol.now }
+#[inline(always)]
+fn bits_of_six(third: u8, fourth: u8) -> Option<BitsOp>
+    ensures { result ≡ like.bits_of_six third fourth }
 {
-    let op = if is_named(symbol, b"bvult") {
-        BitsComparison::UnsignedLess
-    } else if is_named(symbol, b"bvule") {
-        BitsComparison::UnsignedAtMost
-    } else if is_named(symbol, b"bvugt") {
-        BitsComparison::UnsignedGreater
-    } else if is_named(symbol, b"bvuge") {
-        BitsComparison::UnsignedAtLeast
-    } else if is_named(symbol, b"bvslt") {
-        BitsComparison::SignedLess
-    } else if is_named(symbol, b"bvsle") {
-        BitsComparison::SignedAtMost
-    } else if is_named(symbol, b"bvsgt") {
-        BitsComparison::SignedGreater
-    } else if is_named(symbol, b"bvsge") {
-        BitsComparison::SignedAtLeast
-    } else {
-        return None;
-    };
-    Some(BitsOp::Comparison(op))
+    match (third, fourth) {
+        (b'a', _) => Some(BitsOp::Binary(BitsBinary::ShiftRightSigned)),
+        (b'c', _) => Some(BitsOp::Comp),
+        (b'l', _) => Some(BitsOp::Binary(BitsBinary::ShiftRight)),
+        (b'n', b'a') => Some(BitsOp::Binary(BitsBinary::Nand)),
+        (b'n', b'c') => Some(BitsOp::Concat),
+        (b's', b'd') => Some(BitsOp::Binary(BitsBinary::DivideSigned)),
+        (b's', b'm') => Some(BitsOp::Binary(BitsBinary::ModuloSigned)),
+        (b's', b'r') => Some(BitsOp::Binary(BitsBinary::RemainderSigned)),
+        (b'u', b'd') => Some(BitsOp::Binary(BitsBinary::DivideUnsigned)),
+        (b'u', b'r') => Some(BitsOp::Binary(BitsBinary::RemainderUnsigned)),
+        (b'x', _) => Some(BitsOp::Binary(BitsBinary::Xnor)),
+        _ => None,
+    }
+}
+
+// The name of an operator; of a constant what stands before its numeral.
+#[inline(always)]
+fn bits_name(op: &BitsOp) -> &'static [u8]
+    ensures { result.now ≡ names.bits_name op.now }
+{
+    match *op {
+        BitsOp::Constant(_, _) => b"bv",
+        BitsOp::Concat => b"concat",
+        BitsOp::Extract(_, _) => b"extract",
+        BitsOp::Unary(op) => unary_name(op),
+        BitsOp::Folded(op) => folded_name(op),
+        BitsOp::Binary(op) => binary_name(op),
+        BitsOp::Comparison(op) => comparison_name(op),
+        BitsOp::Comp => b"bvcomp",
+        BitsOp::Repeat(_) => b"repeat",
+        BitsOp::ZeroExtend(_) => b"zero_extend",
+        BitsOp::SignExtend(_) => b"sign_extend",
+        BitsOp::RotateLeft(_) => b"rotate_left",
+        BitsOp::RotateRight(_) => b"rotate_right",
+    }
+}
+
+#[inline(always)]
+fn unary_name(op: BitsUnary) -> &'static [u8]
+    ensures { result.now ≡ names.bits_name (ops.Unary op) }
+{
+    match op {
+        BitsUnary::Not => b"bvnot",
+        BitsUnary::Negate => b"bvneg",
+    }
+}
+
+#[inline(always)]
+fn folded_name(op: BitsFolded) -> &'static [u8]
+    ensures { result.now ≡ names.bits_name (ops.Folded op) }
+{
+    match op {
+        BitsFolded::And => b"bvand",
+        BitsFolded::Or => b"bvor",
+        BitsFolded::Xor => b"bvxor",
+        BitsFolded::Add => b"bvadd",
+        BitsFolded::Multiply => b"bvmul",
+    }
+}
+
+#[inline(always)]
+fn binary_name(op: BitsBinary) -> &'static [u8]
+    ensures { result.now ≡ names.bits_name (ops.Binary op) }
+{
+    match op {
+        BitsBinary::Nand => b"bvnand",
+        BitsBinary::Nor => b"bvnor",
+        BitsBinary::Xnor => b"bvxnor",
+        BitsBinary::Subtract => b"bvsub",
+        BitsBinary::DivideUnsigned => b"bvudiv",
+        BitsBinary::RemainderUnsigned => b"bvurem",
+        BitsBinary::DivideSigned => b"bvsdiv",
+        BitsBinary::RemainderSigned => b"bvsrem",
+        BitsBinary::ModuloSigned => b"bvsmod",
+        BitsBinary::ShiftLeft => b"bvshl",
+        BitsBinary::ShiftRight => b"bvlshr",
+        BitsBinary::ShiftRightSigned => b"bvashr",
+    }
+}
+
+#[inline(always)]
+fn comparison_name(op: BitsComparison) -> &'static [u8]
+    ensures { result.now ≡ names.bits_name (ops.Comparison op) }
+{
+    match op {
+        BitsComparison::UnsignedLess => b"bvult",
+        BitsComparison::UnsignedAtMost => b"bvule",
+        BitsComparison::UnsignedGreater => b"bvugt",
+        BitsComparison::UnsignedAtLeast => b"bvuge",
+        BitsComparison::SignedLess => b"bvslt",
+        BitsComparison::SignedAtMost => b"bvsle",
+        BitsComparison::SignedGreater => b"bvsgt",
+        BitsComparison::SignedAtLeast => b"bvsge",
+    }
 }
 
 /// The operator of this name with these indexes, of which there is one or more.

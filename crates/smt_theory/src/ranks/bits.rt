@@ -10,6 +10,7 @@ use crate::sort::Sort;
 use crate::width::Width;
 
 /// The sort of the operator's result for arguments of these sorts.
+#[inline(always)]
 pub(crate) fn rank_in_bits(op: BitsOp, args: &[Sort]) -> Option<Sort>
     ensures { result ≡ bits_rank op args.now }
 {
@@ -28,6 +29,7 @@ pub(crate) fn rank_in_bits(op: BitsOp, args: &[Sort]) -> Option<Sort>
     width.map(Sort::Bits)
 }
 
+#[inline(always)]
 fn one_width(args: &[Sort]) -> Option<Width>
     ensures { result ≡ ranks.one_width args.now }
 {
@@ -38,6 +40,7 @@ fn one_width(args: &[Sort]) -> Option<Width>
 }
 
 // The width of two bit vectors that have the same.
+#[inline(always)]
 fn two_width(args: &[Sort]) -> Option<Width>
     ensures { result ≡ ranks.two_width args.now }
 {
@@ -48,6 +51,7 @@ fn two_width(args: &[Sort]) -> Option<Width>
 }
 
 // The width of two or more bit vectors that have the same.
+#[inline(always)]
 fn several_width(args: &[Sort]) -> Option<Width>
     ensures { result ≡ ranks.several_width args.now }
 {
