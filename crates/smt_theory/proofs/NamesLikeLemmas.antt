@@ -6,9 +6,7 @@ use Rattle.std.specs.Bool.{then_some}
 use Rattle.std.proofs.lemmas.Slice.Eq.{bytes_eq-Decides}
 use Rattle.smt_theory.proofs.LookUpLemmas.{Each, find_named}
 use Rattle.smt_theory.specs.BitsOperators.{bits_name, bits_named, bits_plain}
-use Rattle.smt_theory.specs.NamesLike.{bits_like, bits_of_five, bits_of_six, core_like, ints_like}
-use Rattle.smt_theory.specs.Operators.{core_name, core_named, core_plain, ints_name, ints_named, ints_plain}
-use Rattle.smt_theory.specs.declared.op.Arithmetic.TheVariants.{Minus, Plus, Times, Div}
+use Rattle.smt_theory.specs.NamesLike.{bits_like, bits_of_five, bits_of_six}
 use Rattle.smt_theory.specs.declared.op.BitsBinary.TheVariants.{Nand, Nor, Xnor, Subtract, DivideUnsigned}
 use Rattle.smt_theory.specs.declared.op.BitsBinary.TheVariants.{RemainderUnsigned, DivideSigned}
 use Rattle.smt_theory.specs.declared.op.BitsBinary.TheVariants.{RemainderSigned, ModuloSigned, ShiftLeft}
@@ -21,13 +19,8 @@ use Rattle.smt_theory.specs.declared.op.BitsFolded.TheVariants as folded
 use Rattle.smt_theory.specs.declared.op.BitsOp.{BitsOp}
 use Rattle.smt_theory.specs.declared.op.BitsOp.TheVariants as bits
 use Rattle.smt_theory.specs.declared.op.BitsUnary.TheVariants as unary
-use Rattle.smt_theory.specs.declared.op.Comparison.TheVariants.{AtMost, Less, AtLeast, Greater}
-use Rattle.smt_theory.specs.declared.op.CoreOp.TheVariants as core
-use Rattle.smt_theory.specs.declared.op.IntsOp.TheVariants as ints
-use Rattle.smt_theory.specs.declared.op.CoreOp.{CoreOp}
-use Rattle.smt_theory.specs.declared.op.IntsOp.{IntsOp}
 
--- what is found by the name, if it is the operator that a name can be
+-- the first of these operators that has the name
 abbrev named : {O : Type 0} → (O → List ℕ) → List O → List ℕ → Option O
 named name ops symbol = find (λ o. bytes_eq symbol (name o)) ops
 
@@ -69,39 +62,6 @@ named-compared {O} name ops like symbol each found =
     by (Some op) e None k = let f = own op e in absurd (cc)
     by o e (Some op) k = with (bytes_eq symbol (name op)) op o refl e k (found op k)
 
--- ---- Core
-
-abbrev core_by_bytes : List ℕ → Option CoreOp
-core_by_bytes symbol = core_like (length symbol) (get_or symbol 0 0)
-
-each_core : Each (IsLike core_name core_by_bytes) core_plain
-each_core = search rules
-
-found_core : (op : CoreOp) → IsFound core_name core_plain op
-found_core core.True = refl
-found_core core.False = refl
-found_core core.Not = refl
-found_core core.Implies = refl
-found_core core.And = refl
-found_core core.Or = refl
-found_core core.Xor = refl
-found_core core.Equal = refl
-found_core core.Distinct = refl
-found_core core.Ite = refl
-
-pub core_named-compared : (symbol : List ℕ)
-    → core_named symbol ≡ compared core_name symbol (core_like (length symbol) (get_or symbol 0 0))
-core_named-compared symbol =
-    named-compared core_name core_plain core_by_bytes symbol each_core (λ op _. found_core op)
-
--- ---- Ints
-
-abbrev ints_by_bytes : List ℕ → Option IntsOp
-ints_by_bytes symbol = ints_like (length symbol) (get_or symbol 0 0)
-
-each_ints : Each (IsLike ints_name ints_by_bytes) ints_plain
-each_ints = search rules
-
 -- one after another
 or_by : {O : Type 0} (P : O → Type 0) (op o : O) (b : Bool) (others : Option O) → P o
     → (others ≡ Some op → P op) → cond b (Some o) others ≡ Some op → P op
@@ -110,28 +70,6 @@ or_by P op o false others this rest h = rest h
 
 or_none : {O : Type 0} (P : O → Type 0) (op : O) → None ≡ Some op → P op
 or_none P op h = cc
-
-found_ints : (n b : ℕ) (op : IntsOp) → ints_like n b ≡ Some op → IsFound ints_name ints_plain op
-found_ints n b op =
-    let P = IsFound ints_name ints_plain in
-    or_by P op (ints.Arithmetic Minus) _ _ refl
-    (or_by P op (ints.Arithmetic Plus) _ _ refl
-    (or_by P op (ints.Arithmetic Times) _ _ refl
-    (or_by P op (ints.Comparison Less) _ _ refl
-    (or_by P op (ints.Comparison Greater) _ _ refl
-    (or_by P op (ints.Comparison AtMost) _ _ refl
-    (or_by P op (ints.Comparison AtLeast) _ _ refl
-    (or_by P op ints.Abs _ _ refl
-    (or_by P op (ints.Arithmetic Div) _ _ refl
-    (or_by P op ints.Mod _ _ refl (or_none P op))))))))))
-
-pub ints_named-compared : (symbol : List ℕ)
-    → ints_named symbol ≡ compared ints_name symbol (ints_like (length symbol) (get_or symbol 0 0))
-ints_named-compared symbol =
-    named-compared ints_name ints_plain ints_by_bytes symbol each_ints
-    (found_ints (length symbol) (get_or symbol 0 0))
-
--- ---- bit vectors
 
 abbrev bits_by_bytes : List ℕ → Option BitsOp
 bits_by_bytes symbol = bits_like (length symbol) (get_or symbol 2 0) (get_or symbol 3 0) (get_or symbol 4 0)

@@ -1,6 +1,5 @@
--- Which plain operator a name can be, as its length and some of its bytes tell.
+-- Which plain operator on bit vectors a name can be, as its length and some of its bytes tell.
 use Rattle.std.specs.Prelude.{ℕ, ◌==◌, ◌&&◌, Option, Some, None, if◌then◌else◌}
-use Rattle.smt_theory.specs.declared.op.Arithmetic.TheVariants.{Minus, Plus, Times, Div}
 use Rattle.smt_theory.specs.declared.op.BitsBinary.TheVariants.{Nand, Nor, Xnor, Subtract, DivideUnsigned}
 use Rattle.smt_theory.specs.declared.op.BitsBinary.TheVariants.{RemainderUnsigned, DivideSigned}
 use Rattle.smt_theory.specs.declared.op.BitsBinary.TheVariants.{RemainderSigned, ModuloSigned, ShiftLeft}
@@ -13,40 +12,6 @@ use Rattle.smt_theory.specs.declared.op.BitsFolded.TheVariants as folded
 use Rattle.smt_theory.specs.declared.op.BitsOp.{BitsOp}
 use Rattle.smt_theory.specs.declared.op.BitsOp.TheVariants as bits
 use Rattle.smt_theory.specs.declared.op.BitsUnary.TheVariants as unary
-use Rattle.smt_theory.specs.declared.op.Comparison.TheVariants.{AtMost, Less, AtLeast, Greater}
-use Rattle.smt_theory.specs.declared.op.CoreOp.{CoreOp}
-use Rattle.smt_theory.specs.declared.op.CoreOp.TheVariants as core
-use Rattle.smt_theory.specs.declared.op.IntsOp.{IntsOp}
-use Rattle.smt_theory.specs.declared.op.IntsOp.TheVariants as ints
-
--- of a name of n bytes that begins with b
-abbrev pub core_like : ℕ → ℕ → Option CoreOp
-core_like n b =
-    if n == 1 && b == 61 then Some core.Equal
-    else if n == 2 && b == 61 then Some core.Implies
-    else if n == 2 && b == 111 then Some core.Or
-    else if n == 3 && b == 97 then Some core.And
-    else if n == 3 && b == 105 then Some core.Ite
-    else if n == 3 && b == 110 then Some core.Not
-    else if n == 3 && b == 120 then Some core.Xor
-    else if n == 4 && b == 116 then Some core.True
-    else if n == 5 && b == 102 then Some core.False
-    else if n == 8 && b == 100 then Some core.Distinct
-    else None
-
-abbrev pub ints_like : ℕ → ℕ → Option IntsOp
-ints_like n b =
-    if n == 1 && b == 45 then Some (ints.Arithmetic Minus)
-    else if n == 1 && b == 43 then Some (ints.Arithmetic Plus)
-    else if n == 1 && b == 42 then Some (ints.Arithmetic Times)
-    else if n == 1 && b == 60 then Some (ints.Comparison Less)
-    else if n == 1 && b == 62 then Some (ints.Comparison Greater)
-    else if n == 2 && b == 60 then Some (ints.Comparison AtMost)
-    else if n == 2 && b == 62 then Some (ints.Comparison AtLeast)
-    else if n == 3 && b == 97 then Some ints.Abs
-    else if n == 3 && b == 100 then Some (ints.Arithmetic Div)
-    else if n == 3 && b == 109 then Some ints.Mod
-    else None
 
 -- of a name of five bytes, of which the third to the fifth are c, d and e
 abbrev pub bits_of_five : ℕ → ℕ → ℕ → Option BitsOp

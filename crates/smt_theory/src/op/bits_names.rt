@@ -16,8 +16,8 @@ use crate::op::{BitsBinary, BitsComparison, BitsFolded, BitsOp, BitsUnary, OpFau
 use crate::symbols::{byte_at, is_named};
 use crate::width::Width;
 
-/// The plain operator of this name. Each symbol of a script is asked, so one operator is found by the length
-/// and three bytes, and then compared.
+/// The plain operator of this name. There are many, so the length and three bytes tell the one that it can be,
+/// with whose name it is then compared.
 #[inline(always)]
 pub(crate) fn bits_op(symbol: &[u8]) -> Option<BitsOp>
     ensures { result ≡ bits_named symbol.now }
