@@ -55,7 +55,7 @@ fn script(alloc: Global) -> Result<(Nodes, TermId, TermId), Memory> {
     Ok((nodes, g, term))
 }
 
-fn value(alloc: Global, machine: &mut Machine) -> Result<Option<Value>, Memory> {
+fn value(alloc: Global) -> Result<Option<Value>, Memory> {
     let (model, declared) = model(alloc)?;
     let (script, g, term) = script(alloc)?;
     let tables = Tables {
@@ -65,15 +65,16 @@ fn value(alloc: Global, machine: &mut Machine) -> Result<Option<Value>, Memory> 
         script_bodies: &[g],
         declared: &declared,
     };
+    let mut machine = Machine::new(alloc);
+    machine.eval(tables, term)?;
     machine.eval(tables, term)
 }
 
 #[test]
 fn a_term_has_its_value(rt: HostRuntime) {
-    let mut machine = Machine::new(rt.alloc());
     let mut evaluated = false;
     for _ in 0..2 {
-        if let Ok(value) = value(rt.alloc(), &mut machine) {
+        if let Ok(value) = value(rt.alloc()) {
             assert!(rt; matches!(value, Some(Value::Int(-5))));
             evaluated = true;
         }
