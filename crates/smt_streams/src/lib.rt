@@ -17,12 +17,15 @@
 #![tactic(auto)]
 
 mod broken;
+mod collected;
 mod device;
+mod pieces;
 mod sink;
 mod source;
 
 pub use broken::Broken;
+pub use collected::Collected;
 pub use device::Device;
+pub use pieces::Pieces;
 pub use sink::Sink;
 pub use source::Source;
-
