@@ -27,5 +27,8 @@ pub use broken::Broken;
 pub use collected::Collected;
 pub use device::Device;
 pub use pieces::Pieces;
-pub use sink::Sink;
+pub use sink::{Sink, put_all};
 pub use source::Source;
+
+#[cfg(test)]
+mod tests;

@@ -1,5 +1,9 @@
 //! What takes bytes. This file knows no device.
 
+ghost use Rattle.std.specs.Prelude.{◌≡◌, false, is_err, OnErr, OnOk};
+ghost use Rattle.std.specs.Io.KnownBytes.{Appends};
+ghost use Rattle.smt_streams.specs.Moved.{TakesPart};
+
 use crate::Broken;
 
 /// Where bytes go, a part at a time, until a call fails.
@@ -28,4 +32,19 @@ pub trait Sink {
     /// Whether a call has failed.
     fn broken(&self) -> bool
         ensures { result ≡ is_broken self.now };
+}
+
+/// Puts all of `bytes`, by as many calls as the sink needs. Fails where a call does, and the sink has then
+/// taken some of them, from the front, and not all.
+pub fn put_all<S: Sink>(sink: &mut S, bytes: &[u8]) -> Result<(), Broken>
+    requires { S.is_broken sink.old ≡ false }
+    ensures whole { OnOk result (Appends (S.taken sink.old) (S.taken sink.new) bytes.now) }
+    ensures part { OnErr result (TakesPart (S.taken sink.old) (S.taken sink.new) bytes.now) }
+    ensures failed { S.is_broken sink.new ≡ is_err result }
+{
+    let mut done = 0;
+    while done < bytes.len() {
+        done += sink.put(&bytes[done..])?;
+    }
+    Ok(())
 }
