@@ -95,7 +95,7 @@ fn read_uninterrupted<R: Read>(reader: &mut R, buf: &mut [u8]) -> Result<usize, 
 {
     for _ in 0..u64::MAX {
         match reader.read(buf) {
-            Ok(count) => return Ok(count),
+            Ok(given) => return Ok(given),
             Err(error) if error.kind() == ErrorKind::Interrupted => {}
             Err(_) => return Err(Broken),
         }
@@ -112,7 +112,7 @@ fn write_some<W: Write>(writer: &mut W, bytes: &[u8]) -> Result<usize, Broken>
     for _ in 0..u64::MAX {
         match writer.write(bytes) {
             Ok(0) => return Err(Broken),
-            Ok(count) => return Ok(count),
+            Ok(taken) => return Ok(taken),
             Err(error) if error.kind() == ErrorKind::Interrupted => {}
             Err(_) => return Err(Broken),
         }

@@ -44,7 +44,8 @@ pub fn put_all<S: Sink>(sink: &mut S, bytes: &[u8]) -> Result<(), Broken>
 {
     let mut done = 0;
     while done < bytes.len() {
-        done += sink.put(&bytes[done..])?;
+        let taken = sink.put(&bytes[done..])?;
+        done += taken;
     }
     Ok(())
 }

@@ -1,5 +1,5 @@
 -- No call has failed, and the end is not told.
-use Rattle.std.proofs.Common.{◌≡◌, ◌≤◌, false, length}
+use Rattle.std.proofs.Common.{◌≡◌, false}
 use Rattle.smt_streams.specs.Collected.{collected_broken}
 use Rattle.smt_streams.proofs.tests.pour.Given as goal
 
