@@ -1,11 +1,11 @@
 //! Devices: sources over what std reads from, and sinks over what std writes to. This file knows no file and
 //! no terminal.
 
-ghost use Rattle.std.specs.Prelude.{◌≡◌, ◌<◌, false, length, take, drop, IfOk, OnErr, OnOk};
+ghost use Rattle.std.specs.Prelude.{◌≡◌, ◌<◌, false, length, take, drop, IfOk, OnOk};
 ghost use Rattle.std.specs.Io.{ReadsAtMost, WritesAtMost};
-ghost use Rattle.std.specs.Io.KnownBytes.{Keeps, Appends, Consumes, IsAtEnd};
+ghost use Rattle.std.specs.Io.KnownBytes.{Appends, Consumes, IsAtEnd};
 ghost use Rattle.smt_streams.specs.Device.{device_inner, device_broken, device_ended};
-ghost use Rattle.smt_streams.specs.Moved.{moved, tells_end};
+ghost use Rattle.smt_streams.specs.Moved.{moved};
 
 use crate::{Broken, Sink, Source};
 use std::io::{ErrorKind, Read, Write};
@@ -14,7 +14,7 @@ use std::io::{ErrorKind, Read, Write};
 const BLOCK: usize = 8192;
 
 /// A source over a reader, or a sink over a writer. A call that a signal interrupts is made again. A writer
-/// that takes no byte has failed.
+/// that takes no byte has failed. A pull gives at most 8,192 bytes.
 #[derive(Drop)]
 pub struct Device<T> {
     inner: T,
@@ -87,7 +87,8 @@ fn read_front<R: Read>(reader: &mut R, buf: &mut [u8]) -> Result<usize, Broken>
     Ok(count)
 }
 
-// One read, made again where a signal interrupts it.
+// One read, made again where a signal interrupts it. Nothing says that this comes to an end, so that the last of
+// 2^64 - 1 such calls has failed.
 fn read_uninterrupted<R: Read>(reader: &mut R, buf: &mut [u8]) -> Result<usize, Broken>
     ensures bound { ReadsAtMost result buf.new }
     ensures bytes { Consumes (R.remaining reader.old) (R.remaining reader.new) (take (moved result) buf.new) }
@@ -103,7 +104,7 @@ fn read_uninterrupted<R: Read>(reader: &mut R, buf: &mut [u8]) -> Result<usize, 
     Err(Broken)
 }
 
-// One write, made again where a signal interrupts it.
+// One write, made again as a read is.
 fn write_some<W: Write>(writer: &mut W, bytes: &[u8]) -> Result<usize, Broken>
     ensures bound { WritesAtMost result bytes.now }
     ensures progress { OnOk result (0 < moved result) }

@@ -48,11 +48,13 @@ impl Source for Pieces<'_> {
         requires open { pieces_ended self.old ≡ false }
         ensures bound { ReadsAtMost result buf.new }
         ensures behind { drop (moved result) buf.new ≡ drop (moved result) buf.old }
-        ensures bytes { Consumes (Some (pieces_left self.old)) (Some (pieces_left self.new)) (take (moved result) buf.new) }
+        ensures bytes { Consumes (Some (pieces_left self.old)) (Some (pieces_left self.new))
+            (take (moved result) buf.new) }
         ensures end { pieces_ended self.new ≡ tells_end result }
         ensures nothing_left { tells_end result ≡ true → IsAtEnd (Some (pieces_left self.new)) }
         ensures failed { false ≡ is_err result }
-        ensures count { result ≡ Ok (min (pieces_most self.old) (min (length (pieces_left self.old)) (length buf.old))) }
+        ensures count { result
+            ≡ Ok (min (pieces_most self.old) (min (length (pieces_left self.old)) (length buf.old))) }
         ensures most { pieces_most self.new ≡ pieces_most self.old }
     {
         let count = self.most.min(self.rest.len().min(buf.len()));

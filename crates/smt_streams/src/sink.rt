@@ -1,18 +1,14 @@
 //! What takes bytes. This file knows no device.
 
-ghost use Rattle.std.specs.Prelude.{◌≡◌, false, is_err, OnErr, OnOk};
+ghost use Rattle.std.specs.Prelude.{◌≡◌, ◌<◌, ℕ, List, Bool, false, Option, length, take, is_err, OnErr, OnOk};
+ghost use Rattle.std.specs.Io.{WritesAtMost};
 ghost use Rattle.std.specs.Io.KnownBytes.{Appends};
-ghost use Rattle.smt_streams.specs.Moved.{TakesPart};
+ghost use Rattle.smt_streams.specs.Moved.{TakesPart, moved};
 
 use crate::Broken;
 
 /// Where bytes go, a part at a time, until a call fails.
 pub trait Sink {
-    ghost use Rattle.std.specs.Prelude.{◌≡◌, ◌<◌, ℕ, List, Bool, false, Option, length, take, is_err, OnOk};
-    ghost use Rattle.std.specs.Io.{WritesAtMost};
-    ghost use Rattle.std.specs.Io.KnownBytes.{Appends};
-    ghost use Rattle.smt_streams.specs.Moved.{moved};
-
     /// The bytes taken so far, behind those that it held before, where they are known.
     ghost taken: { Self → Option (List ℕ) };
 
