@@ -1,0 +1,4 @@
+pub mod Collected
+pub mod Device
+pub mod Moved
+pub mod Pieces

@@ -1,0 +1,122 @@
+//! Devices: sources over what std reads from, and sinks over what std writes to. This file knows no file and
+//! no terminal.
+
+ghost use Rattle.std.specs.Prelude.{◌≡◌, ◌<◌, false, length, take, drop, IfOk, OnOk};
+ghost use Rattle.std.specs.Io.{ReadsAtMost, WritesAtMost};
+ghost use Rattle.std.specs.Io.KnownBytes.{Appends, Consumes, IsAtEnd};
+ghost use Rattle.smt_streams.specs.Device.{device_inner, device_broken, device_ended};
+ghost use Rattle.smt_streams.specs.Moved.{moved};
+
+use crate::{Broken, Sink, Source};
+use std::io::{ErrorKind, Read, Write};
+
+// The most bytes that a pull gives.
+const BLOCK: usize = 8192;
+
+/// A source over a reader, or a sink over a writer. A call that a signal interrupts is made again. A writer
+/// that takes no byte has failed. A pull gives at most 8,192 bytes.
+#[derive(Drop)]
+pub struct Device<T> {
+    inner: T,
+    broken: bool,
+    ended: bool,
+}
+
+impl<T> Device<T> {
+    /// A device that has moved no byte yet.
+    pub fn new(inner: T) -> Device<T>
+        ensures inner { device_inner result ≡ inner }
+        ensures sound { device_broken result ≡ false }
+        ensures open { device_ended result ≡ false }
+    {
+        Device {
+            inner,
+            broken: false,
+            ended: false,
+        }
+    }
+}
+
+impl<R: Read> Source for Device<R> {
+    ghost to_come = { λ device. R.remaining (device_inner device) };
+
+    ghost has_ended = { device_ended };
+
+    ghost is_broken = { device_broken };
+
+    fn pull(&mut self, buf: &mut [u8]) -> Result<usize, Broken> {
+        let given = read_front(&mut self.inner, buf);
+        self.ended = given == Ok(0);
+        self.broken = given.is_err();
+        given
+    }
+
+    fn broken(&self) -> bool {
+        self.broken
+    }
+}
+
+impl<W: Write> Sink for Device<W> {
+    ghost taken = { λ device. W.contents (device_inner device) };
+
+    ghost is_broken = { device_broken };
+
+    fn put(&mut self, bytes: &[u8]) -> Result<usize, Broken> {
+        let taken = write_some(&mut self.inner, bytes);
+        self.broken = taken.is_err();
+        taken
+    }
+
+    fn broken(&self) -> bool {
+        self.broken
+    }
+}
+
+// Gives the bytes of one read. They come over a block, since a reader may write behind what it gives.
+fn read_front<R: Read>(reader: &mut R, buf: &mut [u8]) -> Result<usize, Broken>
+    requires { 0 < length buf.old }
+    ensures bound { ReadsAtMost result buf.new }
+    ensures behind { drop (moved result) buf.new ≡ drop (moved result) buf.old }
+    ensures bytes { Consumes (R.remaining reader.old) (R.remaining reader.new) (take (moved result) buf.new) }
+    ensures end { IfOk result (λ n. n ≡ 0 → IsAtEnd (R.remaining reader.new)) }
+{
+    let mut block = [0u8; BLOCK];
+    let room = buf.len().min(BLOCK);
+    let count = read_uninterrupted(reader, &mut block[..room])?;
+    buf[..count].copy_from_slice(&block[..count]);
+    Ok(count)
+}
+
+// One read, made again where a signal interrupts it. Nothing says that this comes to an end, so that the last of
+// 2^64 - 1 such calls has failed.
+fn read_uninterrupted<R: Read>(reader: &mut R, buf: &mut [u8]) -> Result<usize, Broken>
+    ensures bound { ReadsAtMost result buf.new }
+    ensures bytes { Consumes (R.remaining reader.old) (R.remaining reader.new) (take (moved result) buf.new) }
+    ensures end { IfOk result (λ n. n ≡ 0 → 0 < length buf.old → IsAtEnd (R.remaining reader.new)) }
+{
+    for _ in 0..u64::MAX {
+        match reader.read(buf) {
+            Ok(given) => return Ok(given),
+            Err(error) if error.kind() == ErrorKind::Interrupted => {}
+            Err(_) => return Err(Broken),
+        }
+    }
+    Err(Broken)
+}
+
+// One write, made again as a read is.
+fn write_some<W: Write>(writer: &mut W, bytes: &[u8]) -> Result<usize, Broken>
+    ensures bound { WritesAtMost result bytes.now }
+    ensures progress { OnOk result (0 < moved result) }
+    ensures bytes { Appends (W.contents writer.old) (W.contents writer.new) (take (moved result) bytes.now) }
+{
+    for _ in 0..u64::MAX {
+        match writer.write(bytes) {
+            Ok(0) => return Err(Broken),
+            Ok(taken) => return Ok(taken),
+            Err(error) if error.kind() == ErrorKind::Interrupted => {}
+            Err(_) => return Err(Broken),
+        }
+    }
+    Err(Broken)
+}
