@@ -20,3 +20,9 @@ pub mod VerdictLawLemmas
 pub mod WindowLemmas
 pub mod StructureLemmas
 pub mod UnreadLemmas
+pub mod FrontLemmas
+pub mod AnsweringLemmas
+pub mod TurnLemmas
+pub mod ExchangeLemmas
+pub mod AdvanceLemmas
+pub mod FeedLemmas

@@ -14,6 +14,7 @@ use Rattle.smt_dialogue.proofs.WaitLemmas.{ClosesNext}
 use Rattle.smt_dialogue.specs.FirstFault.{Ends, GoesOn, IsRest, Turn, Waits}
 use Rattle.smt_dialogue.specs.InForce.{signature_after}
 use Rattle.smt_dialogue.specs.Judgement.{Claimed, judgement_of}
+use Rattle.smt_dialogue.specs.Internal.DialogueState.{Closing}
 use Rattle.smt_dialogue.specs.Lines.{claims_after, is_empty, line_of_judgement, lines_in, lines_of_answer}
 use Rattle.smt_dialogue.specs.Lines.{lines_of_pair, lines_of_sat, sat_lines, unchecked_answer}
 use Rattle.smt_dialogue.specs.Lines.{unchecked_line_or, unconfirmed_line}
@@ -151,11 +152,6 @@ sat_open c k n names claims m after xs h =
     by None is =
         inr (ap (λ o. sat_lines k n o (some_model (window after)) (false || list_any closes after)) is
         ∙ ap (λ b. sat_lines k n None (some_model (window after)) (false || b)) h)
-
--- a pair comes that closes every window, or none comes and they are closed
-pub record Closing (c : Bool) (xs : List Pair) : Type 0 where
-  pub none : window xs ≡ []
-  pub closed : c || list_any closes xs ≡ true
 
 sat_closing : (c : Bool) (k n : ℕ) (names : Signature) (claims : List Claimed) (m : ℕ) (after xs : List Pair)
     → Closing c xs → list_any closes after ≡ false

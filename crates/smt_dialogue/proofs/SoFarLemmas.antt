@@ -54,7 +54,7 @@ growth_of : (x y : TextSoFar) (g : IsGrown x y) → Growth x.told x.fault y.told
 growth_of x y g = record { over = g.over; told_stays = g.told }
 
 -- the pairs stay
-paired_more : (start : Bool) (script answers grown_script grown_answers : TextSoFar) (pairs : List Pair)
+pub paired_more : (start : Bool) (script answers grown_script grown_answers : TextSoFar) (pairs : List Pair)
     (later rest : Sexps) (s : IsGrown script grown_script) (g : IsGrown answers grown_answers)
     → ArePaired start script answers pairs later rest
     → ArePaired start grown_script grown_answers pairs (append later s.later) (append rest g.later)

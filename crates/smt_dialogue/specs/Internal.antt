@@ -3,3 +3,7 @@ pub mod DialogueState
 pub mod ReadText
 pub mod Steps
 pub mod UnreadText
+pub mod FrontView
+pub mod Answering
+pub mod Turns
+pub mod ExchangeView

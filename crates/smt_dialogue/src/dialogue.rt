@@ -1,8 +1,9 @@
 //! The dialogue so far: what is in force, the checks, and the lines of the report.
 
-ghost use Rattle.std.specs.Prelude.{◌≡◌, ◌≤◌, ◌<◌, ◌+◌, ◌^◌, ◌++◌, ◌∷◌, ◌⊎◌, List, [], None, Some, true};
+ghost use Rattle.std.specs.Prelude.{Bool, ◌≡◌, ◌≤◌, ◌<◌, ◌+◌, ◌^◌, ◌++◌, ◌∷◌, ◌⊎◌, List, [], None, Some, true};
 ghost use Rattle.std.specs.Prelude.{IfOk, IfErr, OnErr, OnOk, option_map};
 ghost use Rattle.smt_trees.specs.Tree.{sexp_of};
+ghost use Rattle.smt_script.specs.Command.{is_check};
 ghost use Rattle.smt_script.specs.CommandView.{command_view};
 ghost use Rattle.smt_script.specs.Stack.{Numbered};
 ghost use Rattle.smt_script.specs.StackView as stacks;
@@ -16,7 +17,8 @@ ghost use Rattle.smt_dialogue.specs.Pairs.{Pair, answer_count, numbered_if, pair
 ghost use Rattle.smt_dialogue.specs.Report.{lines_at_end, lines_of_end};
 ghost use Rattle.smt_report.specs.Verdict.{verdict_of};
 ghost use Rattle.smt_dialogue.specs.Internal.ChecksState.{IsAnswered, role_of};
-ghost use Rattle.smt_dialogue.specs.Internal.DialogueState.{StandsFor, answered, flaw_if, state_of};
+ghost use Rattle.smt_dialogue.specs.Internal.DialogueState.{Stands, StandsFor, answered, flaw_if};
+ghost use Rattle.smt_dialogue.specs.Internal.DialogueState.{state_of};
 
 use crate::answer::is_effective;
 use crate::window::{Checks, role_of};
@@ -55,30 +57,32 @@ impl Dialogue {
     /// stays as it is.
     pub(crate) fn accept(
         &mut self,
-        command: Command,
+        command: &Command,
         answer: &Option<Tree>,
     ) -> Result<(), CommandFault>
         requires commands { self.old.commands + 1 < 2 ^ 64 }
         requires answers { self.old.answers + 1 < 2 ^ 64 }
         requires checks { self.old.checks.count + 1 < 2 ^ 64 }
         requires last { last_of self.old.stack ≤ self.old.commands }
-        requires stands { (pairs : List Pair) × StandsFor (state_of self.old) pairs }
-        requires answered { IsAnswered (role_of (command_view command)) (option_map sexp_of answer.now) }
-        ensures accepted { OnOk result ((pairs : List Pair) → StandsFor (state_of self.old) pairs
-            → (flaw_of_pair pairs (answered command answer.now) ≡ None)
+        requires stands { (early : Bool) × (pairs : List Pair) × Stands early (state_of self.old) pairs
+            × (early ≡ true → is_check (command_view command.now) ≡ true) }
+        requires answered { IsAnswered (role_of (command_view command.now)) (option_map sexp_of answer.now) }
+        ensures accepted { OnOk result ((early : Bool) (pairs : List Pair) → Stands early (state_of self.old) pairs
+            → (early ≡ true → is_check (command_view command.now) ≡ true)
+            → (flaw_of_pair pairs (answered command.now answer.now) ≡ None)
             × StandsFor (state_of self.new)
-            (pairs ++ answered command answer.now ∷ [])) }
+            (pairs ++ answered command.now answer.now ∷ [])) }
         ensures refused { IfErr result
             (λ fault. (flaw : CommandFlaw) → flaw_of_command_fault fault ≡ Some flaw
-            → (pairs : List Pair) → StandsFor (state_of self.old) pairs
-            → (flaw_of_pair pairs (answered command answer.now)
+            → (early : Bool) (pairs : List Pair) → Stands early (state_of self.old) pairs
+            → (flaw_of_pair pairs (answered command.now answer.now)
             ≡ Some flaw)
-            × StandsFor (state_of self.new) pairs) }
+            × Stands early (state_of self.new) pairs) }
         ensures start { initial_print_success_of self.new.stack ≡ initial_print_success_of self.old.stack }
     {
         let number = self.commands + 1;
         let effective = is_effective(answer);
-        let role = role_of(&command);
+        let role = role_of(command);
         if let Err(fault) = apply_if(effective, &mut self.stack, number, command) {
             return Err(fault);
         }
@@ -91,6 +95,15 @@ impl Dialogue {
         self.commands = number;
         self.answers += count_of(answer);
         Ok(())
+    }
+
+    /// Ends the window of the last check, where what comes next closes it.
+    pub(crate) fn end_window(&mut self) -> Result<(), Memory>
+        ensures stands { OnOk result ((early : Bool) (pairs : List Pair) → Stands early (state_of self.old) pairs
+            → Stands true (state_of self.new) pairs) }
+        ensures start { initial_print_success_of self.new.stack ≡ initial_print_success_of self.old.stack }
+    {
+        self.checks.end_window()
     }
 
     /// Ends the dialogue, with the line of a fault or without one.
@@ -114,28 +127,25 @@ fn apply_if(
     effective: bool,
     stack: &mut Stack,
     number: u64,
-    command: Command,
+    command: &Command,
 ) -> Result<(), CommandFault>
     requires { last_of stack.old < number }
     ensures applied { OnOk result ((commands : List Numbered) → stacks.StandsFor stack.old commands
-        → (flaw_if effective commands number (command_view command) ≡ None)
-        × stacks.StandsFor stack.new (commands ++ numbered_if effective number (command_view command))) }
+        → (flaw_if effective commands number (command_view command.now) ≡ None)
+        × stacks.StandsFor stack.new (commands ++ numbered_if effective number (command_view command.now))) }
     ensures last { OnOk result (last_of stack.new ≤ number) }
     ensures refused { IfErr result (λ fault. (commands : List Numbered) → stacks.StandsFor stack.old commands
-        → TellsCommand (flaw_if effective commands number (command_view command)) fault) }
+        → TellsCommand (flaw_if effective commands number (command_view command.now)) fault) }
     ensures unchanged { OnErr result
         (((commands : List Numbered) → stacks.StandsFor stack.old commands
         → stacks.StandsFor stack.new commands) × (last_of stack.new ≡ last_of stack.old)) }
     ensures start { initial_print_success_of stack.new ≡ initial_print_success_of stack.old }
 {
-    let outcome = if effective {
-        stack.apply(number, &command)
+    if effective {
+        stack.apply(number, command)
     } else {
         Ok(())
-    };
-    // dropped by name: what the prover has to say of a drop at the end, variant by variant, takes it long
-    drop(command);
-    outcome
+    }
 }
 
 // How many answers that are: one or none.

@@ -7,12 +7,16 @@
 #![tactic(auto)]
 
 mod answer;
+mod answering;
 mod dialogue;
+mod exchange;
+mod front;
 mod judgement;
 pub mod laws;
 mod options;
 mod pairing;
 mod read_text;
+mod turn;
 mod unread_text;
 mod validation;
 mod window;

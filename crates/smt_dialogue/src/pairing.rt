@@ -156,7 +156,7 @@ fn take_step(
 }
 
 // The line on a command that is refused.
-fn refused(command: u64, flaw: CommandFlaw) -> Line
+pub(crate) fn refused(command: u64, flaw: CommandFlaw) -> Line
     ensures { result ≡ Line.CommandFault command flaw }
 {
     Line::CommandFault { command, flaw }
@@ -203,7 +203,10 @@ fn accept(
         (λ _. initial_print_success_of dialogue.new.stack ≡ initial_print_success_of dialogue.old.stack) }
 {
     let number = dialogue.commands + 1;
-    match dialogue.accept(command, answer) {
+    let outcome = dialogue.accept(&command, answer);
+    // dropped by name: what the prover has to say of a drop at the end, variant by variant, takes it long
+    drop(command);
+    match outcome {
         Ok(()) => Ok(None),
         Err(fault) => match fault.flaw() {
             Some(flaw) => Ok(Some(refused(number, flaw))),
@@ -213,7 +216,7 @@ fn accept(
 }
 
 // The line where the command of this number has no answer.
-fn want_of_answer(command: u64, fault: Option<TextFlaw>) -> Line
+pub(crate) fn want_of_answer(command: u64, fault: Option<TextFlaw>) -> Line
     ensures { result ≡ first_fault.want_of_answer command fault }
 {
     match fault {

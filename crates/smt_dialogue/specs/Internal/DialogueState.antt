@@ -1,5 +1,6 @@
 -- What the dialogue so far keeps, and what it stands for: which pairs of commands and answers it accepted.
-use Rattle.std.specs.Prelude.{◌≡◌, ◌≤◌, ℕ, ◌+◌, List, [], ◌++◌, length, Bool, Option, None}
+use Rattle.std.specs.Prelude.{◌≡◌, ◌≤◌, ℕ, ◌+◌, List, [], ◌++◌, length, Bool, true, false, ◌||◌, Option, None}
+use Rattle.std.specs.List.{list_any}
 use Rattle.std.specs.Prelude.{option_map, if◌then◌else◌}
 use Rattle.smt_trees.specs.Tree.{sexp_of}
 use Rattle.smt_trees.specs.declared.tree.Tree.{Tree}
@@ -15,6 +16,7 @@ use Rattle.smt_dialogue.specs.InForce.{signature_after}
 use Rattle.smt_dialogue.specs.Lines.{claims_after, lines_in}
 use Rattle.smt_dialogue.specs.Pairs.{Pair, answers_taken, checks_in, effective_commands, pair_of}
 use Rattle.smt_dialogue.specs.Internal.ChecksState.{ChecksState, checks_state, pending_lines}
+use Rattle.smt_dialogue.specs.Window.{closes, window}
 use Rattle.smt_dialogue.specs.declared.dialogue.Dialogue.{Dialogue}
 
 -- what is kept: what is in force, the checks, and the counts of commands and answers
@@ -40,15 +42,24 @@ answered command answer = pair_of (command_view command) (option_map sexp_of ans
 abbrev pub flaw_if : Bool → List Numbered → ℕ → Command → Option CommandFlaw
 flaw_if effective before n command = if effective then flaw_of_effect before n command else None
 
+-- every window is closed at once: the first of the pairs that come closes it, or none comes and all are closed
+pub record Closing (ended : Bool) (after : List Pair) : Type 0 where
+  pub none : window after ≡ []
+  pub closed : ended || list_any closes after ≡ true
+
 -- the state fits these pairs: what it keeps is in force behind them, and whatever pairs come, the lines are
--- those that are decided and those of the check whose window has not ended
-pub record StandsFor (s : State) (pairs : List Pair) : Type 0 where
+-- those that are decided and those of the check whose window has not ended. `early` says that windows were
+-- ended before the pair came that closes them
+pub record Stands (early : Bool) (s : State) (pairs : List Pair) : Type 0 where
   pub stack : stacks.StandsFor s.stack (effective_commands pairs)
   pub last : last_of s.stack ≤ s.commands
   pub commands : s.commands ≡ length pairs
   pub answers : s.answers ≡ answers_taken pairs
   pub checks : s.checks.count ≡ checks_in pairs
-  pub lines : (closed : Bool) (after : List Pair)
+  pub lines : (closed : Bool) (after : List Pair) → (early ≡ true → Closing closed after)
       → lines_in closed [] pairs after
       ≡ s.checks.lines ++ pending_lines closed s.checks.pending (signature_after pairs)
       (claims_after pairs) (length pairs + 1) after
+
+abbrev pub StandsFor : State → List Pair → Type 0
+StandsFor s pairs = Stands false s pairs

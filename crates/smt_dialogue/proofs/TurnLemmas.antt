@@ -1,0 +1,114 @@
+-- What one turn of a dialogue comes to, by what its command takes.
+use Rattle.std.proofs.Common.{true, ◌≡◌, ℕ, ◌+◌, Bool, List, length, Option, Some, None, Result, Ok, Err}
+use Rattle.std.proofs.Common.{IfOk, ap, sym, ◌∙◌, subst}
+use Rattle.std.specs.Prelude.{option_map}
+use Rattle.smt_trees.specs.Sexp.{Sexps}
+use Rattle.smt_trees.specs.Tree.{sexp_of}
+use Rattle.smt_trees.specs.declared.tree.Tree.{Tree}
+use Rattle.smt_faults.specs.declared.memory.Memory.{Memory}
+use Rattle.smt_faults.specs.declared.text_flaw.TextFlaw.{TextFlaw}
+use Rattle.smt_script.specs.Command.{Command, is_check}
+use Rattle.smt_dialogue.specs.Answers as answers
+use Rattle.smt_dialogue.specs.Answers.{need_of, taken}
+use Rattle.smt_dialogue.specs.FirstFault as first_fault
+use Rattle.smt_dialogue.specs.FirstFault.{TextSoFar, is_over, turn_of_taken, want_of_answer}
+use Rattle.smt_dialogue.specs.InForce.{print_success_after}
+use Rattle.smt_dialogue.specs.Pairs.{Pair, answers_taken, next_of, pair_of}
+use Rattle.smt_dialogue.specs.Internal.Answering.{IsTaken, answering_view}
+use Rattle.smt_dialogue.specs.Internal.DialogueState.{Stands, State}
+use Rattle.smt_dialogue.specs.Internal.FrontView.{HasFront}
+use Rattle.smt_dialogue.specs.Internal.Turns.{IsDone, IsTakenUp, taken_for, turn_of_line}
+use Rattle.smt_dialogue.specs.declared.answer.Need.{Need}
+use Rattle.smt_dialogue.specs.declared.answering.Answering.{Answering}
+use Rattle.smt_dialogue.specs.declared.answering.Answering.TheVariants as found
+use Rattle.smt_dialogue.specs.declared.front.Front.{Front}
+use Rattle.smt_dialogue.specs.declared.turn.Turn.{Turn}
+use Rattle.smt_dialogue.specs.declared.turn.Turn.TheVariants as turns
+use Rattle.smt_report.specs.declared.line.Line.{Line}
+use Rattle.smt_report.specs.declared.line.Line.TheVariants as lines
+
+-- what the command takes, by what it needs
+pub takes_so : (initial on : Bool) (pairs : List Pair) (c : Command) (need : Need) (a : Answering)
+    (text : TextSoFar) (rest : Sexps) (bytes : List ℕ) (front : Front)
+    → need ≡ need_of on c → on ≡ print_success_after initial pairs → IsTaken a need text rest bytes front
+    → taken_for initial pairs c text rest ≡ answering_view a
+takes_so initial on pairs c need a text rest bytes front is same h =
+    ap (λ n. taken (is_over text) n (next_of rest)) (ap (λ b. need_of b c) (sym same) ∙ sym is) ∙ sym h.taken_so
+
+by_line : (early initial : Bool) (pairs : List Pair) (c : Command) (o : Option Tree) (text : TextSoFar) (rest : Sexps)
+    (bytes : List ℕ) (front : Front) (need : Need) (new : State) (line : Option Line)
+    → IsTaken (found.Takes o) need text rest bytes front
+    → taken_for initial pairs c text rest ≡ answers.Takes (option_map sexp_of o)
+    → IsDone line early pairs (pair_of c (option_map sexp_of o)) new
+    → IsTakenUp (turn_of_line line) early initial pairs c text rest bytes front new
+by_line early initial pairs c o text rest bytes front need new None h takes accepted = record {
+  answer = option_map sexp_of o;
+  left = h.left;
+  front_is = h.front_is;
+  next = h.left_is;
+  taken_so = takes;
+  faultless = accepted.0;
+  stands = accepted.1;
+}
+by_line early initial pairs c o text rest bytes front need new (Some line) h takes accepted =
+    (ap (turn_of_taken pairs c text.fault) takes ∙ accepted.0, accepted.1)
+
+pub taken_with : (r : Result Turn Memory) (initial on : Bool) (c : Command) (o : Option Tree) (need : Need)
+    (before after : Front) (old new : State) → need ≡ need_of on c
+    → ((early : Bool) (pairs : List Pair) → Stands early old pairs → on ≡ print_success_after initial pairs)
+    → ((bytes : List ℕ) (text : TextSoFar) (rest : Sexps) → HasFront before bytes text rest
+    → IsTaken (found.Takes o) need text rest bytes after)
+    → IfOk r (λ turn. (early : Bool) (pairs : List Pair) → Stands early old pairs
+    → (early ≡ true → is_check c ≡ true) → (line : Option Line) × (turn ≡ turn_of_line line) × IsDone line early pairs (pair_of c (option_map sexp_of o)) new)
+    → IfOk r (λ turn. (bytes : List ℕ) (text : TextSoFar) (rest : Sexps) (early : Bool) (pairs : List Pair)
+    → HasFront before bytes text rest → Stands early old pairs → (early ≡ true → is_check c ≡ true)
+    → IsTakenUp turn early initial pairs c text rest bytes after new)
+taken_with (Err e) initial on c o need before after old new is on_is takes h = tt
+taken_with (Ok turn) initial on c o need before after old new is on_is takes h = λ bytes text rest early pairs front
+    stands check.
+    let up = h early pairs stands check in
+    let t = takes bytes text rest front in
+    subst (λ u. IsTakenUp u early initial pairs c text rest bytes after new) (sym up.1)
+    (by_line early initial pairs c o text rest bytes after need new up.0 t
+    (takes_so initial on pairs c need (found.Takes o) text rest bytes after is (on_is early pairs stands) t) up.2)
+
+pub taken_waits : (early initial on : Bool) (pairs : List Pair) (c : Command) (need : Need) (text : TextSoFar)
+    (rest : Sexps) (bytes : List ℕ) (front : Front) (new : State) (closed : Bool)
+    → need ≡ need_of on c → on ≡ print_success_after initial pairs → closed ≡ is_check c
+    → IsTaken found.Waits need text rest bytes front → Stands early new pairs
+    → IsTakenUp (turns.Waits closed) early initial pairs c text rest bytes front new
+taken_waits early initial on pairs c need text rest bytes front new closed is same check h stands =
+    let takes = takes_so initial on pairs c need found.Waits text rest bytes front is same h in (
+      ap (turn_of_taken pairs c text.fault) takes ∙ ap first_fault.Waits (sym check),
+      subst (HasFront front bytes text) (sym h.left_is) h.front_is,
+      stands,
+    )
+
+pub taken_missing : (early initial on : Bool) (pairs : List Pair) (c : Command) (need : Need) (text : TextSoFar)
+    (rest : Sexps) (bytes : List ℕ) (front : Front) (new : State) (fault : Option TextFlaw) (n : ℕ) (line : Line)
+    → need ≡ need_of on c → on ≡ print_success_after initial pairs
+    → n ≡ length pairs → line ≡ want_of_answer (n + 1) fault
+    → IsTaken (found.Missing fault) need text rest bytes front → Stands early new pairs
+    → IsTakenUp (turns.Ends (Some line)) early initial pairs c text rest bytes front new
+taken_missing early initial on pairs c need text rest bytes front new fault n line is same count told h stands =
+    let takes = takes_so initial on pairs c need (found.Missing fault) text rest bytes front is same h in (
+      ap (turn_of_taken pairs c text.fault) takes
+          ∙ ap (λ o. first_fault.Ends (Some (want_of_answer (length pairs + 1) o))) (sym h.left_is.1)
+          ∙ ap (λ k. first_fault.Ends (Some (want_of_answer (k + 1) fault))) (sym count)
+          ∙ ap (λ l. first_fault.Ends (Some l)) (sym told),
+      stands,
+    )
+
+pub taken_unfit : (early initial on : Bool) (pairs : List Pair) (c : Command) (need : Need) (text : TextSoFar)
+    (rest : Sexps) (bytes : List ℕ) (front : Front) (new : State) (n m : ℕ)
+    → need ≡ need_of on c → on ≡ print_success_after initial pairs
+    → n ≡ length pairs → m ≡ answers_taken pairs
+    → IsTaken found.Unexpected need text rest bytes front → Stands early new pairs
+    → IsTakenUp (turns.Ends (Some (lines.UnexpectedAnswer (n + 1) (m + 1)))) early initial pairs c text rest bytes front new
+taken_unfit early initial on pairs c need text rest bytes front new n m is same count answered h stands =
+    let takes = takes_so initial on pairs c need found.Unexpected text rest bytes front is same h in (
+      ap (turn_of_taken pairs c text.fault) takes
+          ∙ ap (λ k. first_fault.Ends (Some (lines.UnexpectedAnswer (k + 1) (answers_taken pairs + 1)))) (sym count)
+          ∙ ap (λ k. first_fault.Ends (Some (lines.UnexpectedAnswer (n + 1) (k + 1)))) (sym answered),
+      stands,
+    )

@@ -1,0 +1,44 @@
+-- What a command takes of the answers so far, and what it leaves.
+use Rattle.std.specs.Prelude.{◌≡◌, ℕ, List, Option, Some, None, option_map, true, false}
+use Rattle.smt_trees.specs.Sexp.{Sexps, Cons}
+use Rattle.smt_trees.specs.Tree.{sexp_of}
+use Rattle.smt_trees.specs.declared.tree.Tree.{Tree}
+use Rattle.smt_dialogue.specs.Answers as answers
+use Rattle.smt_dialogue.specs.Answers.{has_form, taken}
+use Rattle.smt_dialogue.specs.FirstFault.{TextSoFar, is_over}
+use Rattle.smt_dialogue.specs.Pairs.{next_of, with_answer}
+use Rattle.smt_dialogue.specs.Internal.FrontView.{HasFront}
+use Rattle.smt_dialogue.specs.declared.answer.AnswerForm.{AnswerForm}
+use Rattle.smt_dialogue.specs.declared.answer.Need.{Need}
+use Rattle.smt_dialogue.specs.declared.answering.Answering.{Answering}
+use Rattle.smt_dialogue.specs.declared.answering.Answering.TheVariants as found
+use Rattle.smt_dialogue.specs.declared.front.Front.{Front}
+
+-- what a contract sees of what is taken
+abbrev pub answering_view : Answering → answers.Taken
+answering_view (found.Takes answer) = answers.Takes (option_map sexp_of answer)
+answering_view found.Waits = answers.Waits
+answering_view (found.Missing fault) = answers.Missing
+answering_view found.Unexpected = answers.Unexpected
+
+-- what is left: the answers without the one that was taken; where one is missing, the fault is theirs
+abbrev pub IsLeft : Answering → TextSoFar → (before after : Sexps) → Type 0
+IsLeft (found.Takes answer) text before after = before ≡ with_answer (option_map sexp_of answer) after
+IsLeft (found.Missing fault) text before after = (before ≡ after) × (fault ≡ text.fault)
+IsLeft _ text before after = before ≡ after
+
+-- this is what a command takes that needs this, of these answers
+pub record IsTaken (answering : Answering) (need : Need) (text : TextSoFar) (rest : Sexps) (bytes : List ℕ)
+    (front : Front) : Type 0 where
+  pub left : Sexps
+  pub front_is : HasFront front bytes text left
+  pub taken_so : answering_view answering ≡ taken (is_over text) need (next_of rest)
+  pub left_is : IsLeft answering text rest left
+
+-- the answer that stood ready was taken, which has this form; or it has another
+abbrev pub IsFound : AnswerForm → Option Tree → Option Tree → TextSoFar → Sexps → List ℕ → Front → Type 0
+IsFound form (Some tree) next text rest bytes front =
+    (next ≡ Some tree) × (has_form form (sexp_of tree) ≡ true)
+    × ((later : Sexps) → rest ≡ Cons (sexp_of tree) later → HasFront front bytes text later)
+IsFound form None next text rest bytes front =
+    ((tree : Tree) → next ≡ Some tree → has_form form (sexp_of tree) ≡ false) × HasFront front bytes text rest

@@ -1,0 +1,79 @@
+-- What a session keeps of two texts so far, and what it has taken up of them.
+use Rattle.std.specs.Prelude.{◌≡◌, ℕ, List, [], ◌∷◌, ◌++◌, Bool, Option, Some, None, false, true, is_some, Ok}
+use Rattle.smt_trees.specs.Sexp.{Sexp, Sexps, Nil, Cons}
+use Rattle.smt_script.specs.Command.{command_of, is_check}
+use Rattle.smt_script.specs.CommandView.{command_view}
+use Rattle.smt_script.specs.declared.command.Command.{Command}
+use Rattle.smt_script.specs.StackView.{initial_print_success_of}
+use Rattle.smt_dialogue.specs.FirstFault.{TextSoFar, turn_after}
+use Rattle.smt_dialogue.specs.FirstFault as first_fault
+use Rattle.smt_dialogue.specs.InForce.{has_exited_after}
+use Rattle.smt_dialogue.specs.Pairs.{Pair}
+use Rattle.smt_dialogue.specs.Report.{ArePaired, IsTurn}
+use Rattle.smt_dialogue.specs.Internal.DialogueState.{Stands, state_of}
+use Rattle.smt_dialogue.specs.Internal.FrontView.{HasFront}
+use Rattle.smt_dialogue.specs.declared.exchange.Exchange.{Exchange}
+use Rattle.smt_dialogue.specs.declared.turn.Turn.{Turn}
+use Rattle.smt_dialogue.specs.declared.turn.Turn.TheVariants as turns
+
+-- the bytes of both texts so far, and what is read of them
+pub record Texts : Type 0 where
+  pub script_bytes : List ℕ
+  pub script : TextSoFar
+  pub answers_bytes : List ℕ
+  pub answers : TextSoFar
+
+-- the command in turn, if it was read, is the first of the trees that are left, and no `exit` came before it
+abbrev pub IsInTurn : Option Command → List Pair → (later left : Sexps) → Type 0
+IsInTurn None pairs later left = later ≡ left
+IsInTurn (Some command) pairs later left =
+    (tree : Sexp) × (later ≡ Cons tree left) × (command_of tree ≡ Ok (command_view command))
+    × (has_exited_after pairs ≡ false)
+
+-- what comes next closes every window: the command in turn is a check, or no command comes
+abbrev pub IsClosing : Option Command → Texts → Sexps → Type 0
+IsClosing (Some command) texts later = is_check (command_view command) ≡ true
+IsClosing None texts later = (later ≡ Nil) × (texts.script.fault ≡ None) × (texts.script.told ≡ true)
+
+-- these pairs were taken up, and these trees and answers are left
+pub record IsUnderWay (x : Exchange) (texts : Texts) (pairs : List Pair) (later rest : Sexps) : Type 0 where
+  pub left : Sexps
+  pub in_turn : IsInTurn x.command pairs later left
+  pub script_front : HasFront x.script texts.script_bytes texts.script left
+  pub answers_front : HasFront x.answers texts.answers_bytes texts.answers rest
+  pub early : Bool
+  pub stands : Stands early (state_of x.dialogue) pairs
+  pub closing : early ≡ true → IsClosing x.command texts later
+  pub paired : ArePaired (initial_print_success_of x.dialogue.stack) texts.script texts.answers pairs later rest
+
+-- the turn of what is left
+abbrev pub turn_of : Exchange → Texts → List Pair → (later rest : Sexps) → first_fault.Turn
+turn_of x texts pairs later rest = turn_after (initial_print_success_of x.dialogue.stack) pairs
+    (record texts.script { trees = later }) (record texts.answers { trees = rest })
+
+-- what a turn came to: one more pair; or it waits, with what was left; or the dialogue ends behind the pairs
+abbrev pub IsTurned : Turn → (old new : Exchange) → Texts → List Pair → (later rest : Sexps) → Type 0
+IsTurned turns.GoesOn old new texts pairs later rest =
+    (pair : Pair) × (left : Sexps) × (after : Sexps) × IsUnderWay new texts (pairs ++ pair ∷ []) left after
+    × (initial_print_success_of new.dialogue.stack ≡ initial_print_success_of old.dialogue.stack)
+IsTurned (turns.Waits closed) old new texts pairs later rest =
+    IsUnderWay new texts pairs later rest × (turn_of old texts pairs later rest ≡ first_fault.Waits closed)
+IsTurned (turns.Ends fault) old new texts pairs later rest =
+    (early : Bool) × Stands early (state_of new.dialogue) pairs × (turn_of old texts pairs later rest ≡ first_fault.Ends fault)
+
+-- the next command was read, and is in turn; or this turn came in its place
+abbrev pub IsNext : Option Turn → (old new : Exchange) → Texts → List Pair → (later rest : Sexps) → Type 0
+IsNext None old new texts pairs later rest =
+    IsUnderWay new texts pairs later rest × (is_some new.command ≡ true)
+IsNext (Some turn) old new texts pairs later rest = IsTurned turn old new texts pairs later rest
+
+-- the turns came to rest: the dialogue waits behind pairs, or has ended behind some
+abbrev pub HasRested : Turn → (initial : Bool) → Exchange → Texts → Type 0
+HasRested turns.GoesOn initial new texts = ⊥
+HasRested (turns.Waits closed) initial new texts =
+    (pairs : List Pair) × (later : Sexps) × (rest : Sexps) × IsUnderWay new texts pairs later rest
+    × (initial_print_success_of new.dialogue.stack ≡ initial)
+    × (turn_of new texts pairs later rest ≡ first_fault.Waits closed)
+HasRested (turns.Ends fault) initial new texts =
+    (pairs : List Pair) × (early : Bool) × Stands early (state_of new.dialogue) pairs
+    × IsTurn initial texts.script texts.answers pairs (first_fault.Ends fault)

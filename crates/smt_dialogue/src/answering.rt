@@ -1,0 +1,68 @@
+//! What a command takes of the answers so far. This file knows nothing that is in force.
+
+ghost use Rattle.std.specs.Prelude.{◌≡◌, List, ℕ, IfOk, MatchOption, Some, None, true, false};
+ghost use Rattle.smt_text.specs.Reader.{bytes_fed, is_finished};
+ghost use Rattle.smt_trees.specs.Sexp.{Sexps};
+ghost use Rattle.smt_trees.specs.Tree.{sexp_of};
+ghost use Rattle.smt_trees.specs.declared.tree.Tree as trees;
+ghost use Rattle.smt_dialogue.specs.Answers as answers;
+ghost use Rattle.smt_dialogue.specs.FirstFault.{TextSoFar};
+ghost use Rattle.smt_dialogue.specs.Internal.Answering.{IsFound, IsLeft, IsTaken};
+ghost use Rattle.smt_dialogue.specs.Internal.FrontView.{HasFront};
+
+use crate::answer::{AnswerForm, Need, has_form};
+use crate::front::{Ahead, Front};
+use smt_eval::Memory;
+use smt_faults::TextFlaw;
+use smt_trees::Tree;
+
+/// What is taken of the answers for a command.
+#[derive(Drop)]
+pub enum Answering {
+    /// The next answer, or none.
+    Takes(Option<Tree>),
+    /// It has to wait for one.
+    Waits,
+    /// It needs an answer, and none comes: the fault behind the last, if there is one.
+    Missing(Option<TextFlaw>),
+    /// It needs an answer, and the next one is none of its own.
+    Unexpected,
+}
+
+/// What a command that needs this takes of the answers.
+pub(crate) fn take_answer(need: Need, answers: &mut Front) -> Result<Answering, Memory>
+    ensures taken { IfOk result (λ found. (bytes : List ℕ) (text : TextSoFar) (rest : Sexps)
+        → HasFront answers.old bytes text rest → IsTaken found need text rest bytes answers.new) }
+    ensures fed { bytes_fed answers.new.reader ≡ bytes_fed answers.old.reader }
+    ensures finished { is_finished answers.new.reader ≡ is_finished answers.old.reader }
+{
+    match need {
+        Need::Nothing => Ok(Answering::Takes(None)),
+        Need::Optional(form) => match answers.look()? {
+            Ahead::Tree => Ok(Answering::Takes(take_if(form, answers))),
+            Ahead::Wait => Ok(Answering::Waits),
+            Ahead::End(_) => Ok(Answering::Takes(None)),
+        },
+        Need::Needed(form) => match answers.look()? {
+            Ahead::Tree => match take_if(form, answers) {
+                Some(answer) => Ok(Answering::Takes(Some(answer))),
+                None => Ok(Answering::Unexpected),
+            },
+            Ahead::Wait => Ok(Answering::Waits),
+            Ahead::End(fault) => Ok(Answering::Missing(fault)),
+        },
+    }
+}
+
+// Takes the answer that stands ready, where it has this form.
+fn take_if(form: AnswerForm, answers: &mut Front) -> Option<Tree>
+    ensures taken { (bytes : List ℕ) (text : TextSoFar) (rest : Sexps) → HasFront answers.old bytes text rest
+        → IsFound form result answers.old.next text rest bytes answers.new }
+    ensures fed { bytes_fed answers.new.reader ≡ bytes_fed answers.old.reader }
+    ensures finished { is_finished answers.new.reader ≡ is_finished answers.old.reader }
+{
+    match &answers.next {
+        Some(answer) if has_form(form, answer) => answers.take(),
+        _ => None,
+    }
+}

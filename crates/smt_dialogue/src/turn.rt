@@ -1,0 +1,115 @@
+//! One turn of a dialogue: a command with what it takes of the answers so far. What a command does is not known
+//! here.
+
+ghost use Rattle.std.specs.Prelude.{◌≡◌, ◌<◌, ◌≤◌, ◌+◌, ◌^◌, Bool, List, ℕ, Option, IfOk, Some, option_map};
+ghost use Rattle.std.specs.Prelude.{true};
+ghost use Rattle.smt_text.specs.Reader.{bytes_fed, is_finished};
+ghost use Rattle.smt_trees.specs.Sexp.{Sexps};
+ghost use Rattle.smt_trees.specs.Tree.{sexp_of};
+ghost use Rattle.smt_script.specs.Command as commands;
+ghost use Rattle.smt_script.specs.CommandView.{command_view};
+ghost use Rattle.smt_script.specs.StackView.{initial_print_success_of, last_of};
+ghost use Rattle.smt_dialogue.specs.FirstFault.{TextSoFar};
+ghost use Rattle.smt_dialogue.specs.Pairs.{Pair};
+ghost use Rattle.smt_dialogue.specs.Internal.ChecksState.{IsAnswered, role_of};
+ghost use Rattle.smt_dialogue.specs.Internal.DialogueState.{Stands, answered, state_of};
+ghost use Rattle.smt_dialogue.specs.Internal.FrontView.{HasFront};
+ghost use Rattle.smt_dialogue.specs.Internal.Turns.{IsDone, IsTakenUp, turn_of_line};
+ghost use Rattle.smt_report.specs.declared.line.Line.{Line as ReportLine};
+
+use crate::answer::need_of;
+use crate::answering::{Answering, take_answer};
+use crate::dialogue::Dialogue;
+use crate::front::Front;
+use crate::pairing::{refused, want_of_answer};
+use smt_eval::Memory;
+use smt_report::Line;
+use smt_script::{Command, Kind};
+use smt_trees::Tree;
+
+/// What a turn comes to.
+#[derive(Clone, Copy)]
+pub enum Turn {
+    /// The command was taken up.
+    GoesOn,
+    /// More of a text is waited for, with every window closed or not.
+    Waits { closed: bool },
+    /// The dialogue ends, with a fault or without one.
+    Ends(Option<Line>),
+}
+
+/// Takes up a command with what it takes of the answers, or tells why not.
+pub(crate) fn take_up(
+    dialogue: &mut Dialogue,
+    command: &Command,
+    answers: &mut Front,
+) -> Result<Turn, Memory>
+    requires commands { dialogue.old.commands + 1 < 2 ^ 64 }
+    requires answers { dialogue.old.answers + 1 < 2 ^ 64 }
+    requires checks { dialogue.old.checks.count + 1 < 2 ^ 64 }
+    requires last { last_of dialogue.old.stack ≤ dialogue.old.commands }
+    requires stands { (early : Bool) × (pairs : List Pair) × Stands early (state_of dialogue.old) pairs
+        × (early ≡ true → commands.is_check (command_view command.now) ≡ true) }
+    requires front { (bytes : List ℕ) × (text : TextSoFar) × (rest : Sexps)
+        × HasFront answers.old bytes text rest }
+    ensures turn { IfOk result (λ turn. (bytes : List ℕ) (text : TextSoFar) (rest : Sexps) (early : Bool)
+        (pairs : List Pair) → HasFront answers.old bytes text rest → Stands early (state_of dialogue.old) pairs
+        → (early ≡ true → commands.is_check (command_view command.now) ≡ true)
+        → IsTakenUp turn early (initial_print_success_of dialogue.old.stack) pairs (command_view command.now) text rest
+        bytes answers.new (state_of dialogue.new)) }
+    ensures start { IfOk result
+        (λ _. initial_print_success_of dialogue.new.stack ≡ initial_print_success_of dialogue.old.stack) }
+    ensures fed { bytes_fed answers.new.reader ≡ bytes_fed answers.old.reader }
+    ensures finished { is_finished answers.new.reader ≡ is_finished answers.old.reader }
+{
+    let number = dialogue.commands + 1;
+    let need = need_of(dialogue.stack.print_success(), command);
+    match take_answer(need, answers)? {
+        Answering::Takes(answer) => take_up_with(dialogue, command, &answer),
+        Answering::Waits => Ok(Turn::Waits {
+            closed: is_check(command),
+        }),
+        Answering::Missing(fault) => Ok(Turn::Ends(Some(want_of_answer(number, fault)))),
+        Answering::Unexpected => Ok(Turn::Ends(Some(Line::UnexpectedAnswer {
+            command: number,
+            answer: dialogue.answers + 1,
+        }))),
+    }
+}
+
+// Takes up a command with this answer, or tells the fault of its effect.
+fn take_up_with(
+    dialogue: &mut Dialogue,
+    command: &Command,
+    answer: &Option<Tree>,
+) -> Result<Turn, Memory>
+    requires commands { dialogue.old.commands + 1 < 2 ^ 64 }
+    requires answers { dialogue.old.answers + 1 < 2 ^ 64 }
+    requires checks { dialogue.old.checks.count + 1 < 2 ^ 64 }
+    requires last { last_of dialogue.old.stack ≤ dialogue.old.commands }
+    requires stands { (early : Bool) × (pairs : List Pair) × Stands early (state_of dialogue.old) pairs
+        × (early ≡ true → commands.is_check (command_view command.now) ≡ true) }
+    requires answered { IsAnswered (role_of (command_view command.now)) (option_map sexp_of answer.now) }
+    ensures turn { IfOk result (λ turn. (early : Bool) (pairs : List Pair) → Stands early (state_of dialogue.old) pairs
+        → (early ≡ true → commands.is_check (command_view command.now) ≡ true)
+        → (line : Option ReportLine) × (turn ≡ turn_of_line line)
+        × IsDone line early pairs (answered command.now answer.now) (state_of dialogue.new)) }
+    ensures start { IfOk result
+        (λ _. initial_print_success_of dialogue.new.stack ≡ initial_print_success_of dialogue.old.stack) }
+{
+    let number = dialogue.commands + 1;
+    match dialogue.accept(command, answer) {
+        Ok(()) => Ok(Turn::GoesOn),
+        Err(fault) => match fault.flaw() {
+            Some(flaw) => Ok(Turn::Ends(Some(refused(number, flaw)))),
+            None => Err(Memory),
+        },
+    }
+}
+
+// Whether a command is a check.
+fn is_check(command: &Command) -> bool
+    ensures { result ≡ commands.is_check (command_view command.now) }
+{
+    matches!(command.kind(), Kind::Check)
+}
