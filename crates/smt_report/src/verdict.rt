@@ -1,5 +1,11 @@
-//! What the lines of a report come to.
+//! What the lines of a report come to. Lines are counted as they come, and need not be kept for that.
 
+ghost use Rattle.std.specs.Prelude.{◌≡◌, ◌+◌, ◌<◌, ◌^◌, ◌++◌, Bool, List, [], count_by, length};
+ghost use Rattle.std.specs.List.{list_any};
+ghost use Rattle.smt_report.specs.Verdict as verdicts;
+ghost use Rattle.smt_report.specs.declared.line.Line.{Line as ReportLine};
+
+use crate::line::Line;
 use std::fmt;
 
 /// How many `sat` were confirmed, refuted and left undecided, and how many checks were answered otherwise.
@@ -9,6 +15,75 @@ pub struct Tally {
     pub refuted: u64,
     pub undecided: u64,
     pub unchecked: u64,
+}
+
+impl Tally {
+    /// Of no line.
+    pub fn new() -> Tally
+        ensures { result ≡ verdicts.tally_of [] }
+    {
+        Tally {
+            confirmed: 0,
+            refuted: 0,
+            undecided: 0,
+            unchecked: 0,
+        }
+    }
+
+    /// With further lines, of which and of the earlier ones together there are fewer than 2^64.
+    pub fn with_lines(self, lines: &[Line]) -> Tally
+        ensures { (earlier : List ReportLine) → self ≡ verdicts.tally_of earlier
+            → length earlier + length lines.now < 2 ^ 64
+            → result ≡ verdicts.tally_of (earlier ++ lines.now) }
+    {
+        Tally {
+            confirmed: self.confirmed.saturating_add(confirmed_in(lines)),
+            refuted: self.refuted.saturating_add(refuted_in(lines)),
+            undecided: self.undecided.saturating_add(undecided_in(lines)),
+            unchecked: self.unchecked.saturating_add(unchecked_in(lines)),
+        }
+    }
+
+    /// What the lines come to that this is the tally of, with the line of a fault among them or without one.
+    pub fn verdict(self, has_fault: bool) -> Verdict
+        ensures { (lines : List ReportLine) → self ≡ verdicts.tally_of lines
+            → has_fault ≡ list_any verdicts.is_fault_line lines
+            → result ≡ verdicts.verdict_of lines }
+    {
+        if has_fault {
+            Verdict::Refused
+        } else if self.refuted > 0 {
+            Verdict::Invalid
+        } else if self.undecided > 0 {
+            Verdict::NotDecided
+        } else {
+            Verdict::Valid
+        }
+    }
+}
+
+fn confirmed_in(lines: &[Line]) -> u64
+    ensures { result ≡ count_by verdicts.is_confirmed_line lines.now }
+{
+    lines.iter().filter(|line| line.is_confirmed()).count() as u64
+}
+
+fn refuted_in(lines: &[Line]) -> u64
+    ensures { result ≡ count_by verdicts.is_refuted_line lines.now }
+{
+    lines.iter().filter(|line| line.is_refuted()).count() as u64
+}
+
+fn undecided_in(lines: &[Line]) -> u64
+    ensures { result ≡ count_by verdicts.is_undecided_line lines.now }
+{
+    lines.iter().filter(|line| line.is_undecided()).count() as u64
+}
+
+fn unchecked_in(lines: &[Line]) -> u64
+    ensures { result ≡ count_by verdicts.is_unchecked_line lines.now }
+{
+    lines.iter().filter(|line| line.is_unchecked()).count() as u64
 }
 
 /// What a report comes to.
