@@ -1,24 +1,45 @@
--- The turns of an exchange, one after another: no count passes that of the script's bytes, and they come to rest.
-use Rattle.std.proofs.Common.{◌≡◌, ◌≤◌, ℕ, ◌+◌, Bool, true, false, List, [], ◌∷◌, ◌++◌, length, Option, arith}
-use Rattle.std.proofs.Common.{refl, ap, sym, ◌∙◌, subst, length-append}
+-- The turns of an exchange, one after another: no count passes that of the bytes, they come to rest, and where
+-- memory is refused, the lines are the first of those that are decided.
+use Rattle.std.proofs.Common.{◌≡◌, ◌≤◌, ℕ, ◌+◌, Bool, true, false, List, [], ◌∷◌, ◌++◌, length, Option, Some, None}
+use Rattle.std.proofs.Common.{arith, refl, ap, sym, ◌∙◌, subst, append_assoc, length-append}
 use Rattle.std.proofs.lemmas.List.{append-nil}
 use Rattle.smt_text.specs.Grammar.{limit}
 use Rattle.smt_text.specs.Reader.{bytes_fed}
 use Rattle.smt_text.specs.Reading.{Reads}
-use Rattle.smt_trees.specs.Sexp.{Sexps, Nil, Cons, count}
+use Rattle.smt_trees.specs.Sexp.{Sexp, Sexps, Nil, Cons, count}
 use Rattle.smt_faults.specs.declared.text_flaw.TextFlaw.{TextFlaw}
+use Rattle.smt_script.specs.CommandView.{command_view}
 use Rattle.smt_script.specs.StackView.{initial_print_success_of}
+use Rattle.smt_script.specs.declared.command.Command.{Command}
+use Rattle.smt_dialogue.proofs.DialogueLemmas.{decided_first}
+use Rattle.smt_dialogue.proofs.ExchangeLemmas.{early_closed}
+use Rattle.smt_dialogue.proofs.LinesStayLemmas.{begins_so}
 use Rattle.smt_dialogue.proofs.PairLemmas.{answers_taken-le, checks_in-le}
-use Rattle.smt_dialogue.proofs.ReportExists.{EveryTextReads}
-use Rattle.smt_dialogue.proofs.UnreadLemmas.{FewTrees, TreesStay, count-append}
+use Rattle.smt_dialogue.proofs.ReadSoFarLemmas.{TreesStay}
+use Rattle.smt_dialogue.proofs.ReportExists.{EveryTextReads, Way, way_through}
+use Rattle.smt_dialogue.proofs.SoFarLemmas.{way_more}
+use Rattle.smt_dialogue.proofs.TreesLemmas.{count-append}
+use Rattle.smt_dialogue.proofs.WaitLemmas.{ClosesNext, at_end, at_tree}
+use Rattle.smt_dialogue.specs.FirstFault as first_fault
 use Rattle.smt_dialogue.specs.FirstFault.{turn_at}
+use Rattle.smt_dialogue.specs.Lines.{lines_in}
 use Rattle.smt_dialogue.specs.Pairing.{AreCommands}
-use Rattle.smt_dialogue.specs.Pairs.{Pair}
-use Rattle.smt_dialogue.specs.Report.{ArePaired}
-use Rattle.smt_dialogue.specs.Internal.ExchangeView.{HasRested, IsTurned, IsUnderWay, Texts, turn_of}
+use Rattle.smt_dialogue.specs.Pairs.{Pair, answer_count, answers_taken, answers_then, with_answer}
+use Rattle.smt_dialogue.specs.Report.{ArePaired, IsTurn, lines_at_end}
+use Rattle.smt_dialogue.specs.SoFar.{IsBeginning, lines_at}
+use Rattle.smt_dialogue.specs.Internal.DialogueState.{Stands, state_behind}
+use Rattle.smt_dialogue.specs.Internal.ExchangeView.{HasRested, IsClosing, IsCut, IsInTurn, IsTurned, IsUnderWay}
+use Rattle.smt_dialogue.specs.Internal.ExchangeView.{Texts, turn_of, waiting}
+use Rattle.smt_dialogue.specs.Internal.FrontView.{HasFront}
 use Rattle.smt_dialogue.specs.declared.exchange.Exchange.{Exchange}
 use Rattle.smt_dialogue.specs.declared.turn.Turn.{Turn}
 use Rattle.smt_dialogue.specs.declared.turn.Turn.TheVariants as turns
+use Rattle.smt_report.specs.declared.line.Line.{Line}
+
+-- what `trees_are_no_more_than_bytes` says
+abbrev pub FewTrees : Type 0
+FewTrees = (bound : ℕ) (text : List ℕ) (trees : Sexps) (f : Option TextFlaw) → Reads bound true text trees f
+    → count trees ≤ length text
 
 -- ---- counts
 
@@ -28,8 +49,12 @@ commands_count [] trees later h = ap count h ∙ omega arith
 commands_count (p ∷ ps) Nil later h = absurd h
 commands_count (p ∷ ps) (Cons t ts) later h = omega (arith, commands_count ps ts later h.1)
 
-few_told : EveryTextReads → TreesStay → FewTrees → (told : Bool) (bytes : List ℕ) (trees : Sexps)
-    (f : Option TextFlaw) → Reads limit told bytes trees f → count trees ≤ length bytes
+-- what the law says that the exchange calls
+abbrev pub TreesAreFew : Type 0
+TreesAreFew = (told : Bool) (bytes : List ℕ) (trees : Sexps) (fault : Option TextFlaw)
+    → Reads limit told bytes trees fault → count trees ≤ length bytes
+
+pub few_told : EveryTextReads → TreesStay → FewTrees → TreesAreFew
 few_told every stay few true bytes trees f h = few limit bytes trees f h
 few_told every stay few false bytes trees f h =
     let all = every limit true bytes in
@@ -37,22 +62,52 @@ few_told every stay few false bytes trees f h =
     (subst (λ bs. Reads limit true bs all.0 all.1) (sym (append-nil bytes)) all.2) in
     omega (arith, few limit bytes all.0 all.1 all.2, ap count more.1, count-append trees more.0)
 
-pub bounded : EveryTextReads → TreesStay → FewTrees → (x : Exchange) (texts : Texts) (pairs : List Pair)
+pub bounded : TreesAreFew → (x : Exchange) (texts : Texts) (pairs : List Pair)
     (later rest : Sexps) → IsUnderWay x texts pairs later rest
     → length pairs + count later ≤ bytes_fed x.script.reader
-bounded every stay few x texts pairs later rest h =
+bounded few x texts pairs later rest h =
     omega (
       arith,
       commands_count pairs texts.script.trees later h.paired.pairing.commands,
-      few_told every stay few texts.script.told texts.script_bytes texts.script.trees texts.script.fault
-          h.script_front.reads,
+      few texts.script.told texts.script_bytes texts.script.trees texts.script.fault h.script_front.reads,
       h.script_front.stands.0,
     )
 
-pub commands_at_most : EveryTextReads → TreesStay → FewTrees → (x : Exchange) (texts : Texts) (pairs : List Pair)
+pub commands_at_most : TreesAreFew → (x : Exchange) (texts : Texts) (pairs : List Pair)
     (later rest : Sexps) → IsUnderWay x texts pairs later rest → x.dialogue.commands ≤ bytes_fed x.script.reader
-commands_at_most every stay few x texts pairs later rest h =
-    omega (arith, bounded every stay few x texts pairs later rest h, h.stands.commands)
+commands_at_most few x texts pairs later rest h =
+    omega (arith, bounded few x texts pairs later rest h, h.stands.commands)
+
+-- a tree that is left is one command more
+pub room_for_one : TreesAreFew → (x : Exchange) (texts : Texts) (pairs : List Pair) (t : Sexp) (left later rest : Sexps)
+    → later ≡ Cons t left → IsUnderWay x texts pairs later rest
+    → x.dialogue.commands + 1 ≤ bytes_fed x.script.reader
+room_for_one few x texts pairs t left later rest is h =
+    omega (arith, bounded few x texts pairs later rest h, h.stands.commands, ap count is)
+
+taken_count : (o : Option Sexp) (rest : Sexps) → count (with_answer o rest) ≡ answer_count o + count rest
+taken_count None rest = omega arith
+taken_count (Some a) rest = omega arith
+
+answers_counted : (pairs : List Pair) (rest : Sexps) → count (answers_then pairs rest) ≡ answers_taken pairs + count rest
+answers_counted [] rest = omega arith
+answers_counted (p ∷ ps) rest =
+    omega (arith, taken_count p.answer (answers_then ps rest), answers_counted ps rest)
+
+-- and so is an answer that is left
+pub room_for_answer : TreesAreFew → (x : Exchange) (texts : Texts) (pairs : List Pair) (t : Sexp)
+    (left later rest : Sexps) → rest ≡ Cons t left → IsUnderWay x texts pairs later rest
+    → x.dialogue.answers + 1 ≤ bytes_fed x.answers.reader
+room_for_answer few x texts pairs t left later rest is h =
+    omega (
+      arith,
+      ap count h.paired.pairing.answered,
+      answers_counted pairs rest,
+      few texts.answers.told texts.answers_bytes texts.answers.trees texts.answers.fault h.answers_front.reads,
+      h.answers_front.stands.0,
+      h.stands.answers,
+      ap count is,
+    )
 
 pub answers_at_most : (x : Exchange) (texts : Texts) (pairs : List Pair) (later rest : Sexps)
     → IsUnderWay x texts pairs later rest → x.dialogue.answers ≤ x.dialogue.commands
@@ -87,24 +142,116 @@ turn_kept : (x y : Exchange) (texts : Texts) (pairs : List Pair) (later rest : S
 turn_kept x y texts pairs later rest same =
     ap (λ b. turn_at b pairs (record texts.answers { trees = rest }) texts.script.told texts.script.fault later) same
 
-pub rested : (turn : Turn) (start : Bool) (x y : Exchange) (texts : Texts) (pairs : List Pair) (later rest : Sexps)
-    → (turn ≡ turns.GoesOn → ⊥)
-    → initial_print_success_of x.dialogue.stack ≡ start
+-- y is x with what it keeps of the dialogue settled
+pub settled : (x y : Exchange) (texts : Texts) (pairs : List Pair) (later rest : Sexps) (closed : Bool)
+    → y.script ≡ x.script → y.answers ≡ x.answers → y.command ≡ x.command
     → initial_print_success_of y.dialogue.stack ≡ initial_print_success_of x.dialogue.stack
-    → IsUnderWay x texts pairs later rest → IsTurned turn x y texts pairs later rest
-    → HasRested turn start y texts
-rested turns.GoesOn start x y texts pairs later rest not begun same h t = absurd (not refl)
-rested (turns.Waits closed) start x y texts pairs later rest not begun same h t =
-    (pairs, later, rest, t.0, same ∙ begun, turn_kept x y texts pairs later rest same ∙ t.1)
-rested (turns.Ends fault) start x y texts pairs later rest not begun same h t = (
-  pairs,
-  t.0,
-  t.1,
-  record {
-    later = later;
-    rest = rest;
-    paired = subst (λ b. ArePaired b texts.script texts.answers pairs later rest) begun h.paired;
-    turn_is = sym (ap (λ b. turn_at b pairs (record texts.answers { trees = rest }) texts.script.told
-        texts.script.fault later) begun) ∙ t.2;
-  },
+    → Stands closed (state_behind texts.taken y.dialogue) pairs → (closed ≡ true → IsClosing x.command texts later)
+    → IsUnderWay x texts pairs later rest → IsUnderWay y texts pairs later rest
+settled x y texts pairs later rest closed script answers command start stands closing h = record {
+  left = h.left;
+  in_turn = subst (λ o. IsInTurn o pairs later h.left) (sym command) h.in_turn;
+  script_front = subst (λ f. HasFront f texts.script_bytes texts.script h.left) (sym script) h.script_front;
+  answers_front = subst (λ f. HasFront f texts.answers_bytes texts.answers rest) (sym answers) h.answers_front;
+  early = closed;
+  stands = stands;
+  closing = λ e. subst (λ o. IsClosing o texts later) (sym command) (closing e);
+  paired = subst (λ b. ArePaired b texts.script texts.answers pairs later rest) (sym start) h.paired;
+}
+
+-- y is x with lines gathered
+pub gathered : (x y : Exchange) (texts : Texts) (pairs : List Pair) (later rest : Sexps)
+    → y.script ≡ x.script → y.answers ≡ x.answers → y.command ≡ x.command
+    → initial_print_success_of y.dialogue.stack ≡ initial_print_success_of x.dialogue.stack
+    → ((early : Bool) → Stands early (state_behind texts.taken x.dialogue) pairs
+    → Stands early (state_behind texts.taken y.dialogue) pairs)
+    → IsUnderWay x texts pairs later rest → IsUnderWay y texts pairs later rest
+gathered x y texts pairs later rest script answers command start stands h =
+    settled x y texts pairs later rest h.early script answers command start (stands h.early h.stands) h.closing h
+
+-- the dialogue waits, with the lines that are decided
+pub waits_at : (old x y : Exchange) (texts : Texts) (pairs : List Pair) (later rest : Sexps) (start closed : Bool)
+    → initial_print_success_of old.dialogue.stack ≡ start
+    → initial_print_success_of x.dialogue.stack ≡ initial_print_success_of old.dialogue.stack
+    → y.script ≡ x.script → y.answers ≡ x.answers → y.command ≡ x.command
+    → initial_print_success_of y.dialogue.stack ≡ initial_print_success_of x.dialogue.stack
+    → ((early : Bool) → Stands early (state_behind texts.taken x.dialogue) pairs → (early ≡ true → closed ≡ true)
+    → Stands closed (state_behind texts.taken y.dialogue) pairs
+    × (texts.taken ++ waiting y ≡ lines_in closed [] pairs []))
+    → IsTurned (turns.Waits closed) old x texts pairs later rest
+    → HasRested None start y texts
+waits_at old x y texts pairs later rest start closed begun kept script answers command same settle t =
+    let h = t.0 in
+    let turn = turn_kept old x texts pairs later rest kept ∙ t.1 in
+    let done = settle h.early h.stands (early_closed x texts pairs later rest closed h turn) in (
+      closed,
+      pairs,
+      later,
+      rest,
+      settled x y texts pairs later rest closed script answers command same done.0 t.2 h,
+      same ∙ kept ∙ begun,
+      turn_kept x y texts pairs later rest same ∙ turn,
+      done.1,
+    )
+
+-- the dialogue has ended behind the pairs
+pub ends_at : (old new : Exchange) (texts : Texts) (pairs : List Pair) (later rest : Sexps) (start : Bool)
+    (fault : Option Line) → initial_print_success_of old.dialogue.stack ≡ start
+    → IsUnderWay old texts pairs later rest → IsTurned (turns.Ends fault) old new texts pairs later rest
+    → IsTurn start texts.script texts.answers pairs (first_fault.Ends fault)
+ends_at old new texts pairs later rest start fault begun h t = record {
+  later = later;
+  rest = rest;
+  paired = subst (λ b. ArePaired b texts.script texts.answers pairs later rest) begun h.paired;
+  turn_is = sym (ap (λ b. turn_at b pairs (record texts.answers { trees = rest }) texts.script.told
+      texts.script.fault later) begun) ∙ t.2;
+}
+
+-- ---- where memory was refused
+
+next_pair : (start : Bool) (texts : Texts) (o : Option Command) (pairs : List Pair) (later left rest : Sexps)
+    → IsInTurn o pairs later left → IsClosing o texts later
+    → (w : Way start pairs texts.script.told later texts.script.fault texts.answers.told rest texts.answers.fault)
+    → ClosesNext w.pairs w.turn
+next_pair start texts None pairs later left rest turn h w =
+    at_end start pairs w.pairs texts.script.told later w.later texts.script.fault texts.answers.told w.rest
+    texts.answers.fault w.turn h.0 h.1 h.2 w.commands w.turn_is
+next_pair start texts (Some c) pairs later left rest turn h w =
+    at_tree start pairs w.pairs turn.0 left w.later (command_view c) texts.answers.told w.rest texts.answers.fault
+    w.turn turn.3 turn.2 h (subst (λ ts. AreCommands w.pairs ts w.later) turn.1 w.commands) texts.script.told
+    texts.script.fault w.turn_is w.rests
+
+begins_all : (xs ys zs all ms : List Line) → all ≡ (xs ++ ys) ++ zs → IsBeginning all ms → IsBeginning xs ms
+begins_all xs ys zs all ms is h = (
+  (ys ++ zs) ++ h.0,
+  h.1 ∙ ap (λ a. a ++ h.0) (is ∙ append_assoc xs ys zs) ∙ append_assoc xs (ys ++ zs) h.0,
+)
+
+-- what was gathered begins the lines so far
+pub cut_at : (x : Exchange) (texts : Texts) (pairs : List Pair) (later rest : Sexps) (ls : List Line) (start : Bool)
+    → initial_print_success_of x.dialogue.stack ≡ start → ls ≡ waiting x → IsUnderWay x texts pairs later rest
+    → IsCut start ls texts
+cut_at x texts pairs later rest ls start begun is h =
+    let w = way_through start later pairs texts.script.told texts.script.fault texts.answers.told rest
+    texts.answers.fault in
+    let paired = subst (λ b. ArePaired b texts.script texts.answers pairs later rest) begun h.paired in
+    let turn = way_more start texts.script texts.answers pairs later rest paired w in
+    let first = decided_first h.early (state_behind texts.taken x.dialogue) pairs h.stands in
+    let all = begins_so pairs w.pairs w.turn h.early w.rests
+    (λ e. next_pair start texts x.command pairs later h.left rest h.in_turn (h.closing e) w) in (
+      lines_at (pairs ++ w.pairs) w.turn,
+      record { pairs = pairs ++ w.pairs; turn = w.turn; rests = w.rests; turn_is = turn; lines_are = refl },
+      begins_all (texts.taken ++ ls) x.dialogue.checks.lines.items first.0 (lines_in h.early [] pairs [])
+          (lines_at (pairs ++ w.pairs) w.turn)
+          (first.1 ∙ ap (λ xs. ((texts.taken ++ xs) ++ x.dialogue.checks.lines.items) ++ first.0) (sym is)) all,
+    )
+
+-- where the dialogue ends, the first of its lines
+pub cut_ended : (texts : Texts) (pairs : List Pair) (fault : Option Line) (ls : List Line) (start : Bool)
+    → IsTurn start texts.script texts.answers pairs (first_fault.Ends fault)
+    → IsBeginning (texts.taken ++ ls) (lines_at_end pairs fault) → IsCut start ls texts
+cut_ended texts pairs fault ls start turn first = (
+  lines_at_end pairs fault,
+  record { pairs = pairs; turn = first_fault.Ends fault; rests = tt; turn_is = turn; lines_are = refl },
+  first,
 )

@@ -1,6 +1,7 @@
 -- How the state of a dialogue goes on with one more pair.
 use Rattle.std.proofs.Common.{◌≡◌, ◌≤◌, inl, inr, ◌+◌, ℕ, Bool, true, false, cond, ◌&&◌, ◌||◌, List, [], ◌∷◌}
-use Rattle.std.proofs.Common.{◌++◌, length, not, refl}
+use Rattle.std.proofs.Common.{◌++◌, length, not, refl, Result, Ok, Err, OnErr}
+use Rattle.std.proofs.lemmas.List.Folds.{list_any-append}
 use Rattle.std.specs.List.{list_any}
 use Rattle.std.proofs.Common.{Option, None, Some, ap, sym, ◌∙◌, subst, arith, append_assoc, length-append}
 use Rattle.std.proofs.lemmas.List.{append-nil}
@@ -13,7 +14,8 @@ use Rattle.smt_faults.specs.Faults.{flaw_of_command_fault}
 use Rattle.smt_faults.specs.Outcome.{TellsCommand}
 use Rattle.smt_faults.specs.declared.command_flaw.CommandFlaw.{CommandFlaw}
 use Rattle.smt_script.specs.StackView.{last_of}
-use Rattle.smt_dialogue.proofs.ChecksLemmas.{GoesOn, goes_on, pending-end}
+use Rattle.smt_dialogue.proofs.CheckLineLemmas.{few_lines, no_faults}
+use Rattle.smt_dialogue.proofs.ChecksLemmas.{GoesOn, goes_on}
 use Rattle.smt_dialogue.proofs.PairLemmas.{answers_taken-append, checks_in-append, effective_commands-push}
 use Rattle.smt_dialogue.proofs.PairLemmas.{lines_in-append}
 use Rattle.smt_dialogue.specs.Answers.{is_effective_with}
@@ -27,10 +29,15 @@ use Rattle.smt_dialogue.specs.Lines.{claims_after, confirmed_line, is_empty, lin
 use Rattle.smt_dialogue.specs.Lines.{unconfirmed_line}
 use Rattle.smt_dialogue.specs.Pairs.{Pair, answer_count, effective_commands, is_effective, numbered_if}
 use Rattle.smt_dialogue.specs.Pairs.{pair_of}
+use Rattle.smt_dialogue.specs.Report.{lines_at_end, lines_of_end}
+use Rattle.smt_dialogue.specs.SoFar.{IsBeginning}
+use Rattle.smt_dialogue.specs.Internal.DecidedView.{IsPartOf}
 use Rattle.smt_dialogue.specs.Window.{closes, models_from, window}
 use Rattle.smt_dialogue.specs.declared.window.PendingCheck.{PendingCheck}
 use Rattle.smt_dialogue.specs.declared.window.Role.{Role}
+use Rattle.smt_report.specs.Verdict.{is_fault_line, tally_of, verdict_of}
 use Rattle.smt_report.specs.declared.line.Line.{Line}
+use Rattle.smt_report.specs.declared.line.Line.TheVariants as lines
 
 or_true : (b : Bool) → b || true ≡ true
 or_true true = refl
@@ -93,9 +100,9 @@ pub accepted_stands : (early : Bool) (s t : State) (pairs : List Pair) (c : Comm
     → ((cs : List Numbered) → stacks.StandsFor t.stack cs
     → t.checks ≡ checks_after (is_effective_with o) s.checks (signature_in_force cs)
     (claims_of (assertions_in_force cs)) (s.commands + 1) (role_of c) o)
-    → t.commands ≡ s.commands + 1 → t.answers ≡ s.answers + answer_count o
-    → StandsFor t (pairs ++ pair_of c o ∷ [])
-accepted_stands early s t pairs c o h check before applied last checks commands answers =
+    → t.commands ≡ s.commands + 1 → t.answers ≡ s.answers + answer_count o → t.tally ≡ s.tally
+    → t.gathered ≡ s.gathered → StandsFor t (pairs ++ pair_of c o ∷ [])
+accepted_stands early s t pairs c o h check before applied last checks commands answers tally gathered =
     let p = pair_of c o in
     let len : length (pairs ++ p ∷ []) ≡ length pairs + 1 = length-append pairs (p ∷ []) ∙ omega arith in
     let stack = stack_push s t pairs p before.commands applied in
@@ -106,6 +113,7 @@ accepted_stands early s t pairs c o h check before applied last checks commands 
       commands = omega (arith, commands, before.commands, len);
       answers = omega (arith, answers, before.answers, answers_taken-append pairs (p ∷ []));
       checks = omega (arith, g.count, before.checks, checks_in-append pairs (p ∷ []));
+      tally = tally ∙ before.tally ∙ ap tally_of (sym gathered);
       lines = λ closed after early'.
           lines_in-push closed pairs p after
           ∙ ap (λ (ls : List Line). ls ++ lines_of_pair closed pairs p after)
@@ -127,13 +135,15 @@ flaw_same early s pairs c o before =
 -- where the stack is as it was, and nothing else changed
 pub refused_stands : (early : Bool) (s t : State) (pairs : List Pair) → Stands early s pairs
     → stacks.StandsFor t.stack (effective_commands pairs) → last_of t.stack ≡ last_of s.stack
-    → t.checks ≡ s.checks → t.commands ≡ s.commands → t.answers ≡ s.answers → Stands early t pairs
-refused_stands early s t pairs before stack last checks commands answers = record {
+    → t.checks ≡ s.checks → t.commands ≡ s.commands → t.answers ≡ s.answers → t.tally ≡ s.tally
+    → t.gathered ≡ s.gathered → Stands early t pairs
+refused_stands early s t pairs before stack last checks commands answers tally gathered = record {
   stack = stack;
   last = omega (arith, last, commands, before.last);
   commands = commands ∙ before.commands;
   answers = answers ∙ before.answers;
   checks = ap (λ (c : ChecksState). c.count) checks ∙ before.checks;
+  tally = tally ∙ before.tally ∙ ap tally_of (sym gathered);
   lines = λ closed after early'. before.lines closed after early'
       ∙ ap (λ (c : ChecksState). c.lines
       ++ pending_lines closed c.pending (signature_after pairs) (claims_after pairs) (length pairs + 1)
@@ -161,20 +171,14 @@ pub accepted : (early : Bool) (s t : State) (pairs : List Pair) (c : Command) (o
     → ((cs : List Numbered) → stacks.StandsFor t.stack cs
     → t.checks ≡ checks_after e s.checks (signature_in_force cs) (claims_of (assertions_in_force cs))
     (s.commands + 1) r o)
-    → t.commands ≡ s.commands + 1 → t.answers ≡ s.answers + answer_count o
-    → (flaw_of_pair pairs (pair_of c o) ≡ None) × StandsFor t (pairs ++ pair_of c o ∷ [])
-accepted early s t pairs c o e r is role h check before applied last checks commands answers =
+    → t.commands ≡ s.commands + 1 → t.answers ≡ s.answers + answer_count o → t.tally ≡ s.tally
+    → t.gathered ≡ s.gathered → (flaw_of_pair pairs (pair_of c o) ≡ None) × StandsFor t (pairs ++ pair_of c o ∷ [])
+accepted early s t pairs c o e r is role h check before applied last checks commands answers tally gathered =
     let told = rw is at applied in (
       flaw_same early s pairs c o before ∙ told.0,
-      accepted_stands early s t pairs c o h check before told.1 last (rw (is, role) at checks) commands answers,
+      accepted_stands early s t pairs c o h check before told.1 last (rw (is, role) at checks) commands answers tally
+          gathered,
     )
-
--- at the end the window that has not ended does
-pub ended_lines : (s : State) (pairs : List Pair) → StandsFor s pairs
-    → lines_in true [] pairs [] ≡ (with_window_ended s.checks).lines
-ended_lines s pairs before =
-    before.lines true [] (λ e. absurd (cc)) ∙ ap (λ (ls : List Line). s.checks.lines ++ ls)
-    (pending-end s.checks.pending (signature_after pairs) (claims_after pairs) (length pairs + 1))
 
 -- where every window is closed at once, the lines of the check whose window has not ended are those of its end
 closing_is : (o : Option PendingCheck) (closed : Bool) (names : Signature) (claims : List Claimed) (m : ℕ)
@@ -189,14 +193,15 @@ closing_is (Some c) closed names claims m after h =
 
 -- so it may be ended before the pair comes
 pub ended_early : (sooner : Bool) (s t : State) (pairs : List Pair) → Stands sooner s pairs → t.stack ≡ s.stack
-    → t.checks ≡ with_window_ended s.checks → t.commands ≡ s.commands → t.answers ≡ s.answers
-    → Stands true t pairs
-ended_early sooner s t pairs before stack checks commands answers = record {
+    → t.checks ≡ with_window_ended s.checks → t.commands ≡ s.commands → t.answers ≡ s.answers → t.tally ≡ s.tally
+    → t.gathered ≡ s.gathered → Stands true t pairs
+ended_early sooner s t pairs before stack checks commands answers tally gathered = record {
   stack = subst (λ k. stacks.StandsFor k (effective_commands pairs)) (sym stack) before.stack;
   last = omega (arith, before.last, ap last_of stack, commands);
   commands = commands ∙ before.commands;
   answers = answers ∙ before.answers;
   checks = ap (λ (c : ChecksState). c.count) checks ∙ before.checks;
+  tally = tally ∙ before.tally ∙ ap tally_of (sym gathered);
   lines = λ closed after early.
       before.lines closed after (λ e. early refl)
       ∙ ap (λ (ls : List Line). s.checks.lines ++ ls)
@@ -207,3 +212,144 @@ ended_early sooner s t pairs before stack checks commands answers = record {
       ++ pending_lines closed c.pending (signature_after pairs) (claims_after pairs) (length pairs + 1) after)
       (sym checks);
 }
+
+-- ---- lines that are gathered
+
+-- nothing comes, and every window is closed
+abbrev pub closed_end : Closing true []
+closed_end = record { none = refl; closed = refl }
+
+-- what was decided, and what a check whose window has not ended adds where all are closed
+lines_at_once : (early : Bool) (s : State) (pairs : List Pair) → Stands early s pairs
+    → lines_in true [] pairs []
+    ≡ s.checks.lines ++ pending_lines true s.checks.pending (signature_after pairs) (claims_after pairs)
+    (length pairs + 1) []
+lines_at_once early s pairs h = h.lines true [] (λ e. closed_end)
+
+-- there are no more lines than checks
+pub lines_few : (early : Bool) (s : State) (pairs : List Pair) → Stands early s pairs
+    → length s.checks.lines ≤ s.checks.count
+lines_few early s pairs h =
+    let pending = pending_lines true s.checks.pending (signature_after pairs) (claims_after pairs) (length pairs + 1) []
+    in
+    omega (
+      arith,
+      ap length (lines_at_once early s pairs h),
+      length-append s.checks.lines pending,
+      few_lines true [] pairs [],
+      h.checks,
+    )
+
+first_none : (a b : Bool) → a || b ≡ false → a ≡ false
+first_none true b h = absurd (cc)
+first_none false b h = refl
+
+-- and none is of a fault
+pub lines_faultless : (early : Bool) (s : State) (pairs : List Pair) → Stands early s pairs
+    → list_any is_fault_line s.checks.lines ≡ false
+lines_faultless early s pairs h =
+    let pending = pending_lines true s.checks.pending (signature_after pairs) (claims_after pairs) (length pairs + 1) []
+    in
+    first_none (list_any is_fault_line s.checks.lines) (list_any is_fault_line pending)
+    (sym (list_any-append is_fault_line s.checks.lines pending)
+    ∙ sym (ap (list_any is_fault_line) (lines_at_once early s pairs h)) ∙ no_faults true [] pairs [])
+
+-- t has gathered lines that s has not, and all else is the same
+pub gathered_stands : (early : Bool) (s t : State) (pairs : List Pair) → Stands early s pairs → t.stack ≡ s.stack
+    → t.checks ≡ s.checks → t.commands ≡ s.commands → t.answers ≡ s.answers → t.tally ≡ tally_of t.gathered
+    → Stands early t pairs
+gathered_stands early s t pairs before stack checks commands answers tally = record {
+  stack = subst (λ k. stacks.StandsFor k (effective_commands pairs)) (sym stack) before.stack;
+  last = omega (arith, before.last, ap last_of stack, commands);
+  commands = commands ∙ before.commands;
+  answers = answers ∙ before.answers;
+  checks = ap (λ (c : ChecksState). c.count) checks ∙ before.checks;
+  tally = tally;
+  lines = λ closed after early'. before.lines closed after early'
+      ∙ ap (λ (c : ChecksState). c.lines
+      ++ pending_lines closed c.pending (signature_after pairs) (claims_after pairs) (length pairs + 1)
+      after) (sym checks);
+}
+
+-- where nothing comes yet, a check whose window has not ended adds nothing
+none_pending : (o : Option PendingCheck) (names : Signature) (claims : List Claimed) (m : ℕ)
+    → pending_lines false o names claims m [] ≡ []
+none_pending None names claims m = refl
+none_pending (Some c) names claims m = refl
+
+pub waiting_lines : (s : State) (pairs : List Pair) → Stands false s pairs
+    → lines_in false [] pairs [] ≡ s.checks.lines
+waiting_lines s pairs h =
+    h.lines false [] (λ e. absurd (cc))
+    ∙ ap (λ ls. s.checks.lines ++ ls)
+    (none_pending s.checks.pending (signature_after pairs) (claims_after pairs) (length pairs + 1))
+    ∙ append-nil s.checks.lines
+
+-- and where no window is open, nothing where all are closed
+pub closed_lines : (early : Bool) (s : State) (pairs : List Pair) → s.checks.pending ≡ None → Stands early s pairs
+    → lines_in true [] pairs [] ≡ s.checks.lines
+closed_lines early s pairs none h =
+    lines_at_once early s pairs h
+    ∙ ap (λ o. s.checks.lines ++ pending_lines true o (signature_after pairs) (claims_after pairs) (length pairs + 1) [])
+    none ∙ append-nil s.checks.lines
+
+-- what is decided begins the lines, whatever comes
+pub decided_first : (early : Bool) (s : State) (pairs : List Pair) → Stands early s pairs
+    → (later : List Line) × (lines_in early [] pairs [] ≡ s.checks.lines ++ later)
+decided_first true s pairs h = (_, lines_at_once true s pairs h)
+decided_first false s pairs h = ([], waiting_lines s pairs h ∙ sym (append-nil s.checks.lines))
+
+-- ---- where all lines are gathered
+
+pub settled_closed : (closed : Bool) (u : State) (pairs : List Pair) → closed ≡ true → Stands true u pairs
+    → u.checks.pending ≡ None → u.checks.lines ≡ u.gathered
+    → Stands closed u pairs × (u.gathered ≡ lines_in closed [] pairs [])
+settled_closed true u pairs is h none all = (h, sym (closed_lines true u pairs none h ∙ all))
+settled_closed false u pairs is h none all = absurd (cc)
+
+pub settled_open : (closed early : Bool) (u : State) (pairs : List Pair) → closed ≡ false
+    → (early ≡ true → closed ≡ true) → Stands early u pairs → u.checks.lines ≡ u.gathered
+    → Stands closed u pairs × (u.gathered ≡ lines_in closed [] pairs [])
+settled_open true early u pairs is same h all = absurd (cc)
+settled_open false true u pairs is same h all = absurd (let e = same refl in cc)
+settled_open false false u pairs is same h all = (h, sym (waiting_lines u pairs h ∙ all))
+
+-- ---- where the dialogue ends
+
+begins_more : (ls ms ns : List Line) → IsBeginning ls ms → IsBeginning ls (ms ++ ns)
+begins_more ls ms ns h = (h.0 ++ ns, ap (λ xs. xs ++ ns) h.1 ∙ append_assoc ls h.0 ns)
+
+pub begins_trans : (xs ys zs : List Line) → IsBeginning xs ys → IsBeginning ys zs → IsBeginning xs zs
+begins_trans xs ys zs h g = (h.0 ++ g.0, g.1 ∙ ap (λ l. l ++ g.0) h.1 ∙ append_assoc xs h.0 g.0)
+
+-- lines with which those that are decided begin
+pub begins_end : (early : Bool) (s : State) (pairs : List Pair) (fault : Option Line) (ls rest : List Line)
+    → s.checks.lines ≡ ls ++ rest → Stands early s pairs → IsBeginning ls (lines_at_end pairs fault)
+begins_end early s pairs fault ls rest is h =
+    let pending = pending_lines true s.checks.pending (signature_after pairs) (claims_after pairs) (length pairs + 1) []
+    in
+    let mine = lines_in true [] pairs [] in
+    let first : IsBeginning ls mine = (
+      rest ++ pending,
+      lines_at_once early s pairs h ∙ ap (λ l. l ++ pending) is ∙ append_assoc ls rest pending,
+    ) in
+    let all = mine ++ lines_of_end fault in
+    begins_more ls all (lines.Verdict (verdict_of all) (tally_of all) ∷ [])
+    (begins_more ls mine (lines_of_end fault) first)
+
+-- the lines that were gathered, with that of a fault behind them or without
+pub part_begins : (xs before more after all verdict : List Line) → IsPartOf before more after
+    → all ≡ (xs ++ before) ++ more → IsBeginning (xs ++ after) (all ++ verdict)
+part_begins xs before more after all verdict (inl same) is = (
+  more ++ verdict,
+  ap (λ l. l ++ verdict) (is ∙ ap (λ b. (xs ++ b) ++ more) (sym same)) ∙ append_assoc (xs ++ after) more verdict,
+)
+part_begins xs before more after all verdict (inr same) is = (
+  verdict,
+  ap (λ l. l ++ verdict) (is ∙ append_assoc xs before more ∙ ap (λ b. xs ++ b) (sym same)),
+)
+
+-- what any answer says of a failure
+pub on_err : {T E P : Type 0} (r : Result T E) → P → OnErr r P
+on_err (Ok x) p = tt
+on_err (Err e) p = p

@@ -14,20 +14,25 @@ use Rattle.smt_script.specs.StackView.{initial_print_success_of}
 use Rattle.smt_script.specs.declared.command.Command.{Command}
 use Rattle.smt_dialogue.proofs.PairLemmas.{AllTake-append, AreFaultless-append, answers_then-append}
 use Rattle.smt_dialogue.proofs.StepLemmas.{AreCommands-push, turn_by}
-use Rattle.smt_dialogue.specs.Answers.{Takes, taken}
+use Rattle.std.proofs.lemmas.List.{append-nil}
+use Rattle.smt_dialogue.proofs.WaitLemmas.{flaw_waits, waits_check, waits_same}
+use Rattle.smt_dialogue.specs.Answers as answering
+use Rattle.smt_dialogue.specs.Answers.{Taken, Takes, taken}
 use Rattle.smt_dialogue.specs.FirstFault.{Ends, TextSoFar, Waits, is_over, turn_at, turn_of_command, turn_of_end}
 use Rattle.smt_dialogue.specs.FirstFault.{turn_of_rest, turn_of_taken}
 use Rattle.smt_dialogue.specs.InForce.{flaw_of_pair, has_exited_after, need_after}
 use Rattle.smt_dialogue.specs.Pairs.{Pair, answers_taken, answers_then, next_of, pair_of, with_answer}
 use Rattle.smt_dialogue.specs.Report.{ArePaired}
-use Rattle.smt_dialogue.specs.Internal.DialogueState.{Stands, state_of}
+use Rattle.smt_dialogue.specs.Internal.DialogueState.{Stands, state_behind}
 use Rattle.smt_dialogue.specs.Internal.ExchangeView.{IsClosing, IsInTurn, IsNext, IsTurned, IsUnderWay, Texts, turn_of}
 use Rattle.smt_dialogue.specs.Internal.FrontView.{HasFront, IsAhead, next_trees}
 use Rattle.smt_dialogue.specs.Internal.Turns.{IsTakenUp, taken_for}
+use Rattle.smt_dialogue.specs.declared.dialogue.Dialogue.{Dialogue}
 use Rattle.smt_dialogue.specs.declared.exchange.Exchange.{Exchange}
 use Rattle.smt_dialogue.specs.declared.front.Ahead.TheVariants as comes
 use Rattle.smt_dialogue.specs.declared.turn.Turn.{Turn}
 use Rattle.smt_dialogue.specs.declared.turn.Turn.TheVariants as turns
+use Rattle.smt_report.specs.declared.line.Line.{Line}
 use Rattle.smt_report.specs.declared.line.Line.TheVariants as lines
 use Rattle.smt_report.specs.declared.line.Side.TheVariants.{Answers, Script}
 
@@ -62,7 +67,7 @@ looked old new texts pairs later rest dialogue command script answers h = record
   script_front = script h.left h.script_front;
   answers_front = answers rest h.answers_front;
   early = h.early;
-  stands = subst (λ d. Stands h.early (state_of d) pairs) (sym dialogue) h.stands;
+  stands = subst (λ d. Stands h.early (state_behind texts.taken d) pairs) (sym dialogue) h.stands;
   closing = λ e. subst (λ c. IsClosing c texts later) (sym command) (h.closing e);
   paired = subst (λ d. ArePaired (initial_print_success_of d.stack) texts.script texts.answers pairs later rest)
       (sym dialogue) h.paired;
@@ -165,7 +170,7 @@ command_read old new texts pairs later rest t c none some dialogue answers ready
         answers_front = subst (λ f. HasFront f texts.answers_bytes texts.answers rest) (sym answers)
             h.answers_front;
         early = h.early;
-        stands = subst (λ d. Stands h.early (state_of d) pairs) (sym dialogue) h.stands;
+        stands = subst (λ d. Stands h.early (state_behind texts.taken d) pairs) (sym dialogue) h.stands;
         closing = λ e. absurd (let empty : Cons (sexp_of t) behind ≡ Nil =
             sym (left ∙ first) ∙ (subst (λ o. IsClosing o texts later) none (h.closing e)).0 in cc);
         paired =
@@ -214,9 +219,10 @@ pub taken_up : (turn : Turn) (old new : Exchange) (texts : Texts) (pairs : List 
     (c : Command) → old.command ≡ Some c → new.script ≡ old.script
     → initial_print_success_of new.dialogue.stack ≡ initial_print_success_of old.dialogue.stack
     → (turn ≡ turns.GoesOn → new.command ≡ None) → ((closed : Bool) → turn ≡ turns.Waits closed → new.command ≡ Some c)
-    → ((early : Bool) → Stands early (state_of old.dialogue) pairs → (early ≡ true → commands.is_check (command_view c) ≡ true)
+    → ((early : Bool) → Stands early (state_behind texts.taken old.dialogue) pairs
+    → (early ≡ true → commands.is_check (command_view c) ≡ true)
     → IsTakenUp turn early (initial_print_success_of old.dialogue.stack) pairs (command_view c) texts.answers rest
-    texts.answers_bytes new.answers (state_of new.dialogue))
+    texts.answers_bytes new.answers (state_behind texts.taken new.dialogue))
     → IsUnderWay old texts pairs later rest → IsTurned turn old new texts pairs later rest
 taken_up turns.GoesOn old new texts pairs later rest c some script start gone stays ups h =
     let up = ups h.early h.stands (λ e. subst (λ o. IsClosing o texts later) some (h.closing e)) in
@@ -256,6 +262,10 @@ taken_up (turns.Waits closed) old new texts pairs later rest c some script start
         paired = subst (λ b. ArePaired b texts.script texts.answers pairs later rest) (sym start) h.paired;
       },
       command_turn old texts pairs later rest c h.left turn ∙ up.0,
+      λ e. subst (λ o. IsClosing o texts later) (sym (stays closed refl))
+          (waits_check pairs (command_view c) texts.answers.fault
+          (taken_for (initial_print_success_of old.dialogue.stack) pairs (command_view c) texts.answers rest)
+          (up.0 ∙ ap Waits e)),
     )
 taken_up (turns.Ends fault) old new texts pairs later rest c some script start gone stays ups h =
     let up = ups h.early h.stands (λ e. subst (λ o. IsClosing o texts later) some (h.closing e)) in
@@ -277,7 +287,7 @@ pub turned_behind : (turn : Turn) (old middle new : Exchange) (texts : Texts) (p
 turned_behind turns.GoesOn old middle new texts pairs later rest same h =
     (h.0, h.1, h.2, h.3, h.4 ∙ ap (λ d. initial_print_success_of d.stack) same)
 turned_behind (turns.Waits closed) old middle new texts pairs later rest same h =
-    (h.0, sym (same_turn old middle texts pairs later rest same) ∙ h.1)
+    (h.0, sym (same_turn old middle texts pairs later rest same) ∙ h.1, h.2)
 turned_behind (turns.Ends fault) old middle new texts pairs later rest same h =
     (h.0, h.1, sym (same_turn old middle texts pairs later rest same) ∙ h.2)
 
@@ -311,3 +321,104 @@ pub next_behind : (turn : Option Turn) (old middle new : Exchange) (texts : Text
 next_behind None old middle new texts pairs later rest same h = h
 next_behind (Some turn) old middle new texts pairs later rest same h =
     turned_behind turn old middle new texts pairs later rest same h
+
+-- behind the end of the script no command comes
+pub none_closing : (x : Exchange) (texts : Texts) (later : Sexps) → x.command ≡ None → later ≡ Nil
+    → texts.script.fault ≡ None → texts.script.told ≡ true → IsClosing x.command texts later
+none_closing x texts later is none fault told =
+    subst (λ o. IsClosing o texts later) (sym is) (none, fault, told)
+
+-- behind the end of the script every window is closed
+rest_waits : (pairs : List Pair) (told : Bool) (af : Option TextFlaw) (answers : Sexps) (closed : Bool)
+    → turn_of_rest pairs told af answers ≡ Waits closed → closed ≡ true
+rest_waits pairs told af (Cons a rest) closed h = absurd (cc)
+rest_waits pairs told (Some fault) Nil closed h = absurd (cc)
+rest_waits pairs true None Nil closed h = absurd (cc)
+rest_waits pairs false None Nil closed h = sym (waits_same h)
+
+-- a command that waits closes every window exactly where it is a check
+taken_waits_so : (pairs : List Pair) (c : commands.Command) (af : Option TextFlaw) (k : Taken) (closed : Bool)
+    → turn_of_taken pairs c af k ≡ Waits closed → commands.is_check c ≡ closed
+taken_waits_so pairs c af (Takes o) closed h = flaw_waits (length pairs + 1) (flaw_of_pair pairs (pair_of c o)) closed h
+taken_waits_so pairs c af answering.Waits closed h = waits_same h
+taken_waits_so pairs c af answering.Missing closed h = absurd (cc)
+taken_waits_so pairs c af answering.Unexpected closed h = absurd (cc)
+
+-- where windows were ended early, the dialogue waits with every window closed
+early_by : (x : Exchange) (texts : Texts) (pairs : List Pair) (later rest left : Sexps) (o : Option Command)
+    (closed : Bool) → IsInTurn o pairs later left → IsClosing o texts later
+    → turn_of x texts pairs later rest ≡ Waits closed → closed ≡ true
+early_by x texts pairs later rest left None closed turn h is =
+    rest_waits pairs texts.answers.told texts.answers.fault rest closed
+    (sym (rest_here x texts pairs later rest h.0 h.1 h.2) ∙ is)
+early_by x texts pairs later rest left (Some c) closed turn h is =
+    sym (taken_waits_so pairs (command_view c) texts.answers.fault
+    (taken_for (initial_print_success_of x.dialogue.stack) pairs (command_view c) texts.answers rest) closed
+    (sym (command_turn x texts pairs later rest c left turn) ∙ is)) ∙ h
+
+pub early_closed : (x : Exchange) (texts : Texts) (pairs : List Pair) (later rest : Sexps) (closed : Bool)
+    → (h : IsUnderWay x texts pairs later rest) → turn_of x texts pairs later rest ≡ Waits closed
+    → h.early ≡ true → closed ≡ true
+early_closed x texts pairs later rest closed h is e =
+    early_by x texts pairs later rest h.left x.command closed h.in_turn (h.closing e) is
+
+-- ---- the beginning
+
+pub begun : (x : Exchange) (texts : Texts) → x.command ≡ None → Stands false (state_behind texts.taken x.dialogue) []
+    → HasFront x.script texts.script_bytes texts.script texts.script.trees
+    → HasFront x.answers texts.answers_bytes texts.answers texts.answers.trees
+    → IsUnderWay x texts [] texts.script.trees texts.answers.trees
+begun x texts none stands script answers = record {
+  left = texts.script.trees;
+  in_turn = subst (λ o. IsInTurn o [] texts.script.trees texts.script.trees) (sym none) refl;
+  script_front = script;
+  answers_front = answers;
+  early = false;
+  stands = stands;
+  closing = λ e. absurd (cc);
+  paired = record {
+    pairing = record { commands = refl; answered = refl; taken_so = tt };
+    faultless = tt;
+  };
+}
+
+-- ---- lines that are handed out
+
+closing_kept : (o : Option Command) (texts : Texts) (ls : List Line) (later : Sexps) → IsClosing o texts later
+    → IsClosing o (record texts { taken = ls }) later
+closing_kept None texts ls later h = h
+closing_kept (Some c) texts ls later h = h
+
+state_same : (d e : Dialogue) (xs ys : List Line)
+    → xs ++ d.decided.lines.items ≡ ys ++ e.decided.lines.items → d.decided.tally ≡ e.decided.tally
+    → d.stack ≡ e.stack → d.checks ≡ e.checks → d.commands ≡ e.commands → d.answers ≡ e.answers
+    → state_behind xs d ≡ state_behind ys e
+state_same d e xs ys all tally stack checks commands' answers' = cc
+
+pub handed_out : (x y : Exchange) (texts : Texts) (ls : List Line) (pairs : List Pair) (later rest : Sexps)
+    → ls ≡ x.dialogue.decided.lines.items → y.dialogue.decided.lines.items ≡ []
+    → y.dialogue.decided.tally ≡ x.dialogue.decided.tally
+    → y.dialogue.stack ≡ x.dialogue.stack → y.dialogue.checks ≡ x.dialogue.checks
+    → y.dialogue.commands ≡ x.dialogue.commands → y.dialogue.answers ≡ x.dialogue.answers
+    → y.script ≡ x.script → y.answers ≡ x.answers → y.command ≡ x.command
+    → IsUnderWay x texts pairs later rest
+    → IsUnderWay y (record texts { taken = texts.taken ++ ls }) pairs later rest
+handed_out x y texts ls pairs later rest out none tally stack checks commands' answers' script answers command h =
+    let all : texts.taken ++ x.dialogue.decided.lines.items ≡ (texts.taken ++ ls) ++ y.dialogue.decided.lines.items =
+    ap (λ xs. texts.taken ++ xs) (sym out) ∙ sym (append-nil (texts.taken ++ ls))
+    ∙ ap (λ xs. (texts.taken ++ ls) ++ xs) (sym none) in
+    let same : state_behind texts.taken x.dialogue ≡ state_behind (texts.taken ++ ls) y.dialogue = state_same
+    x.dialogue y.dialogue texts.taken (texts.taken ++ ls) all (sym tally) (sym stack) (sym checks) (sym commands')
+    (sym answers') in
+    record {
+      left = h.left;
+      in_turn = subst (λ o. IsInTurn o pairs later h.left) (sym command) h.in_turn;
+      script_front = subst (λ f. HasFront f texts.script_bytes texts.script h.left) (sym script) h.script_front;
+      answers_front = subst (λ f. HasFront f texts.answers_bytes texts.answers rest) (sym answers) h.answers_front;
+      early = h.early;
+      stands = subst (λ s. Stands h.early s pairs) same h.stands;
+      closing = λ e. closing_kept y.command texts (texts.taken ++ ls) later
+          (subst (λ o. IsClosing o texts later) (sym command) (h.closing e));
+      paired = subst (λ k. ArePaired (initial_print_success_of k) texts.script texts.answers pairs later rest)
+          (sym stack) h.paired;
+    }

@@ -9,12 +9,12 @@ use Rattle.smt_trees.specs.Sexp.{Sexps, Nil, append}
 use Rattle.smt_script.specs.StackView.{initial_print_success_of}
 use Rattle.smt_script.specs.declared.command.Command.{Command}
 use Rattle.smt_dialogue.proofs.SoFarLemmas.{paired_more}
-use Rattle.smt_dialogue.proofs.UnreadLemmas.{append_assoc, append_nil}
+use Rattle.smt_dialogue.proofs.TreesLemmas.{append_assoc, append_nil}
 use Rattle.smt_dialogue.specs.FirstFault.{TextSoFar, is_over}
 use Rattle.smt_dialogue.specs.Pairs.{Pair}
 use Rattle.smt_dialogue.specs.Report.{ArePaired, IsRead}
 use Rattle.smt_dialogue.specs.SoFar.{IsGrown}
-use Rattle.smt_dialogue.specs.Internal.DialogueState.{Stands, state_of}
+use Rattle.smt_dialogue.specs.Internal.DialogueState.{Stands, state_behind}
 use Rattle.smt_dialogue.specs.Internal.ExchangeView.{IsClosing, IsInTurn, IsUnderWay, Texts}
 use Rattle.smt_dialogue.specs.Internal.FrontView.{HasFront, next_trees}
 use Rattle.smt_dialogue.specs.declared.exchange.Exchange.{Exchange}
@@ -84,7 +84,7 @@ script_more x y texts bytes grown pairs later rest s dialogue command answers ne
           read h.script_front;
       answers_front = subst (λ f. HasFront f texts.answers_bytes texts.answers rest) (sym answers) h.answers_front;
       early = h.early;
-      stands = subst (λ d. Stands h.early (state_of d) pairs) (sym dialogue) h.stands;
+      stands = subst (λ d. Stands h.early (state_behind texts.taken d) pairs) (sym dialogue) h.stands;
       closing = λ e. subst (λ o. IsClosing o (record texts { script_bytes = bytes; script = grown })
           (append later s.later)) (sym command) (closing_more x.command texts bytes grown later s (h.closing e));
       paired = subst (λ d. ArePaired (initial_print_success_of d.stack) grown texts.answers pairs
@@ -117,7 +117,7 @@ answers_more x y texts bytes grown pairs later rest s dialogue command script ne
       answers_front = front_more x.answers y.answers texts.answers_bytes bytes texts.answers grown rest s next stands
           read h.answers_front;
       early = h.early;
-      stands = subst (λ d. Stands h.early (state_of d) pairs) (sym dialogue) h.stands;
+      stands = subst (λ d. Stands h.early (state_behind texts.taken d) pairs) (sym dialogue) h.stands;
       closing = λ e. subst (λ o. IsClosing o (record texts { answers_bytes = bytes; answers = grown }) later)
           (sym command) (closing_same x.command texts bytes grown later (h.closing e));
       paired = subst (λ d. ArePaired (initial_print_success_of d.stack) texts.script grown pairs later

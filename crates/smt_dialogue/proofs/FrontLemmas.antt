@@ -10,7 +10,8 @@ use Rattle.smt_trees.specs.Sexp.{Sexps, Nil, Cons, append}
 use Rattle.smt_trees.specs.Tree.{sexp_of}
 use Rattle.smt_trees.specs.declared.tree.Tree.{Tree}
 use Rattle.smt_faults.specs.declared.text_flaw.TextFlaw.{TextFlaw}
-use Rattle.smt_dialogue.proofs.UnreadLemmas.{OneReading, append_assoc, append_nil, same_behind}
+use Rattle.smt_dialogue.proofs.ReportUnique.{OneReading}
+use Rattle.smt_dialogue.proofs.TreesLemmas.{append_assoc, append_nil, same_behind}
 use Rattle.smt_dialogue.specs.FirstFault.{TextSoFar, is_over}
 use Rattle.smt_dialogue.specs.Report.{IsRead}
 use Rattle.smt_dialogue.specs.Internal.FrontView.{HasFront, next_trees}

@@ -2,6 +2,8 @@ pub mod InForceLemmas
 pub mod AssertedLemmas
 pub mod PairLemmas
 pub mod ChecksLemmas
+pub mod CheckLineLemmas
+pub mod GatheredLemmas
 pub mod DialogueLemmas
 pub mod StepLemmas
 pub mod JudgementLemmas
@@ -19,7 +21,7 @@ pub mod ValidityLemmas
 pub mod VerdictLawLemmas
 pub mod WindowLemmas
 pub mod StructureLemmas
-pub mod UnreadLemmas
+pub mod TreesLemmas
 pub mod FrontLemmas
 pub mod AnsweringLemmas
 pub mod TurnLemmas

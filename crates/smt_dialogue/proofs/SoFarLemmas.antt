@@ -72,7 +72,7 @@ paired_more start script answers grown_script grown_answers pairs later rest s g
 }
 
 -- and so do those behind them
-way_more : (start : Bool) (script answers : TextSoFar) (pairs : List Pair) (later rest : Sexps)
+pub way_more : (start : Bool) (script answers : TextSoFar) (pairs : List Pair) (later rest : Sexps)
     → ArePaired start script answers pairs later rest
     → (w : Way start pairs script.told later script.fault answers.told rest answers.fault)
     → IsTurn start script answers (pairs ++ w.pairs) w.turn

@@ -54,23 +54,27 @@ by_line early initial pairs c o text rest bytes front need new (Some line) h tak
     (ap (turn_of_taken pairs c text.fault) takes ∙ accepted.0, accepted.1)
 
 pub taken_with : (r : Result Turn Memory) (initial on : Bool) (c : Command) (o : Option Tree) (need : Need)
-    (before after : Front) (old new : State) → need ≡ need_of on c
-    → ((early : Bool) (pairs : List Pair) → Stands early old pairs → on ≡ print_success_after initial pairs)
+    (before after : Front) (old new : List Line → State) → need ≡ need_of on c
+    → ((taken' : List Line) (early : Bool) (pairs : List Pair) → Stands early (old taken') pairs
+    → on ≡ print_success_after initial pairs)
     → ((bytes : List ℕ) (text : TextSoFar) (rest : Sexps) → HasFront before bytes text rest
     → IsTaken (found.Takes o) need text rest bytes after)
-    → IfOk r (λ turn. (early : Bool) (pairs : List Pair) → Stands early old pairs
-    → (early ≡ true → is_check c ≡ true) → (line : Option Line) × (turn ≡ turn_of_line line) × IsDone line early pairs (pair_of c (option_map sexp_of o)) new)
-    → IfOk r (λ turn. (bytes : List ℕ) (text : TextSoFar) (rest : Sexps) (early : Bool) (pairs : List Pair)
-    → HasFront before bytes text rest → Stands early old pairs → (early ≡ true → is_check c ≡ true)
-    → IsTakenUp turn early initial pairs c text rest bytes after new)
+    → IfOk r (λ turn. (taken' : List Line) (early : Bool) (pairs : List Pair) → Stands early (old taken') pairs
+    → (early ≡ true → is_check c ≡ true) → (line : Option Line) × (turn ≡ turn_of_line line)
+    × IsDone line early pairs (pair_of c (option_map sexp_of o)) (new taken'))
+    → IfOk r (λ turn. (bytes : List ℕ) (text : TextSoFar) (rest : Sexps) (taken' : List Line) (early : Bool)
+    (pairs : List Pair) → HasFront before bytes text rest → Stands early (old taken') pairs
+    → (early ≡ true → is_check c ≡ true)
+    → IsTakenUp turn early initial pairs c text rest bytes after (new taken'))
 taken_with (Err e) initial on c o need before after old new is on_is takes h = tt
-taken_with (Ok turn) initial on c o need before after old new is on_is takes h = λ bytes text rest early pairs front
-    stands check.
-    let up = h early pairs stands check in
+taken_with (Ok turn) initial on c o need before after old new is on_is takes h = λ bytes text rest taken' early pairs
+    front stands check.
+    let up = h taken' early pairs stands check in
     let t = takes bytes text rest front in
-    subst (λ u. IsTakenUp u early initial pairs c text rest bytes after new) (sym up.1)
-    (by_line early initial pairs c o text rest bytes after need new up.0 t
-    (takes_so initial on pairs c need (found.Takes o) text rest bytes after is (on_is early pairs stands) t) up.2)
+    subst (λ u. IsTakenUp u early initial pairs c text rest bytes after (new taken')) (sym up.1)
+    (by_line early initial pairs c o text rest bytes after need (new taken') up.0 t
+    (takes_so initial on pairs c need (found.Takes o) text rest bytes after is (on_is taken' early pairs stands) t)
+    up.2)
 
 pub taken_waits : (early initial on : Bool) (pairs : List Pair) (c : Command) (need : Need) (text : TextSoFar)
     (rest : Sexps) (bytes : List ℕ) (front : Front) (new : State) (closed : Bool)

@@ -29,15 +29,15 @@ ClosesNext [] (Waits closed) = closed ≡ true
 ClosesNext [] (Ends fault) = Unit {0}
 ClosesNext (p ∷ ps) turn = closes p ≡ true
 
-flaw_waits : {P : Type 0} (n : ℕ) (f : Option CommandFlaw) (closed : Bool) → turn_of_flaw n f ≡ Waits closed → P
+pub flaw_waits : {P : Type 0} (n : ℕ) (f : Option CommandFlaw) (closed : Bool) → turn_of_flaw n f ≡ Waits closed → P
 flaw_waits n None closed h = absurd (cc)
 flaw_waits n (Some fault) closed h = absurd (cc)
 
-waits_same : {a b : Bool} → Waits a ≡ Waits b → a ≡ b
+pub waits_same : {a b : Bool} → Waits a ≡ Waits b → a ≡ b
 waits_same h = cc
 
 -- a command that waits, and closes every window, is a check
-waits_check : (pairs : List Pair) (c : Command) (af : Option TextFlaw) (k : Taken)
+pub waits_check : (pairs : List Pair) (c : Command) (af : Option TextFlaw) (k : Taken)
     → turn_of_taken pairs c af k ≡ Waits true → is_check c ≡ true
 waits_check pairs c af (Takes o) h = flaw_waits (length pairs + 1) (flaw_of_pair pairs (pair_of c o)) true h
 waits_check pairs c af answering.Waits h = waits_same h
@@ -75,7 +75,7 @@ check_is_closing p c same check =
     ap (λ b. b || (closes_window p.command && is_effective p)) (ap is_check same ∙ check)
 
 -- a check in turn, that has not exited before
-at_tree : (start : Bool) (pairs ws : List Pair) (t : Sexp) (ts later' : Sexps) (c : Command)
+pub at_tree : (start : Bool) (pairs ws : List Pair) (t : Sexp) (ts later' : Sexps) (c : Command)
     (at' : Bool) (rest' : Sexps) (af : Option TextFlaw) (turn : Turn)
     → has_exited_after pairs ≡ false → command_of t ≡ Ok c → is_check c ≡ true
     → AreCommands ws (Cons t ts) later'
@@ -110,7 +110,7 @@ tree_next start false pairs ws t ts later' (Ok c) at' at'' rest rest' af af' tur
     (waits_check pairs c af (taken (at' || is_some af) (need_after start pairs c) (next_of rest)) h) commands
 
 -- behind the end of the script no command comes
-at_end : (start : Bool) (pairs ws : List Pair) (st' : Bool) (more later' : Sexps) (sf' : Option TextFlaw)
+pub at_end : (start : Bool) (pairs ws : List Pair) (st' : Bool) (more later' : Sexps) (sf' : Option TextFlaw)
     (at'' : Bool) (rest' : Sexps) (af' : Option TextFlaw) (turn : Turn) → more ≡ Nil → sf' ≡ None → st' ≡ true
     → AreCommands ws more later'
     → turn_at start (pairs ++ ws) (text at'' rest' af') st' sf' later' ≡ turn → ClosesNext ws turn

@@ -1,8 +1,6 @@
 pub mod ChecksState
+pub mod DecidedView
 pub mod DialogueState
-pub mod ReadText
-pub mod Steps
-pub mod UnreadText
 pub mod FrontView
 pub mod Answering
 pub mod Turns

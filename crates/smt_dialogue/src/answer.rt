@@ -39,17 +39,6 @@ pub enum Need {
     Needed(AnswerForm),
 }
 
-/// What is taken for a command.
-#[derive(Drop)]
-pub enum Taken {
-    /// The next answer, or none.
-    Takes(Option<Tree>),
-    /// It needs an answer, and there is none.
-    Missing,
-    /// It needs an answer, and the next one is none of its own.
-    Unexpected,
-}
-
 /// Whether an answer says that its command took no effect (section 3.9.1).
 fn is_refusal(answer: &Tree) -> bool
     ensures { result ≡ answers.is_refusal (sexp_of answer.now) }

@@ -13,17 +13,21 @@ ghost use Rattle.smt_faults.specs.Outcome.{TellsCommand};
 ghost use Rattle.smt_faults.specs.declared.command_flaw.CommandFlaw.{CommandFlaw};
 ghost use Rattle.smt_dialogue.specs.InForce.{flaw_of_pair};
 ghost use Rattle.smt_dialogue.specs.Lines.{lines_in};
-ghost use Rattle.smt_dialogue.specs.Pairs.{Pair, answer_count, numbered_if, pair_of};
 ghost use Rattle.smt_dialogue.specs.Report.{lines_at_end, lines_of_end};
+ghost use Rattle.smt_dialogue.specs.SoFar.{IsBeginning};
 ghost use Rattle.smt_report.specs.Verdict.{verdict_of};
+ghost use Rattle.smt_dialogue.specs.Pairs.{Pair, answer_count, numbered_if, pair_of};
 ghost use Rattle.smt_dialogue.specs.Internal.ChecksState.{IsAnswered, role_of};
+ghost use Rattle.smt_dialogue.specs.Internal.DecidedView.{IsFaultLine};
 ghost use Rattle.smt_dialogue.specs.Internal.DialogueState.{Stands, StandsFor, answered, flaw_if};
-ghost use Rattle.smt_dialogue.specs.Internal.DialogueState.{state_of};
+ghost use Rattle.smt_dialogue.specs.Internal.DialogueState.{state_behind};
+ghost use Rattle.smt_report.specs.declared.line.Line.{Line as ReportLine};
 
 use crate::answer::is_effective;
+use crate::decided::Decided;
 use crate::window::{Checks, role_of};
 use smt_eval::Memory;
-use smt_report::{Line, Report};
+use smt_report::{Line, Verdict};
 use smt_script::{Command, CommandFault, Stack};
 use smt_trees::Tree;
 use std::alloc::Global;
@@ -33,6 +37,8 @@ use std::alloc::Global;
 pub struct Dialogue {
     pub stack: Stack,
     pub checks: Checks,
+    /// The lines that were gathered of the checks.
+    pub decided: Decided,
     /// How many commands and answers there were.
     pub commands: u64,
     pub answers: u64,
@@ -42,12 +48,14 @@ impl Dialogue {
     /// A dialogue without pairs. `initial_print_success` says whether
     /// `success` is printed at the start.
     pub(crate) fn new(alloc: Global, initial_print_success: bool) -> Self
-        ensures stands { StandsFor (state_of result) [] }
+        ensures stands { StandsFor (state_behind [] result) [] }
+        ensures decided { result.decided.lines.items ≡ [] }
         ensures start { initial_print_success_of result.stack ≡ initial_print_success }
     {
         Dialogue {
             stack: Stack::new(alloc, initial_print_success),
             checks: Checks::new(alloc),
+            decided: Decided::new(alloc),
             commands: 0,
             answers: 0,
         }
@@ -64,20 +72,22 @@ impl Dialogue {
         requires answers { self.old.answers + 1 < 2 ^ 64 }
         requires checks { self.old.checks.count + 1 < 2 ^ 64 }
         requires last { last_of self.old.stack ≤ self.old.commands }
-        requires stands { (early : Bool) × (pairs : List Pair) × Stands early (state_of self.old) pairs
+        requires stands { (taken : List ReportLine) × (early : Bool) × (pairs : List Pair)
+            × Stands early (state_behind taken self.old) pairs
             × (early ≡ true → is_check (command_view command.now) ≡ true) }
         requires answered { IsAnswered (role_of (command_view command.now)) (option_map sexp_of answer.now) }
-        ensures accepted { OnOk result ((early : Bool) (pairs : List Pair) → Stands early (state_of self.old) pairs
+        ensures accepted { OnOk result ((taken : List ReportLine) (early : Bool) (pairs : List Pair)
+            → Stands early (state_behind taken self.old) pairs
             → (early ≡ true → is_check (command_view command.now) ≡ true)
             → (flaw_of_pair pairs (answered command.now answer.now) ≡ None)
-            × StandsFor (state_of self.new)
-            (pairs ++ answered command.now answer.now ∷ [])) }
+            × StandsFor (state_behind taken self.new) (pairs ++ answered command.now answer.now ∷ [])) }
         ensures refused { IfErr result
             (λ fault. (flaw : CommandFlaw) → flaw_of_command_fault fault ≡ Some flaw
-            → (early : Bool) (pairs : List Pair) → Stands early (state_of self.old) pairs
-            → (flaw_of_pair pairs (answered command.now answer.now)
-            ≡ Some flaw)
-            × Stands early (state_of self.new) pairs) }
+            → (taken : List ReportLine) (early : Bool) (pairs : List Pair)
+            → Stands early (state_behind taken self.old) pairs
+            → (flaw_of_pair pairs (answered command.now answer.now) ≡ Some flaw)
+            × Stands early (state_behind taken self.new) pairs) }
+        ensures decided { self.new.decided ≡ self.old.decided }
         ensures start { initial_print_success_of self.new.stack ≡ initial_print_success_of self.old.stack }
     {
         let number = self.commands + 1;
@@ -97,28 +107,74 @@ impl Dialogue {
         Ok(())
     }
 
+    /// Gathers the lines that were decided.
+    pub(crate) fn gather(&mut self) -> Result<(), Memory>
+        requires few { self.old.checks.count < 2 ^ 64 }
+        ensures stands { OnOk result ((taken : List ReportLine) (early : Bool) (pairs : List Pair)
+            → Stands early (state_behind taken self.old) pairs
+            → Stands early (state_behind taken self.new) pairs) }
+        ensures all { OnOk result (self.new.checks.lines.items ≡ []) }
+        ensures pending { OnOk result (self.new.checks.pending ≡ self.old.checks.pending) }
+        ensures kept { IsBeginning self.old.decided.lines.items self.new.decided.lines.items }
+        ensures cut { OnErr result (self.new.decided.lines.items ≡ self.old.decided.lines.items) }
+        ensures start { initial_print_success_of self.new.stack ≡ initial_print_success_of self.old.stack }
+    {
+        if self.checks.lines.is_empty() {
+            return Ok(());
+        }
+        self.decided.gather(&mut self.checks.lines)?;
+        Ok(())
+    }
+
+    /// Has every line gathered that is decided where the dialogue waits, with every window closed or not.
+    pub(crate) fn settle(&mut self, closed: bool) -> Result<(), Memory>
+        requires few { self.old.checks.count < 2 ^ 64 }
+        ensures settled { OnOk result ((taken : List ReportLine) (early : Bool) (pairs : List Pair)
+            → Stands early (state_behind taken self.old) pairs → (early ≡ true → closed ≡ true)
+            → Stands closed (state_behind taken self.new) pairs
+            × (taken ++ self.new.decided.lines.items ≡ lines_in closed [] pairs [])) }
+        ensures kept { IsBeginning self.old.decided.lines.items self.new.decided.lines.items }
+        ensures cut { OnErr result (self.new.decided.lines.items ≡ self.old.decided.lines.items) }
+        ensures start { initial_print_success_of self.new.stack ≡ initial_print_success_of self.old.stack }
+    {
+        if closed {
+            self.end_window()?;
+        }
+        self.gather()?;
+        Ok(())
+    }
+
+    /// Has every line gathered where the dialogue ends, with the line of a fault or without one, and behind
+    /// them that of the verdict.
+    pub(crate) fn end(&mut self, fault: Option<Line>) -> Result<Verdict, Memory>
+        requires fault { IsFaultLine fault }
+        requires few { self.old.checks.count < 2 ^ 64 }
+        ensures ended { IfOk result (λ verdict. (taken : List ReportLine) (early : Bool) (pairs : List Pair)
+            → Stands early (state_behind taken self.old) pairs
+            → (taken ++ self.new.decided.lines.items ≡ lines_at_end pairs fault)
+            × (verdict ≡ verdict_of (lines_in true [] pairs [] ++ lines_of_end fault))) }
+        ensures cut { OnErr result ((taken : List ReportLine) (early : Bool) (pairs : List Pair)
+            → Stands early (state_behind taken self.old) pairs
+            → IsBeginning (taken ++ self.new.decided.lines.items) (lines_at_end pairs fault)) }
+        ensures kept { IsBeginning self.old.decided.lines.items self.new.decided.lines.items }
+    {
+        self.end_window()?;
+        self.gather()?;
+        let verdict = self.decided.end(fault)?;
+        Ok(verdict)
+    }
+
     /// Ends the window of the last check, where what comes next closes it.
     pub(crate) fn end_window(&mut self) -> Result<(), Memory>
-        ensures stands { OnOk result ((early : Bool) (pairs : List Pair) → Stands early (state_of self.old) pairs
-            → Stands true (state_of self.new) pairs) }
+        ensures stands { OnOk result ((taken : List ReportLine) (early : Bool) (pairs : List Pair)
+            → Stands early (state_behind taken self.old) pairs
+            → Stands true (state_behind taken self.new) pairs) }
+        ensures ended { OnOk result (self.new.checks.pending ≡ None) }
+        ensures decided { self.new.decided ≡ self.old.decided }
+        ensures count { self.new.checks.count ≡ self.old.checks.count }
         ensures start { initial_print_success_of self.new.stack ≡ initial_print_success_of self.old.stack }
     {
         self.checks.end_window()
-    }
-
-    /// Ends the dialogue, with the line of a fault or without one.
-    pub(crate) fn finish(self, fault: Option<Line>) -> Result<Report, Memory>
-        ensures lines { IfOk result
-            (λ r. (pairs : List Pair) → StandsFor (state_of self) pairs
-            → r.lines.items ≡ lines_at_end pairs fault) }
-        ensures verdict { IfOk result
-            (λ r. (pairs : List Pair) → StandsFor (state_of self) pairs
-            → r.verdict ≡ verdict_of (lines_in true [] pairs [] ++ lines_of_end fault)) }
-    {
-        let Dialogue { stack, checks, .. } = self;
-        // dropped by name: the prover takes long over a stack that goes on more than one path
-        drop(stack);
-        checks.report(fault)
     }
 }
 

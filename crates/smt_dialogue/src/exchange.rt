@@ -1,25 +1,40 @@
 //! The exchange of commands and answers, as far as both texts have come. What a command does is not known here.
 
-ghost use Rattle.std.specs.Prelude.{◌≡◌, ◌<◌, ◌≤◌, ◌+◌, ◌^◌, ◌++◌, List, ℕ, IfOk, None, is_some, false, length, true};
+ghost use Rattle.std.specs.Prelude.{◌≡◌, ◌<◌, ◌≤◌, ◌+◌, ◌^◌, ◌++◌, Bool, List, [], ℕ, Option, IfOk, OnErr, None};
+ghost use Rattle.std.specs.Prelude.{is_some, false, length, true};
+ghost use Rattle.smt_text.specs.Grammar.{limit};
+ghost use Rattle.smt_text.specs.Reading.{Reads};
 ghost use Rattle.smt_text.specs.Reader.{bytes_fed, is_finished};
-ghost use Rattle.smt_trees.specs.Sexp.{Nil, Sexps};
-ghost use Rattle.smt_script.specs.StackView.{initial_print_success_of, last_of};
+ghost use Rattle.smt_trees.specs.Sexp.{Nil, Sexps, count};
+ghost use Rattle.smt_script.specs.StackView.{initial_print_success_of};
 ghost use Rattle.smt_dialogue.specs.FirstFault.{TextSoFar};
 ghost use Rattle.smt_dialogue.specs.Pairs.{Pair};
 ghost use Rattle.smt_dialogue.specs.Report.{IsRead};
-ghost use Rattle.smt_dialogue.specs.Internal.ExchangeView.{HasRested, IsNext, IsTurned, IsUnderWay};
-ghost use Rattle.smt_dialogue.specs.Internal.ExchangeView.{Texts};
+ghost use Rattle.smt_dialogue.specs.SoFar.{IsBeginning};
+ghost use Rattle.smt_dialogue.specs.Internal.ExchangeView.{HasRested, IsCut, IsNext, IsTurned, IsUnderWay};
+ghost use Rattle.smt_dialogue.specs.Internal.ExchangeView.{Texts, waiting};
+ghost use Rattle.smt_faults.specs.declared.text_flaw.TextFlaw.{TextFlaw};
 
 use crate::dialogue::Dialogue;
 use crate::front::{Ahead, Front};
-use crate::pairing::refused;
-use crate::turn::{Turn, take_up};
+use crate::turn::{Turn, refused, take_up};
 use smt_eval::Memory;
-use smt_report::{Line, Side};
+use smt_report::{Line, Side, Verdict};
 use smt_script::{Command, CommandFlaw, read_command};
+use std::alloc::Global;
 use smt_text::laws::{
     every_text_reads, one_reading, read_faults_stay, read_trees_stay, trees_are_no_more_than_bytes,
 };
+
+// A law: of a text no more trees are read than it has bytes, whether its end was told or not.
+fn trees_are_few()
+    ensures few { (told : Bool) (bytes : List ℕ) (trees : Sexps) (fault : Option TextFlaw)
+        → Reads limit told bytes trees fault → count trees ≤ length bytes }
+{
+    every_text_reads();
+    read_trees_stay();
+    trees_are_no_more_than_bytes();
+}
 
 /// Both texts so far, and the dialogue of what was taken up of them.
 #[derive(Drop)]
@@ -32,23 +47,68 @@ pub struct Exchange {
 }
 
 impl Exchange {
-    /// Takes turns until more of a text is waited for, or the dialogue ends.
-    pub(crate) fn advance(&mut self) -> Result<Turn, Memory>
-        requires room { bytes_fed self.old.script.reader + 1 < 2 ^ 64 }
+    /// Of texts of which nothing has come. `initial_print_success` says whether `success` is printed at the
+    /// start.
+    pub(crate) fn new(alloc: Global, initial_print_success: bool) -> Self
+        ensures way { (script answers : TextSoFar) → IsRead false [] script → IsRead false [] answers
+            → IsUnderWay result (record { script_bytes = []; script = script; answers_bytes = [];
+            answers = answers; taken = [] }) [] script.trees answers.trees }
+        ensures waiting { waiting result ≡ [] }
+        ensures start { initial_print_success_of result.dialogue.stack ≡ initial_print_success }
+        ensures script_fed { bytes_fed result.script.reader ≡ 0 }
+        ensures answers_fed { bytes_fed result.answers.reader ≡ 0 }
+        ensures script_open { is_finished result.script.reader ≡ false }
+        ensures answers_open { is_finished result.answers.reader ≡ false }
+    {
+        Exchange {
+            dialogue: Dialogue::new(alloc, initial_print_success),
+            script: Front::new(alloc),
+            answers: Front::new(alloc),
+            command: None,
+        }
+    }
+
+    /// Hands the lines out that are decided.
+    pub(crate) fn take_lines(&mut self) -> Vec<Line>
+        ensures lines { result.items ≡ waiting self.old }
+        ensures rest { waiting self.new ≡ [] }
+        ensures way { (texts : Texts) (pairs : List Pair) (later rest : Sexps)
+            → IsUnderWay self.old texts pairs later rest
+            → IsUnderWay self.new (record texts { taken = texts.taken ++ result.items }) pairs later rest }
+        ensures start { initial_print_success_of self.new.dialogue.stack
+            ≡ initial_print_success_of self.old.dialogue.stack }
+        ensures script { self.new.script ≡ self.old.script }
+        ensures answers { self.new.answers ≡ self.old.answers }
+        ensures command { self.new.command ≡ self.old.command }
+    {
+        self.dialogue.decided.take()
+    }
+
+    /// Takes turns until more of a text is waited for, or the dialogue ends, with this verdict. The lines that
+    /// are decided are gathered; where memory is refused, the first of them.
+    pub(crate) fn advance(&mut self) -> Result<Option<Verdict>, Memory>
+        requires script_room { bytes_fed self.old.script.reader < 2 ^ 64 }
+        requires answers_room { bytes_fed self.old.answers.reader < 2 ^ 64 }
         requires way { (texts : Texts) × (pairs : List Pair) × (later : Sexps) × (rest : Sexps)
             × IsUnderWay self.old texts pairs later rest }
-        ensures rests { IfOk result (λ turn. (texts : Texts) (pairs : List Pair) (later rest : Sexps)
+        ensures rests { IfOk result (λ verdict. (texts : Texts) (pairs : List Pair) (later rest : Sexps)
             → IsUnderWay self.old texts pairs later rest
-            → HasRested turn (initial_print_success_of self.old.dialogue.stack) self.new texts) }
+            → HasRested verdict (initial_print_success_of self.old.dialogue.stack) self.new texts) }
+        ensures cut { OnErr result ((texts : Texts) (pairs : List Pair) (later rest : Sexps)
+            → IsUnderWay self.old texts pairs later rest
+            → IsCut (initial_print_success_of self.old.dialogue.stack) (waiting self.new) texts) }
+        ensures kept { IsBeginning (waiting self.old) (waiting self.new) }
     {
-        // Laws: no text has more trees than bytes, and so no count passes that of the script's bytes.
-        every_text_reads();
-        read_trees_stay();
-        trees_are_no_more_than_bytes();
+        // A law: there are no more pairs than bytes, so that the turns come to an end.
+        trees_are_few();
         loop {
             match self.take_turn()? {
-                Turn::GoesOn => {}
-                turn => return Ok(turn),
+                Turn::GoesOn => self.dialogue.gather()?,
+                Turn::Waits { closed } => {
+                    self.dialogue.settle(closed)?;
+                    return Ok(None);
+                }
+                Turn::Ends(fault) => return Ok(Some(self.dialogue.end(fault)?)),
             }
         }
     }
@@ -63,6 +123,8 @@ impl Exchange {
             (record texts { script_bytes = texts.script_bytes ++ piece.now; script = grown }) pairs left rest }
         ensures fed { bytes_fed self.new.script.reader ≡ bytes_fed self.old.script.reader + length piece.now }
         ensures open { is_finished self.new.script.reader ≡ false }
+        ensures answers { self.new.answers ≡ self.old.answers }
+        ensures dialogue { self.new.dialogue ≡ self.old.dialogue }
     {
         // Laws: what is read of a text is one answer, and trees and faults that are read stay.
         one_reading();
@@ -79,6 +141,8 @@ impl Exchange {
             → (left : Sexps) × IsUnderWay self.new (record texts { script = grown }) pairs left rest }
         ensures fed { bytes_fed self.new.script.reader ≡ bytes_fed self.old.script.reader }
         ensures ended { is_finished self.new.script.reader ≡ true }
+        ensures answers { self.new.answers ≡ self.old.answers }
+        ensures dialogue { self.new.dialogue ≡ self.old.dialogue }
     {
         one_reading();
         read_faults_stay();
@@ -96,6 +160,8 @@ impl Exchange {
             (record texts { answers_bytes = texts.answers_bytes ++ piece.now; answers = grown }) pairs later left }
         ensures fed { bytes_fed self.new.answers.reader ≡ bytes_fed self.old.answers.reader + length piece.now }
         ensures open { is_finished self.new.answers.reader ≡ false }
+        ensures script { self.new.script ≡ self.old.script }
+        ensures dialogue { self.new.dialogue ≡ self.old.dialogue }
     {
         one_reading();
         read_faults_stay();
@@ -111,6 +177,8 @@ impl Exchange {
             → (left : Sexps) × IsUnderWay self.new (record texts { answers = grown }) pairs later left }
         ensures fed { bytes_fed self.new.answers.reader ≡ bytes_fed self.old.answers.reader }
         ensures ended { is_finished self.new.answers.reader ≡ true }
+        ensures script { self.new.script ≡ self.old.script }
+        ensures dialogue { self.new.dialogue ≡ self.old.dialogue }
     {
         one_reading();
         read_faults_stay();
@@ -120,18 +188,18 @@ impl Exchange {
 
     /// One turn: the next command is taken up with what it takes of the answers, or it is told why not.
     pub(crate) fn take_turn(&mut self) -> Result<Turn, Memory>
-        requires commands { self.old.dialogue.commands + 1 < 2 ^ 64 }
-        requires answers { self.old.dialogue.answers + 1 < 2 ^ 64 }
-        requires checks { self.old.dialogue.checks.count + 1 < 2 ^ 64 }
-        requires last { last_of self.old.dialogue.stack ≤ self.old.dialogue.commands }
+        requires script_room { bytes_fed self.old.script.reader < 2 ^ 64 }
+        requires answers_room { bytes_fed self.old.answers.reader < 2 ^ 64 }
         requires way { (texts : Texts) × (pairs : List Pair) × (later : Sexps) × (rest : Sexps)
             × IsUnderWay self.old texts pairs later rest }
         ensures turn { IfOk result (λ turn. (texts : Texts) (pairs : List Pair) (later rest : Sexps)
             → IsUnderWay self.old texts pairs later rest
             → IsTurned turn self.old self.new texts pairs later rest) }
-        ensures fed { bytes_fed self.new.script.reader ≡ bytes_fed self.old.script.reader }
+        ensures script_fed { bytes_fed self.new.script.reader ≡ bytes_fed self.old.script.reader }
+        ensures answers_fed { bytes_fed self.new.answers.reader ≡ bytes_fed self.old.answers.reader }
         ensures start { IfOk result (λ _. initial_print_success_of self.new.dialogue.stack
             ≡ initial_print_success_of self.old.dialogue.stack) }
+        ensures decided { self.new.dialogue.decided ≡ self.old.dialogue.decided }
     {
         match self.ready_command()? {
             Some(turn) => Ok(turn),
@@ -141,12 +209,13 @@ impl Exchange {
 
     // Has a command in turn, or tells what comes in its place.
     fn ready_command(&mut self) -> Result<Option<Turn>, Memory>
-        requires commands { self.old.dialogue.commands + 1 < 2 ^ 64 }
-        requires answers { self.old.dialogue.answers + 1 < 2 ^ 64 }
+        requires script_room { bytes_fed self.old.script.reader < 2 ^ 64 }
+        requires answers_room { bytes_fed self.old.answers.reader < 2 ^ 64 }
         requires way { (texts : Texts) × (pairs : List Pair) × (later : Sexps) × (rest : Sexps)
             × IsUnderWay self.old texts pairs later rest }
         ensures dialogue { self.new.dialogue ≡ self.old.dialogue }
-        ensures fed { bytes_fed self.new.script.reader ≡ bytes_fed self.old.script.reader }
+        ensures script_fed { bytes_fed self.new.script.reader ≡ bytes_fed self.old.script.reader }
+        ensures answers_fed { bytes_fed self.new.answers.reader ≡ bytes_fed self.old.answers.reader }
         ensures next { IfOk result (λ turn. (texts : Texts) (pairs : List Pair) (later rest : Sexps)
             → IsUnderWay self.old texts pairs later rest
             → IsNext turn self.old self.new texts pairs later rest) }
@@ -160,16 +229,18 @@ impl Exchange {
     // Reads the next command of the script, or tells what comes in its place.
     fn next_command(&mut self) -> Result<Option<Turn>, Memory>
         requires none { self.old.command ≡ None }
-        requires commands { self.old.dialogue.commands + 1 < 2 ^ 64 }
-        requires answers { self.old.dialogue.answers + 1 < 2 ^ 64 }
+        requires script_room { bytes_fed self.old.script.reader < 2 ^ 64 }
+        requires answers_room { bytes_fed self.old.answers.reader < 2 ^ 64 }
         requires way { (texts : Texts) × (pairs : List Pair) × (later : Sexps) × (rest : Sexps)
             × IsUnderWay self.old texts pairs later rest }
         ensures dialogue { self.new.dialogue ≡ self.old.dialogue }
-        ensures fed { bytes_fed self.new.script.reader ≡ bytes_fed self.old.script.reader }
+        ensures script_fed { bytes_fed self.new.script.reader ≡ bytes_fed self.old.script.reader }
+        ensures answers_fed { bytes_fed self.new.answers.reader ≡ bytes_fed self.old.answers.reader }
         ensures next { IfOk result (λ turn. (texts : Texts) (pairs : List Pair) (later rest : Sexps)
             → IsUnderWay self.old texts pairs later rest
             → IsNext turn self.old self.new texts pairs later rest) }
     {
+        trees_are_few();
         match self.script.look()? {
             Ahead::Tree => Ok(self.read_next()),
             Ahead::Wait => Ok(Some(Turn::Waits { closed: false })),
@@ -184,14 +255,19 @@ impl Exchange {
     // Behind the last command of a script that has ended: what comes of the answers.
     fn end_of_script(&mut self) -> Result<Turn, Memory>
         requires none { self.old.command ≡ None }
-        requires answers { self.old.dialogue.answers + 1 < 2 ^ 64 }
+        requires answers_room { bytes_fed self.old.answers.reader < 2 ^ 64 }
+        requires way { (texts : Texts) × (pairs : List Pair) × (later : Sexps) × (rest : Sexps)
+            × IsUnderWay self.old texts pairs later rest }
         ensures dialogue { self.new.dialogue ≡ self.old.dialogue }
-        ensures fed { bytes_fed self.new.script.reader ≡ bytes_fed self.old.script.reader }
+        ensures script_fed { bytes_fed self.new.script.reader ≡ bytes_fed self.old.script.reader }
+        ensures answers_fed { bytes_fed self.new.answers.reader ≡ bytes_fed self.old.answers.reader }
         ensures turn { IfOk result (λ turn. (texts : Texts) (pairs : List Pair) (later rest : Sexps)
             → IsUnderWay self.old texts pairs later rest
             → later ≡ Nil → texts.script.fault ≡ None → texts.script.told ≡ true
             → IsTurned turn self.old self.new texts pairs later rest) }
     {
+        // A law: no more answers were taken than the answers have bytes.
+        trees_are_few();
         match self.answers.look()? {
             Ahead::Tree => Ok(Turn::Ends(Some(Line::ExtraAnswer {
                 answer: self.dialogue.answers + 1,
@@ -211,7 +287,8 @@ impl Exchange {
         requires ready { is_some self.old.script.next ≡ true }
         requires commands { self.old.dialogue.commands + 1 < 2 ^ 64 }
         ensures dialogue { self.new.dialogue ≡ self.old.dialogue }
-        ensures fed { bytes_fed self.new.script.reader ≡ bytes_fed self.old.script.reader }
+        ensures script_fed { bytes_fed self.new.script.reader ≡ bytes_fed self.old.script.reader }
+        ensures answers_fed { bytes_fed self.new.answers.reader ≡ bytes_fed self.old.answers.reader }
         ensures next { (texts : Texts) (pairs : List Pair) (later rest : Sexps)
             → IsUnderWay self.old texts pairs later rest
             → IsNext result self.old self.new texts pairs later rest }
@@ -235,19 +312,20 @@ impl Exchange {
     // Takes up the command in turn.
     fn take_up_command(&mut self) -> Result<Turn, Memory>
         requires some { is_some self.old.command ≡ true }
-        requires commands { self.old.dialogue.commands + 1 < 2 ^ 64 }
-        requires answers { self.old.dialogue.answers + 1 < 2 ^ 64 }
-        requires checks { self.old.dialogue.checks.count + 1 < 2 ^ 64 }
-        requires last { last_of self.old.dialogue.stack ≤ self.old.dialogue.commands }
+        requires script_room { bytes_fed self.old.script.reader < 2 ^ 64 }
+        requires answers_room { bytes_fed self.old.answers.reader < 2 ^ 64 }
         requires way { (texts : Texts) × (pairs : List Pair) × (later : Sexps) × (rest : Sexps)
             × IsUnderWay self.old texts pairs later rest }
         ensures turn { IfOk result (λ turn. (texts : Texts) (pairs : List Pair) (later rest : Sexps)
             → IsUnderWay self.old texts pairs later rest
             → IsTurned turn self.old self.new texts pairs later rest) }
-        ensures fed { bytes_fed self.new.script.reader ≡ bytes_fed self.old.script.reader }
+        ensures script_fed { bytes_fed self.new.script.reader ≡ bytes_fed self.old.script.reader }
+        ensures answers_fed { bytes_fed self.new.answers.reader ≡ bytes_fed self.old.answers.reader }
         ensures start { IfOk result (λ _. initial_print_success_of self.new.dialogue.stack
             ≡ initial_print_success_of self.old.dialogue.stack) }
+        ensures decided { self.new.dialogue.decided ≡ self.old.dialogue.decided }
     {
+        trees_are_few();
         let Some(command) = &self.command else {
             unreachable!()
         };

@@ -38,6 +38,7 @@ impl Front {
     pub(crate) fn new(alloc: Global) -> Self
         ensures front { (text : TextSoFar) → IsRead false [] text → HasFront result [] text text.trees }
         ensures fed { bytes_fed result.reader ≡ 0 }
+        ensures open { is_finished result.reader ≡ false }
     {
         Front {
             reader: Reader::new(alloc),

@@ -8,20 +8,16 @@
 
 mod answer;
 mod answering;
+mod decided;
 mod dialogue;
 mod exchange;
 mod front;
 mod judgement;
 pub mod laws;
 mod options;
-mod pairing;
-mod read_text;
 mod turn;
-mod unread_text;
-mod validation;
 mod window;
 
 pub use options::Options;
 pub use smt_eval::Memory;
 pub use smt_report::{CheckAnswer, Claim, Line, Report, Side, Tally, Verdict};
-pub use validation::validate;

@@ -9,10 +9,11 @@ ghost use Rattle.smt_trees.specs.Tree.{sexp_of};
 ghost use Rattle.smt_script.specs.Command as commands;
 ghost use Rattle.smt_script.specs.CommandView.{command_view};
 ghost use Rattle.smt_script.specs.StackView.{initial_print_success_of, last_of};
+ghost use Rattle.smt_dialogue.specs.FirstFault as first_fault;
 ghost use Rattle.smt_dialogue.specs.FirstFault.{TextSoFar};
 ghost use Rattle.smt_dialogue.specs.Pairs.{Pair};
 ghost use Rattle.smt_dialogue.specs.Internal.ChecksState.{IsAnswered, role_of};
-ghost use Rattle.smt_dialogue.specs.Internal.DialogueState.{Stands, answered, state_of};
+ghost use Rattle.smt_dialogue.specs.Internal.DialogueState.{Stands, answered, state_behind};
 ghost use Rattle.smt_dialogue.specs.Internal.FrontView.{HasFront};
 ghost use Rattle.smt_dialogue.specs.Internal.Turns.{IsDone, IsTakenUp, turn_of_line};
 ghost use Rattle.smt_report.specs.declared.line.Line.{Line as ReportLine};
@@ -21,10 +22,10 @@ use crate::answer::need_of;
 use crate::answering::{Answering, take_answer};
 use crate::dialogue::Dialogue;
 use crate::front::Front;
-use crate::pairing::{refused, want_of_answer};
 use smt_eval::Memory;
-use smt_report::Line;
-use smt_script::{Command, Kind};
+use smt_faults::TextFlaw;
+use smt_report::{Line, Side};
+use smt_script::{Command, CommandFlaw, Kind};
 use smt_trees::Tree;
 
 /// What a turn comes to.
@@ -48,17 +49,20 @@ pub(crate) fn take_up(
     requires answers { dialogue.old.answers + 1 < 2 ^ 64 }
     requires checks { dialogue.old.checks.count + 1 < 2 ^ 64 }
     requires last { last_of dialogue.old.stack ≤ dialogue.old.commands }
-    requires stands { (early : Bool) × (pairs : List Pair) × Stands early (state_of dialogue.old) pairs
+    requires stands { (taken : List ReportLine) × (early : Bool) × (pairs : List Pair)
+        × Stands early (state_behind taken dialogue.old) pairs
         × (early ≡ true → commands.is_check (command_view command.now) ≡ true) }
     requires front { (bytes : List ℕ) × (text : TextSoFar) × (rest : Sexps)
         × HasFront answers.old bytes text rest }
-    ensures turn { IfOk result (λ turn. (bytes : List ℕ) (text : TextSoFar) (rest : Sexps) (early : Bool)
-        (pairs : List Pair) → HasFront answers.old bytes text rest → Stands early (state_of dialogue.old) pairs
+    ensures turn { IfOk result (λ turn. (bytes : List ℕ) (text : TextSoFar) (rest : Sexps)
+        (taken : List ReportLine) (early : Bool) (pairs : List Pair) → HasFront answers.old bytes text rest
+        → Stands early (state_behind taken dialogue.old) pairs
         → (early ≡ true → commands.is_check (command_view command.now) ≡ true)
-        → IsTakenUp turn early (initial_print_success_of dialogue.old.stack) pairs (command_view command.now) text rest
-        bytes answers.new (state_of dialogue.new)) }
+        → IsTakenUp turn early (initial_print_success_of dialogue.old.stack) pairs (command_view command.now)
+        text rest bytes answers.new (state_behind taken dialogue.new)) }
     ensures start { IfOk result
         (λ _. initial_print_success_of dialogue.new.stack ≡ initial_print_success_of dialogue.old.stack) }
+    ensures decided { dialogue.new.decided ≡ dialogue.old.decided }
     ensures fed { bytes_fed answers.new.reader ≡ bytes_fed answers.old.reader }
     ensures finished { is_finished answers.new.reader ≡ is_finished answers.old.reader }
 {
@@ -87,15 +91,18 @@ fn take_up_with(
     requires answers { dialogue.old.answers + 1 < 2 ^ 64 }
     requires checks { dialogue.old.checks.count + 1 < 2 ^ 64 }
     requires last { last_of dialogue.old.stack ≤ dialogue.old.commands }
-    requires stands { (early : Bool) × (pairs : List Pair) × Stands early (state_of dialogue.old) pairs
+    requires stands { (taken : List ReportLine) × (early : Bool) × (pairs : List Pair)
+        × Stands early (state_behind taken dialogue.old) pairs
         × (early ≡ true → commands.is_check (command_view command.now) ≡ true) }
     requires answered { IsAnswered (role_of (command_view command.now)) (option_map sexp_of answer.now) }
-    ensures turn { IfOk result (λ turn. (early : Bool) (pairs : List Pair) → Stands early (state_of dialogue.old) pairs
+    ensures turn { IfOk result (λ turn. (taken : List ReportLine) (early : Bool) (pairs : List Pair)
+        → Stands early (state_behind taken dialogue.old) pairs
         → (early ≡ true → commands.is_check (command_view command.now) ≡ true)
         → (line : Option ReportLine) × (turn ≡ turn_of_line line)
-        × IsDone line early pairs (answered command.now answer.now) (state_of dialogue.new)) }
+        × IsDone line early pairs (answered command.now answer.now) (state_behind taken dialogue.new)) }
     ensures start { IfOk result
         (λ _. initial_print_success_of dialogue.new.stack ≡ initial_print_success_of dialogue.old.stack) }
+    ensures decided { dialogue.new.decided ≡ dialogue.old.decided }
 {
     let number = dialogue.commands + 1;
     match dialogue.accept(command, answer) {
@@ -112,4 +119,24 @@ fn is_check(command: &Command) -> bool
     ensures { result ≡ commands.is_check (command_view command.now) }
 {
     matches!(command.kind(), Kind::Check)
+}
+
+/// The line on a command that is refused.
+pub(crate) fn refused(command: u64, flaw: CommandFlaw) -> Line
+    ensures { result ≡ Line.CommandFault command flaw }
+{
+    Line::CommandFault { command, flaw }
+}
+
+// The line where the command of this number has no answer.
+fn want_of_answer(command: u64, fault: Option<TextFlaw>) -> Line
+    ensures { result ≡ first_fault.want_of_answer command fault }
+{
+    match fault {
+        Some(flaw) => Line::TextFault {
+            side: Side::Answers,
+            flaw,
+        },
+        None => Line::MissingAnswer { command },
+    }
 }

@@ -12,13 +12,11 @@ ghost use Rattle.smt_dialogue.specs.Internal.ChecksState as state;
 ghost use Rattle.smt_dialogue.specs.Internal.ChecksState.{IsAnswered, checks_after, checks_state, with_check};
 ghost use Rattle.smt_dialogue.specs.Internal.ChecksState.{with_line, with_models, with_window_ended};
 ghost use Rattle.smt_dialogue.specs.Judgement.{claims_of, judgement_of};
-ghost use Rattle.smt_dialogue.specs.Report.{lines_of_end};
-ghost use Rattle.smt_report.specs.Verdict.{verdict_of, with_verdict};
 
 use crate::answer::is_error;
 use crate::judgement::{Judgement, judge};
 use smt_eval::Memory;
-use smt_report::{CheckAnswer, Line, Report};
+use smt_report::{CheckAnswer, Line};
 use smt_script::{Command, Kind, Stack};
 use smt_trees::{Tree, Trees};
 use std::alloc::Global;
@@ -183,29 +181,14 @@ impl Checks {
 
     /// Ends the window of the last check, if it has not ended: each model in it is confirmed.
     pub(crate) fn end_window(&mut self) -> Result<(), Memory>
-        ensures { OnOk result (checks_state self.new ≡ with_window_ended (checks_state self.old)) }
+        ensures ended { OnOk result (checks_state self.new ≡ with_window_ended (checks_state self.old)) }
+        ensures count { self.new.count ≡ self.old.count }
     {
         if let Some(pending) = self.pending {
             self.lines.push(confirmed_line(pending))?;
             self.pending = None;
         }
         Ok(())
-    }
-
-    /// The report, once the window of the last check has ended, with the line of a fault or without one.
-    pub(crate) fn report(mut self, fault: Option<Line>) -> Result<Report, Memory>
-        ensures lines { IfOk result
-            (λ r. r.lines.items ≡ with_verdict
-            ((with_window_ended (checks_state self)).lines ++ lines_of_end fault)) }
-        ensures verdict { IfOk result
-            (λ r. r.verdict ≡ verdict_of
-            ((with_window_ended (checks_state self)).lines ++ lines_of_end fault)) }
-    {
-        self.end_window()?;
-        if let Some(line) = fault {
-            self.lines.push(line)?;
-        }
-        Ok(Report::from_lines(self.lines)?)
     }
 }
 

@@ -31,6 +31,10 @@ pub record ChecksState : Type 0 where
 abbrev pub checks_state : Checks → ChecksState
 checks_state c = record { count = c.count; pending = c.pending; lines = c.lines.items }
 
+-- the same with other lines before those that are decided
+abbrev pub behind : List Line → ChecksState → ChecksState
+behind moved s = record s { lines = moved ++ s.lines }
+
 -- the lines of the check whose window has not ended, for the pairs after, which begin with command m
 abbrev pub pending_lines : Bool → Option PendingCheck → Signature → List Claimed → ℕ → List Pair → List Line
 pending_lines closed None names claims m after = []

@@ -15,21 +15,30 @@ use Rattle.smt_script.specs.declared.stack.Stack.{Stack}
 use Rattle.smt_dialogue.specs.InForce.{signature_after}
 use Rattle.smt_dialogue.specs.Lines.{claims_after, lines_in}
 use Rattle.smt_dialogue.specs.Pairs.{Pair, answers_taken, checks_in, effective_commands, pair_of}
-use Rattle.smt_dialogue.specs.Internal.ChecksState.{ChecksState, checks_state, pending_lines}
+use Rattle.smt_dialogue.specs.Internal.ChecksState.{ChecksState, behind, checks_state, pending_lines}
 use Rattle.smt_dialogue.specs.Window.{closes, window}
 use Rattle.smt_dialogue.specs.declared.dialogue.Dialogue.{Dialogue}
+use Rattle.smt_report.specs.Verdict.{tally_of}
+use Rattle.smt_report.specs.declared.line.Line.{Line}
+use Rattle.smt_report.specs.declared.verdict.Tally.{Tally}
 
--- what is kept: what is in force, the checks, and the counts of commands and answers
+-- what is known: what is in force, the checks with all lines that are decided, those among these that were
+-- gathered, with their tally, and the counts of commands and answers
 pub record State : Type 0 where
   pub stack : Stack
   pub checks : ChecksState
+  pub gathered : List Line
+  pub tally : Tally
   pub commands : ℕ
   pub answers : ℕ
 
-abbrev pub state_of : Dialogue → State
-state_of d = record {
+-- the state of a dialogue of which these lines were handed out
+abbrev pub state_behind : List Line → Dialogue → State
+state_behind taken d = record {
   stack = d.stack;
-  checks = checks_state d.checks;
+  checks = behind (taken ++ d.decided.lines.items) (checks_state d.checks);
+  gathered = taken ++ d.decided.lines.items;
+  tally = d.decided.tally;
   commands = d.commands;
   answers = d.answers;
 }
@@ -56,6 +65,7 @@ pub record Stands (early : Bool) (s : State) (pairs : List Pair) : Type 0 where
   pub commands : s.commands ≡ length pairs
   pub answers : s.answers ≡ answers_taken pairs
   pub checks : s.checks.count ≡ checks_in pairs
+  pub tally : s.tally ≡ tally_of s.gathered
   pub lines : (closed : Bool) (after : List Pair) → (early ≡ true → Closing closed after)
       → lines_in closed [] pairs after
       ≡ s.checks.lines ++ pending_lines closed s.checks.pending (signature_after pairs)

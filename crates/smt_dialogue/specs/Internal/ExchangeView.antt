@@ -9,19 +9,25 @@ use Rattle.smt_dialogue.specs.FirstFault.{TextSoFar, turn_after}
 use Rattle.smt_dialogue.specs.FirstFault as first_fault
 use Rattle.smt_dialogue.specs.InForce.{has_exited_after}
 use Rattle.smt_dialogue.specs.Pairs.{Pair}
-use Rattle.smt_dialogue.specs.Report.{ArePaired, IsTurn}
-use Rattle.smt_dialogue.specs.Internal.DialogueState.{Stands, state_of}
+use Rattle.smt_dialogue.specs.Lines.{lines_in}
+use Rattle.smt_dialogue.specs.Report.{ArePaired, IsTurn, lines_at_end, lines_of_end}
+use Rattle.smt_dialogue.specs.SoFar.{AreLinesSoFar, IsBeginning, lines_at}
+use Rattle.smt_dialogue.specs.Internal.DialogueState.{Stands, state_behind}
 use Rattle.smt_dialogue.specs.Internal.FrontView.{HasFront}
 use Rattle.smt_dialogue.specs.declared.exchange.Exchange.{Exchange}
 use Rattle.smt_dialogue.specs.declared.turn.Turn.{Turn}
 use Rattle.smt_dialogue.specs.declared.turn.Turn.TheVariants as turns
+use Rattle.smt_report.specs.Verdict.{verdict_of}
+use Rattle.smt_report.specs.declared.line.Line.{Line}
+use Rattle.smt_report.specs.declared.verdict.Verdict.{Verdict}
 
--- the bytes of both texts so far, and what is read of them
+-- the bytes of both texts so far, what is read of them, and the lines that were handed out
 pub record Texts : Type 0 where
   pub script_bytes : List ℕ
   pub script : TextSoFar
   pub answers_bytes : List ℕ
   pub answers : TextSoFar
+  pub taken : List Line
 
 -- the command in turn, if it was read, is the first of the trees that are left, and no `exit` came before it
 abbrev pub IsInTurn : Option Command → List Pair → (later left : Sexps) → Type 0
@@ -42,7 +48,7 @@ pub record IsUnderWay (x : Exchange) (texts : Texts) (pairs : List Pair) (later 
   pub script_front : HasFront x.script texts.script_bytes texts.script left
   pub answers_front : HasFront x.answers texts.answers_bytes texts.answers rest
   pub early : Bool
-  pub stands : Stands early (state_of x.dialogue) pairs
+  pub stands : Stands early (state_behind texts.taken x.dialogue) pairs
   pub closing : early ≡ true → IsClosing x.command texts later
   pub paired : ArePaired (initial_print_success_of x.dialogue.stack) texts.script texts.answers pairs later rest
 
@@ -58,8 +64,10 @@ IsTurned turns.GoesOn old new texts pairs later rest =
     × (initial_print_success_of new.dialogue.stack ≡ initial_print_success_of old.dialogue.stack)
 IsTurned (turns.Waits closed) old new texts pairs later rest =
     IsUnderWay new texts pairs later rest × (turn_of old texts pairs later rest ≡ first_fault.Waits closed)
+    × (closed ≡ true → IsClosing new.command texts later)
 IsTurned (turns.Ends fault) old new texts pairs later rest =
-    (early : Bool) × Stands early (state_of new.dialogue) pairs × (turn_of old texts pairs later rest ≡ first_fault.Ends fault)
+    (early : Bool) × Stands early (state_behind texts.taken new.dialogue) pairs
+    × (turn_of old texts pairs later rest ≡ first_fault.Ends fault)
 
 -- the next command was read, and is in turn; or this turn came in its place
 abbrev pub IsNext : Option Turn → (old new : Exchange) → Texts → List Pair → (later rest : Sexps) → Type 0
@@ -67,13 +75,25 @@ IsNext None old new texts pairs later rest =
     IsUnderWay new texts pairs later rest × (is_some new.command ≡ true)
 IsNext (Some turn) old new texts pairs later rest = IsTurned turn old new texts pairs later rest
 
--- the turns came to rest: the dialogue waits behind pairs, or has ended behind some
-abbrev pub HasRested : Turn → (initial : Bool) → Exchange → Texts → Type 0
-HasRested turns.GoesOn initial new texts = ⊥
-HasRested (turns.Waits closed) initial new texts =
-    (pairs : List Pair) × (later : Sexps) × (rest : Sexps) × IsUnderWay new texts pairs later rest
-    × (initial_print_success_of new.dialogue.stack ≡ initial)
+-- the lines of both texts that are not handed out
+abbrev pub waiting : Exchange → List Line
+waiting x = x.dialogue.decided.lines.items
+
+-- the turns came to rest: the dialogue waits behind pairs, with the lines that are decided, or has ended behind
+-- some, with all lines and this verdict
+abbrev pub HasRested : Option Verdict → (initial : Bool) → Exchange → Texts → Type 0
+HasRested None initial new texts =
+    (closed : Bool) × (pairs : List Pair) × (later : Sexps) × (rest : Sexps)
+    × IsUnderWay new texts pairs later rest × (initial_print_success_of new.dialogue.stack ≡ initial)
     × (turn_of new texts pairs later rest ≡ first_fault.Waits closed)
-HasRested (turns.Ends fault) initial new texts =
-    (pairs : List Pair) × (early : Bool) × Stands early (state_of new.dialogue) pairs
+    × (texts.taken ++ waiting new ≡ lines_at pairs (first_fault.Waits closed))
+HasRested (Some verdict) initial new texts =
+    (fault : Option Line) × (pairs : List Pair)
     × IsTurn initial texts.script texts.answers pairs (first_fault.Ends fault)
+    × (texts.taken ++ waiting new ≡ lines_at_end pairs fault)
+    × (verdict ≡ verdict_of (lines_in true [] pairs [] ++ lines_of_end fault))
+
+-- what is decided where memory was refused: the first of the lines so far
+abbrev pub IsCut : (initial : Bool) → List Line → Texts → Type 0
+IsCut initial ls texts =
+    (all : List Line) × AreLinesSoFar initial texts.script texts.answers all × IsBeginning (texts.taken ++ ls) all

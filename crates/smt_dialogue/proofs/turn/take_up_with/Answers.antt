@@ -5,8 +5,8 @@ use Rattle.smt_report.specs.declared.line.Line.TheVariants.{CommandFault}
 use Rattle.smt_dialogue.proofs.turn.take_up_with.Goals as goal
 
 pub returns-in-Some-clause-turn : goal.returns-in-Some-clause-turn
-returns-in-Some-clause-turn c = λ early pairs stands check.
-    let refused = c.in-Err.ensures.refused c.in-Some.flaw (sym c.in-Some.ensures) early pairs stands in
+returns-in-Some-clause-turn c = λ taken early pairs stands check.
+    let refused = c.in-Err.ensures.refused c.in-Some.flaw (sym c.in-Some.ensures) taken early pairs stands in
     let line = c.refused.ensures ∙ ap (λ n. CommandFault (n + 1) c.in-Some.flaw) stands.commands in (
       Some c.refused.result,
       refl,
@@ -14,5 +14,5 @@ returns-in-Some-clause-turn c = λ early pairs stands check.
     )
 
 pub returns-in-Ok-clause-turn : goal.returns-in-Ok-clause-turn
-returns-in-Ok-clause-turn c = λ early pairs stands check.
-    (None, refl, c.in-Ok.ensures.accepted early pairs stands check)
+returns-in-Ok-clause-turn c = λ taken early pairs stands check.
+    (None, refl, c.in-Ok.ensures.accepted taken early pairs stands check)

@@ -1,86 +1,190 @@
-use Rattle.std.proofs.Common.{◌∙◌, arith}
+use Rattle.std.proofs.Common.{◌∙◌, ap, arith, refl, subst}
 use Rattle.smt_script.specs.StackView.{initial_print_success_of}
-use Rattle.smt_dialogue.proofs.AdvanceLemmas.{answers_at_most, checks_at_most, commands_at_most, one_more}
-use Rattle.smt_dialogue.proofs.AdvanceLemmas.{rested, turned_on}
+use Rattle.smt_dialogue.proofs.AdvanceLemmas.{bounded, checks_at_most, commands_at_most, cut_at, cut_ended, ends_at}
+use Rattle.smt_dialogue.proofs.AdvanceLemmas.{gathered, one_more, turned_on, waits_at}
+use Rattle.smt_dialogue.proofs.CheckLineLemmas.{IsFaultTurn, fault_turn}
+use Rattle.smt_dialogue.proofs.DialogueLemmas.{begins_trans, on_err}
+use Rattle.smt_dialogue.proofs.PairLemmas.{checks_in-le}
+use Rattle.smt_dialogue.specs.SoFar.{IsBeginning}
+use Rattle.smt_dialogue.specs.Internal.ExchangeView.{IsTurned, waiting}
+use Rattle.smt_dialogue.specs.declared.decided.Decided.{Decided}
+use Rattle.smt_dialogue.specs.declared.turn.Turn.{Turn}
 use Rattle.smt_dialogue.proofs.exchange.Exchange.advance.Goals as goal
-
-pub take_turn-requires-clause-commands : goal.take_turn-requires-clause-commands
-take_turn-requires-clause-commands c =
-    let w = c.requires.way in
-    let h = c.loop-turn.invariant.way w.0 w.1 w.2 w.3 w.4 in
-    let most = commands_at_most c.every_text_reads.ensures.some c.read_trees_stay.ensures.stay
-    c.trees_are_no_more_than_bytes.ensures.few c.loop-turn.self w.0 h.0 h.1 h.2 h.3 in
-    omega (arith, most, c.loop-turn.invariant.fed, c.requires.room)
-
-pub take_turn-requires-clause-answers : goal.take_turn-requires-clause-answers
-take_turn-requires-clause-answers c =
-    let w = c.requires.way in
-    let h = c.loop-turn.invariant.way w.0 w.1 w.2 w.3 w.4 in
-    let most = commands_at_most c.every_text_reads.ensures.some c.read_trees_stay.ensures.stay
-    c.trees_are_no_more_than_bytes.ensures.few c.loop-turn.self w.0 h.0 h.1 h.2 h.3 in
-    omega (
-      arith,
-      most,
-      answers_at_most c.loop-turn.self w.0 h.0 h.1 h.2 h.3,
-      c.loop-turn.invariant.fed,
-      c.requires.room,
-    )
-
-pub take_turn-requires-clause-checks : goal.take_turn-requires-clause-checks
-take_turn-requires-clause-checks c =
-    let w = c.requires.way in
-    let h = c.loop-turn.invariant.way w.0 w.1 w.2 w.3 w.4 in
-    let most = commands_at_most c.every_text_reads.ensures.some c.read_trees_stay.ensures.stay
-    c.trees_are_no_more_than_bytes.ensures.few c.loop-turn.self w.0 h.0 h.1 h.2 h.3 in
-    omega (
-      arith,
-      most,
-      checks_at_most c.loop-turn.self w.0 h.0 h.1 h.2 h.3,
-      c.loop-turn.invariant.fed,
-      c.requires.room,
-    )
-
-pub take_turn-requires-clause-last : goal.take_turn-requires-clause-last
-take_turn-requires-clause-last c =
-    let w = c.requires.way in
-    (c.loop-turn.invariant.way w.0 w.1 w.2 w.3 w.4).3.stands.last
 
 pub take_turn-requires-clause-way : goal.take_turn-requires-clause-way
 take_turn-requires-clause-way c =
     let w = c.requires.way in
-    let h = c.loop-turn.invariant.way w.0 w.1 w.2 w.3 w.4 in
+    let h = c.loop-self.invariant.way w.0 w.1 w.2 w.3 w.4 in
     (w.0, h.0, h.1, h.2, h.3)
 
-pub loop-turn-smaller : goal.loop-turn-smaller
-loop-turn-smaller c =
+pub returns-in_err-take_turn-clause-cut : goal.returns-in_err-take_turn-clause-cut
+returns-in_err-take_turn-clause-cut c = on_err c.from_residual.result (λ texts pairs later rest first.
+    let h = c.loop-self.invariant.way texts pairs later rest first in
+    cut_at c.loop-self.self texts h.0 h.1 h.2 (waiting c.take_turn.new.self)
+    (initial_print_success_of c.args.self.now.dialogue.stack) c.loop-self.invariant.start
+    (ap (λ (k : Decided). k.lines.items) c.take_turn.ensures.decided) h.3)
+
+pub gather-requires : goal.gather-requires
+gather-requires c =
     let w = c.requires.way in
-    let x = c.loop-turn.self in
-    let h = c.loop-turn.invariant.way w.0 w.1 w.2 w.3 w.4 in
-    let g = turned_on c.in_ok-turn.turn x c.take_turn.new.self w.0 h.0 h.1 h.2 c.in-GoesOn.is
-    (c.in_ok-turn.ensures.turn w.0 h.0 h.1 h.2 h.3) in
-    let most = commands_at_most c.every_text_reads.ensures.some c.read_trees_stay.ensures.stay
-    c.trees_are_no_more_than_bytes.ensures.few c.take_turn.new.self w.0 _ g.1 g.2 g.3 in
-    let more = one_more x c.take_turn.new.self w.0 h.0 g.0 h.1 h.2 g.1 g.2 h.3 g.3 in
-    omega (arith, most, more, c.in_ok-turn.ensures.fed, c.loop-turn.invariant.fed)
+    let x = c.loop-self.self in
+    let y = c.take_turn.new.self in
+    let h = c.loop-self.invariant.way w.0 w.1 w.2 w.3 w.4 in
+    let g = turned_on c.in_ok-take_turn.field-0 x y w.0 h.0 h.1 h.2 c.in-GoesOn.is
+    (c.in_ok-take_turn.ensures.turn w.0 h.0 h.1 h.2 h.3) in
+    record {
+      few = omega (
+        arith,
+        checks_at_most y w.0 _ g.1 g.2 g.3,
+        commands_at_most c.trees_are_few.ensures.few y w.0 _ g.1 g.2 g.3,
+        c.take_turn.ensures.script_fed,
+        c.loop-self.invariant.script_fed,
+        c.requires.script_room,
+      );
+    }
 
-pub loop-turn-preserved : goal.loop-turn-preserved
-loop-turn-preserved c = record {
-  fed = c.in_ok-turn.ensures.fed ∙ c.loop-turn.invariant.fed;
-  start = c.in_ok-turn.ensures.start ∙ c.loop-turn.invariant.start;
-  way = λ texts pairs later rest first.
-      let x = c.loop-turn.self in
-      let h = c.loop-turn.invariant.way texts pairs later rest first in
-      let g = turned_on c.in_ok-turn.turn x c.take_turn.new.self texts h.0 h.1 h.2 c.in-GoesOn.is
-      (c.in_ok-turn.ensures.turn texts h.0 h.1 h.2 h.3) in
-      (_, g.1, g.2, g.3);
-}
+pub loop-self-smaller : goal.loop-self-smaller
+loop-self-smaller c =
+    let w = c.requires.way in
+    let x = c.loop-self.self in
+    let y = c.take_turn.new.self in
+    let z = record y { dialogue = c.gather.new.self } in
+    let h = c.loop-self.invariant.way w.0 w.1 w.2 w.3 w.4 in
+    let g = turned_on c.in_ok-take_turn.field-0 x y w.0 h.0 h.1 h.2 c.in-GoesOn.is
+    (c.in_ok-take_turn.ensures.turn w.0 h.0 h.1 h.2 h.3) in
+    let on = gathered y z w.0 _ g.1 g.2 refl refl refl c.in_ok-gather-in-GoesOn.ensures.start
+    (λ early stands. c.in_ok-gather-in-GoesOn.ensures.stands w.0.taken early _ stands) g.3 in
+    let most = commands_at_most c.trees_are_few.ensures.few z w.0 _ g.1 g.2 on in
+    let more = one_more x z w.0 h.0 g.0 h.1 h.2 g.1 g.2 h.3 on in
+    omega (arith, most, more, c.take_turn.ensures.script_fed, c.loop-self.invariant.script_fed)
 
-pub returns-in_default : goal.returns-in_default
-returns-in_default c = record {
-  rests = λ texts pairs later rest first.
-      let x = c.loop-turn.self in
-      let h = c.loop-turn.invariant.way texts pairs later rest first in
-      rested c.in_ok-turn.turn (initial_print_success_of c.args.self.now.dialogue.stack) x c.take_turn.new.self texts
-      h.0 h.1 h.2 c.in_default.not-GoesOn c.loop-turn.invariant.start c.in_ok-turn.ensures.start h.3
-      (c.in_ok-turn.ensures.turn texts h.0 h.1 h.2 h.3);
-}
+pub loop-self-preserved : goal.loop-self-preserved
+loop-self-preserved c =
+    let x = c.loop-self.self in
+    let y = c.take_turn.new.self in
+    let z = record y { dialogue = c.gather.new.self } in
+    record {
+      script_fed = c.take_turn.ensures.script_fed ∙ c.loop-self.invariant.script_fed;
+      answers_fed = c.take_turn.ensures.answers_fed ∙ c.loop-self.invariant.answers_fed;
+      start = c.in_ok-gather-in-GoesOn.ensures.start ∙ c.in_ok-take_turn.ensures.start
+          ∙ c.loop-self.invariant.start;
+      kept = begins_trans (waiting c.args.self.now) (waiting x) (waiting z) c.loop-self.invariant.kept
+          (subst (λ (k : Decided). IsBeginning k.lines.items (waiting z)) c.take_turn.ensures.decided
+          c.gather.ensures.kept);
+      way = λ texts pairs later rest first.
+          let h = c.loop-self.invariant.way texts pairs later rest first in
+          let g = turned_on c.in_ok-take_turn.field-0 x y texts h.0 h.1 h.2 c.in-GoesOn.is
+          (c.in_ok-take_turn.ensures.turn texts h.0 h.1 h.2 h.3) in (
+            _,
+            g.1,
+            g.2,
+            gathered y z texts _ g.1 g.2 refl refl refl c.in_ok-gather-in-GoesOn.ensures.start
+                (λ early stands. c.in_ok-gather-in-GoesOn.ensures.stands texts.taken early _ stands) g.3,
+          );
+    }
+
+pub returns-in_err-gather-in-GoesOn-clause-cut : goal.returns-in_err-gather-in-GoesOn-clause-cut
+returns-in_err-gather-in-GoesOn-clause-cut c =
+    on_err c.from_residual-in_err-gather-in-GoesOn.result (λ texts pairs later rest first.
+    let h = c.loop-self.invariant.way texts pairs later rest first in
+    cut_at c.loop-self.self texts h.0 h.1 h.2 c.gather.new.self.decided.lines.items
+    (initial_print_success_of c.args.self.now.dialogue.stack) c.loop-self.invariant.start
+    (c.in_err-gather-in-GoesOn.ensures.cut ∙ ap (λ (k : Decided). k.lines.items) c.take_turn.ensures.decided) h.3)
+
+pub settle-requires : goal.settle-requires
+settle-requires c =
+    let w = c.requires.way in
+    let x = c.loop-self.self in
+    let y = c.take_turn.new.self in
+    let h = c.loop-self.invariant.way w.0 w.1 w.2 w.3 w.4 in
+    let t = subst (λ (turn : Turn). IsTurned turn x y w.0 h.0 h.1 h.2) c.in-Waits.is
+    (c.in_ok-take_turn.ensures.turn w.0 h.0 h.1 h.2 h.3) in
+    record {
+      few = omega (
+        arith,
+        checks_at_most y w.0 h.0 h.1 h.2 t.0,
+        commands_at_most c.trees_are_few.ensures.few y w.0 h.0 h.1 h.2 t.0,
+        c.take_turn.ensures.script_fed,
+        c.loop-self.invariant.script_fed,
+        c.requires.script_room,
+      );
+    }
+
+pub returns-in_err-settle-in-Waits-clause-cut : goal.returns-in_err-settle-in-Waits-clause-cut
+returns-in_err-settle-in-Waits-clause-cut c =
+    on_err c.from_residual-in_err-settle-in-Waits.result (λ texts pairs later rest first.
+    let h = c.loop-self.invariant.way texts pairs later rest first in
+    cut_at c.loop-self.self texts h.0 h.1 h.2 c.settle.new.self.decided.lines.items
+    (initial_print_success_of c.args.self.now.dialogue.stack) c.loop-self.invariant.start
+    (c.in_err-settle-in-Waits.ensures.cut ∙ ap (λ (k : Decided). k.lines.items) c.take_turn.ensures.decided) h.3)
+
+pub returns-in-Waits-clause-rests : goal.returns-in-Waits-clause-rests
+returns-in-Waits-clause-rests c = λ texts pairs later rest first.
+    let x = c.loop-self.self in
+    let y = c.take_turn.new.self in
+    let z = record y { dialogue = c.settle.new.self } in
+    let h = c.loop-self.invariant.way texts pairs later rest first in
+    let t = subst (λ (turn : Turn). IsTurned turn x y texts h.0 h.1 h.2) c.in-Waits.is
+    (c.in_ok-take_turn.ensures.turn texts h.0 h.1 h.2 h.3) in
+    waits_at x y z texts h.0 h.1 h.2 (initial_print_success_of c.args.self.now.dialogue.stack) c.in-Waits.closed
+    c.loop-self.invariant.start c.in_ok-take_turn.ensures.start refl refl refl c.in_ok-settle-in-Waits.ensures.start
+    (λ early stands same. c.in_ok-settle-in-Waits.ensures.settled texts.taken early h.0 stands same) t
+
+pub end-requires-clause-fault : goal.end-requires-clause-fault
+end-requires-clause-fault c =
+    let w = c.requires.way in
+    let texts = w.0 in
+    let x = c.loop-self.self in
+    let y = c.take_turn.new.self in
+    let h = c.loop-self.invariant.way w.0 w.1 w.2 w.3 w.4 in
+    let t = subst (λ (turn : Turn). IsTurned turn x y texts h.0 h.1 h.2) c.in-Ends.is
+    (c.in_ok-take_turn.ensures.turn texts h.0 h.1 h.2 h.3) in
+    subst IsFaultTurn t.2
+    (fault_turn (initial_print_success_of x.dialogue.stack) h.0 (record texts.answers { trees = h.2 })
+    texts.script.told texts.script.fault h.1)
+
+pub end-requires-clause-few : goal.end-requires-clause-few
+end-requires-clause-few c =
+    let w = c.requires.way in
+    let x = c.loop-self.self in
+    let y = c.take_turn.new.self in
+    let h = c.loop-self.invariant.way w.0 w.1 w.2 w.3 w.4 in
+    let t = subst (λ (turn : Turn). IsTurned turn x y w.0 h.0 h.1 h.2) c.in-Ends.is
+    (c.in_ok-take_turn.ensures.turn w.0 h.0 h.1 h.2 h.3) in
+    omega (
+      arith,
+      t.1.checks,
+      checks_in-le h.0,
+      bounded c.trees_are_few.ensures.few x w.0 h.0 h.1 h.2 h.3,
+      c.loop-self.invariant.script_fed,
+      c.requires.script_room,
+    )
+
+pub returns-in_err-end-in-Ends-clause-cut : goal.returns-in_err-end-in-Ends-clause-cut
+returns-in_err-end-in-Ends-clause-cut c =
+    on_err c.from_residual-in_err-end-in-Ends.result (λ texts pairs later rest first.
+    let x = c.loop-self.self in
+    let y = c.take_turn.new.self in
+    let start = initial_print_success_of c.args.self.now.dialogue.stack in
+    let h = c.loop-self.invariant.way texts pairs later rest first in
+    let t = subst (λ (turn : Turn). IsTurned turn x y texts h.0 h.1 h.2) c.in-Ends.is
+    (c.in_ok-take_turn.ensures.turn texts h.0 h.1 h.2 h.3) in
+    cut_ended texts h.0 c.in-Ends.fault c.end.new.self.decided.lines.items start
+    (ends_at x y texts h.0 h.1 h.2 start c.in-Ends.fault c.loop-self.invariant.start h.3 t)
+    (c.in_err-end-in-Ends.ensures.cut texts.taken t.0 h.0 t.1))
+
+pub returns-in-Ends-clause-rests : goal.returns-in-Ends-clause-rests
+returns-in-Ends-clause-rests c = λ texts pairs later rest first.
+    let x = c.loop-self.self in
+    let y = c.take_turn.new.self in
+    let start = initial_print_success_of c.args.self.now.dialogue.stack in
+    let h = c.loop-self.invariant.way texts pairs later rest first in
+    let t = subst (λ (turn : Turn). IsTurned turn x y texts h.0 h.1 h.2) c.in-Ends.is
+    (c.in_ok-take_turn.ensures.turn texts h.0 h.1 h.2 h.3) in
+    let done = c.in_ok-end-in-Ends.ensures.ended texts.taken t.0 h.0 t.1 in (
+      c.in-Ends.fault,
+      h.0,
+      ends_at x y texts h.0 h.1 h.2 start c.in-Ends.fault c.loop-self.invariant.start h.3 t,
+      done.0,
+      done.1,
+    )

@@ -4,16 +4,19 @@ use Rattle.smt_text.specs.Reader.{bytes_fed}
 use Rattle.smt_trees.specs.Sexp.{Sexps}
 use Rattle.smt_script.specs.StackView.{initial_print_success_of}
 use Rattle.smt_dialogue.specs.Pairs.{Pair}
-use Rattle.smt_dialogue.specs.Internal.ExchangeView.{IsUnderWay, Texts}
+use Rattle.smt_dialogue.specs.SoFar.{IsBeginning}
+use Rattle.smt_dialogue.specs.Internal.ExchangeView.{IsUnderWay, Texts, waiting}
 use Rattle.smt_dialogue.proofs.exchange.Exchange.advance.Given as goal
 
-abbrev pub invariant-loop-turn : goal.invariant-loop-turn
-invariant-loop-turn l = record {
-  fed : bytes_fed l.self.script.reader ≡ bytes_fed l.fn.self.script.reader;
+abbrev pub invariant-loop-self : goal.invariant-loop-self
+invariant-loop-self l = record {
+  script_fed : bytes_fed l.self.script.reader ≡ bytes_fed l.fn.self.script.reader;
+  answers_fed : bytes_fed l.self.answers.reader ≡ bytes_fed l.fn.self.answers.reader;
   start : initial_print_success_of l.self.dialogue.stack ≡ initial_print_success_of l.fn.self.dialogue.stack;
+  kept : IsBeginning (waiting l.fn.self) (waiting l.self);
   way : (texts : Texts) (pairs : List Pair) (later rest : Sexps) → IsUnderWay l.fn.self texts pairs later rest
       → (ps : List Pair) × (left : Sexps) × (after : Sexps) × IsUnderWay l.self texts ps left after;
 }
 
-abbrev pub decreases-loop-turn : goal.decreases-loop-turn
-decreases-loop-turn l = bytes_fed l.fn.self.script.reader - l.self.dialogue.commands
+abbrev pub decreases-loop-self : goal.decreases-loop-self
+decreases-loop-self l = bytes_fed l.fn.self.script.reader - l.self.dialogue.commands

@@ -1,8 +1,12 @@
 use Rattle.std.proofs.Common.{◌∙◌, ap, refl, subst}
 use Rattle.smt_dialogue.proofs.ExchangeLemmas.{answers_end, answers_extra, answers_fault, answers_wait, looked}
+use Rattle.smt_dialogue.proofs.ExchangeLemmas.{none_closing}
 use Rattle.smt_dialogue.specs.Internal.FrontView.{IsAhead}
 use Rattle.smt_dialogue.specs.declared.front.Ahead.{Ahead}
 use Rattle.smt_dialogue.specs.declared.front.Ahead.TheVariants.{End}
+use Rattle.std.proofs.Common.{arith}
+use Rattle.smt_dialogue.proofs.AdvanceLemmas.{room_for_answer}
+use Rattle.smt_trees.specs.Tree.{sexp_of}
 use Rattle.smt_dialogue.proofs.exchange.Exchange.end_of_script.Goals as goal
 
 pub returns-in-Tree-clause-turn : goal.returns-in-Tree-clause-turn
@@ -25,6 +29,7 @@ returns-in-Wait-clause-turn c = λ texts pairs later rest h none fault told.
           (λ left f. (c.in_ok-look.ensures.ahead texts.answers_bytes texts.answers left f).0) h,
       answers_wait x texts pairs later rest next none fault told
           (subst (λ (a : Ahead). IsAhead a next texts.answers rest) c.in-Wait.is ahead),
+      λ e. none_closing x texts later c.requires.none none fault told,
     )
 
 pub returns-in-End-Some-clause-turn : goal.returns-in-End-Some-clause-turn
@@ -50,3 +55,14 @@ returns-in-End-None-clause-turn c = λ texts pairs later rest h none fault told.
           (subst (λ (a : Ahead). IsAhead a next texts.answers rest)
           (c.in-End-None.is ∙ ap End c.in-End-None.field-0-is) ahead),
     )
+
+pub overflow_add-result : goal.overflow_add-result
+overflow_add-result c =
+    let way = c.requires.way in
+    let texts = way.0 in
+    let h = way.4 in
+    let ahead = subst (λ (a : Ahead). IsAhead a c.look.new.self.next texts.answers way.3) c.in-Tree.is
+    (c.in_ok-look.ensures.ahead texts.answers_bytes texts.answers way.3 h.answers_front).1 in
+    let most = room_for_answer c.trees_are_few.ensures.few c.args.self.now texts way.1 (sexp_of ahead.0) ahead.1 way.2
+    way.3 ahead.3 h in
+    omega (arith, most, c.requires.answers_room)

@@ -4,6 +4,9 @@ use Rattle.smt_dialogue.proofs.ExchangeLemmas.{script_waits, turned_behind}
 use Rattle.smt_dialogue.specs.Internal.FrontView.{IsAhead}
 use Rattle.smt_dialogue.specs.declared.front.Ahead.{Ahead}
 use Rattle.smt_dialogue.specs.declared.front.Ahead.TheVariants.{End}
+use Rattle.std.proofs.Common.{arith}
+use Rattle.smt_dialogue.proofs.AdvanceLemmas.{room_for_one}
+use Rattle.smt_trees.specs.Tree.{sexp_of}
 use Rattle.smt_dialogue.proofs.exchange.Exchange.next_command.Goals as goal
 
 pub read_next-requires-clause-ready : goal.read_next-requires-clause-ready
@@ -31,6 +34,7 @@ returns-in-Wait-clause-next c = λ texts pairs later rest h.
           (λ left f. (c.in_ok-look.ensures.ahead texts.script_bytes texts.script left f).0) (λ left f. f) h,
       script_waits x texts pairs later rest
           (script_left x texts pairs later rest c.requires.none h ∙ ahead.0) ahead.1,
+      λ e. absurd (cc),
     )
 
 pub returns-in-End-Some-clause-next : goal.returns-in-End-Some-clause-next
@@ -57,3 +61,26 @@ returns-in_ok-end_of_script-in-End-None-clause-next c = λ texts pairs later res
     (λ left f. (c.in_ok-look.ensures.ahead texts.script_bytes texts.script left f).0) (λ left f. f) h)
     (script_left x texts pairs later rest c.requires.none h ∙ ahead.0) ahead.1
     (script_told texts ahead.1 ahead.2))
+
+pub read_next-requires-clause-commands : goal.read_next-requires-clause-commands
+read_next-requires-clause-commands c =
+    let way = c.requires.way in
+    let x = c.args.self.now in
+    let texts = way.0 in
+    let h = way.4 in
+    let ahead = subst (λ (a : Ahead). IsAhead a c.look.new.self.next texts.script h.left) c.in-Tree.is
+    (c.in_ok-look.ensures.ahead texts.script_bytes texts.script h.left h.script_front).1 in
+    let most = room_for_one c.trees_are_few.ensures.few x texts way.1 (sexp_of ahead.0) ahead.1 way.2 way.3
+    (script_left x texts way.1 way.2 way.3 c.requires.none h ∙ ahead.3) h in
+    omega (arith, most, c.requires.script_room)
+
+pub end_of_script-requires-clause-way : goal.end_of_script-requires-clause-way
+end_of_script-requires-clause-way c =
+    let way = c.requires.way in
+    let texts = way.0 in
+    (texts, way.1, way.2, way.3,
+    looked c.args.self.now _ texts way.1 way.2 way.3 refl refl
+    (λ left f. (c.in_ok-look.ensures.ahead texts.script_bytes texts.script left f).0) (λ left f. f) way.4)
+
+pub read_next-requires-clause-way : goal.end_of_script-requires-clause-way
+read_next-requires-clause-way c = end_of_script-requires-clause-way c
