@@ -23,6 +23,7 @@ use Rattle.smt_dialogue.specs.Lines.{claims_after, confirmed_line, is_empty, lin
 use Rattle.smt_dialogue.specs.Lines.{lines_of_answer, lines_of_pair, lines_of_sat, sat_lines, unchecked_answer}
 use Rattle.smt_dialogue.specs.Lines.{unchecked_line_or, unconfirmed_line}
 use Rattle.smt_dialogue.specs.Pairs.{Pair, checks_in, next_of, pair_of}
+use Rattle.smt_dialogue.specs.Session.{is_verdict_line}
 use Rattle.smt_dialogue.specs.Window.{Printed, closes, models_from, window}
 use Rattle.smt_dialogue.specs.declared.judgement.Judgement.{Judgement}
 use Rattle.smt_dialogue.specs.declared.judgement.Judgement.TheVariants as judgements
@@ -33,31 +34,40 @@ use Rattle.smt_report.specs.declared.line.Line.{Line}
 use Rattle.smt_report.specs.declared.line.Line.TheVariants as lines
 use Rattle.smt_report.specs.declared.verdict.Tally.{Tally}
 
--- one line at most, and it is none of a fault
+-- one line at most, and it is none of a fault, nor that of a verdict
 pub record IsSmall (ls : List Line) : Type 0 where
   pub few : length ls ≤ 1
   pub faultless : list_any is_fault_line ls ≡ false
+  pub silent : list_any is_verdict_line ls ≡ false
 
 none_small : IsSmall []
-none_small = record { few = omega arith; faultless = refl }
+none_small = record { few = omega arith; faultless = refl; silent = refl }
 
-one_small : (line : Line) → is_fault_line line ≡ false → IsSmall (line ∷ [])
-one_small line h = record { few = omega arith; faultless = ap (λ b. b || false) h }
+-- a line of a check is none of a fault, nor that of a verdict
+pub record IsPlain (line : Line) : Type 0 where
+  pub faultless : is_fault_line line ≡ false
+  pub silent : is_verdict_line line ≡ false
+
+one_small : (line : Line) → IsPlain line → IsSmall (line ∷ [])
+one_small line h = record {
+  few = omega arith;
+  faultless = ap (λ b. b || false) h.faultless;
+  silent = ap (λ b. b || false) h.silent;
+}
 
 if_small : (b : Bool) (ls : List Line) → IsSmall ls → IsSmall (cond b ls [])
 if_small true ls h = h
 if_small false ls h = none_small
 
--- a line that a check has is none of a fault
 abbrev pub IsFaultless : Option Line → Type 0
 IsFaultless None = Unit {0}
-IsFaultless (Some line) = is_fault_line line ≡ false
+IsFaultless (Some line) = IsPlain line
 
 judged_faultless : (k n g : ℕ) (j : Judgement) → IsFaultless (line_of_judgement k n g j)
-judged_faultless k n g (judgements.ItemFault item flaw) = refl
-judged_faultless k n g (judgements.Lacks declaration) = refl
-judged_faultless k n g (judgements.Refuted claim) = refl
-judged_faultless k n g (judgements.NotDecided claim) = refl
+judged_faultless k n g (judgements.ItemFault item flaw) = record { faultless = refl; silent = refl }
+judged_faultless k n g (judgements.Lacks declaration) = record { faultless = refl; silent = refl }
+judged_faultless k n g (judgements.Refuted claim) = record { faultless = refl; silent = refl }
+judged_faultless k n g (judgements.NotDecided claim) = record { faultless = refl; silent = refl }
 judged_faultless k n g judgements.Confirmed = tt
 
 or_faultless : (o p : Option Line) → IsFaultless o → IsFaultless p → IsFaultless (option_or o p)
@@ -73,9 +83,9 @@ unconfirmed_faultless k n names claims (m ∷ ms) =
     (judged_faultless k n m.command (judgement_of names claims m.parts))
     (unconfirmed_faultless k n names claims ms)
 
-confirmed_faultless : (k n : ℕ) (some : Bool) → is_fault_line (confirmed_line k n some) ≡ false
-confirmed_faultless k n true = refl
-confirmed_faultless k n false = refl
+confirmed_faultless : (k n : ℕ) (some : Bool) → IsPlain (confirmed_line k n some)
+confirmed_faultless k n true = record { faultless = refl; silent = refl }
+confirmed_faultless k n false = record { faultless = refl; silent = refl }
 
 sat_small : (k n : ℕ) (o : Option Line) (some closed : Bool) → IsFaultless o → IsSmall (sat_lines k n o some closed)
 sat_small k n (Some line) some closed h = one_small line h
@@ -84,7 +94,7 @@ sat_small k n None some closed h =
 
 unchecked_small : (k n : ℕ) (u : Option CheckAnswer) (ls : List Line) → IsSmall ls
     → IsSmall (unchecked_line_or k n u ls)
-unchecked_small k n (Some answer) ls h = record { few = omega arith; faultless = refl }
+unchecked_small k n (Some answer) ls h = record { few = omega arith; faultless = refl; silent = refl }
 unchecked_small k n None ls h = h
 
 answer_small : (closed : Bool) (before : List Pair) (k : ℕ) (o : Option Sexp) (after : List Pair)
@@ -120,19 +130,29 @@ few_lines closed before (p ∷ ps) after =
       few_lines closed (before ++ p ∷ []) ps after,
     )
 
+pair_small : (closed : Bool) (before : List Pair) (p : Pair) (after : List Pair)
+    → IsSmall (lines_of_pair closed before p after)
+pair_small closed before p after =
+    if_small (is_check p.command) (lines_of_answer closed before (checks_in before + 1) p.answer after)
+    (answer_small closed before (checks_in before + 1) p.answer after)
+
 pub no_faults : (closed : Bool) (before pairs after : List Pair)
     → list_any is_fault_line (lines_in closed before pairs after) ≡ false
 no_faults closed before [] after = refl
 no_faults closed before (p ∷ ps) after =
-    let mine = lines_of_pair closed before p (ps ++ after) in
     let others = lines_in closed (before ++ p ∷ []) ps after in
-    let first : list_any is_fault_line mine ≡ false =
-    (if_small (is_check p.command)
-    (lines_of_answer closed before (checks_in before + 1) p.answer (ps ++ after))
-    (answer_small closed before (checks_in before + 1) p.answer (ps ++ after))).faultless in
-    list_any-append is_fault_line mine others
-    ∙ ap (λ b. b || list_any is_fault_line others) first
+    list_any-append is_fault_line (lines_of_pair closed before p (ps ++ after)) others
+    ∙ ap (λ b. b || list_any is_fault_line others) (pair_small closed before p (ps ++ after)).faultless
     ∙ no_faults closed (before ++ p ∷ []) ps after
+
+pub no_verdicts : (closed : Bool) (before pairs after : List Pair)
+    → list_any is_verdict_line (lines_in closed before pairs after) ≡ false
+no_verdicts closed before [] after = refl
+no_verdicts closed before (p ∷ ps) after =
+    let others = lines_in closed (before ++ p ∷ []) ps after in
+    list_any-append is_verdict_line (lines_of_pair closed before p (ps ++ after)) others
+    ∙ ap (λ b. b || list_any is_verdict_line others) (pair_small closed before p (ps ++ after)).silent
+    ∙ no_verdicts closed (before ++ p ∷ []) ps after
 
 -- ---- the line of a fault is none that is counted
 
@@ -219,3 +239,51 @@ fault_turn start pairs answers told sf (Cons t ts) =
 fault_turn start pairs answers told (Some fault) Nil = refl
 fault_turn start pairs answers true None Nil = rest_turn pairs answers.told answers.fault answers.trees
 fault_turn start pairs answers false None Nil = tt
+
+-- ---- a dialogue ends without a fault only where both ends were told
+
+abbrev pub IsToldTurn : (script answers : Bool) → Turn → Type 0
+IsToldTurn script answers GoesOn = Unit {0}
+IsToldTurn script answers (Waits closed) = Unit {0}
+IsToldTurn script answers (Ends None) = (script ≡ true) × (answers ≡ true)
+IsToldTurn script answers (Ends (Some fault)) = Unit {0}
+
+flaw_told : (s a : Bool) (n : ℕ) (o : Option CommandFlaw) → IsToldTurn s a (turn_of_flaw n o)
+flaw_told s a n None = tt
+flaw_told s a n (Some flaw) = tt
+
+taken_told : (s a : Bool) (pairs : List Pair) (c : Command) (af : Option TextFlaw) (k : Taken)
+    → IsToldTurn s a (turn_of_taken pairs c af k)
+taken_told s a pairs c af (answering.Takes o) = flaw_told s a (length pairs + 1) (flaw_of_pair pairs (pair_of c o))
+taken_told s a pairs c af answering.Waits = tt
+taken_told s a pairs c af answering.Missing = tt
+taken_told s a pairs c af answering.Unexpected = tt
+
+command_told : (s a start : Bool) (pairs : List Pair) (r : Result Command CommandFlaw) (answers : TextSoFar)
+    → IsToldTurn s a (turn_of_command start pairs r answers)
+command_told s a start pairs (Err flaw) answers = tt
+command_told s a start pairs (Ok c) answers =
+    taken_told s a pairs c answers.fault
+    (taken (is_over answers) (need_after start pairs c) (next_of answers.trees))
+
+exit_told : (s a b : Bool) (n : ℕ) (turn : Turn) → IsToldTurn s a turn
+    → IsToldTurn s a (cond b (Ends (Some (lines.CommandFault n AfterExit))) turn)
+exit_told s a true n turn h = tt
+exit_told s a false n turn h = h
+
+rest_told : (pairs : List Pair) (told : Bool) (af : Option TextFlaw) (answers : Sexps)
+    → IsToldTurn true told (turn_of_rest pairs told af answers)
+rest_told pairs told af (Cons a rest) = tt
+rest_told pairs told (Some fault) Nil = tt
+rest_told pairs true None Nil = (refl, refl)
+rest_told pairs false None Nil = tt
+
+pub told_turn : (start : Bool) (pairs : List Pair) (answers : TextSoFar) (told : Bool) (sf : Option TextFlaw)
+    (trees : Sexps) → IsToldTurn told answers.told (turn_at start pairs answers told sf trees)
+told_turn start pairs answers told sf (Cons t ts) =
+    exit_told told answers.told (has_exited_after pairs) (length pairs + 1)
+    (turn_of_command start pairs (command_of t) answers)
+    (command_told told answers.told start pairs (command_of t) answers)
+told_turn start pairs answers told (Some fault) Nil = tt
+told_turn start pairs answers true None Nil = rest_told pairs answers.told answers.fault answers.trees
+told_turn start pairs answers false None Nil = tt

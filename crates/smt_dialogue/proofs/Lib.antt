@@ -28,3 +28,4 @@ pub mod TurnLemmas
 pub mod ExchangeLemmas
 pub mod AdvanceLemmas
 pub mod FeedLemmas
+pub mod SessionLemmas

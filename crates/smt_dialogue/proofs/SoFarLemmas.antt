@@ -99,6 +99,20 @@ all_of ls ms h = ([], sym h ∙ sym (append-nil ls))
 same_lines : (xs ys : List Pair) (f g : Turn) → (xs ≡ ys) × (f ≡ g) → lines_at xs f ≡ lines_at ys g
 same_lines xs ys f g h = ap (λ ps. lines_at ps f) h.0 ∙ ap (lines_at ys) h.1
 
+-- a dialogue that has ended has ended so still
+pub ends_stay : (start : Bool) (script answers grown_script grown_answers : TextSoFar) (pairs : List Pair)
+    (fault : Option Line) → IsGrown script grown_script → IsGrown answers grown_answers
+    → IsTurn start script answers pairs (Ends fault) → IsTurn start grown_script grown_answers pairs (Ends fault)
+ends_stay start script answers grown_script grown_answers pairs fault s g t = record {
+  later = append t.later s.later;
+  rest = append t.rest g.later;
+  paired = paired_more start script answers grown_script grown_answers pairs t.later t.rest s g t.paired;
+  turn_is = turn_stays start pairs script.told grown_script.told t.later s.later script.fault
+      grown_script.fault answers.told grown_answers.told t.rest g.later answers.fault
+      grown_answers.fault fault (growth_of script grown_script s) (growth_of answers grown_answers g)
+      t.turn_is;
+}
+
 pub lines_stay : (start : Bool) (script answers grown_script grown_answers : TextSoFar) (ls ms : List Line)
     → IsGrown script grown_script → IsGrown answers grown_answers
     → AreLinesSoFar start script answers ls → AreLinesSoFar start grown_script grown_answers ms
@@ -111,15 +125,7 @@ lines_stay start script answers grown_script grown_answers ls ms s g x y =
         → IsBeginning (lines_at x.pairs turn) (lines_at y.pairs y.turn)
     by GoesOn rests t = absurd rests
     by (Ends fault) rests t =
-        let later : IsTurn start grown_script grown_answers x.pairs (Ends fault) = record {
-          later = append t.later s.later;
-          rest = append t.rest g.later;
-          paired = paired_more start script answers grown_script grown_answers x.pairs t.later t.rest s g t.paired;
-          turn_is = turn_stays start x.pairs script.told grown_script.told t.later s.later script.fault
-              grown_script.fault answers.told grown_answers.told t.rest g.later answers.fault
-              grown_answers.fault fault (growth_of script grown_script s) (growth_of answers grown_answers g)
-              t.turn_is;
-        } in
+        let later = ends_stay start script answers grown_script grown_answers x.pairs fault s g t in
         all_of (lines_at x.pairs (Ends fault)) (lines_at y.pairs y.turn)
         (same_lines x.pairs y.pairs (Ends fault) y.turn
         (one_turn start grown_script grown_answers x.pairs y.pairs (Ends fault) y.turn tt y.rests later y.turn_is))

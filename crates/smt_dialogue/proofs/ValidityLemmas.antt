@@ -31,7 +31,6 @@ use Rattle.smt_dialogue.specs.Lines.{unconfirmed_line}
 use Rattle.smt_report.specs.Verdict.{IsVerdictOf, is_fault_line, is_refuted_line, is_undecided_line, tally_of}
 use Rattle.smt_report.specs.Verdict.{verdict_of, with_verdict}
 use Rattle.std.specs.Option.{option_or}
-use Rattle.smt_dialogue.specs.Internal.Steps.{IsJudged}
 use Rattle.smt_dialogue.specs.Window.{Printed, models_from, structure_at, window}
 use Rattle.smt_dialogue.specs.Judgement.{Claimed, claims_of, first_claim, is_false_over, is_open_over}
 use Rattle.smt_dialogue.specs.Judgement.{judged_in, judgement_of, open_or_confirmed, refuted_or}
@@ -132,13 +131,12 @@ only_pairing one options script answers pairs others trees answered rest whole f
 
 pub valid_means : Laws → OneForest
     → (options : Options) (script answers : List ℕ) (st at' : TextSoFar) (ls : List Line) (v : Verdict)
-    → IsRead true script st → IsRead true answers at' → IsJudged options.print_success st at' ls v → v ≡ Valid
-    → IsValid options script answers
-valid_means laws one options script answers st at' ls v rs ra j h =
-    let l = j.lines_are in
+    → IsRead true script st → IsRead true answers at' → AreLinesOf options.print_success st at' ls
+    → IsVerdictOf v ls → v ≡ Valid → IsValid options script answers
+valid_means laws one options script answers st at' ls v rs ra l verdict h =
     let mine = lines_in true [] l.pairs [] in
     let tests = valid_lines (mine ++ lines_of_end l.fault)
-    (sym (verdict_of_lines v ls (mine ++ lines_of_end l.fault) j.verdict_is l.lines_are) ∙ h) in
+    (sym (verdict_of_lines v ls (mine ++ lines_of_end l.fault) verdict l.lines_are) ∙ h) in
     let whole = (fully_paired options script answers st at' ls rs ra l tests.0).0 in
     record {
       pairs = l.pairs;
@@ -370,13 +368,12 @@ line_place l1 l2 end line = append_assoc l1 (line ∷ l2) end
 
 pub invalid_means : Laws
     → (options : Options) (script answers : List ℕ) (st at' : TextSoFar) (ls : List Line) (v : Verdict)
-    → IsRead true script st → IsRead true answers at' → IsJudged options.print_success st at' ls v
-    → v ≡ Invalid → IsInvalid options script answers ls
-invalid_means laws options script answers st at' ls v rs ra judged h =
-    let j = judged.lines_are in
+    → IsRead true script st → IsRead true answers at' → AreLinesOf options.print_success st at' ls
+    → IsVerdictOf v ls → v ≡ Invalid → IsInvalid options script answers ls
+invalid_means laws options script answers st at' ls v rs ra j verdict h =
     let mine = lines_in true [] j.pairs [] in
     let tests = invalid_lines (mine ++ lines_of_end j.fault)
-    (sym (verdict_of_lines v ls (mine ++ lines_of_end j.fault) judged.verdict_is j.lines_are) ∙ h) in
+    (sym (verdict_of_lines v ls (mine ++ lines_of_end j.fault) verdict j.lines_are) ∙ h) in
     let whole = fully_paired options script answers st at' ls rs ra j tests.0 in
     let no_fault : mine ++ lines_of_end j.fault ≡ mine =
     ap (λ (f : Option Line). mine ++ lines_of_end f) whole.1 ∙ append-nil mine in
@@ -449,44 +446,3 @@ invalid_means laws options script answers st at' ls v rs ra judged h =
           ∙ lines_at before p at_pair.last ∙ ap (λ (x : List Line). l1 ++ (x ++ l2)) here)
           ∙ line_place l1 l2 end line;
     }
-
--- ## What a call answered
-
-pub valid_answer : Laws → OneForest
-    → (r : Result Report Memory) (options : Options) (script answers : List ℕ) (st at' : TextSoFar)
-    → IsRead true script st → IsRead true answers at'
-    → IfOk r (λ x. IsJudged options.print_success st at' x.lines.items x.verdict)
-    → IfOk r (λ x. x.verdict ≡ Valid → IsValid options script answers)
-valid_answer laws one (Ok x) options script answers st at' rs ra j =
-    valid_means laws one options script answers st at' x.lines.items x.verdict rs ra j
-valid_answer laws one (Err e) options script answers st at' rs ra j = tt
-
-pub invalid_answer : Laws
-    → (r : Result Report Memory) (options : Options) (script answers : List ℕ) (st at' : TextSoFar)
-    → IsRead true script st → IsRead true answers at'
-    → IfOk r (λ x. IsJudged options.print_success st at' x.lines.items x.verdict)
-    → IfOk r (λ x. x.verdict ≡ Invalid → IsInvalid options script answers x.lines.items)
-invalid_answer laws (Ok x) options script answers st at' rs ra j =
-    invalid_means laws options script answers st at' x.lines.items x.verdict rs ra j
-invalid_answer laws (Err e) options script answers st at' rs ra j = tt
-
--- a report that was judged is one of the texts
-pub report_answer : (r : Result Report Memory) (options : Options) (script answers : List ℕ)
-    (st at' : TextSoFar) → IsRead true script st → IsRead true answers at'
-    → IfOk r (λ x. IsJudged options.print_success st at' x.lines.items x.verdict)
-    → IfOk r (λ x. IsReport options script answers x.lines.items)
-report_answer (Ok x) options script answers st at' rs ra j = record {
-  script_text = st;
-  script_read = rs;
-  answers_text = at';
-  answers_read = ra;
-  lines_are = j.lines_are;
-}
-report_answer (Err e) options script answers st at' rs ra j = tt
-
--- and its verdict is that of its lines
-pub verdict_answer : (r : Result Report Memory) (start : Bool) (st at' : TextSoFar)
-    → IfOk r (λ x. IsJudged start st at' x.lines.items x.verdict)
-    → IfOk r (λ x. IsVerdictOf x.verdict x.lines.items)
-verdict_answer (Ok x) start st at' j = j.verdict_is
-verdict_answer (Err e) start st at' j = tt

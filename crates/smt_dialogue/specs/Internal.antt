@@ -5,3 +5,5 @@ pub mod FrontView
 pub mod Answering
 pub mod Turns
 pub mod ExchangeView
+pub mod SessionStep
+pub mod SessionView

@@ -8,6 +8,8 @@ pub mod Lines
 pub mod FirstFault
 pub mod Report
 pub mod SoFar
+pub mod History
+pub mod Session
 pub mod Validity
 pub mod VerdictLaws
 pub mod Internal

@@ -1,14 +1,13 @@
 //! The program: from the words of the command line to the exit status. This file opens no file, and knows no
 //! verdict.
 
-use crate::files::{RunFault, run};
+use crate::files::run;
+use smt_dialogue::{RunFault, Verdict};
 use smtcheck_command_line::{LineFault, settings};
+use smtcheck_status::status_of;
 use std::alloc::{AllocError, Global};
 use std::rt::{Env, Files};
 use std::{env, io};
-
-/// The status of a run that gives no report.
-const NO_REPORT: u8 = 4;
 
 /// The status of a command line that was refused, or asked for help.
 const REFUSED: u8 = 5;
@@ -22,22 +21,19 @@ pub(crate) fn run_program<R: Files + Env + AllocGlobal + Print + Eprint>(rt: &R)
             let _ = eprintln!(rt; "error: invalid UTF-8 was detected in one or more arguments");
             return REFUSED;
         }
-        Err(_) => return no_report(rt, RunFault::Memory),
+        Err(_) => return status(rt, Err(RunFault::Memory)),
     };
     match as_strs(rt.alloc(), words.as_slice()) {
         Ok(words) => run_words(rt, words.as_slice()),
-        Err(_) => no_report(rt, RunFault::Memory),
+        Err(_) => status(rt, Err(RunFault::Memory)),
     }
 }
 
 /// Runs the program on these words, the program's name first, and answers its exit status.
 pub(crate) fn run_words<R: Files + AllocGlobal + Print + Eprint>(rt: &R, words: &[&str]) -> u8 {
     match settings(rt.alloc(), words) {
-        Ok(settings) => match run(rt, settings) {
-            Ok(status) => status,
-            Err(fault) => no_report(rt, fault),
-        },
-        Err(LineFault::Memory) => no_report(rt, RunFault::Memory),
+        Ok(settings) => status(rt, run(rt, settings)),
+        Err(LineFault::Memory) => status(rt, Err(RunFault::Memory)),
         Err(LineFault::Refused(error)) => {
             let _ = error.print(rt);
             REFUSED
@@ -45,10 +41,12 @@ pub(crate) fn run_words<R: Files + AllocGlobal + Print + Eprint>(rt: &R, words: 
     }
 }
 
-// Tells why there is no report.
-fn no_report<R: Eprint>(rt: &R, fault: RunFault) -> u8 {
-    let _ = eprintln!(rt; "{fault}");
-    NO_REPORT
+// The status of a run, whose fault is told, if it has one.
+fn status<R: Eprint>(rt: &R, outcome: Result<Verdict, RunFault>) -> u8 {
+    if let Err(fault) = &outcome {
+        let _ = eprintln!(rt; "{fault}");
+    }
+    status_of(&outcome)
 }
 
 // The words of the command line, the program's name first.

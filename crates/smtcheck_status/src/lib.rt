@@ -2,23 +2,26 @@
 //! of rows can show the status too: a program of this toolchain can't be called by another.
 //!
 //! ```text
-//! status_of(Verdict::Invalid)                     // 1
+//! status_of(&Ok(Verdict::Invalid))                // 1
+//! status_of(&Err(RunFault::Output))               // 4
 //! ```
 #![tactic(auto)]
 
 ghost use Rattle.std.specs.Prelude.{◌≡◌};
 ghost use Rattle.smtcheck_status.specs.Status.{status_number};
 
-use smt_report::Verdict;
+use smt_dialogue::{RunFault, Verdict};
 
-/// The status with which the program ends: 0 for valid, 1 for invalid, 2 for not decided, 3 for refused.
-pub fn status_of(verdict: Verdict) -> u8
-    ensures { result ≡ status_number verdict }
+/// The status with which the program ends: 0 for valid, 1 for invalid, 2 for not decided, 3 for refused; and 4
+/// where a run gives no verdict.
+pub fn status_of(outcome: &Result<Verdict, RunFault>) -> u8
+    ensures { result ≡ status_number outcome.now }
 {
-    match verdict {
-        Verdict::Valid => 0,
-        Verdict::Invalid => 1,
-        Verdict::NotDecided => 2,
-        Verdict::Refused => 3,
+    match outcome {
+        Ok(Verdict::Valid) => 0,
+        Ok(Verdict::Invalid) => 1,
+        Ok(Verdict::NotDecided) => 2,
+        Ok(Verdict::Refused) => 3,
+        Err(_) => 4,
     }
 }

@@ -1,0 +1,64 @@
+-- What a session stands for: the lines of what it was told, and their verdict.
+use Rattle.std.specs.Prelude.{◌≡◌, ◌<◌, ◌^◌, ℕ, List, ◌++◌, length, Bool, true, false, Option, Some, None}
+use Rattle.std.specs.List.{list_any}
+use Rattle.smt_dialogue.specs.History.{AreFirstDecided, AreDecided, History, IsLong}
+use Rattle.smt_dialogue.specs.Internal.SessionView.{GoesOn}
+use Rattle.smt_dialogue.specs.declared.session.Failed.{Failed}
+use Rattle.smt_dialogue.specs.declared.session.Failed.TheVariants.{Long}
+use Rattle.smt_dialogue.specs.declared.session.Session.{Session}
+use Rattle.smt_report.specs.Verdict.{IsVerdictOf}
+use Rattle.smt_report.specs.declared.line.Line.{Line}
+use Rattle.smt_report.specs.declared.line.Line.TheVariants as lines
+use Rattle.smt_report.specs.declared.verdict.Verdict.{Verdict}
+
+-- the lines that are decided and were not taken
+abbrev pub lines_waiting : Session → List Line
+lines_waiting s = s.exchange.dialogue.decided.lines.items
+
+-- why a call has failed, if one has
+abbrev pub failure_of : Session → Option Failed
+failure_of s = s.failure
+
+-- whether the end of a text was told, and how many bytes of it
+abbrev pub is_script_ended : Session → Bool
+is_script_ended s = s.script.ended
+
+abbrev pub is_answers_ended : Session → Bool
+is_answers_ended s = s.answers.ended
+
+abbrev pub script_count : Session → ℕ
+script_count s = s.script.bytes
+
+abbrev pub answers_count : Session → ℕ
+answers_count s = s.answers.bytes
+
+-- the lines are all that are decided; or, where a call has failed, the first of them
+abbrev pub AreLines : Option Failed → History → List Line → Type 0
+AreLines None h ls = AreDecided h ls
+AreLines (Some failed) h ls = AreFirstDecided h ls
+
+abbrev pub is_verdict_line : Line → Bool
+is_verdict_line (lines.Verdict verdict tally) = true
+is_verdict_line _ = false
+
+-- the verdict is that of the line that tells it, or no line does
+abbrev pub IsVerdictIn : Option Verdict → List Line → Type 0
+IsVerdictIn None ls = list_any is_verdict_line ls ≡ false
+IsVerdictIn (Some verdict) ls = IsVerdictOf verdict ls
+
+-- all bytes of both texts were counted
+pub record AreCounted (s : Session) (h : History) : Type 0 where
+  pub script : script_count s ≡ length h.script
+  pub script_fits : length h.script < 2 ^ 64
+  pub answers : answers_count s ≡ length h.answers
+  pub answers_fits : length h.answers < 2 ^ 64
+
+-- the session was told this. How it goes on is said last, in the words of the code
+pub record StandsFor (s : Session) (h : History) : Type 0 where
+  pub lines : AreLines (failure_of s) h (h.taken ++ lines_waiting s)
+  pub verdict : IsVerdictIn s.verdict (h.taken ++ lines_waiting s)
+  pub script_ended : is_script_ended s ≡ h.script_told
+  pub answers_ended : is_answers_ended s ≡ h.answers_told
+  pub counted : failure_of s ≡ None → AreCounted s h
+  pub long : failure_of s ≡ Some Long → IsLong h
+  pub goes_on : GoesOn s.verdict s.failure s.exchange h
