@@ -3,6 +3,7 @@
 use Rattle.std.proofs.Common.{◌≡◌, ◌≤◌, ℕ, ◌+◌, Bool, true, false, List, [], ◌∷◌, ◌++◌, length, Option, Some, None}
 use Rattle.std.proofs.Common.{arith, refl, ap, sym, ◌∙◌, subst, append_assoc, length-append}
 use Rattle.std.proofs.lemmas.List.{append-nil}
+use Rattle.std.specs.List.{list_any}
 use Rattle.smt_text.specs.Grammar.{limit}
 use Rattle.smt_text.specs.Reader.{bytes_fed}
 use Rattle.smt_text.specs.Reading.{Reads}
@@ -11,7 +12,7 @@ use Rattle.smt_faults.specs.declared.text_flaw.TextFlaw.{TextFlaw}
 use Rattle.smt_script.specs.CommandView.{command_view}
 use Rattle.smt_script.specs.StackView.{initial_print_success_of}
 use Rattle.smt_script.specs.declared.command.Command.{Command}
-use Rattle.smt_dialogue.proofs.DialogueLemmas.{decided_first}
+use Rattle.smt_dialogue.proofs.DialogueLemmas.{decided_first, lines_silent, part_silent}
 use Rattle.smt_dialogue.proofs.ExchangeLemmas.{early_closed}
 use Rattle.smt_dialogue.proofs.LinesStayLemmas.{begins_so}
 use Rattle.smt_dialogue.proofs.PairLemmas.{answers_taken-le, checks_in-le}
@@ -26,7 +27,7 @@ use Rattle.smt_dialogue.specs.Lines.{lines_in}
 use Rattle.smt_dialogue.specs.Pairing.{AreCommands}
 use Rattle.smt_dialogue.specs.Pairs.{Pair, answer_count, answers_taken, answers_then, with_answer}
 use Rattle.smt_dialogue.specs.Report.{ArePaired, IsTurn, lines_at_end}
-use Rattle.smt_dialogue.specs.SoFar.{IsBeginning, lines_at}
+use Rattle.smt_dialogue.specs.SoFar.{IsBeginning, is_verdict_line, lines_at}
 use Rattle.smt_dialogue.specs.Internal.DialogueState.{Stands, state_behind}
 use Rattle.smt_dialogue.specs.Internal.ExchangeView.{HasRested, IsClosing, IsCut, IsInTurn, IsTurned, IsUnderWay}
 use Rattle.smt_dialogue.specs.Internal.ExchangeView.{Texts, turn_of, waiting}
@@ -244,14 +245,20 @@ cut_at x texts pairs later rest ls start begun is h =
       begins_all (texts.taken ++ ls) x.dialogue.checks.lines.items first.0 (lines_in h.early [] pairs [])
           (lines_at (pairs ++ w.pairs) w.turn)
           (first.1 ∙ ap (λ xs. ((texts.taken ++ xs) ++ x.dialogue.checks.lines.items) ++ first.0) (sym is)) all,
+      part_silent (texts.taken ++ ls) x.dialogue.checks.lines.items
+          (state_behind texts.taken x.dialogue).checks.lines
+          (ap (λ xs. (texts.taken ++ xs) ++ x.dialogue.checks.lines.items) (sym is))
+          (lines_silent h.early (state_behind texts.taken x.dialogue) pairs h.stands),
     )
 
 -- where the dialogue ends, the first of its lines
 pub cut_ended : (texts : Texts) (pairs : List Pair) (fault : Option Line) (ls : List Line) (start : Bool)
     → IsTurn start texts.script texts.answers pairs (first_fault.Ends fault)
-    → IsBeginning (texts.taken ++ ls) (lines_at_end pairs fault) → IsCut start ls texts
+    → IsBeginning (texts.taken ++ ls) (lines_at_end pairs fault)
+    × (list_any is_verdict_line (texts.taken ++ ls) ≡ false) → IsCut start ls texts
 cut_ended texts pairs fault ls start turn first = (
   lines_at_end pairs fault,
   record { pairs = pairs; turn = first_fault.Ends fault; rests = tt; turn_is = turn; lines_are = refl },
-  first,
+  first.0,
+  first.1,
 )

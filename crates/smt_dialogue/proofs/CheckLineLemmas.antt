@@ -23,7 +23,7 @@ use Rattle.smt_dialogue.specs.Lines.{claims_after, confirmed_line, is_empty, lin
 use Rattle.smt_dialogue.specs.Lines.{lines_of_answer, lines_of_pair, lines_of_sat, sat_lines, unchecked_answer}
 use Rattle.smt_dialogue.specs.Lines.{unchecked_line_or, unconfirmed_line}
 use Rattle.smt_dialogue.specs.Pairs.{Pair, checks_in, next_of, pair_of}
-use Rattle.smt_dialogue.specs.Session.{is_verdict_line}
+use Rattle.smt_dialogue.specs.SoFar.{is_verdict_line}
 use Rattle.smt_dialogue.specs.Window.{Printed, closes, models_from, window}
 use Rattle.smt_dialogue.specs.declared.judgement.Judgement.{Judgement}
 use Rattle.smt_dialogue.specs.declared.judgement.Judgement.TheVariants as judgements

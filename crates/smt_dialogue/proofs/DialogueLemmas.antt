@@ -14,7 +14,7 @@ use Rattle.smt_faults.specs.Faults.{flaw_of_command_fault}
 use Rattle.smt_faults.specs.Outcome.{TellsCommand}
 use Rattle.smt_faults.specs.declared.command_flaw.CommandFlaw.{CommandFlaw}
 use Rattle.smt_script.specs.StackView.{last_of}
-use Rattle.smt_dialogue.proofs.CheckLineLemmas.{few_lines, no_faults}
+use Rattle.smt_dialogue.proofs.CheckLineLemmas.{few_lines, no_faults, no_verdicts}
 use Rattle.smt_dialogue.proofs.ChecksLemmas.{GoesOn, goes_on}
 use Rattle.smt_dialogue.proofs.PairLemmas.{answers_taken-append, checks_in-append, effective_commands-push}
 use Rattle.smt_dialogue.proofs.PairLemmas.{lines_in-append}
@@ -30,8 +30,8 @@ use Rattle.smt_dialogue.specs.Lines.{unconfirmed_line}
 use Rattle.smt_dialogue.specs.Pairs.{Pair, answer_count, effective_commands, is_effective, numbered_if}
 use Rattle.smt_dialogue.specs.Pairs.{pair_of}
 use Rattle.smt_dialogue.specs.Report.{lines_at_end, lines_of_end}
-use Rattle.smt_dialogue.specs.SoFar.{IsBeginning}
-use Rattle.smt_dialogue.specs.Internal.DecidedView.{IsPartOf}
+use Rattle.smt_dialogue.specs.SoFar.{IsBeginning, is_verdict_line}
+use Rattle.smt_dialogue.specs.Internal.DecidedView.{IsFaultLine, IsPartOf}
 use Rattle.smt_dialogue.specs.Window.{closes, models_from, window}
 use Rattle.smt_dialogue.specs.declared.window.PendingCheck.{PendingCheck}
 use Rattle.smt_dialogue.specs.declared.window.Role.{Role}
@@ -253,6 +253,47 @@ lines_faultless early s pairs h =
     first_none (list_any is_fault_line s.checks.lines) (list_any is_fault_line pending)
     (sym (list_any-append is_fault_line s.checks.lines pending)
     ∙ sym (ap (list_any is_fault_line) (lines_at_once early s pairs h)) ∙ no_faults true [] pairs [])
+
+-- nor is any that of the verdict
+pub lines_silent : (early : Bool) (s : State) (pairs : List Pair) → Stands early s pairs
+    → list_any is_verdict_line s.checks.lines ≡ false
+lines_silent early s pairs h =
+    let pending = pending_lines true s.checks.pending (signature_after pairs) (claims_after pairs) (length pairs + 1) []
+    in
+    first_none (list_any is_verdict_line s.checks.lines) (list_any is_verdict_line pending)
+    (sym (list_any-append is_verdict_line s.checks.lines pending)
+    ∙ sym (ap (list_any is_verdict_line) (lines_at_once early s pairs h)) ∙ no_verdicts true [] pairs [])
+
+pub part_silent : (ls rest all : List Line) → all ≡ ls ++ rest → list_any is_verdict_line all ≡ false
+    → list_any is_verdict_line ls ≡ false
+part_silent ls rest all is h =
+    first_none (list_any is_verdict_line ls) (list_any is_verdict_line rest)
+    (sym (list_any-append is_verdict_line ls rest) ∙ sym (ap (list_any is_verdict_line) is) ∙ h)
+
+-- the line of a fault is not that of the verdict
+fault_silent : (fault : Option Line) → IsFaultLine fault → list_any is_verdict_line (lines_of_end fault) ≡ false
+fault_silent None h = refl
+fault_silent (Some (lines.TextFault side flaw)) h = refl
+fault_silent (Some (lines.CommandFault n flaw)) h = refl
+fault_silent (Some (lines.MissingAnswer n)) h = refl
+fault_silent (Some (lines.UnexpectedAnswer n m)) h = refl
+fault_silent (Some (lines.ExtraAnswer m)) h = refl
+fault_silent (Some _) h = absurd (cc)
+
+both_silent : (xs ys : List Line) → list_any is_verdict_line xs ≡ false → list_any is_verdict_line ys ≡ false
+    → list_any is_verdict_line (xs ++ ys) ≡ false
+both_silent xs ys h g =
+    list_any-append is_verdict_line xs ys ∙ ap (λ b. b || list_any is_verdict_line ys) h ∙ g
+
+-- so none is among the lines that were gathered, with that of a fault behind them or without
+pub gathered_silent : (xs before after : List Line) (fault : Option Line) → IsFaultLine fault
+    → IsPartOf before (lines_of_end fault) after → list_any is_verdict_line (xs ++ before) ≡ false
+    → list_any is_verdict_line (xs ++ after) ≡ false
+gathered_silent xs before after fault is (inl same) h = ap (λ b. list_any is_verdict_line (xs ++ b)) same ∙ h
+gathered_silent xs before after fault is (inr same) h =
+    ap (λ b. list_any is_verdict_line (xs ++ b)) same
+    ∙ sym (ap (list_any is_verdict_line) (append_assoc xs before (lines_of_end fault)))
+    ∙ both_silent (xs ++ before) (lines_of_end fault) h (fault_silent fault is)
 
 -- t has gathered lines that s has not, and all else is the same
 pub gathered_stands : (early : Bool) (s t : State) (pairs : List Pair) → Stands early s pairs → t.stack ≡ s.stack

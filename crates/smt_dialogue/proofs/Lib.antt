@@ -29,3 +29,4 @@ pub mod ExchangeLemmas
 pub mod AdvanceLemmas
 pub mod FeedLemmas
 pub mod SessionLemmas
+pub mod SessionVerdictLemmas

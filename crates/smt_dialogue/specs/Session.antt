@@ -2,13 +2,13 @@
 use Rattle.std.specs.Prelude.{◌≡◌, ◌<◌, ◌^◌, ℕ, List, ◌++◌, length, Bool, true, false, Option, Some, None}
 use Rattle.std.specs.List.{list_any}
 use Rattle.smt_dialogue.specs.History.{AreFirstDecided, AreDecided, History, IsLong}
+use Rattle.smt_dialogue.specs.SoFar.{is_verdict_line}
 use Rattle.smt_dialogue.specs.Internal.SessionView.{GoesOn}
 use Rattle.smt_dialogue.specs.declared.session.Failed.{Failed}
 use Rattle.smt_dialogue.specs.declared.session.Failed.TheVariants.{Long}
 use Rattle.smt_dialogue.specs.declared.session.Session.{Session}
 use Rattle.smt_report.specs.Verdict.{IsVerdictOf}
 use Rattle.smt_report.specs.declared.line.Line.{Line}
-use Rattle.smt_report.specs.declared.line.Line.TheVariants as lines
 use Rattle.smt_report.specs.declared.verdict.Verdict.{Verdict}
 
 -- the lines that are decided and were not taken
@@ -36,10 +36,6 @@ answers_count s = s.answers.bytes
 abbrev pub AreLines : Option Failed → History → List Line → Type 0
 AreLines None h ls = AreDecided h ls
 AreLines (Some failed) h ls = AreFirstDecided h ls
-
-abbrev pub is_verdict_line : Line → Bool
-is_verdict_line (lines.Verdict verdict tally) = true
-is_verdict_line _ = false
 
 -- the verdict is that of the line that tells it, or no line does
 abbrev pub IsVerdictIn : Option Verdict → List Line → Type 0

@@ -1,6 +1,6 @@
 -- The lines that are decided of two texts so far, of which more may come. When a line is told is this project's
 -- rule.
-use Rattle.std.specs.Prelude.{◌≡◌, ℕ, List, [], ◌++◌, Bool, true}
+use Rattle.std.specs.Prelude.{◌≡◌, ℕ, List, [], ◌++◌, Bool, true, false}
 use Rattle.smt_trees.specs.Sexp.{Sexps, Nil, append}
 use Rattle.smt_dialogue.specs.FirstFault.{Ends, GoesOn, IsRest, TextSoFar, Turn, Waits, is_over}
 use Rattle.smt_dialogue.specs.Lines.{lines_in}
@@ -8,6 +8,7 @@ use Rattle.smt_dialogue.specs.Pairs.{Pair}
 use Rattle.smt_dialogue.specs.Report.{IsRead, IsTurn, lines_at_end}
 use Rattle.smt_dialogue.specs.declared.options.Options.{Options}
 use Rattle.smt_report.specs.declared.line.Line.{Line}
+use Rattle.smt_report.specs.declared.line.Line.TheVariants as lines
 
 -- the lines behind pairs where it is this turn: all, where the dialogue ends; where it waits, those of the
 -- checks that are decided
@@ -51,3 +52,8 @@ pub record AreGrown (told : Bool) (bytes : List ℕ) (grown_told : Bool) (grown 
 -- lines with which others begin
 abbrev pub IsBeginning : List Line → List Line → Type 0
 IsBeginning ls all = (later : List Line) × (all ≡ ls ++ later)
+
+-- whether it is the line of the verdict, behind which none comes
+abbrev pub is_verdict_line : Line → Bool
+is_verdict_line (lines.Verdict verdict tally) = true
+is_verdict_line _ = false

@@ -1,7 +1,8 @@
 //! The dialogue so far: what is in force, the checks, and the lines of the report.
 
 ghost use Rattle.std.specs.Prelude.{Bool, ◌≡◌, ◌≤◌, ◌<◌, ◌+◌, ◌^◌, ◌++◌, ◌∷◌, ◌⊎◌, List, [], None, Some, true};
-ghost use Rattle.std.specs.Prelude.{IfOk, IfErr, OnErr, OnOk, option_map};
+ghost use Rattle.std.specs.Prelude.{IfOk, IfErr, OnErr, OnOk, false, option_map};
+ghost use Rattle.std.specs.List.{list_any};
 ghost use Rattle.smt_trees.specs.Tree.{sexp_of};
 ghost use Rattle.smt_script.specs.Command.{is_check};
 ghost use Rattle.smt_script.specs.CommandView.{command_view};
@@ -14,7 +15,7 @@ ghost use Rattle.smt_faults.specs.declared.command_flaw.CommandFlaw.{CommandFlaw
 ghost use Rattle.smt_dialogue.specs.InForce.{flaw_of_pair};
 ghost use Rattle.smt_dialogue.specs.Lines.{lines_in};
 ghost use Rattle.smt_dialogue.specs.Report.{lines_at_end, lines_of_end};
-ghost use Rattle.smt_dialogue.specs.SoFar.{IsBeginning};
+ghost use Rattle.smt_dialogue.specs.SoFar.{IsBeginning, is_verdict_line};
 ghost use Rattle.smt_report.specs.Verdict.{verdict_of};
 ghost use Rattle.smt_dialogue.specs.Pairs.{Pair, answer_count, numbered_if, pair_of};
 ghost use Rattle.smt_dialogue.specs.Internal.ChecksState.{IsAnswered, role_of};
@@ -155,7 +156,8 @@ impl Dialogue {
             × (verdict ≡ verdict_of (lines_in true [] pairs [] ++ lines_of_end fault))) }
         ensures cut { OnErr result ((taken : List ReportLine) (early : Bool) (pairs : List Pair)
             → Stands early (state_behind taken self.old) pairs
-            → IsBeginning (taken ++ self.new.decided.lines.items) (lines_at_end pairs fault)) }
+            → IsBeginning (taken ++ self.new.decided.lines.items) (lines_at_end pairs fault)
+            × (list_any is_verdict_line (taken ++ self.new.decided.lines.items) ≡ false)) }
         ensures kept { IsBeginning self.old.decided.lines.items self.new.decided.lines.items }
     {
         self.end_window()?;

@@ -14,16 +14,12 @@ mod exchange;
 mod front;
 mod judgement;
 pub mod laws;
-mod live;
 mod options;
 mod session;
 mod turn;
-mod validation;
 mod window;
 
 pub use options::Options;
-pub use live::{RunFault, run};
 pub use session::{Failed, Session};
 pub use smt_eval::Memory;
 pub use smt_report::{CheckAnswer, Claim, Line, Report, Side, Tally, Verdict};
-pub use validation::validate;

@@ -1,5 +1,6 @@
 -- What a session keeps of two texts so far, and what it has taken up of them.
 use Rattle.std.specs.Prelude.{◌≡◌, ℕ, List, [], ◌∷◌, ◌++◌, Bool, Option, Some, None, false, true, is_some, Ok}
+use Rattle.std.specs.List.{list_any}
 use Rattle.smt_trees.specs.Sexp.{Sexp, Sexps, Nil, Cons}
 use Rattle.smt_script.specs.Command.{command_of, is_check}
 use Rattle.smt_script.specs.CommandView.{command_view}
@@ -11,7 +12,7 @@ use Rattle.smt_dialogue.specs.InForce.{has_exited_after}
 use Rattle.smt_dialogue.specs.Pairs.{Pair}
 use Rattle.smt_dialogue.specs.Lines.{lines_in}
 use Rattle.smt_dialogue.specs.Report.{ArePaired, IsTurn, lines_at_end, lines_of_end}
-use Rattle.smt_dialogue.specs.SoFar.{AreLinesSoFar, IsBeginning, lines_at}
+use Rattle.smt_dialogue.specs.SoFar.{AreLinesSoFar, IsBeginning, is_verdict_line, lines_at}
 use Rattle.smt_dialogue.specs.Internal.DialogueState.{Stands, state_behind}
 use Rattle.smt_dialogue.specs.Internal.FrontView.{HasFront}
 use Rattle.smt_dialogue.specs.declared.exchange.Exchange.{Exchange}
@@ -93,7 +94,8 @@ HasRested (Some verdict) initial new texts =
     × (texts.taken ++ waiting new ≡ lines_at_end pairs fault)
     × (verdict ≡ verdict_of (lines_in true [] pairs [] ++ lines_of_end fault))
 
--- what is decided where memory was refused: the first of the lines so far
+-- what is decided where memory was refused: the first of the lines so far, and not the verdict
 abbrev pub IsCut : (initial : Bool) → List Line → Texts → Type 0
 IsCut initial ls texts =
     (all : List Line) × AreLinesSoFar initial texts.script texts.answers all × IsBeginning (texts.taken ++ ls) all
+    × (list_any is_verdict_line (texts.taken ++ ls) ≡ false)

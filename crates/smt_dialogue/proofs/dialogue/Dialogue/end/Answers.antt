@@ -1,7 +1,7 @@
-use Rattle.std.proofs.Common.{◌++◌, ◌∙◌, [], ◌∷◌, ◌≡◌, List, ap, subst, sym, true}
+use Rattle.std.proofs.Common.{◌++◌, ◌∙◌, [], ◌∷◌, ◌≡◌, List, ap, refl, subst, sym, true}
 use Rattle.std.proofs.lemmas.List.{append-nil}
 use Rattle.smt_dialogue.proofs.DialogueLemmas.{begins_end, begins_trans, closed_lines, lines_faultless, on_err}
-use Rattle.smt_dialogue.proofs.DialogueLemmas.{part_begins}
+use Rattle.smt_dialogue.proofs.DialogueLemmas.{gathered_silent, lines_silent, part_begins, part_silent}
 use Rattle.smt_dialogue.specs.Internal.DialogueState.{Stands, state_behind}
 use Rattle.smt_dialogue.specs.Lines.{lines_in}
 use Rattle.smt_dialogue.specs.Report.{lines_of_end}
@@ -17,17 +17,25 @@ pub returns-in_err-end_window-clause-cut : goal.returns-in_err-end_window-clause
 returns-in_err-end_window-clause-cut c = on_err c.from_residual.result (λ taken early pairs stands.
     let d = c.args.self.now in
     let e = c.end_window.new.self in
-    begins_end early (state_behind taken d) pairs c.args.fault (taken ++ e.decided.lines.items) d.checks.lines.items
-    (ap (λ (k : Decided). (taken ++ k.lines.items) ++ d.checks.lines.items) (sym c.end_window.ensures.decided))
-    stands)
+    let same = ap (λ (k : Decided). (taken ++ k.lines.items) ++ d.checks.lines.items) (sym c.end_window.ensures.decided)
+    in (
+      begins_end early (state_behind taken d) pairs c.args.fault (taken ++ e.decided.lines.items) d.checks.lines.items
+          same stands,
+      part_silent (taken ++ e.decided.lines.items) d.checks.lines.items (state_behind taken d).checks.lines same
+          (lines_silent early (state_behind taken d) pairs stands),
+    ))
 
 pub returns-in_err-gather-clause-cut : goal.returns-in_err-gather-clause-cut
 returns-in_err-gather-clause-cut c = on_err c.from_residual-in_err-gather.result (λ taken early pairs stands.
     let e = c.end_window.new.self in
     let f = c.gather.new.self in
-    begins_end true (state_behind taken e) pairs c.args.fault (taken ++ f.decided.lines.items) e.checks.lines.items
-    (ap (λ (xs : List Line). (taken ++ xs) ++ e.checks.lines.items) (sym c.in_err-gather.ensures.cut))
-    (c.in_ok-end_window.ensures.stands taken early pairs stands))
+    let same = ap (λ (xs : List Line). (taken ++ xs) ++ e.checks.lines.items) (sym c.in_err-gather.ensures.cut) in
+    let on = c.in_ok-end_window.ensures.stands taken early pairs stands in (
+      begins_end true (state_behind taken e) pairs c.args.fault (taken ++ f.decided.lines.items) e.checks.lines.items
+          same on,
+      part_silent (taken ++ f.decided.lines.items) e.checks.lines.items (state_behind taken e).checks.lines same
+          (lines_silent true (state_behind taken e) pairs on),
+    ))
 
 pub returns-in_err-verdict-clause-cut : goal.returns-in_err-verdict-clause-cut
 returns-in_err-verdict-clause-cut c = on_err c.from_residual-in_err-verdict.result (λ taken early pairs stands.
@@ -39,10 +47,15 @@ returns-in_err-verdict-clause-cut c = on_err c.from_residual-in_err-verdict.resu
     closed_lines true (state_behind taken f) pairs
     (c.in_ok-gather.ensures.pending ∙ c.in_ok-end_window.ensures.ended) on
     ∙ ap (λ xs. gathered ++ xs) c.in_ok-gather.ensures.all ∙ append-nil gathered in
-    let all = lines_in true [] pairs [] ++ lines_of_end c.args.fault in
-    part_begins taken f.decided.lines.items (lines_of_end c.args.fault) c.end.new.self.lines.items all
-    (lines.Verdict (verdict_of all) (tally_of all) ∷ []) c.in_err-verdict.ensures.kept
-    (ap (λ xs. xs ++ lines_of_end c.args.fault) here))
+    let all = lines_in true [] pairs [] ++ lines_of_end c.args.fault in (
+      part_begins taken f.decided.lines.items (lines_of_end c.args.fault) c.end.new.self.lines.items all
+          (lines.Verdict (verdict_of all) (tally_of all) ∷ []) c.in_err-verdict.ensures.kept
+          (ap (λ xs. xs ++ lines_of_end c.args.fault) here),
+      gathered_silent taken f.decided.lines.items c.end.new.self.lines.items c.args.fault c.requires.fault
+          c.in_err-verdict.ensures.kept
+          (part_silent gathered f.checks.lines.items (state_behind taken f).checks.lines refl
+          (lines_silent true (state_behind taken f) pairs on)),
+    ))
 
 pub returns-clause-ended : goal.returns-clause-ended
 returns-clause-ended c = λ taken early pairs stands.

@@ -1,0 +1,82 @@
+-- What the verdict of a session means.
+use Rattle.std.proofs.Common.{◌≡◌, Bool, true, false, ◌||◌, List, [], ◌∷◌, ◌++◌, Option, Some, None, refl, ap, sym}
+use Rattle.std.proofs.Common.{◌∙◌, subst}
+use Rattle.std.proofs.lemmas.List.Folds.{list_any-append}
+use Rattle.std.specs.List.{list_any}
+use Rattle.smt_dialogue.proofs.CheckLineLemmas.{IsFaultTurn, IsToldTurn, fault_turn, told_turn}
+use Rattle.smt_dialogue.proofs.ConfirmedLemmas.{Laws}
+use Rattle.smt_dialogue.proofs.FirstFaultLemmas.{invalid_lines, valid_lines}
+use Rattle.smt_dialogue.proofs.SessionLemmas.{ended_verdict}
+use Rattle.smt_dialogue.proofs.ValidityLemmas.{OneForest, invalid_means, valid_means}
+use Rattle.smt_dialogue.specs.FirstFault.{Ends}
+use Rattle.smt_dialogue.specs.History.{History}
+use Rattle.smt_dialogue.specs.Lines.{lines_in}
+use Rattle.smt_dialogue.specs.Report.{AreLinesOf, IsRead, lines_of_end}
+use Rattle.smt_dialogue.specs.Session.{StandsFor, lines_waiting}
+use Rattle.smt_dialogue.specs.Validity.{IsInvalid, IsValid}
+use Rattle.smt_dialogue.specs.Internal.DecidedView.{IsFaultLine}
+use Rattle.smt_dialogue.specs.Internal.SessionView.{GoesOn, HasEnded}
+use Rattle.smt_dialogue.specs.declared.session.Session.{Session}
+use Rattle.smt_report.specs.Verdict.{is_fault_line}
+use Rattle.smt_report.specs.declared.line.Line.{Line}
+use Rattle.smt_report.specs.declared.verdict.Verdict.{Verdict}
+use Rattle.smt_report.specs.declared.verdict.Verdict.TheVariants.{Invalid, Valid}
+
+-- a session that tells a verdict has ended
+pub has_ended : (s : Session) (h : History) (v : Verdict) → s.verdict ≡ Some v → StandsFor s h
+    → HasEnded v h (h.taken ++ lines_waiting s)
+has_ended s h v is k = subst (λ o. GoesOn o s.failure s.exchange h) is k.goes_on
+
+ended_told : (verdict : Verdict) (h : History) (ls : List Line) → (e : HasEnded verdict h ls) → e.fault ≡ None
+    → (h.script_told ≡ true) × (h.answers_told ≡ true)
+ended_told verdict h ls e none =
+    let turn = e.ends.turn_is ∙ ap Ends none in
+    let told = subst (IsToldTurn e.script.told e.answers.told) turn
+    (told_turn h.options.print_success e.pairs (record e.answers { trees = e.ends.rest }) e.script.told e.script.fault
+    e.ends.later) in
+    (sym e.read.script_read.told_so ∙ told.0, sym e.read.answers_read.told_so ∙ told.1)
+
+or_last : (b : Bool) → b || true ≡ true
+or_last true = refl
+or_last false = refl
+
+no_fault : (fault : Option Line) (ls : List Line) → IsFaultLine fault
+    → list_any is_fault_line (ls ++ lines_of_end fault) ≡ false → fault ≡ None
+no_fault None ls is h = refl
+no_fault (Some line) ls is h = absurd (
+  let last = sym (list_any-append is_fault_line ls (line ∷ [])) ∙ h in
+  let first : list_any is_fault_line ls || (is_fault_line line || false) ≡ true =
+  ap (λ b. list_any is_fault_line ls || (b || false)) is ∙ or_last (list_any is_fault_line ls) in
+  let e : true ≡ false = sym first ∙ last in cc)
+
+faultless_end : (v : Verdict) (h : History) (ls : List Line) → (e : HasEnded v h ls)
+    → list_any is_fault_line (lines_in true [] e.pairs [] ++ lines_of_end e.fault) ≡ false → e.fault ≡ None
+faultless_end v h ls e clean =
+    no_fault e.fault (lines_in true [] e.pairs [])
+    (subst IsFaultTurn e.ends.turn_is
+    (fault_turn h.options.print_success e.pairs (record e.answers { trees = e.ends.rest }) e.script.told e.script.fault
+    e.ends.later)) clean
+
+lines_of : (v : Verdict) (h : History) (ls : List Line) → (e : HasEnded v h ls)
+    → AreLinesOf h.options.print_success e.script e.answers ls
+lines_of v h ls e = record { pairs = e.pairs; fault = e.fault; ends = e.ends; lines_are = e.lines_are }
+
+pub ended_valid : Laws → OneForest → (h : History) (ls : List Line) → HasEnded Valid h ls
+    → IsValid h.options h.script h.answers
+ended_valid laws one h ls e =
+    let all = lines_in true [] e.pairs [] ++ lines_of_end e.fault in
+    let told = ended_told Valid h ls e (faultless_end Valid h ls e (valid_lines all (sym e.verdict_is)).0) in
+    valid_means laws one h.options h.script h.answers e.script e.answers ls Valid
+    (subst (λ b. IsRead b h.script e.script) told.0 e.read.script_read)
+    (subst (λ b. IsRead b h.answers e.answers) told.1 e.read.answers_read) (lines_of Valid h ls e)
+    (ended_verdict Valid h ls e) refl
+
+pub ended_invalid : Laws → (h : History) (ls : List Line) → HasEnded Invalid h ls
+    → IsInvalid h.options h.script h.answers ls
+ended_invalid laws h ls e =
+    let all = lines_in true [] e.pairs [] ++ lines_of_end e.fault in
+    let told = ended_told Invalid h ls e (faultless_end Invalid h ls e (invalid_lines all (sym e.verdict_is)).0) in
+    invalid_means laws h.options h.script h.answers e.script e.answers ls Invalid
+    (subst (λ b. IsRead b h.script e.script) told.0 e.read.script_read)
+    (subst (λ b. IsRead b h.answers e.answers) told.1 e.read.answers_read) (lines_of Invalid h ls e)
+    (ended_verdict Invalid h ls e) refl
