@@ -1,24 +1,28 @@
 -- What the verdict of a session means.
-use Rattle.std.proofs.Common.{◌≡◌, Bool, true, false, ◌||◌, List, [], ◌∷◌, ◌++◌, Option, Some, None, refl, ap, sym}
+use Rattle.std.proofs.Common.{◌≡◌, ℕ, Bool, true, false, ◌||◌, List, [], ◌∷◌, ◌++◌, Option, Some, None, refl, ap, sym}
 use Rattle.std.proofs.Common.{◌∙◌, subst}
 use Rattle.std.proofs.lemmas.List.Folds.{list_any-append}
 use Rattle.std.specs.List.{list_any}
 use Rattle.smt_dialogue.proofs.CheckLineLemmas.{IsFaultTurn, IsToldTurn, fault_turn, told_turn}
 use Rattle.smt_dialogue.proofs.ConfirmedLemmas.{Laws}
 use Rattle.smt_dialogue.proofs.FirstFaultLemmas.{invalid_lines, valid_lines}
+use Rattle.smt_dialogue.proofs.ReadSoFarLemmas.{so_far_is_report}
 use Rattle.smt_dialogue.proofs.SessionLemmas.{ended_verdict}
 use Rattle.smt_dialogue.proofs.ValidityLemmas.{OneForest, invalid_means, valid_means}
 use Rattle.smt_dialogue.specs.FirstFault.{Ends}
-use Rattle.smt_dialogue.specs.History.{History}
+use Rattle.smt_dialogue.specs.History.{History, whole}
 use Rattle.smt_dialogue.specs.Lines.{lines_in}
-use Rattle.smt_dialogue.specs.Report.{AreLinesOf, IsRead, lines_of_end}
-use Rattle.smt_dialogue.specs.Session.{StandsFor, lines_waiting}
+use Rattle.smt_dialogue.specs.Report.{AreLinesOf, IsRead, IsReport, lines_of_end}
+use Rattle.smt_dialogue.specs.Session.{AreLines, StandsFor, failure_of, lines_waiting}
+use Rattle.smt_dialogue.specs.SoFar.{is_verdict_line}
 use Rattle.smt_dialogue.specs.Validity.{IsInvalid, IsValid}
 use Rattle.smt_dialogue.specs.Internal.DecidedView.{IsFaultLine}
 use Rattle.smt_dialogue.specs.Internal.SessionView.{GoesOn, HasEnded}
+use Rattle.smt_dialogue.specs.declared.options.Options.{Options}
 use Rattle.smt_dialogue.specs.declared.session.Session.{Session}
-use Rattle.smt_report.specs.Verdict.{is_fault_line}
+use Rattle.smt_report.specs.Verdict.{is_fault_line, tally_of, verdict_of}
 use Rattle.smt_report.specs.declared.line.Line.{Line}
+use Rattle.smt_report.specs.declared.line.Line.TheVariants as lines
 use Rattle.smt_report.specs.declared.verdict.Verdict.{Verdict}
 use Rattle.smt_report.specs.declared.verdict.Verdict.TheVariants.{Invalid, Valid}
 
@@ -80,3 +84,23 @@ ended_invalid laws h ls e =
     (subst (λ b. IsRead b h.script e.script) told.0 e.read.script_read)
     (subst (λ b. IsRead b h.answers e.answers) told.1 e.read.answers_read) (lines_of Invalid h ls e)
     (ended_verdict Invalid h ls e) refl
+
+-- ---- both texts were told to their ends
+
+-- lines that are a report hold that of the verdict
+pub reported : (options : Options) (script answers : List ℕ) (ls : List Line) → IsReport options script answers ls
+    → list_any is_verdict_line ls ≡ false → ⊥
+reported options script answers ls r h =
+    let l = r.lines_are in
+    let all = lines_in true [] l.pairs [] ++ lines_of_end l.fault in
+    let last = lines.Verdict (verdict_of all) (tally_of all) ∷ [] in
+    let seen : list_any is_verdict_line ls ≡ true =
+    ap (list_any is_verdict_line) l.lines_are ∙ list_any-append is_verdict_line all last
+    ∙ or_last (list_any is_verdict_line all) in
+    let e : true ≡ false = sym seen ∙ h in cc
+
+pub whole_report : (s : Session) (options : Options) (script answers : List ℕ) → failure_of s ≡ None
+    → StandsFor s (whole options script answers) → IsReport options script answers (lines_waiting s)
+whole_report s options script answers none k =
+    so_far_is_report options script answers (lines_waiting s)
+    (subst (λ f. AreLines f (whole options script answers) (lines_waiting s)) none k.lines)

@@ -23,6 +23,17 @@ begun options = record {
   taken = [];
 }
 
+-- both texts were told to their ends, and no line was taken
+abbrev pub whole : Options → (script answers : List ℕ) → History
+whole options script answers = record {
+  options = options;
+  script_told = true;
+  script = script;
+  answers_told = true;
+  answers = answers;
+  taken = [];
+}
+
 -- and then a piece of a text, its end, or lines that were taken
 abbrev pub with_script : History → List ℕ → History
 with_script h piece = record h { script = h.script ++ piece }

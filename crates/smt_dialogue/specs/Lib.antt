@@ -12,4 +12,5 @@ pub mod History
 pub mod Session
 pub mod Validity
 pub mod VerdictLaws
+pub mod Run
 pub mod Internal

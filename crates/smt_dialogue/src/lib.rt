@@ -17,9 +17,11 @@ pub mod laws;
 mod options;
 mod session;
 mod turn;
+mod validation;
 mod window;
 
 pub use options::Options;
 pub use session::{Failed, Session};
 pub use smt_eval::Memory;
 pub use smt_report::{CheckAnswer, Claim, Line, Report, Side, Tally, Verdict};
+pub use validation::validate;

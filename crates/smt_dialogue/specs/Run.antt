@@ -1,0 +1,72 @@
+-- What a run over sources and a sink comes to: what was pulled of both texts, and what was put.
+use Rattle.std.specs.Prelude.{◌≡◌, ◌≤◌, ◌^◌, ℕ, List, [], ◌∷◌, ◌++◌, ◌⊎◌, length, take, Bool, true, Option}
+use Rattle.std.specs.Io.KnownBytes.{Appends, Consumes, IsAtEnd}
+use Rattle.smt_dialogue.specs.Report.{IsReport}
+use Rattle.smt_dialogue.specs.SoFar.{IsSoFar}
+use Rattle.smt_dialogue.specs.Validity.{IsInvalid, IsValid}
+use Rattle.smt_dialogue.specs.declared.live.RunFault.{RunFault}
+use Rattle.smt_dialogue.specs.declared.live.RunFault.TheVariants as faults
+use Rattle.smt_dialogue.specs.declared.options.Options.{Options}
+use Rattle.smt_report.specs.LineText.{text_of}
+use Rattle.smt_report.specs.Verdict.{IsVerdictOf}
+use Rattle.smt_report.specs.declared.line.Line.{Line}
+use Rattle.smt_report.specs.declared.verdict.Verdict.{Verdict}
+use Rattle.smt_report.specs.declared.verdict.Verdict.TheVariants.{Invalid, Valid}
+
+-- the text of lines: each ends with byte 10
+abbrev pub text_of_lines : List Line → List ℕ
+text_of_lines [] = []
+text_of_lines (line ∷ ls) = (text_of line ++ 10 ∷ []) ++ text_of_lines ls
+
+-- what the devices of a run tell: the bytes that the sources have to come and that the sink has taken, where
+-- they are known, and whether the sources have told their ends
+pub record Devices : Type 0 where
+  pub script : Option (List ℕ)
+  pub script_ended : Bool
+  pub answers : Option (List ℕ)
+  pub answers_ended : Bool
+  pub out : Option (List ℕ)
+
+-- these bytes were pulled of the two sources
+pub record ArePulled (before after : Devices) (script answers : List ℕ) : Type 0 where
+  pub script_given : Consumes before.script after.script script
+  pub answers_given : Consumes before.answers after.answers answers
+
+-- a run to the ends of both texts, with this verdict: what was put is the text of their report, and the verdict
+-- is that of its last line
+pub record HasRun (options : Options) (before after : Devices) (verdict : Verdict) : Type 0 where
+  pub script : List ℕ
+  pub answers : List ℕ
+  pub pulled : ArePulled before after script answers
+  pub script_end : IsAtEnd after.script
+  pub answers_end : IsAtEnd after.answers
+  pub lines : List Line
+  pub report : IsReport options script answers lines
+  pub verdict_is : IsVerdictOf verdict lines
+  pub valid : verdict ≡ Valid → IsValid options script answers
+  pub invalid : verdict ≡ Invalid → IsInvalid options script answers lines
+  pub written : Appends before.out after.out (text_of_lines lines)
+
+-- where a source has failed, the whole text of the lines so far was put; at another fault the beginning of it
+abbrev pub IsPut : RunFault → Option (List ℕ) → Option (List ℕ) → List ℕ → Type 0
+IsPut faults.Script before after text = Appends before after text
+IsPut faults.Answers before after text = Appends before after text
+IsPut _ before after text = (count : ℕ) × Appends before after (take count text)
+
+-- a run that was stopped by a fault: what was put is of the lines so far of what was pulled
+pub record HasStopped (options : Options) (before after : Devices) (fault : RunFault) : Type 0 where
+  pub script : List ℕ
+  pub answers : List ℕ
+  pub pulled : ArePulled before after script answers
+  pub lines : List Line
+  pub so_far : IsSoFar options after.script_ended script after.answers_ended answers lines
+  pub written : IsPut fault before.out after.out (text_of_lines lines)
+  pub long : fault ≡ faults.Long → (2 ^ 64 ≤ length script) ⊎ (2 ^ 64 ≤ length answers)
+
+-- only a device that has failed is blamed
+abbrev pub IsBlamed : RunFault → (script answers out : Bool) → Type 0
+IsBlamed faults.Script script answers out = script ≡ true
+IsBlamed faults.Answers script answers out = answers ≡ true
+IsBlamed faults.Output script answers out = out ≡ true
+IsBlamed faults.Memory script answers out = Unit {0}
+IsBlamed faults.Long script answers out = Unit {0}
