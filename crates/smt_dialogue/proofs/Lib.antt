@@ -30,3 +30,4 @@ pub mod AdvanceLemmas
 pub mod FeedLemmas
 pub mod SessionLemmas
 pub mod SessionVerdictLemmas
+pub mod RunLemmas

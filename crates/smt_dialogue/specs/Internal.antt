@@ -7,3 +7,4 @@ pub mod Turns
 pub mod ExchangeView
 pub mod SessionStep
 pub mod SessionView
+pub mod RunStep

@@ -14,12 +14,14 @@ mod exchange;
 mod front;
 mod judgement;
 pub mod laws;
+mod live;
 mod options;
 mod session;
 mod turn;
 mod validation;
 mod window;
 
+pub use live::{RunFault, run};
 pub use options::Options;
 pub use session::{Failed, Session};
 pub use smt_eval::Memory;

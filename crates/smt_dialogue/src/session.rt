@@ -8,7 +8,7 @@ ghost use Rattle.smt_dialogue.specs.Session.{IsVerdictIn, StandsFor, failure_of,
 ghost use Rattle.smt_dialogue.specs.Session.{lines_waiting};
 ghost use Rattle.smt_dialogue.specs.SoFar.{IsBeginning};
 ghost use Rattle.smt_dialogue.specs.Validity.{IsInvalid, IsValid};
-ghost use Rattle.smt_dialogue.specs.Internal.SessionStep.{IsGoingOn, IsWanted};
+ghost use Rattle.smt_dialogue.specs.Internal.SessionStep.{IsGoingOn, IsWanted, left_of};
 ghost use Rattle.smt_dialogue.specs.declared.session.Failed.{Failed as Failure};
 
 use crate::exchange::Exchange;
@@ -56,6 +56,7 @@ impl Session {
         ensures script { is_script_ended result ≡ false }
         ensures answers { is_answers_ended result ≡ false }
         ensures failure { failure_of result ≡ None }
+        ensures waiting { lines_waiting result ≡ [] }
     {
         // Laws: nothing is read of a text of which nothing has come.
         forests();
@@ -207,6 +208,7 @@ impl Session {
         ensures failure { failure_of self.new ≡ failure_of self.old }
         ensures script_ended { is_script_ended self.new ≡ is_script_ended self.old }
         ensures answers_ended { is_answers_ended self.new ≡ is_answers_ended self.old }
+        ensures left { left_of self.new ≡ left_of self.old }
     {
         self.exchange.take_lines()
     }

@@ -1,0 +1,13 @@
+use Rattle.std.proofs.Common.{◌++◌, Bool, List, [], ℕ, subst, sym}
+use Rattle.std.proofs.lemmas.List.{append-nil}
+use Rattle.smt_dialogue.specs.Session.{StandsFor}
+use Rattle.smt_dialogue.proofs.live.pull_answers.Goals as goal
+
+pub returns-in_default-clause-told : goal.returns-in_default-clause-told
+returns-in_default-clause-told g c = λ h k.
+    let s = c.args.session.now in (
+      [],
+      c.in_default.ensures.bytes,
+      subst (λ (b : Bool). StandsFor s (record h { answers = h.answers ++ []; answers_told = b })) (sym k.answers_ended)
+          (subst (λ (bytes : List ℕ). StandsFor s (record h { answers = bytes })) (sym (append-nil h.answers)) k),
+    )

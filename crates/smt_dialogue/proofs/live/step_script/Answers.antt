@@ -1,0 +1,69 @@
+use Rattle.std.proofs.Common.{◌≡◌, ◌∙◌, Bool, List, Option, ℕ, false, take}
+use Rattle.std.specs.Io.KnownBytes.{Appends}
+use Rattle.smt_dialogue.proofs.RunLemmas.{map_ok, put_stopped, running_put, running_script, stopped_by}
+use Rattle.smt_dialogue.proofs.RunLemmas.{stopped_pull_script}
+use Rattle.smt_dialogue.specs.Run.{Devices, HasStopped, text_of_lines}
+use Rattle.smt_dialogue.specs.Session.{failure_of, lines_waiting}
+use Rattle.smt_dialogue.specs.Internal.RunStep.{IsRunning}
+use Rattle.smt_dialogue.specs.declared.options.Options.{Options}
+use Rattle.smt_dialogue.proofs.live.step_script.Goals as goal
+
+pub returns-in-Ok-clause-goes_on : goal.returns-in-Ok-clause-goes_on
+returns-in-Ok-clause-goes_on g c = map_ok c.put_lines.result c.put_lines.ensures.put (λ puts options before other ended r.
+    let start : Devices = record {
+      script = g.R.Source.to_come c.args.script.now;
+      script_ended = g.R.Source.has_ended c.args.script.now;
+      answers = other;
+      answers_ended = ended;
+      out = g.W.Sink.taken c.args.out.now;
+    } in
+    let after : Devices = record start {
+      script = g.R.Source.to_come c.pull_script.new.script;
+      script_ended = g.R.Source.has_ended c.pull_script.new.script;
+    } in
+    let on = running_script options before start c.args.session.now c.pull_script.new.session
+    (g.R.Source.to_come c.pull_script.new.script) (g.R.Source.has_ended c.pull_script.new.script) c.pull_script.ensures.ended
+    c.pull_script.ensures.told r in
+    running_put options before after c.pull_script.new.session c.put_lines.new.session (g.W.Sink.taken c.put_lines.new.out)
+    c.put_lines.ensures.stands puts on)
+
+pub returns-in-Ok-clause-stopped : goal.returns-in-Ok-clause-stopped
+returns-in-Ok-clause-stopped g c =
+    put_stopped _ c.put_lines.result (g.W.Sink.is_broken c.put_lines.new.out) _ c.put_lines.ensures.failed
+    c.put_lines.ensures.part (λ fault is part options before other ended r.
+    let start : Devices = record {
+      script = g.R.Source.to_come c.args.script.now;
+      script_ended = g.R.Source.has_ended c.args.script.now;
+      answers = other;
+      answers_ended = ended;
+      out = g.W.Sink.taken c.args.out.now;
+    } in
+    let after : Devices = record start {
+      script = g.R.Source.to_come c.pull_script.new.script;
+      script_ended = g.R.Source.has_ended c.pull_script.new.script;
+    } in
+    let on = running_script options before start c.args.session.now c.pull_script.new.session
+    (g.R.Source.to_come c.pull_script.new.script) (g.R.Source.has_ended c.pull_script.new.script) c.pull_script.ensures.ended
+    c.pull_script.ensures.told r in
+    stopped_by fault (g.W.Sink.is_broken c.put_lines.new.out) options before after c.pull_script.new.session
+    (g.W.Sink.taken c.put_lines.new.out) is c.in-Ok.ensures.failure.0 part on)
+
+pub returns-in-Err-clause-stopped : goal.returns-in-Err-clause-stopped
+returns-in-Err-clause-stopped g c = λ options before other ended r.
+    let start : Devices = record {
+      script = g.R.Source.to_come c.args.script.now;
+      script_ended = g.R.Source.has_ended c.args.script.now;
+      answers = other;
+      answers_ended = ended;
+      out = g.W.Sink.taken c.args.out.now;
+    } in
+    let after : Devices = record start {
+      script = g.R.Source.to_come c.pull_script.new.script;
+      script_ended = g.R.Source.has_ended c.pull_script.new.script;
+    } in
+    let on = running_script options before start c.args.session.now c.pull_script.new.session
+    (g.R.Source.to_come c.pull_script.new.script) (g.R.Source.has_ended c.pull_script.new.script) c.pull_script.ensures.ended
+    c.pull_script.ensures.told r in
+    stopped_pull_script c.in-Err.fault (g.R.Source.is_broken c.pull_script.new.script) options before after
+    c.pull_script.new.session c.in-Err.ensures.failure
+    (λ broken. c.pull_script.ensures.kept broken ∙ c.requires.waiting) on
