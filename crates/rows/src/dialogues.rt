@@ -1,5 +1,5 @@
-//! Rows of dialogues: each with its report and the exit status, and what else comes where it is told in pieces.
-//! This file looks into no report.
+//! Rows of dialogues: each with its report and the exit status, and what else comes where it is told in
+//! pieces. This file looks into no report.
 
 pub(crate) mod pieces;
 mod seen;
@@ -15,8 +15,8 @@ use std::alloc::{AllocError, Global};
 use std::io;
 use std::io::Write;
 
-/// Prints the report on a dialogue, and the status. Each line comes likewise where the texts come in pieces; else
-/// the first that doesn't is told.
+/// Prints the report on a dialogue, and the status. Where the texts come in pieces each line is the same,
+/// or the first that isn't is told.
 pub(crate) fn print<W: Write>(
     alloc: Global,
     out: &mut W,
@@ -55,7 +55,8 @@ fn print_dialogue<W: Write>(
     print_told(alloc, out, dialogue)
 }
 
-// Prints the report on the whole texts, and the first line that is another where they come in pieces.
+// Prints the report on the whole texts, and the first line that is another where they come in
+// pieces.
 fn print_told<W: Write>(alloc: Global, out: &mut W, dialogue: Dialogue) -> Result<()> {
     match &validate(alloc, dialogue.script, dialogue.answers, dialogue.options) {
         Ok(report) => {

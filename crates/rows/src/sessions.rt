@@ -1,5 +1,5 @@
-//! Rows of sessions: both texts come piece by piece, and the lines that are decided are shown where a row asks for
-//! them. This file looks into no line.
+//! Rows of sessions: both texts come piece by piece, and the lines that are decided are shown where a
+//! row asks for them. This file looks into no line.
 
 ghost use Rattle.std.specs.Prelude.{◌≡◌, false, IfOk};
 ghost use Rattle.smt_dialogue.specs.History.{History};
@@ -22,7 +22,8 @@ struct Ended {
     answers: bool,
 }
 
-/// Prints what a session is told, in order, and the lines that are decided where a field asks for them.
+/// Prints what a session is told, in order, and the lines that are decided where a field asks for
+/// them.
 pub(crate) fn print<W: Write>(
     alloc: Global,
     out: &mut W,
@@ -108,7 +109,8 @@ fn tell_script<W: Write>(
     requires script { is_script_ended session.old ≡ false }
     ensures stands { IfOk result (λ _. (h : History) × StandsFor session.new h) }
     ensures script { IfOk result (λ _. is_script_ended session.new ≡ false) }
-    ensures answers { IfOk result (λ _. is_answers_ended session.new ≡ is_answers_ended session.old) }
+    ensures answers { IfOk result
+        (λ _. is_answers_ended session.new ≡ is_answers_ended session.old) }
 {
     let piece = field.bytes(alloc)?;
     writeln!(out, "script {}", field.text)?;
@@ -124,7 +126,8 @@ fn tell_answers<W: Write>(
     requires stands { (h : History) × StandsFor session.old h }
     requires answers { is_answers_ended session.old ≡ false }
     ensures stands { IfOk result (λ _. (h : History) × StandsFor session.new h) }
-    ensures script { IfOk result (λ _. is_script_ended session.new ≡ is_script_ended session.old) }
+    ensures script { IfOk result
+        (λ _. is_script_ended session.new ≡ is_script_ended session.old) }
     ensures answers { IfOk result (λ _. is_answers_ended session.new ≡ false) }
 {
     let piece = field.bytes(alloc)?;
@@ -171,7 +174,8 @@ fn tell_end<W: Write>(
 
 // Prints the lines that are decided and were not taken, or `none`.
 fn print_lines<W: Write>(out: &mut W, session: &mut Session) -> io::Result<()>
-    ensures stands { (h : History) → StandsFor session.old h → (g : History) × StandsFor session.new g }
+    ensures stands { (h : History) → StandsFor session.old h
+        → (g : History) × StandsFor session.new g }
     ensures script { is_script_ended session.new ≡ is_script_ended session.old }
     ensures answers { is_answers_ended session.new ≡ is_answers_ended session.old }
 {

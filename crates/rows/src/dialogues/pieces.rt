@@ -1,5 +1,5 @@
-//! Dialogues that are told piece by piece: the lines that come are those of the report, however both texts are
-//! cut. This file looks into no line.
+//! Dialogues that are told piece by piece: the lines that come are those of the report, however both
+//! texts are cut. This file looks into no line.
 
 ghost use Rattle.std.specs.Prelude.{◌≡◌, ◌<◌, false};
 ghost use Rattle.smt_dialogue.specs.History.{History};
@@ -24,8 +24,8 @@ pub(crate) struct Dialogue<'a> {
     pub options: Options,
 }
 
-/// Tells the dialogue to sessions in pieces, and prints the first line that is another than that of the report,
-/// where there is one.
+/// Tells the dialogue to sessions in pieces, and prints the first line that is another than that of the
+/// report, where there is one.
 pub(crate) fn print_other<W: Write>(
     alloc: Global,
     out: &mut W,
