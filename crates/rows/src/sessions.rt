@@ -180,13 +180,15 @@ fn print_lines<W: Write>(out: &mut W, session: &mut Session) -> io::Result<()>
     ensures answers { is_answers_ended session.new ≡ is_answers_ended session.old }
 {
     let lines = session.take_lines();
-    if lines.is_empty() {
-        return writeln!(out, "=> none");
-    }
-    write_lines(out, lines.as_slice())
+    let outcome = write_lines(out, lines.as_slice());
+    drop(lines);
+    outcome
 }
 
 fn write_lines<W: Write>(out: &mut W, lines: &[Line]) -> io::Result<()> {
+    if lines.is_empty() {
+        return writeln!(out, "=> none");
+    }
     for line in lines {
         writeln!(out, "=> {line}")?;
     }

@@ -8,7 +8,7 @@ ghost use Rattle.smt_dialogue.specs.Session.{StandsFor, is_answers_ended, is_scr
 use crate::dialogues::seen::Seen;
 use anyhow::{Result, bail};
 use smt_dialogue::{Failed, Options, Session};
-use std::alloc::Global;
+use std::alloc::{AllocError, Global};
 use std::io::Write;
 
 // The most bytes of a text that is cut at every place, and of one that is cut at some twenty.
@@ -227,7 +227,7 @@ fn tell_script(session: &mut Session, seen: &mut Seen, piece: &[u8]) -> Result<(
     ensures answers { is_answers_ended session.new ≡ is_answers_ended session.old }
 {
     let told = session.script(piece);
-    seen.take(session.take_lines().as_slice())?;
+    see(session, seen)?;
     went(told)
 }
 
@@ -239,7 +239,7 @@ fn tell_answers(session: &mut Session, seen: &mut Seen, piece: &[u8]) -> Result<
     ensures answers { is_answers_ended session.new ≡ false }
 {
     let told = session.answers(piece);
-    seen.take(session.take_lines().as_slice())?;
+    see(session, seen)?;
     went(told)
 }
 
@@ -270,7 +270,7 @@ fn end_script(session: &mut Session, seen: &mut Seen) -> Result<()>
     ensures answers { is_answers_ended session.new ≡ is_answers_ended session.old }
 {
     let told = session.end_script();
-    seen.take(session.take_lines().as_slice())?;
+    see(session, seen)?;
     went(told)
 }
 
@@ -281,11 +281,24 @@ fn end_answers(session: &mut Session, seen: &mut Seen) -> Result<()>
     ensures script { is_script_ended session.new ≡ is_script_ended session.old }
 {
     let told = session.end_answers();
-    seen.take(session.take_lines().as_slice())?;
+    see(session, seen)?;
     went(told)
 }
 
-// A session fails where memory is refused; no row has a text of 2^64 bytes.
+// Takes the lines that are decided.
+fn see(session: &mut Session, seen: &mut Seen) -> Result<(), AllocError>
+    ensures stands { (h : History) → StandsFor session.old h
+        → (g : History) × StandsFor session.new g }
+    ensures script { is_script_ended session.new ≡ is_script_ended session.old }
+    ensures answers { is_answers_ended session.new ≡ is_answers_ended session.old }
+{
+    let lines = session.take_lines();
+    let outcome = seen.take(lines.as_slice());
+    drop(lines);
+    outcome
+}
+
+/// A session fails where memory is refused; no row has a text of 2^64 bytes.
 pub(crate) fn went(told: Result<(), Failed>) -> Result<()> {
     match told {
         Ok(()) => Ok(()),
