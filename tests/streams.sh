@@ -97,7 +97,7 @@ begins() {
     rm -f "$work/script" "$work/answers"
     mkfifo "$work/script" "$work/answers"
     : >"$work/output"
-    "$program" --print-success off "$work/script" "$work/answers" >"$work/output" 2>"$work/errors" 3>&- 4>&- &
+    timeout 60 "$program" --print-success off "$work/script" "$work/answers" >"$work/output" 2>"$work/errors" 3>&- 4>&- &
     running=$!
     exec 3>"$work/script" 4>"$work/answers"
 }
@@ -130,7 +130,7 @@ rm -f "$work/script" "$work/answers"
 echo "$first$second" >"$work/script"
 mkfifo "$work/answers"
 : >"$work/output"
-"$program" --print-success off "$work/script" "$work/answers" >"$work/output" 2>"$work/errors" &
+timeout 60 "$program" --print-success off "$work/script" "$work/answers" >"$work/output" 2>"$work/errors" &
 running=$!
 exec 4>"$work/answers"
 echo "$model" >&4
@@ -145,7 +145,7 @@ rm -f "$work/script" "$work/answers" "$work/pipe"
 mkfifo "$work/script" "$work/answers" "$work/pipe"
 head -c 10 "$work/pipe" >"$work/output" &
 reader=$!
-"$program" --print-success off "$work/script" "$work/answers" >"$work/pipe" 2>"$work/errors" &
+timeout 60 "$program" --print-success off "$work/script" "$work/answers" >"$work/pipe" 2>"$work/errors" &
 running=$!
 exec 3>"$work/script" 4>"$work/answers"
 echo "$first" >&3
@@ -159,7 +159,7 @@ ends 'a reader that has closed' 4 'smtcheck: output'
 # A device that is full, where texts go on: the run ends at the first line.
 rm -f "$work/script" "$work/answers"
 mkfifo "$work/script" "$work/answers"
-"$program" --print-success off "$work/script" "$work/answers" >/dev/full 2>"$work/errors" 3>&- 4>&- &
+timeout 60 "$program" --print-success off "$work/script" "$work/answers" >/dev/full 2>"$work/errors" 3>&- 4>&- &
 running=$!
 exec 3>"$work/script" 4>"$work/answers"
 echo "$first" >&3
@@ -187,14 +187,14 @@ status=0
     echo "$first"
     until_true 'a line while z3 waits' stands_first >&2
     echo "$second"
-} | z3 -in | "$program" --print-success off "$work/script" /dev/stdin >"$work/output" 2>"$work/errors" || status=$?
+} | z3 -in | timeout 60 "$program" --print-success off "$work/script" /dev/stdin >"$work/output" 2>"$work/errors" || status=$?
 [ "$status" = 0 ] && cmp -s "$work/output" "$work/wanted" || fail "z3 in a pipe: status $status, $(cat "$work/output" "$work/errors")"
 
 # The same where the program too reads the script as it is asked, both texts through named pipes.
 rm -f "$work/script" "$work/answers" "$work/asked"
 mkfifo "$work/script" "$work/answers" "$work/asked"
 : >"$work/output"
-"$program" --print-success off "$work/script" "$work/answers" >"$work/output" 2>"$work/errors" &
+timeout 60 "$program" --print-success off "$work/script" "$work/answers" >"$work/output" 2>"$work/errors" &
 running=$!
 z3 -in <"$work/asked" >"$work/answers" &
 solver=$!
