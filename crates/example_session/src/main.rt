@@ -56,7 +56,9 @@ fn print_lines<R: Print>(rt: &R, session: &mut Session, told: &str)
     ensures answers { is_answers_ended session.new ≡ is_answers_ended session.old }
 {
     let _ = println!(rt; "{told}:");
-    for line in &session.take_lines() {
+    let lines = session.take_lines();
+    for line in &lines {
         let _ = println!(rt; "  {line}");
     }
+    drop(lines);
 }
