@@ -65,12 +65,13 @@ abcdefghijklmnopqrstuvw => s:abcdefghijklmnopqrstuvw .'
 ) &
 reader=$!
 
-# The program has status 4, no report and a line that says why, or the status and the report that it has without a refusal.
+# The program has status 4, the first lines of the report or none and a line that says why, or the status and the report that it has
+# without a refusal.
 judge_program() {
     if [ "$status" = "$right" ]; then
         cmp -s "$work/output" "$work/right" || fail "$what" 'another report'
     elif [ "$status" = 4 ] && [ "$met" = yes ]; then
-        [ ! -s "$work/output" ] || fail "$what" 'a report, with status 4'
+        head -n "$(wc -l <"$work/output")" "$work/right" | cmp -s - "$work/output" || fail "$what" 'another report, with status 4'
         case $(cat "$work/errors") in
         'smtcheck: memory' | 'smtcheck: script' | 'smtcheck: answers') ;;
         *) fail "$what" "$(cat "$work/errors")" ;;
@@ -100,10 +101,16 @@ copies() {
     OUTCOMES=$work/outcomes LD_PRELOAD=$work/each.so "$top/crates/smtcheck/out/smtcheck" "$@" >"$work/output" || status=$?
     [ "$status" = "$right" ] || fail "$what" "status $status of the program that was copied"
     cmp -s "$work/output" "$work/right" || fail "$what" 'another report of the program that was copied'
-    {
-        echo "status $right, output: $(tr '\n' '|' <"$work/right"), errors: "
-        for word in memory script answers; do echo "status 4, output: , errors: smtcheck: $word|"; done
-    } >"$work/rightly"
+    # (a copy prints the lines behind those that the program had put when it was copied)
+    awk -v right="$right" '{ line[NR] = $0 }
+        END { for (from = 0; from <= NR; from++) {
+            text = ""
+            for (to = from; to <= NR; to++) {
+                if (to > from) text = text line[to] "|"
+                print "status 4, output: " text ", errors: smtcheck: memory|"
+                print "status 4, output: " text ", errors: smtcheck: script|"
+                print "status 4, output: " text ", errors: smtcheck: answers|" }
+            print "status " right ", output: " text ", errors: " } }' "$work/right" >"$work/rightly"
     if grep -vxF -f "$work/rightly" "$work/outcomes" >"$work/wrong"; then fail "$what" "$(head -n 1 "$work/wrong")"; fi
     refused=$(grep -c 'smtcheck: memory' "$work/outcomes")
     [ "$refused" -ge "$least" ] || fail "$what" "only $refused were met"

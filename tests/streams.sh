@@ -1,12 +1,18 @@
 #!/bin/sh
-# Runs the program where its words or its streams are at fault: the status, and the line on standard error. Needs what `rt ci` has
-# built. Says nothing where all is well.
+# Runs the program where its words or its streams are at fault: the status, and the line on standard error; and where a solver is at
+# work: each line comes once it is decided. Needs what `rt ci` has built, and z3 for a part of it, which is left out with a word on
+# standard error where there is none. Says nothing else where all is well.
 set -e
 cd "$(dirname "$0")/.."
 program=$PWD/crates/smtcheck/out/smtcheck
 data=$PWD/crates/smtcheck/data
 work=$(mktemp -d)
 trap 'rm -rf "$work"' EXIT
+
+fail() {
+    echo "streams: $1"
+    exit 1
+}
 
 # expect STATUS LINE WORDS..: the output goes to $output.
 expect() {
@@ -55,3 +61,147 @@ status 1 "$script" 'success success sat ((define-fun p () Bool false))'
 status 2 "$script" 'success success sat ()'
 status 3 "$script" 'success'
 status 3 '\177\000\001' '\000'
+
+# From here on the texts come slowly, through pipes. A writer that finds no reader doesn't end this script.
+trap '' PIPE
+valid='verdict: valid, confirmed 1, refuted 0, undecided 0, unchecked 1'
+first='(declare-const p Bool)(assert p)(check-sat)(get-model)(push 1)'
+second='(assert (not p))(check-sat)(pop 1)'
+model='sat ((define-fun p () Bool true))'
+cat >"$work/wanted" <<END
+check 1 at command 3: sat, confirmed
+check 2 at command 7: unsat
+$valid
+END
+head -n 1 "$work/wanted" >"$work/wanted_first"
+
+# until_true WHAT COMMAND..: waits until the command succeeds, for ten seconds at most.
+until_true() {
+    what=$1
+    shift
+    tries=0
+    while ! "$@"; do
+        tries=$((tries + 1))
+        [ "$tries" -lt 200 ] || fail "$what: $(cat "$work/output" "$work/errors")"
+        sleep 0.05
+    done
+}
+
+# Whether the first line stands, and nothing else.
+stands_first() {
+    cmp -s "$work/output" "$work/wanted_first"
+}
+
+# begins: the program runs on two named pipes, open as 3 and 4 here, and prints into the file `output`.
+begins() {
+    rm -f "$work/script" "$work/answers"
+    mkfifo "$work/script" "$work/answers"
+    : >"$work/output"
+    timeout 60 "$program" --print-success off "$work/script" "$work/answers" >"$work/output" 2>"$work/errors" 3>&- 4>&- &
+    running=$!
+    exec 3>"$work/script" 4>"$work/answers"
+}
+
+# ends WHAT STATUS LINE: both texts end here, and the program by this status and this line on standard error.
+ends() {
+    exec 3>&- 4>&-
+    ended "$@"
+}
+
+# ended WHAT STATUS LINE: the same where the texts go on.
+ended() {
+    status=0
+    wait "$running" || status=$?
+    [ "$status" = "$2" ] && [ "$(cat "$work/errors")" = "$3" ] || fail "$1: status $status, $(cat "$work/errors")"
+}
+
+# Lines come before either text has ended.
+begins
+echo "$first" >&3
+echo "$model" >&4
+until_true 'a line that is decided' stands_first
+echo "$second" >&3
+echo unsat >&4
+ends 'two named pipes' 0 ''
+cmp -s "$work/output" "$work/wanted" || fail 'another report through pipes'
+
+# A script that has gone from its folder is read to its end all the same.
+rm -f "$work/script" "$work/answers"
+echo "$first$second" >"$work/script"
+mkfifo "$work/answers"
+: >"$work/output"
+timeout 60 "$program" --print-success off "$work/script" "$work/answers" >"$work/output" 2>"$work/errors" &
+running=$!
+exec 4>"$work/answers"
+echo "$model" >&4
+until_true 'a line of a script that is there' stands_first
+rm "$work/script"
+echo unsat >&4
+ends 'a script that has gone' 0 ''
+cmp -s "$work/output" "$work/wanted" || fail 'another report on a script that has gone'
+
+# A reader that has closed: the next line is not written.
+rm -f "$work/script" "$work/answers" "$work/pipe"
+mkfifo "$work/script" "$work/answers" "$work/pipe"
+head -c 10 "$work/pipe" >"$work/output" &
+reader=$!
+timeout 60 "$program" --print-success off "$work/script" "$work/answers" >"$work/pipe" 2>"$work/errors" &
+running=$!
+exec 3>"$work/script" 4>"$work/answers"
+echo "$first" >&3
+echo "$model" >&4
+wait "$reader"
+[ "$(cat "$work/output")" = 'check 1 at' ] || fail "a reader of ten bytes: $(cat "$work/output")"
+echo "$second" >&3 || true
+echo unsat >&4 || true
+ends 'a reader that has closed' 4 'smtcheck: output'
+
+# A device that is full, where texts go on: the run ends at the first line.
+rm -f "$work/script" "$work/answers"
+mkfifo "$work/script" "$work/answers"
+timeout 60 "$program" --print-success off "$work/script" "$work/answers" >/dev/full 2>"$work/errors" 3>&- 4>&- &
+running=$!
+exec 3>"$work/script" 4>"$work/answers"
+echo "$first" >&3
+echo "$model" >&4
+ended 'a full device' 4 'smtcheck: output'
+exec 3>&- 4>&-
+
+# A text that fails behind lines that were written: these stay.
+rm -f "$work/script" "$work/answers"
+echo '(foo)' >"$work/script"
+output=$work/output
+expect 4 'smtcheck: answers' "$work/script" "$work"
+[ "$(head -n 1 "$output")" = 'fault C1 at command 1' ] || fail 'a fault that is not told'
+
+if ! command -v z3 >"$work/z3"; then
+    echo 'streams: no z3, so that no line is looked at while one works' >&2
+    exit 0
+fi
+
+# z3 answers what it is asked through a pipe, and the second check is asked once the first line stands. The script is a file.
+echo "$first$second" >"$work/script"
+: >"$work/output"
+status=0
+{
+    echo "$first"
+    until_true 'a line while z3 waits' stands_first >&2
+    echo "$second"
+} | z3 -in | timeout 60 "$program" --print-success off "$work/script" /dev/stdin >"$work/output" 2>"$work/errors" || status=$?
+[ "$status" = 0 ] && cmp -s "$work/output" "$work/wanted" || fail "z3 in a pipe: status $status, $(cat "$work/output" "$work/errors")"
+
+# The same where the program too reads the script as it is asked, both texts through named pipes.
+rm -f "$work/script" "$work/answers" "$work/asked"
+mkfifo "$work/script" "$work/answers" "$work/asked"
+: >"$work/output"
+timeout 60 "$program" --print-success off "$work/script" "$work/answers" >"$work/output" 2>"$work/errors" &
+running=$!
+z3 -in <"$work/asked" >"$work/answers" &
+solver=$!
+exec 3>"$work/script" 4>"$work/asked"
+echo "$first" | tee /dev/fd/4 >&3
+until_true 'a line while z3 waits for more of a named pipe' stands_first
+echo "$second" | tee /dev/fd/4 >&3
+ends 'z3 through named pipes' 0 ''
+wait "$solver"
+cmp -s "$work/output" "$work/wanted" || fail 'another report through named pipes'

@@ -1,16 +1,22 @@
-//! Rows of dialogues: each with its report and the exit status. This file looks into no report.
+//! Rows of dialogues: each with its report and the exit status, and what else comes where it is told in
+//! pieces. This file looks into no report.
+
+pub(crate) mod pieces;
+mod seen;
 
 use crate::commands::is_on;
+use crate::dialogues::pieces::{Dialogue, print_other};
 use crate::trees::want_key;
 use anyhow::{Result, bail};
 use row_texts::Field;
 use smt_dialogue::{Options, Report, validate};
 use smtcheck_status::status_of;
-use std::alloc::Global;
+use std::alloc::{AllocError, Global};
 use std::io;
 use std::io::Write;
 
-/// Prints the report on a dialogue, and the status.
+/// Prints the report on a dialogue, and the status. Where the texts come in pieces each line is the same,
+/// or the first that isn't is told.
 pub(crate) fn print<W: Write>(
     alloc: Global,
     out: &mut W,
@@ -41,25 +47,39 @@ fn print_dialogue<W: Write>(
 ) -> Result<()> {
     let script = script.bytes(alloc)?;
     let answers = answers.bytes(alloc)?;
-    print_report(alloc, out, script.as_slice(), answers.as_slice(), options)
+    let dialogue = Dialogue {
+        script: script.as_slice(),
+        answers: answers.as_slice(),
+        options,
+    };
+    print_told(alloc, out, dialogue)
 }
 
-fn print_report<W: Write>(
-    alloc: Global,
-    out: &mut W,
-    script: &[u8],
-    answers: &[u8],
-    options: Options,
-) -> Result<()> {
-    match &validate(alloc, script, answers, options) {
-        Ok(report) => Ok(write_report(out, report)?),
+// Prints the report on the whole texts, and the first line that is another where they come in
+// pieces.
+fn print_told<W: Write>(alloc: Global, out: &mut W, dialogue: Dialogue) -> Result<()> {
+    match &validate(alloc, dialogue.script, dialogue.answers, dialogue.options) {
+        Ok(report) => {
+            write_report(out, report)?;
+            let lines = texts_of(alloc, report)?;
+            print_other(alloc, out, dialogue, lines.as_slice())
+        }
         Err(_) => bail!("out of memory"),
     }
+}
+
+// The texts of the lines of a report.
+fn texts_of(alloc: Global, report: &Report) -> Result<Vec<String>, AllocError> {
+    let mut texts = Vec::new(alloc);
+    for line in &report.lines {
+        texts.push(format!(in alloc; "{line}")?)?;
+    }
+    Ok(texts)
 }
 
 fn write_report<W: Write>(out: &mut W, report: &Report) -> io::Result<()> {
     for line in &report.lines {
         writeln!(out, "{line}")?;
     }
-    writeln!(out, "status {}", status_of(report.verdict))
+    writeln!(out, "status {}", status_of(&Ok(report.verdict)))
 }

@@ -14,6 +14,7 @@ mod dialogues;
 mod items;
 mod models;
 mod names;
+mod sessions;
 mod terms;
 mod texts;
 mod trees;
@@ -81,6 +82,7 @@ fn print_answers<W: Write>(
     match title.key {
         "commands" => commands::print(alloc, out, fields),
         "dialogue" => dialogues::print(alloc, out, title, fields),
+        "session" => sessions::print(alloc, out, title, fields),
         "texts" => texts::print(alloc, out, fields),
         _ => print_over_library(alloc, out, title, fields),
     }
