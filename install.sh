@@ -10,16 +10,16 @@ if [ ! -x "$program" ]; then
     echo '    (cd crates/smtcheck && rt run -- "$PWD/data/script.smt2" "$PWD/data/answers.txt")' >&2
     exit 1
 fi
-version=$(sed -n 's/^## //p' "$top/CHANGELOG.md" | head -n 1)
+version=$("$program" --version) || [ $? = 5 ]
 mkdir -p "$prefix/bin" "$prefix/share/man/man1" "$prefix/share/doc/smtcheck"
 cp "$program" "$prefix/bin/smtcheck.new"
 chmod 755 "$prefix/bin/smtcheck.new"
 mv "$prefix/bin/smtcheck.new" "$prefix/bin/smtcheck"
-"$top/scripts/man_page.sh" "$program" "$version" >"$prefix/share/man/man1/smtcheck.1"
+"$top/scripts/man_page.sh" "$program" "$top/docs/LANGUAGE.md" >"$prefix/share/man/man1/smtcheck.1"
 for file in LICENSE CHANGELOG.md docs/LANGUAGE.md docs/SOLVERS.md docs/COLLECTIONS.md; do
     cp "$top/$file" "$prefix/share/doc/smtcheck/"
 done
-echo "smtcheck $version is installed: $prefix/bin/smtcheck"
+echo "$version is installed: $prefix/bin/smtcheck"
 case ":$PATH:" in
     *":$prefix/bin:"*) ;;
     *) echo "Add $prefix/bin to PATH to call it by its name." ;;

@@ -1,11 +1,14 @@
 #!/bin/sh
-# man_page.sh PROGRAM VERSION: prints the manual page, which is made of what the program says to `--help`.
+# man_page.sh PROGRAM LANGUAGE: prints the manual page, which is made of what the program says to `--help` and `--version`, and of the
+# last table of docs/LANGUAGE.md, on faults.
 set -e
+version=$("$1" --version) || [ $? = 5 ]
+version=${version#smtcheck }
 help=$("$1" --help) || [ $? = 5 ]
 [ -n "$help" ] || { echo "man_page.sh: $1 --help printed nothing" >&2; exit 1; }
 
 # The parts of the help: what stands before the usage, the usage, arguments, options, and the text behind them.
-printf '%s\n' "$help" | awk -v version="$2" '
+printf '%s\n' "$help" | awk -v version="${version%% *}" '
 function plain(text) {
     gsub(/\\/, "\\e", text)
     gsub(/-/, "\\-", text)
@@ -39,7 +42,13 @@ part == "list" && /^          / {
     next
 }
 /^  [0-9]+  / { print ".TP"; print ".B " $1; say(substr($0, index($0, $2))); next }
-/^[^ ]/ { if (part != "rest") { head("REPORT AND EXIT STATUS"); part = "rest" } say($0); next }
+/^[^ ]/ {
+    if (part != "rest") { head("REPORT AND EXIT STATUS"); part = "rest" }
+    if (gap) print ".PP"
+    gap = 0
+    say($0)
+    next
+}
 { say($0) }
 END { describe() }
 '
@@ -52,9 +61,18 @@ z3 script.smt2 > answers.txt
 smtcheck \-\-print\-success off script.smt2 answers.txt
 .fi
 .SH FAULTS
-A line such as \(gafault P2 at command 1, answer 1\(ga names a fault by a letter and a number. LANGUAGE.md has a table of all, with the likely
-cause of each and what to do. The one above says that the first command does not take the first answer: most often the solver prints no
-\(gasuccess\(ga, and \-\-print\-success off is missing.
+For each fault: what it means, the likely cause, and what to do.
+END
+sed -n '/^| fault | meaning | likely cause | what to do |$/,/^$/p' "$2" | sed '1,2d; /^$/d' |
+    sed 's/^| //; s/ |$//; s/\\|/!bar!/g; s/\*\*//g; s/\[\([A-Z]*\.md\)\]([^)]*)/\1/g; s/\\/\\e/g; s/-/\\-/g' |
+    awk '{
+        count = split($0, cells, / [|] /)
+        gsub(/`/, "", cells[1])
+        for (i = 1; i <= count; i++) { gsub(/`/, "\\(ga", cells[i]); gsub(/!bar!/, "|", cells[i]) }
+        print ".TP\n.B " cells[1]
+        print cells[2] ".\n.br\nLikely: " cells[3] ".\n.br\nTo do: " cells[4] "."
+    }'
+cat <<'END'
 .SH SEE ALSO
 LANGUAGE.md, SOLVERS.md and COLLECTIONS.md, which are installed beside this page, in share/doc/smtcheck.
 END

@@ -15,7 +15,7 @@ fail() {
 
 ./install.sh "$work/to" >"$work/said" 2>&1 || fail "$(cat "$work/said")"
 version=$(sed -n 's/^## //p' CHANGELOG.md | head -n 1)
-grep -qx "smtcheck $version is installed: $work/to/bin/smtcheck" "$work/said" || fail "it said $(cat "$work/said")"
+grep -q "^smtcheck $version (.*) is installed: $work/to/bin/smtcheck\$" "$work/said" || fail "it said $(cat "$work/said")"
 (cd "$work" && PATH=$work/to/bin:$PATH smtcheck "$data/script.smt2" "$data/answers.txt" >report) || fail 'the installed program has another status'
 cmp -s "$work/report" crates/smtcheck/stdout || fail 'the installed program has another report'
 for file in LICENSE CHANGELOG.md LANGUAGE.md SOLVERS.md COLLECTIONS.md; do
@@ -30,6 +30,12 @@ while read -r named; do
     grep -qxF ".B $(printf '%s\n' "$named" | sed 's/-/\\-/g')" "$page" || fail "the manual page does not name $named"
 done <"$work/named"
 grep -qF "smtcheck $version" "$page" || fail 'the manual page has another version'
+# so is every fault
+for fault in $(cat crates/smt_faults/specs/FlawText.antt crates/smt_report/specs/LineText.antt |
+    grep -o 'codes "[A-Z fault]*[XCPF][0-9]' | grep -o '[XCPF][0-9]$'); do
+    grep -q "^\\.B $fault" "$page" || fail "the manual page does not name $fault"
+done
+! grep -qx -e 'Likely: \.' -e 'To do: \.' "$page" || fail 'the manual page leaves out what to do'
 if command -v mandoc >"$work/said"; then
     mandoc -T lint -W error "$page" >"$work/said" || fail "$(cat "$work/said")"
 fi
