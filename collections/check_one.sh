@@ -19,7 +19,12 @@ name=$(printf '%s\n' "$2" | sed 's|^/*||; s|^\./||; s|\.\./|up/|g')
 row=$1/$name.row
 [ ! -e "$row" ] || exit 0
 mkdir -p "$(dirname "$row")"
-[ -z "$MEMORY_KB" ] || ulimit -v "$MEMORY_KB"
+
+# limited SECONDS COMMAND..: runs the command within the limits.
+limited() (
+    [ -z "$MEMORY_KB" ] || ulimit -v "$MEMORY_KB"
+    exec timeout "$@"
+)
 
 solver=-
 answers=${2%.smt2}.txt
@@ -27,11 +32,11 @@ if [ -n "$SOLVER" ]; then
     answers=$1/$name.answers
     solver=0
     # (the solver's command may have options)
-    timeout "${SOLVER_SECONDS:-60}" $SOLVER "$2" >"$answers" 2>"$1/$name.errors" </dev/null || solver=$?
+    limited "${SOLVER_SECONDS:-60}" $SOLVER "$2" >"$answers" 2>"$1/$name.solver_errors" </dev/null || solver=$?
 fi
 
 status=0
-timeout "${CHECK_SECONDS:-60}" "${SMTCHECK:-smtcheck}" --print-success "${PRINT_SUCCESS:-off}" "$2" "$answers" \
+limited "${CHECK_SECONDS:-60}" "${SMTCHECK:-smtcheck}" --print-success "${PRINT_SUCCESS:-off}" "$2" "$answers" \
     >"$1/$name.report" 2>"$1/$name.errors" </dev/null || status=$?
 case $status in
     0) verdict=valid ;;

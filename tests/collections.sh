@@ -72,6 +72,12 @@ SOLVER="$work/slow" SOLVER_SECONDS=1 "$top/collections/check_one.sh" "$work/slow
 SMTCHECK="$work/slow" CHECK_SECONDS=1 "$top/collections/check_one.sh" "$work/stopped" plain/sudoku.smt2
 [ "$(cut -f 3-5 "$work/stopped/plain/sudoku.smt2.row")" = '124	stopped	-' ] ||
     fail "a check that is stopped: $(cat "$work/stopped/plain/sudoku.smt2.row")"
+# Memory that runs out is no verdict.
+"$top/tests/chain.sh" 300000 1 >"$work/chain.smt2"
+echo 'sat ()' >"$work/chain.txt"
+(cd "$work" && MEMORY_KB=30000 "$top/collections/check_one.sh" "$work/small" chain.smt2 && "$top/collections/check_one.sh" "$work/large" chain.smt2)
+[ "$(cut -f 3,4,9 "$work/small/chain.smt2.row")" = '4	no report	smtcheck: memory' ] || fail "little memory: $(cat "$work/small/chain.smt2.row")"
+[ "$(cut -f 3,4 "$work/large/chain.smt2.row")" = '0	valid' ] || fail "memory enough: $(cat "$work/large/chain.smt2.row")"
 # Missing answers are no verdict either.
 "$top/collections/check_one.sh" "$work/missing" plain/none.smt2
 [ "$(cut -f 3,4,9 "$work/missing/plain/none.smt2.row")" = '4	no report	smtcheck: script' ] ||
