@@ -1,11 +1,17 @@
 #!/bin/sh
 # man_page.sh PROGRAM LANGUAGE: prints the manual page, which is made of what the program says to `--help` and `--version`, and of the
-# last table of docs/LANGUAGE.md, on faults.
+# last two tables of docs/LANGUAGE.md, on faults and on the lines of standard error.
 set -e
 version=$("$1" --version) || [ $? = 5 ]
 version=${version#smtcheck }
 help=$("$1" --help) || [ $? = 5 ]
 [ -n "$help" ] || { echo "man_page.sh: $1 --help printed nothing" >&2; exit 1; }
+
+# rows HEAD FILE: the rows of the table with this head, written for a manual page.
+rows() {
+    awk -v head="$1" '$0 == head { on = 1; next } /^$/ { on = 0 } on && !/^[|]---/' "$2" |
+        sed 's/^| //; s/ |$//; s/\\|/!bar!/g; s/\*\*//g; s/\[\([A-Z]*\.md\)\]([^)]*)/\1/g; s/\\/\\e/g; s/-/\\-/g; s/`/\\(ga/g'
+}
 
 # The parts of the help: what stands before the usage, the usage, arguments, options, and the text behind them.
 printf '%s\n' "$help" | awk -v version="${version%% *}" '
@@ -63,15 +69,22 @@ smtcheck \-\-print\-success off script.smt2 answers.txt
 .SH FAULTS
 For each fault: what it means, the likely cause, and what to do.
 END
-sed -n '/^| fault | meaning | likely cause | what to do |$/,/^$/p' "$2" | sed '1,2d; /^$/d' |
-    sed 's/^| //; s/ |$//; s/\\|/!bar!/g; s/\*\*//g; s/\[\([A-Z]*\.md\)\]([^)]*)/\1/g; s/\\/\\e/g; s/-/\\-/g' |
-    awk '{
-        count = split($0, cells, / [|] /)
-        gsub(/`/, "", cells[1])
-        for (i = 1; i <= count; i++) { gsub(/`/, "\\(ga", cells[i]); gsub(/!bar!/, "|", cells[i]) }
-        print ".TP\n.B " cells[1]
-        print cells[2] ".\n.br\nLikely: " cells[3] ".\n.br\nTo do: " cells[4] "."
-    }'
+rows '| fault | meaning | likely cause | what to do |' "$2" | awk '{
+    split($0, cells, / [|] /)
+    gsub(/\\\(ga/, "", cells[1])
+    print ".TP\n.B " cells[1]
+    print cells[2] ".\n.br\nLikely: " cells[3] ".\n.br\nTo do: " cells[4] "."
+}' | sed 's/!bar!/|/g'
+cat <<'END'
+.SH DIAGNOSTICS
+A run without a report ends with status 4, and one line on standard error says why.
+END
+rows '| line on standard error | meaning | what to do |' "$2" | awk '{
+    split($0, cells, / [|] /)
+    gsub(/\\\(ga/, "", cells[1])
+    print ".TP\n.B " cells[1]
+    print cells[2] ".\n.br\nTo do: " cells[3] "."
+}' | sed 's/!bar!/|/g'
 cat <<'END'
 .SH SEE ALSO
 LANGUAGE.md, SOLVERS.md and COLLECTIONS.md, which are installed beside this page, in share/doc/smtcheck.

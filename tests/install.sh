@@ -30,7 +30,10 @@ while read -r named; do
     grep -qxF ".B $(printf '%s\n' "$named" | sed 's/-/\\-/g')" "$page" || fail "the manual page does not name $named"
 done <"$work/named"
 grep -qF "smtcheck $version" "$page" || fail 'the manual page has another version'
-# so is every fault
+# so is every fault, and every line of standard error
+for file in script answers output memory; do
+    grep -qx ".B smtcheck: $file" "$page" || fail "the manual page does not name smtcheck: $file"
+done
 for fault in $(cat crates/smt_faults/specs/FlawText.antt crates/smt_report/specs/LineText.antt |
     grep -o 'codes "[A-Z fault]*[XCPF][0-9]' | grep -o '[XCPF][0-9]$'); do
     grep -q "^\\.B $fault" "$page" || fail "the manual page does not name $fault"
