@@ -150,7 +150,7 @@ The last line of the report is the verdict, and the exit status says the same:
   1  invalid: some model makes an assertion false
   2  not decided: no model refutes a `sat`, and some `sat` is not confirmed
   3  refused: the script or the answers have a fault
-  4  a file could not be opened, read or written, or memory was refused
+  4  a file could not be opened, read or written, or memory was refused: standard error says which
   5  the command line was refused, or help or the version was asked for
 
 A fault is named by a letter and a number: the manual page and docs/LANGUAGE.md say what each means, its likely cause, and what to do. Seen most often is `fault P2 at command 1, answer 1`: the solver prints no `success`, and --print-success off is missing.

@@ -37,7 +37,7 @@ const VERDICTS: &str =
   1  invalid: some model makes an assertion false
   2  not decided: no model refutes a `sat`, and some `sat` is not confirmed
   3  refused: the script or the answers have a fault
-  4  a file could not be opened, read or written, or memory was refused
+  4  a file could not be opened, read or written, or memory was refused: standard error says which
   5  the command line was refused, or help or the version was asked for
 
 A fault is named by a letter and a number: the manual page and docs/LANGUAGE.md say what each means, its \
