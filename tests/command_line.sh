@@ -3,7 +3,8 @@
 # what `rt ci` has built. Says nothing where all is well.
 set -e
 cd "$(dirname "$0")/.."
-program=$PWD/crates/smtcheck/out/smtcheck
+top=$PWD
+program=$top/crates/smtcheck/out/smtcheck
 work=$(mktemp -d)
 trap 'rm -rf "$work"' EXIT
 cd "$work"
@@ -131,7 +132,7 @@ Options:
       --print-success <on|off>
           Whether the solver prints `success`, from the start, for each command that has no answer of its own.
           
-          off: for z3, cvc5 and cvc4, which print it only once the script says (set-option :print-success true)
+          off: for z3, cvc5, cvc4 and bitwuzla, which print it only once the script says (set-option :print-success true)
           on:  for SMTInterpol and others that keep to the default of SMT-LIB, and for a run that was told to print it, such as `z3 smtlib2_compliant=true` or `cvc5 --print-success`
           
           A script's own (set-option :print-success ..) is followed from there on.
@@ -141,15 +142,27 @@ Options:
   -h, --help
           Print help (see a summary with '-h')
 
+  -V, --version
+          Print version
+
 The last line of the report is the verdict, and the exit status says the same:
   0  valid: every `sat` is confirmed by the models printed for it
   1  invalid: some model makes an assertion false
   2  not decided: no model refutes a `sat`, and some `sat` is not confirmed
   3  refused: the script or the answers have a fault
-  4  a file could not be opened, read or written, or memory was refused
-  5  the command line was refused, or help was asked for
+  4  a file could not be opened, read or written, or memory was refused: standard error says which
+  5  the command line was refused, or help or the version was asked for
+
+A fault is named by a letter and a number: the manual page and docs/LANGUAGE.md say what each means, its likely cause, and what to do. Seen most often is `fault P2 at command 1, answer 1`: the solver prints no `success`, and --print-success off is missing.
 END
 run --help
 [ "$status" = 5 ] && [ ! -s errors ] && cmp -s wanted output || fail --help
 run 'a b -h'
 [ "$status" = 5 ] && [ ! -s errors ] && grep -q '^Usage: smtcheck' output || fail 'a b -h'
+
+# The version is that of CHANGELOG.md, and the kit is the one that is here.
+version=$(sed -n 's/^## //p' "$top/CHANGELOG.md" | head -n 1)
+for line in --version -V 'a b -V'; do
+    run "$line"
+    [ "$status" = 5 ] && [ ! -s errors ] && [ "$(cat output)" = "smtcheck $version ($(rt version))" ] || fail "$line"
+done

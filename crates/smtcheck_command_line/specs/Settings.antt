@@ -4,6 +4,7 @@ use Rattle.std.specs.Prelude.{MatchResult, None, Option, Result, if◌then◌els
 use Rattle.std.specs.Borrow.{Bor}
 use Rattle.clap.specs.Words.{App, IsAmong, IsParsedFrom, Rule, Text, fault_of, first_of, first_value}
 use Rattle.clap.specs.Words.{found_of, kind_of, matches_of, new_app, new_rule, with_rule}
+use Rattle.clap.specs.Simple.{on_top}
 use Rattle.clap.specs.declared.builder.value_parser.ValueParser.TheVariants as parser
 use Rattle.clap.specs.declared.builder.Command.{Command}
 use Rattle.clap.specs.declared.parser.ArgMatches.{ArgMatches}
@@ -40,10 +41,14 @@ success_rule places = record (new_rule (codes "print-success")) {
   defaults = codes "on" ∷ [];
 }
 
--- `smtcheck [--print-success on|off] SCRIPT ANSWERS`
+-- a command that tells its version
+abbrev pub with_version : App → App
+with_version = on_top (λ s. record s { has_version = true })
+
+-- `smtcheck [--print-success on|off] SCRIPT ANSWERS`, which has `--version` and `--help` besides
 unfoldable pub smtcheck_app : Places → App
 smtcheck_app places =
-    with_rule (with_rule (with_rule (new_app (codes "smtcheck")) (file_rule (codes "SCRIPT")))
+    with_rule (with_rule (with_rule (with_version (new_app (codes "smtcheck"))) (file_rule (codes "SCRIPT")))
     (file_rule (codes "ANSWERS"))) (success_rule places)
 
 -- of the program's command, whose words lie at some places

@@ -13,6 +13,9 @@ use clap::error::ErrorKind;
 use clap::{Arg, ArgAction, Command};
 use std::alloc::{AllocError, Global};
 
+/// The version of the program and the kit that proves it, which `--version` prints behind the program's name.
+const VERSION: &str = "0.1.0 (rattle-kit-13b logic dac8208d650f15bf)";
+
 const ABOUT: &str = "Checks the models that an SMT solver printed.
 
 SCRIPT is the SMT-LIB 2.6 script that the solver read, and ANSWERS the text that it printed for it. Each \
@@ -22,7 +25,7 @@ assertion that was in force.";
 const PRINT_SUCCESS: &str =
     "Whether the solver prints `success`, from the start, for each command that has no answer of its own.
 
-off: for z3, cvc5 and cvc4, which print it only once the script says (set-option :print-success true)
+off: for z3, cvc5, cvc4 and bitwuzla, which print it only once the script says (set-option :print-success true)
 on:  for SMTInterpol and others that keep to the default of SMT-LIB, and for a run that was told to print \
 it, such as `z3 smtlib2_compliant=true` or `cvc5 --print-success`
 
@@ -34,8 +37,12 @@ const VERDICTS: &str =
   1  invalid: some model makes an assertion false
   2  not decided: no model refutes a `sat`, and some `sat` is not confirmed
   3  refused: the script or the answers have a fault
-  4  a file could not be opened, read or written, or memory was refused
-  5  the command line was refused, or help was asked for";
+  4  a file could not be opened, read or written, or memory was refused: standard error says which
+  5  the command line was refused, or help or the version was asked for
+
+A fault is named by a letter and a number: the manual page and docs/LANGUAGE.md say what each means, its \
+likely cause, and what to do. Seen most often is `fault P2 at command 1, answer 1`: the solver prints no \
+`success`, and --print-success off is missing.";
 
 /// The command line of the program.
 pub(crate) fn smtcheck_command<'a>(alloc: Global) -> Result<Command<'a>, AllocError>
@@ -46,6 +53,7 @@ pub(crate) fn smtcheck_command<'a>(alloc: Global) -> Result<Command<'a>, AllocEr
     let script = file(alloc, "SCRIPT", "the script that the solver read");
     let answers = file(alloc, "ANSWERS", "what the solver printed");
     Command::new(alloc, "smtcheck")
+        .version(VERSION)
         .about(ABOUT)
         .bin_name("smtcheck")?
         .after_help(VERDICTS)

@@ -23,7 +23,7 @@ use Rattle.clap.specs.declared.builder.Arg.{Arg}
 use Rattle.clap.specs.declared.builder.command.Command.TheViews.{out-Command}
 use Rattle.clap.proofs.CallerLemmas.{added_plain, required_in_chain}
 use Rattle.smtcheck_command_line.specs.Settings.{Places, choices, file_rule, smtcheck_app, success_rule}
-use Rattle.smtcheck_command_line.specs.Settings.{success_word}
+use Rattle.smtcheck_command_line.specs.Settings.{success_word, with_version}
 use Rattle.smtcheck_command_line.proofs.DefaultLemmas.{default_reads}
 use Rattle.smtcheck_command_line.proofs.command.smtcheck_command.Goals as goal
 
@@ -122,9 +122,9 @@ success_read old m a b c d places p plain globals list same a_id b_id rule undiv
 pub returns-clause-app : goal.returns-clause-app
 unfolding smtcheck_app
 returns-clause-app c =
-    let named : app_of c.after_help.result ≡ new_app (codes "smtcheck") =
+    let named : app_of c.after_help.result ≡ with_version (new_app (codes "smtcheck")) =
     ap app_of_fields c.after_help.ensures ∙ ap app_of_fields c.in_ok-bin_name.ensures.0 ∙ ap app_of_fields
-    c.about.ensures ∙ c.new.ensures.app in
+    c.about.ensures ∙ ap app_of_fields c.version.ensures ∙ ap with_version c.new.ensures.app in
     let first = c.in_ok-arg.ensures.shape c.file-script.ensures.local ∙ ap₂ with_rule named
     c.file-script.ensures.rule in
     let second = c.in_ok-arg-2.ensures.shape c.file-answers.ensures.local ∙ ap₂ with_rule first

@@ -1,0 +1,7 @@
+(declare-const x Int)
+(define-fun limit () Int 3)
+(define-fun twice ((y Int)) Int (* 2 y))
+(assert (! (< (twice x) limit) :named small))
+(assert (! (< (- 5) x) :named large))
+(check-sat)
+(get-model)

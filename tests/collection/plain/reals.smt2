@@ -1,0 +1,5 @@
+(set-logic QF_LRA)
+(declare-const x Real)
+(assert (< 0.5 x))
+(check-sat)
+(get-model)
