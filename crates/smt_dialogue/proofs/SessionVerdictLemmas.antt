@@ -48,10 +48,10 @@ no_fault : (fault : Option Line) (ls : List Line) → IsFaultLine fault
     → list_any is_fault_line (ls ++ lines_of_end fault) ≡ false → fault ≡ None
 no_fault None ls is h = refl
 no_fault (Some line) ls is h = absurd (
-  let last = sym (list_any-append is_fault_line ls (line ∷ [])) ∙ h in
-  let first : list_any is_fault_line ls || (is_fault_line line || false) ≡ true =
-  ap (λ b. list_any is_fault_line ls || (b || false)) is ∙ or_last (list_any is_fault_line ls) in
-  let e : true ≡ false = sym first ∙ last in cc)
+    let last = sym (list_any-append is_fault_line ls (line ∷ [])) ∙ h in
+    let first : list_any is_fault_line ls || (is_fault_line line || false) ≡ true =
+    ap (λ b. list_any is_fault_line ls || (b || false)) is ∙ or_last (list_any is_fault_line ls) in
+    let e : true ≡ false = sym first ∙ last in cc)
 
 faultless_end : (v : Verdict) (h : History) (ls : List Line) → (e : HasEnded v h ls)
     → list_any is_fault_line (lines_in true [] e.pairs [] ++ lines_of_end e.fault) ≡ false → e.fault ≡ None

@@ -21,10 +21,10 @@ use crate::turn::{Turn, refused, take_up};
 use smt_eval::Memory;
 use smt_report::{Line, Side, Verdict};
 use smt_script::{Command, CommandFlaw, read_command};
-use std::alloc::Global;
 use smt_text::laws::{
     every_text_reads, one_reading, read_faults_stay, read_trees_stay, trees_are_no_more_than_bytes,
 };
+use std::alloc::Global;
 
 // A law: of a text no more trees are read than it has bytes, whether its end was told or not.
 fn trees_are_few()
@@ -51,8 +51,13 @@ impl Exchange {
     /// start.
     pub(crate) fn new(alloc: Global, initial_print_success: bool) -> Self
         ensures way { (script answers : TextSoFar) → IsRead false [] script → IsRead false [] answers
-            → IsUnderWay result (record { script_bytes = []; script = script; answers_bytes = [];
-            answers = answers; taken = [] }) [] script.trees answers.trees }
+            → IsUnderWay result (record {
+              script_bytes = [];
+              script = script;
+              answers_bytes = [];
+              answers = answers;
+              taken = [];
+            }) [] script.trees answers.trees }
         ensures waiting { waiting result ≡ [] }
         ensures start { initial_print_success_of result.dialogue.stack ≡ initial_print_success }
         ensures script_fed { bytes_fed result.script.reader ≡ 0 }

@@ -1,7 +1,8 @@
 //! A session over two sources and a sink: pieces are pulled of the text that the session waits for, and each line
 //! is put once it is decided. This file decides nothing.
 
-ghost use Rattle.std.specs.Prelude.{◌≡◌, ◌<◌, ◌+◌, ◌++◌, ℕ, Bool, List, [], Option, None, true, false, length, take, nat_eq, Some};
+ghost use Rattle.std.specs.Prelude.{◌≡◌, ◌<◌, ◌+◌, ◌++◌, ℕ, Bool, List, [], Option, None, Some, true, false};
+ghost use Rattle.std.specs.Prelude.{length, nat_eq, take};
 ghost use Rattle.std.specs.Prelude.{IfErr, IfOk, MatchResult, OnErr, OnOk, string_bytes};
 ghost use Rattle.std.specs.Io.KnownBytes.{Appends, Consumes, IsAtEnd};
 ghost use Rattle.smt_dialogue.specs.History.{History, begun, with_taken};
@@ -61,15 +62,35 @@ pub fn run<R1: Source, R2: Source, W: Sink>(
     requires answers_open { R2.has_ended answers.old ≡ false }
     requires out_sound { W.is_broken out.old ≡ false }
     ensures ran { IfOk result (λ verdict. HasRun options
-        (record { script = R1.to_come script.old; script_ended = R1.has_ended script.old;
-        answers = R2.to_come answers.old; answers_ended = R2.has_ended answers.old; out = W.taken out.old })
-        (record { script = R1.to_come script.new; script_ended = R1.has_ended script.new;
-        answers = R2.to_come answers.new; answers_ended = R2.has_ended answers.new; out = W.taken out.new }) verdict) }
+        (record {
+          script = R1.to_come script.old;
+          script_ended = R1.has_ended script.old;
+          answers = R2.to_come answers.old;
+          answers_ended = R2.has_ended answers.old;
+          out = W.taken out.old;
+        })
+        (record {
+          script = R1.to_come script.new;
+          script_ended = R1.has_ended script.new;
+          answers = R2.to_come answers.new;
+          answers_ended = R2.has_ended answers.new;
+          out = W.taken out.new;
+        }) verdict) }
     ensures stopped { IfErr result (λ fault. HasStopped options
-        (record { script = R1.to_come script.old; script_ended = R1.has_ended script.old;
-        answers = R2.to_come answers.old; answers_ended = R2.has_ended answers.old; out = W.taken out.old })
-        (record { script = R1.to_come script.new; script_ended = R1.has_ended script.new;
-        answers = R2.to_come answers.new; answers_ended = R2.has_ended answers.new; out = W.taken out.new }) fault) }
+        (record {
+          script = R1.to_come script.old;
+          script_ended = R1.has_ended script.old;
+          answers = R2.to_come answers.old;
+          answers_ended = R2.has_ended answers.old;
+          out = W.taken out.old;
+        })
+        (record {
+          script = R1.to_come script.new;
+          script_ended = R1.has_ended script.new;
+          answers = R2.to_come answers.new;
+          answers_ended = R2.has_ended answers.new;
+          out = W.taken out.new;
+        }) fault) }
     ensures blamed { IfErr result (λ fault.
         IsBlamed fault (R1.is_broken script.new) (R2.is_broken answers.new) (W.is_broken out.new)) }
 {
@@ -99,16 +120,36 @@ fn follow<R1: Source, R2: Source, W: Sink>(
     requires out_sound { W.is_broken out.old ≡ false }
     ensures ran { IfOk result (λ verdict. (options : Given) → StandsFor session.old (begun options)
         → HasRun options
-        (record { script = R1.to_come script.old; script_ended = R1.has_ended script.old;
-        answers = R2.to_come answers.old; answers_ended = R2.has_ended answers.old; out = W.taken out.old })
-        (record { script = R1.to_come script.new; script_ended = R1.has_ended script.new;
-        answers = R2.to_come answers.new; answers_ended = R2.has_ended answers.new; out = W.taken out.new }) verdict) }
+        (record {
+          script = R1.to_come script.old;
+          script_ended = R1.has_ended script.old;
+          answers = R2.to_come answers.old;
+          answers_ended = R2.has_ended answers.old;
+          out = W.taken out.old;
+        })
+        (record {
+          script = R1.to_come script.new;
+          script_ended = R1.has_ended script.new;
+          answers = R2.to_come answers.new;
+          answers_ended = R2.has_ended answers.new;
+          out = W.taken out.new;
+        }) verdict) }
     ensures stopped { IfErr result (λ fault. (options : Given) → StandsFor session.old (begun options)
         → HasStopped options
-        (record { script = R1.to_come script.old; script_ended = R1.has_ended script.old;
-        answers = R2.to_come answers.old; answers_ended = R2.has_ended answers.old; out = W.taken out.old })
-        (record { script = R1.to_come script.new; script_ended = R1.has_ended script.new;
-        answers = R2.to_come answers.new; answers_ended = R2.has_ended answers.new; out = W.taken out.new }) fault) }
+        (record {
+          script = R1.to_come script.old;
+          script_ended = R1.has_ended script.old;
+          answers = R2.to_come answers.old;
+          answers_ended = R2.has_ended answers.old;
+          out = W.taken out.old;
+        })
+        (record {
+          script = R1.to_come script.new;
+          script_ended = R1.has_ended script.new;
+          answers = R2.to_come answers.new;
+          answers_ended = R2.has_ended answers.new;
+          out = W.taken out.new;
+        }) fault) }
     ensures blamed { IfErr result (λ fault.
         IsBlamed fault (R1.is_broken script.new) (R2.is_broken answers.new) (W.is_broken out.new)) }
 {
@@ -148,17 +189,37 @@ fn step<R1: Source, R2: Source, W: Sink>(
     requires script_end { R1.has_ended script.old ≡ true → IsAtEnd (R1.to_come script.old) }
     requires answers_end { R2.has_ended answers.old ≡ true → IsAtEnd (R2.to_come answers.old) }
     ensures goes_on { OnOk result ((options : Given) (before : Devices) → IsRunning options before
-        (record { script = R1.to_come script.old; script_ended = R1.has_ended script.old;
-        answers = R2.to_come answers.old; answers_ended = R2.has_ended answers.old; out = W.taken out.old }) session.old
+        (record {
+          script = R1.to_come script.old;
+          script_ended = R1.has_ended script.old;
+          answers = R2.to_come answers.old;
+          answers_ended = R2.has_ended answers.old;
+          out = W.taken out.old;
+        }) session.old
         → IsRunning options before
-        (record { script = R1.to_come script.new; script_ended = R1.has_ended script.new;
-        answers = R2.to_come answers.new; answers_ended = R2.has_ended answers.new; out = W.taken out.new }) session.new) }
+        (record {
+          script = R1.to_come script.new;
+          script_ended = R1.has_ended script.new;
+          answers = R2.to_come answers.new;
+          answers_ended = R2.has_ended answers.new;
+          out = W.taken out.new;
+        }) session.new) }
     ensures stopped { IfErr result (λ fault. (options : Given) (before : Devices) → IsRunning options before
-        (record { script = R1.to_come script.old; script_ended = R1.has_ended script.old;
-        answers = R2.to_come answers.old; answers_ended = R2.has_ended answers.old; out = W.taken out.old }) session.old
+        (record {
+          script = R1.to_come script.old;
+          script_ended = R1.has_ended script.old;
+          answers = R2.to_come answers.old;
+          answers_ended = R2.has_ended answers.old;
+          out = W.taken out.old;
+        }) session.old
         → HasStopped options before
-        (record { script = R1.to_come script.new; script_ended = R1.has_ended script.new;
-        answers = R2.to_come answers.new; answers_ended = R2.has_ended answers.new; out = W.taken out.new }) fault) }
+        (record {
+          script = R1.to_come script.new;
+          script_ended = R1.has_ended script.new;
+          answers = R2.to_come answers.new;
+          answers_ended = R2.has_ended answers.new;
+          out = W.taken out.new;
+        }) fault) }
     ensures blamed { IfErr result (λ fault.
         IsBlamed fault (R1.is_broken script.new) (R2.is_broken answers.new) (W.is_broken out.new)) }
     ensures failure { OnOk result (failure_of session.new ≡ None) }
@@ -196,19 +257,40 @@ fn step_script<R: Source, W: Sink>(
     requires room { 0 < length block.old }
     ensures goes_on { OnOk result ((options : Given) (before : Devices) (other : Option (List ℕ)) (ended : Bool)
         → IsRunning options before
-        (record { script = R.to_come script.old; script_ended = R.has_ended script.old;
-        answers = other; answers_ended = ended; out = W.taken out.old }) session.old
+        (record {
+          script = R.to_come script.old;
+          script_ended = R.has_ended script.old;
+          answers = other;
+          answers_ended = ended;
+          out = W.taken out.old;
+        }) session.old
         → IsRunning options before
-        (record { script = R.to_come script.new; script_ended = R.has_ended script.new;
-        answers = other; answers_ended = ended; out = W.taken out.new }) session.new) }
+        (record {
+          script = R.to_come script.new;
+          script_ended = R.has_ended script.new;
+          answers = other;
+          answers_ended = ended;
+          out = W.taken out.new;
+        }) session.new) }
     ensures stopped { IfErr result (λ fault. (options : Given) (before : Devices) (other : Option (List ℕ))
         (ended : Bool) → IsRunning options before
-        (record { script = R.to_come script.old; script_ended = R.has_ended script.old;
-        answers = other; answers_ended = ended; out = W.taken out.old }) session.old
+        (record {
+          script = R.to_come script.old;
+          script_ended = R.has_ended script.old;
+          answers = other;
+          answers_ended = ended;
+          out = W.taken out.old;
+        }) session.old
         → HasStopped options before
-        (record { script = R.to_come script.new; script_ended = R.has_ended script.new;
-        answers = other; answers_ended = ended; out = W.taken out.new }) fault) }
-    ensures blamed { IfErr result (λ fault. (other : Bool) → IsBlamed fault (R.is_broken script.new) other (W.is_broken out.new)) }
+        (record {
+          script = R.to_come script.new;
+          script_ended = R.has_ended script.new;
+          answers = other;
+          answers_ended = ended;
+          out = W.taken out.new;
+        }) fault) }
+    ensures blamed { IfErr result (λ fault. (other : Bool)
+        → IsBlamed fault (R.is_broken script.new) other (W.is_broken out.new)) }
     ensures failure { OnOk result (failure_of session.new ≡ None) }
     ensures waiting { OnOk result (lines_waiting session.new ≡ []) }
     ensures ended { is_script_ended session.new ≡ R.has_ended script.new }
@@ -242,19 +324,40 @@ fn step_answers<R: Source, W: Sink>(
     requires room { 0 < length block.old }
     ensures goes_on { OnOk result ((options : Given) (before : Devices) (other : Option (List ℕ)) (ended : Bool)
         → IsRunning options before
-        (record { script = other; script_ended = ended;
-        answers = R.to_come answers.old; answers_ended = R.has_ended answers.old; out = W.taken out.old }) session.old
+        (record {
+          script = other;
+          script_ended = ended;
+          answers = R.to_come answers.old;
+          answers_ended = R.has_ended answers.old;
+          out = W.taken out.old;
+        }) session.old
         → IsRunning options before
-        (record { script = other; script_ended = ended;
-        answers = R.to_come answers.new; answers_ended = R.has_ended answers.new; out = W.taken out.new }) session.new) }
+        (record {
+          script = other;
+          script_ended = ended;
+          answers = R.to_come answers.new;
+          answers_ended = R.has_ended answers.new;
+          out = W.taken out.new;
+        }) session.new) }
     ensures stopped { IfErr result (λ fault. (options : Given) (before : Devices) (other : Option (List ℕ))
         (ended : Bool) → IsRunning options before
-        (record { script = other; script_ended = ended;
-        answers = R.to_come answers.old; answers_ended = R.has_ended answers.old; out = W.taken out.old }) session.old
+        (record {
+          script = other;
+          script_ended = ended;
+          answers = R.to_come answers.old;
+          answers_ended = R.has_ended answers.old;
+          out = W.taken out.old;
+        }) session.old
         → HasStopped options before
-        (record { script = other; script_ended = ended;
-        answers = R.to_come answers.new; answers_ended = R.has_ended answers.new; out = W.taken out.new }) fault) }
-    ensures blamed { IfErr result (λ fault. (other : Bool) → IsBlamed fault other (R.is_broken answers.new) (W.is_broken out.new)) }
+        (record {
+          script = other;
+          script_ended = ended;
+          answers = R.to_come answers.new;
+          answers_ended = R.has_ended answers.new;
+          out = W.taken out.new;
+        }) fault) }
+    ensures blamed { IfErr result (λ fault. (other : Bool)
+        → IsBlamed fault other (R.is_broken answers.new) (W.is_broken out.new)) }
     ensures failure { OnOk result (failure_of session.new ≡ None) }
     ensures waiting { OnOk result (lines_waiting session.new ≡ []) }
     ensures ended { is_answers_ended session.new ≡ R.has_ended answers.new }
@@ -308,7 +411,10 @@ fn tell_script(session: &mut Session, piece: &[u8]) -> Result<(), Failed>
     requires open { is_script_ended session.old ≡ false }
     requires failure { failure_of session.old ≡ None }
     ensures told { (h : History) → StandsFor session.old h
-        → StandsFor session.new (record h { script = h.script ++ piece.now; script_told = is_script_ended session.new }) }
+        → StandsFor session.new (record h {
+          script = h.script ++ piece.now;
+          script_told = is_script_ended session.new;
+        }) }
     ensures ended { is_script_ended session.new ≡ nat_eq (length piece.now) 0 }
     ensures failed { MatchResult result (λ _. failure_of session.new ≡ None)
         (λ failed. failure_of session.new ≡ Some failed) }
@@ -336,7 +442,10 @@ fn pull_answers<R: Source>(
     requires room { 0 < length block.old }
     ensures told { (h : History) → StandsFor session.old h → (given : List ℕ)
         × Consumes (R.to_come answers.old) (R.to_come answers.new) given
-        × StandsFor session.new (record h { answers = h.answers ++ given; answers_told = is_answers_ended session.new }) }
+        × StandsFor session.new (record h {
+          answers = h.answers ++ given;
+          answers_told = is_answers_ended session.new;
+        }) }
     ensures ended { is_answers_ended session.new ≡ R.has_ended answers.new }
     ensures end { R.has_ended answers.new ≡ true → IsAtEnd (R.to_come answers.new) }
     ensures failure { MatchResult result (λ _. (failure_of session.new ≡ None) × (R.is_broken answers.new ≡ false))
@@ -360,7 +469,10 @@ fn tell_answers(session: &mut Session, piece: &[u8]) -> Result<(), Failed>
     requires open { is_answers_ended session.old ≡ false }
     requires failure { failure_of session.old ≡ None }
     ensures told { (h : History) → StandsFor session.old h
-        → StandsFor session.new (record h { answers = h.answers ++ piece.now; answers_told = is_answers_ended session.new }) }
+        → StandsFor session.new (record h {
+          answers = h.answers ++ piece.now;
+          answers_told = is_answers_ended session.new;
+        }) }
     ensures ended { is_answers_ended session.new ≡ nat_eq (length piece.now) 0 }
     ensures failed { MatchResult result (λ _. failure_of session.new ≡ None)
         (λ failed. failure_of session.new ≡ Some failed) }

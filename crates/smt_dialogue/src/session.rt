@@ -18,7 +18,9 @@ use smt_eval::laws::{known_values_are_true, models_are_complete, models_give_str
 use smt_report::{Line, Side, Verdict};
 use smt_script::laws::{assertions_in_force_stand, names_in_force_are_introduced};
 use smt_text::laws::examples::forests;
-use smt_text::laws::{every_text_reads, one_forest, one_reading, read_faults_stay, read_trees_stay};
+use smt_text::laws::{
+    every_text_reads, one_forest, one_reading, read_faults_stay, read_trees_stay,
+};
 use std::alloc::Global;
 
 /// Why a session goes no further.

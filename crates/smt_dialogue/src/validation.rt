@@ -91,7 +91,10 @@ fn tell_answers<'a>(session: &mut Session, left: &'a [u8]) -> Result<&'a [u8], F
     requires open { is_answers_ended session.old ≡ false }
     ensures told { IfOk result (λ rest. (h : History) → StandsFor session.old h
         → (given : List ℕ) × (left.now ≡ given ++ rest.now)
-        × StandsFor session.new (record h { answers = h.answers ++ given; answers_told = is_answers_ended session.new })) }
+        × StandsFor session.new (record h {
+          answers = h.answers ++ given;
+          answers_told = is_answers_ended session.new;
+        })) }
     ensures done { IfOk result (λ rest. is_answers_ended session.new ≡ true → rest.now ≡ []) }
     ensures smaller { IfOk result (λ rest.
         length rest.now + (if is_answers_ended session.new then 0 else 1) < length left.now + 1) }

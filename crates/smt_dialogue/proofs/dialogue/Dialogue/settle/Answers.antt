@@ -14,7 +14,7 @@ returns-clause-settled c = λ taken early pairs stands same.
     let all = ap (λ xs. (taken ++ e.decided.lines.items) ++ xs) c.in_ok-gather.ensures.all
     ∙ append-nil (taken ++ e.decided.lines.items) in
     elim c.if-closed.branch [
-      then-closed+in_ok-end_window w ↦
+      | then-closed+in_ok-end_window w ↦
           settled_closed c.args.closed u pairs w.if-closed.true
           (c.in_ok-gather.ensures.stands taken true pairs
           (subst (λ (d : Dialogue). Stands true (state_behind taken d) pairs) (sym w.self-is)

@@ -77,10 +77,11 @@ read_next-requires-clause-commands c =
 pub end_of_script-requires-clause-way : goal.end_of_script-requires-clause-way
 end_of_script-requires-clause-way c =
     let way = c.requires.way in
-    let texts = way.0 in
-    (texts, way.1, way.2, way.3,
-    looked c.args.self.now _ texts way.1 way.2 way.3 refl refl
-    (λ left f. (c.in_ok-look.ensures.ahead texts.script_bytes texts.script left f).0) (λ left f. f) way.4)
-
-pub read_next-requires-clause-way : goal.end_of_script-requires-clause-way
-read_next-requires-clause-way c = end_of_script-requires-clause-way c
+    let texts = way.0 in (
+      texts,
+      way.1,
+      way.2,
+      way.3,
+      looked c.args.self.now _ texts way.1 way.2 way.3 refl refl
+          (λ left f. (c.in_ok-look.ensures.ahead texts.script_bytes texts.script left f).0) (λ left f. f) way.4,
+    )
