@@ -1,6 +1,6 @@
 #!/bin/sh
-# Runs the program on command lines: which files and which `--print-success` they name, or how they are refused, to the byte. Needs
-# what `rt ci` has built. Says nothing where all is well.
+# Runs the program on command lines: which files and which `--print-success` they name, which `--steps` they may name, or how they are
+# refused, to the byte. Needs what `rt ci` has built. Says nothing where all is well.
 set -e
 cd "$(dirname "$0")/.."
 top=$PWD
@@ -45,6 +45,15 @@ named 'a --print-success off b' a b off
 named 'a b --print-success=on' a b on
 named '--print-success off -- -a -b' -a -b off
 named '-- --print-success=off b' --print-success=off b on
+named '--steps 0 a b' a b on
+named '--steps 18446744073709551614 a b' a b on
+named '--steps=5 a b' a b on
+named '--steps +05 a b' a b on
+named 'a b --steps 5' a b on
+named 'a --steps 5 b' a b on
+named '--print-success off --steps 5 a b' a b off
+named 'a --steps=5 --print-success=off b' a b off
+named '-- --steps=5 b' --steps=5 b on
 rm -f ./*
 
 # refused LINE: the line is refused by the text on standard input, whole, with no report.
@@ -103,6 +112,59 @@ error: a value is required for '--print-success <on|off>' but none was supplied
 For more information, try '--help'.
 END
 done
+refused '--steps 18446744073709551615 a b' <<'END'
+error: invalid value '18446744073709551615' for '--steps <N>': 18446744073709551615 is not in 0..=18446744073709551614
+
+For more information, try '--help'.
+END
+refused '--steps 18446744073709551616 a b' <<'END'
+error: invalid value '18446744073709551616' for '--steps <N>': number too large to fit in target type
+
+For more information, try '--help'.
+END
+for value in x 1e6 10_000 5. +; do
+    refused "--steps $value a b" <<END
+error: invalid value '$value' for '--steps <N>': invalid digit found in string
+
+For more information, try '--help'.
+END
+done
+refused '--steps -1 a b' <<'END'
+error: unexpected argument '-1' found
+
+  tip: to pass '-1' as a value, use '-- -1'
+
+Usage: smtcheck [OPTIONS] <SCRIPT> <ANSWERS>
+
+For more information, try '--help'.
+END
+refused '--steps=-1 a b' <<'END'
+error: invalid value '-1' for '--steps <N>': invalid digit found in string
+
+For more information, try '--help'.
+END
+for line in 'a b --steps' '--steps --print-success on a b'; do
+    refused "$line" <<'END'
+error: a value is required for '--steps <N>' but none was supplied
+
+For more information, try '--help'.
+END
+done
+refused '--steps= a b' <<'END'
+error: invalid value '' for '--steps <N>': cannot parse integer from empty string
+
+For more information, try '--help'.
+END
+status=0
+"$program" --steps '' a b >output 2>second || status=$?
+[ "$status" = 5 ] && [ ! -s output ] && cmp -s second errors || fail "--steps '' a b"
+refused '--steps 5 --steps 5 a b' <<'END'
+error: the argument '--steps <N>' cannot be used multiple times
+
+Usage: smtcheck [OPTIONS] <SCRIPT> <ANSWERS>
+
+For more information, try '--help'.
+END
 for last in on off; do
     refused "--print-success on --print-success $last a b" <<'END'
 error: the argument '--print-success <on|off>' cannot be used multiple times
@@ -139,6 +201,15 @@ Options:
           
           [default: on]
 
+      --steps <N>
+          How many steps the evaluation of a model may take, from 0 to 18446744073709551614. All assertions in force count together, and a model that costs more is told as `too long`, and is not evaluated.
+          
+          A step is one term that is evaluated. Its parts count as well, the body of a name counts at each use of the name, and each annotation `!` is one step more.
+          
+          The cost grows with the text, so the models of a large script may need more. About 10,000,000 steps are enough for some 25 to 70 MB of usual script.
+          
+          [default: 10000000]
+
   -h, --help
           Print help (see a summary with '-h')
 
@@ -159,6 +230,7 @@ run --help
 [ "$status" = 5 ] && [ ! -s errors ] && cmp -s wanted output || fail --help
 run 'a b -h'
 [ "$status" = 5 ] && [ ! -s errors ] && grep -q '^Usage: smtcheck' output || fail 'a b -h'
+grep -qxF '      --steps <N>               how many steps the evaluation of a model may take [default: 10000000]' output || fail 'a b -h'
 
 # The version is that of CHANGELOG.md, and the kit is the one that is here.
 version=$(sed -n 's/^## //p' "$top/CHANGELOG.md" | head -n 1)

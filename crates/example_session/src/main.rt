@@ -8,13 +8,14 @@ ghost use Rattle.std.specs.Prelude.{◌≡◌, false};
 ghost use Rattle.smt_dialogue.specs.History.{History};
 ghost use Rattle.smt_dialogue.specs.Session.{StandsFor, is_answers_ended, is_script_ended};
 
-use smt_dialogue::{Failed, Options, Session, Verdict};
+use smt_dialogue::{Failed, Limit, Options, Session, Verdict};
 use std::process::ExitCode;
 
 fn main(rt: HostRuntime) -> ExitCode {
     // z3, cvc5 and cvc4 print no `success` unless they are told to.
     let options = Options {
         print_success: false,
+        limit: Limit { steps: 10_000_000 },
     };
     let mut session = Session::new(rt.alloc(), options);
     let told = follow(&rt, &mut session);
@@ -31,17 +32,60 @@ fn follow<R: Print>(rt: &R, session: &mut Session) -> Result<(), Failed>
     requires stands { (h : History) × StandsFor session.old h }
     requires script { is_script_ended session.old ≡ false }
     requires answers { is_answers_ended session.old ≡ false }
-    ensures stands { (h : History) × StandsFor session.new h }
 {
-    session.script(b"(declare-const p Bool)(assert p)(check-sat)(get-model)")?;
-    print_lines(rt, session, "a check is asked");
-    session.answers(b"sat ((define-fun p () Bool true))")?;
-    print_lines(rt, session, "its model has come");
-    session.script(b"(assert (not p))")?;
-    print_lines(rt, session, "an assertion ends its window");
-    session.script(b"(check-sat)")?;
-    session.answers(b"unsat\n")?;
-    print_lines(rt, session, "another check is answered");
+    let commands = b"(declare-const p Bool)(assert p)(check-sat)(get-model)";
+    tell_script(rt, session, commands, "a check is asked")?;
+    let model = b"sat ((define-fun p () Bool true))";
+    tell_answers(rt, session, model, "its model has come")?;
+    let change = b"(assert (not p))";
+    tell_script(rt, session, change, "an assertion ends its window")?;
+    tell_script(rt, session, b"(check-sat)", "another check is asked")?;
+    tell_answers(rt, session, b"unsat\n", "it is answered")?;
+    end_both(rt, session)
+}
+
+// Tells a piece of the script.
+fn tell_script<R: Print>(
+    rt: &R,
+    session: &mut Session,
+    piece: &[u8],
+    told: &str,
+) -> Result<(), Failed>
+    requires stands { (h : History) × StandsFor session.old h }
+    requires script { is_script_ended session.old ≡ false }
+    ensures stands { (h : History) × StandsFor session.new h }
+    ensures script { is_script_ended session.new ≡ false }
+    ensures answers { is_answers_ended session.new ≡ is_answers_ended session.old }
+{
+    let outcome = session.script(piece);
+    print_lines(rt, session, told);
+    outcome
+}
+
+// Tells a piece of the answers.
+fn tell_answers<R: Print>(
+    rt: &R,
+    session: &mut Session,
+    piece: &[u8],
+    told: &str,
+) -> Result<(), Failed>
+    requires stands { (h : History) × StandsFor session.old h }
+    requires answers { is_answers_ended session.old ≡ false }
+    ensures stands { (h : History) × StandsFor session.new h }
+    ensures script { is_script_ended session.new ≡ is_script_ended session.old }
+    ensures answers { is_answers_ended session.new ≡ false }
+{
+    let outcome = session.answers(piece);
+    print_lines(rt, session, told);
+    outcome
+}
+
+// Tells the ends of both texts.
+fn end_both<R: Print>(rt: &R, session: &mut Session) -> Result<(), Failed>
+    requires stands { (h : History) × StandsFor session.old h }
+    requires script { is_script_ended session.old ≡ false }
+    requires answers { is_answers_ended session.old ≡ false }
+{
     session.end_script()?;
     session.end_answers()?;
     print_lines(rt, session, "both texts have ended");

@@ -13,6 +13,10 @@
 #![tactic(auto)]
 
 mod escapes;
+mod fields;
+mod printing;
 mod rows;
 
+pub use fields::{is_on, refuse, want_key};
+pub use printing::{Answers, run};
 pub use rows::{Field, read};

@@ -5,9 +5,9 @@ ghost use Rattle.std.specs.Prelude.{◌<◌, ◌≤◌};
 ghost use Rattle.smt_script.specs.StackView.{last_of};
 
 use crate::names::print_counts;
-use crate::trees::{tree_of, want_key};
+use crate::trees::tree_of;
 use anyhow::{Result, bail};
-use row_texts::Field;
+use row_texts::{Field, is_on, want_key};
 use smt_script::{Assertion, CommandFault, Stack, read_command};
 use smt_trees::Tree;
 use std::alloc::Global;
@@ -79,15 +79,6 @@ fn split_print_success<'a, 'b>(fields: &'b [Field<'a>]) -> Result<(bool, &'b [Fi
     match fields.split_first() {
         Some((first, rest)) if first.key == "start" => Ok((is_on(first)?, rest)),
         _ => Ok((true, fields)),
-    }
-}
-
-/// Whether the solver prints `success` before a command sets it, as a field says.
-pub(crate) fn is_on(field: &Field) -> Result<bool> {
-    match field.text.as_str() {
-        "on" => Ok(true),
-        "off" => Ok(false),
-        _ => bail!("line {}: the start is `on` or `off`", field.line),
     }
 }
 

@@ -3,9 +3,9 @@
 ghost use Rattle.smt_terms.specs.Library.{HasTheoriesOf};
 
 use crate::names::{print_counts, write_found};
-use crate::trees::{declare, print_answer, refuse, tree_of};
+use crate::trees::{declare, print_answer, tree_of};
 use anyhow::{Result, bail};
-use row_texts::Field;
+use row_texts::{Field, refuse};
 use smt_terms::Library;
 use std::alloc::Global;
 use std::io;

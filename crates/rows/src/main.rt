@@ -10,11 +10,9 @@
 #![tactic(auto)]
 
 mod commands;
-mod dialogues;
 mod items;
 mod models;
 mod names;
-mod sessions;
 mod terms;
 mod texts;
 mod trees;
@@ -24,67 +22,32 @@ ghost use Rattle.smt_terms.specs.Library.{StandsFor};
 ghost use Rattle.smt_terms.specs.Signature.{Signature};
 
 use crate::trees::split_logic;
-use anyhow::{Context, Result, bail};
-use row_texts::Field;
+use anyhow::{Result, bail};
+use row_texts::{Answers, Field};
 use smt_terms::Library;
 use std::alloc::Global;
-use std::io::{BufWriter, Write};
-use std::rt::{Env, Files};
-use std::{env, fs, io};
+use std::io::Write;
 
 fn main(rt: HostRuntime) -> Result<()> {
-    let mut out = BufWriter::new(rt.alloc(), io::writer(&rt))?;
-    let outcome = print_files(&rt, &mut out);
-    out.flush()?;
-    outcome
+    row_texts::run(&rt, &Rows)
 }
 
-fn print_files<R: Files + Env + AllocGlobal, W: Write>(rt: &R, out: &mut W) -> Result<()> {
-    for name in env::args(rt)?.skip(1) {
-        print_file(rt, out, name.as_str())?;
-    }
-    Ok(())
-}
+/// What is answered to rows of texts, terms, models, values and commands.
+struct Rows;
 
-fn print_file<R: Files + AllocGlobal, W: Write>(rt: &R, out: &mut W, name: &str) -> Result<()> {
-    let text = fs::read_to_string(rt, name).context(format_args!("reading {name}"))?;
-    print_text(rt.alloc(), out, text.as_str()).context(format_args!("{name}"))
-}
-
-fn print_text<W: Write>(alloc: Global, out: &mut W, text: &str) -> Result<()> {
-    let rows = row_texts::read(alloc, text)?;
-    print_rows(alloc, out, rows.as_slice())
-}
-
-fn print_rows<W: Write>(alloc: Global, out: &mut W, rows: &[Vec<Field>]) -> Result<()> {
-    for row in rows {
-        if let Some((title, fields)) = row.split_first() {
-            print_row(alloc, out, title, fields)?;
+impl Answers for Rows {
+    fn print<W: Write>(
+        &self,
+        alloc: Global,
+        out: &mut W,
+        title: &Field,
+        fields: &[Field],
+    ) -> Result<()> {
+        match title.key {
+            "commands" => commands::print(alloc, out, fields),
+            "texts" => texts::print(alloc, out, fields),
+            _ => print_over_library(alloc, out, title, fields),
         }
-    }
-    Ok(())
-}
-
-// Prints the title of a row, what is answered to the row, and an empty line.
-fn print_row<W: Write>(alloc: Global, out: &mut W, title: &Field, fields: &[Field]) -> Result<()> {
-    writeln!(out, "{}", title.text)?;
-    print_answers(alloc, out, title, fields)?;
-    writeln!(out)?;
-    Ok(())
-}
-
-fn print_answers<W: Write>(
-    alloc: Global,
-    out: &mut W,
-    title: &Field,
-    fields: &[Field],
-) -> Result<()> {
-    match title.key {
-        "commands" => commands::print(alloc, out, fields),
-        "dialogue" => dialogues::print(alloc, out, title, fields),
-        "session" => sessions::print(alloc, out, title, fields),
-        "texts" => texts::print(alloc, out, fields),
-        _ => print_over_library(alloc, out, title, fields),
     }
 }
 

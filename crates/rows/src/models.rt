@@ -5,9 +5,9 @@ ghost use Rattle.smt_eval.specs.Interpretation.{Fits};
 ghost use Rattle.smt_terms.specs.Library.{HasTheoriesOf, StandsFor};
 ghost use Rattle.smt_terms.specs.Signature.{Signature};
 
-use crate::trees::{declare, parts_of, refuse};
+use crate::trees::{declare, parts_of};
 use anyhow::{Result, bail};
-use row_texts::Field;
+use row_texts::{Field, refuse};
 use smt_eval::{Interpretation, ModelFault, ModelFlaw};
 use smt_terms::Library;
 use smt_trees::Trees;

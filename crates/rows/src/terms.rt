@@ -2,9 +2,9 @@
 //! and names. This file evaluates nothing.
 
 use crate::names::{print_counts, print_name, write_sort};
-use crate::trees::{declare, flaw_of, print_answer, refuse, tree_of, trees_of};
+use crate::trees::{declare, flaw_of, print_answer, tree_of, trees_of};
 use anyhow::{Result, bail};
-use row_texts::Field;
+use row_texts::{Field, refuse};
 use smt_forms::{are_named, params_of};
 use smt_terms::Library;
 use smt_trees::Tree;

@@ -5,9 +5,8 @@ ghost use Rattle.std.specs.Prelude.{◌≤◌, length};
 mod reading;
 mod writing;
 
-use crate::trees::want_key;
 use anyhow::Result;
-use row_texts::Field;
+use row_texts::{Field, want_key};
 use std::alloc::{AllocError, Global};
 use std::io::Write;
 

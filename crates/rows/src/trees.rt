@@ -107,17 +107,3 @@ pub(crate) fn flaw_of(fault: TermFault) -> Result<TermFlaw> {
         None => bail!("out of memory"),
     }
 }
-
-/// Refuses a field of another key than it is to have.
-pub(crate) fn want_key(field: &Field, key: &str) -> Result<()> {
-    if field.key == key {
-        Ok(())
-    } else {
-        refuse(field)
-    }
-}
-
-/// Says that a row has a field of another key than it may.
-pub(crate) fn refuse(field: &Field) -> Result<()> {
-    bail!("line {}: `{}` can't stand here", field.line, field.key)
-}

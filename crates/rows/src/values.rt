@@ -1,7 +1,7 @@
 //! Rows of values: terms over the definitions of a model, each with its known value, which is found twice: by
 //! the term's tree, and by its node. This file computes no value itself.
 
-ghost use Rattle.smt_eval.specs.Interpretation.{Fits};
+ghost use Rattle.std.specs.Prelude.{◌<◌, ◌-◌, ◌^◌, IfOk};
 ghost use Rattle.smt_terms.specs.Library.{StandsFor};
 ghost use Rattle.smt_terms.specs.Signature.{Signature};
 
@@ -9,13 +9,12 @@ mod nodes;
 mod plain;
 
 use crate::models::{definitions_of, print_model};
-use crate::trees::{parts_of, tree_of, want_key};
-use crate::values::nodes::{declare_items, known_by_node};
+use crate::trees::{parts_of, tree_of, trees_of};
+use crate::values::nodes::{declare_items, known_by_node, left_of};
 use crate::values::plain::plain_definitions;
 use anyhow::{Result, bail};
-use row_texts::Field;
+use row_texts::{Field, want_key};
 use smt_eval::plain::{Closed, Definition};
-use smt_eval::{Checked, Interpretation};
 use smt_faults::TermFlaw;
 use smt_terms::Library;
 use smt_trees::{Tree, Trees};
@@ -54,67 +53,98 @@ fn print_values<W: Write>(
 ) -> Result<()>
     requires { (s : Signature) × StandsFor script.old s }
 {
-    let Some(interpretation) = print_model(alloc, out, script, first)? else {
+    let Some(_) = print_model(alloc, out, script, first)? else {
         bail!("line {}: the model has a fault", first.line);
     };
-    print_over(alloc, out, script, &interpretation, model, terms)
+    print_over(alloc, out, script, model, terms)
 }
 
 fn print_over<W: Write>(
     alloc: Global,
     out: &mut W,
     script: &mut Library,
-    interpretation: &Interpretation,
     model: &Trees,
     terms: &[Field],
 ) -> Result<()>
-    requires { Fits interpretation.now script.old }
+    requires { (s : Signature) × StandsFor script.old s }
 {
     let library = definitions_of(script, model)?;
     let Ok(definitions) = plain_definitions(alloc, &library, model) else {
         bail!("memory was refused");
     };
-    print_terms(
-        alloc,
-        out,
-        script,
-        interpretation,
-        definitions.as_slice(),
-        terms,
-    )
+    print_terms(alloc, out, script, model, definitions.as_slice(), terms)
 }
 
 fn print_terms<W: Write>(
     alloc: Global,
     out: &mut W,
     script: &mut Library,
-    interpretation: &Interpretation,
+    model: &Trees,
     definitions: &[Definition<'_>],
     fields: &[Field],
 ) -> Result<()>
-    requires { Fits interpretation.now script.old }
+    requires { (s : Signature) × StandsFor script.old s }
 {
     for field in fields {
-        want_key(field, "term")?;
-        print_value(alloc, out, script, interpretation, definitions, field)?;
+        if field.key == "steps" {
+            print_left(alloc, out, script, model, field)?;
+        } else {
+            want_key(field, "term")?;
+            print_value(alloc, out, script, model, definitions, field)?;
+        }
     }
     Ok(())
+}
+
+// Prints how many steps are left of those that stand before a term, when it was evaluated.
+fn print_left<W: Write>(
+    alloc: Global,
+    out: &mut W,
+    script: &mut Library,
+    model: &Trees,
+    field: &Field,
+) -> Result<()>
+    requires { (s : Signature) × StandsFor script.old s }
+    ensures { (s : Signature) → StandsFor script.old s → StandsFor script.new s }
+{
+    let (steps, tree) = steps_of(alloc, field)?;
+    match left_of(script, model, &tree, steps)? {
+        Some(left) => writeln!(out, "{} => {left} left", field.text)?,
+        None => writeln!(out, "{} => too long", field.text)?,
+    }
+    Ok(())
+}
+
+// The number of steps and the term that a field holds.
+fn steps_of(alloc: Global, field: &Field) -> Result<(u64, Tree)>
+    ensures { IfOk result (λ found. found.0 < 2 ^ 64 - 1) }
+{
+    let Some((steps, _)) = field.text.split_once(' ') else {
+        bail!("line {}: no number of steps before a term", field.line);
+    };
+    let Ok(steps) = steps.parse::<u64>() else {
+        bail!("line {}: no number of steps before a term", field.line);
+    };
+    match trees_of(alloc, field)?.as_slice() {
+        [_, tree] if steps < u64::MAX => Ok((steps, tree.copy(alloc)?)),
+        _ => bail!("line {}: not a number of steps and a term", field.line),
+    }
 }
 
 fn print_value<W: Write>(
     alloc: Global,
     out: &mut W,
     script: &mut Library,
-    interpretation: &Interpretation,
+    model: &Trees,
     definitions: &[Definition<'_>],
     field: &Field,
 ) -> Result<()>
-    requires { Fits interpretation.now script.old }
-    ensures { Fits interpretation.now script.new }
+    requires { (s : Signature) × StandsFor script.old s }
+    ensures { (s : Signature) → StandsFor script.old s → StandsFor script.new s }
 {
     let tree = tree_of(alloc, field)?;
     let by_tree = known_by_tree(alloc, script, definitions, &tree)?;
-    let by_node = known_by_node(script, interpretation, &tree)?;
+    let by_node = known_by_node(script, model, &tree)?;
     write_value(out, field, &by_tree, &by_node)?;
     Ok(())
 }
@@ -132,7 +162,7 @@ fn known_by_tree(
         definitions,
         tree,
     };
-    match term.known() {
+    match term.value() {
         Ok(known) => Ok(known),
         Err(_) => bail!("out of memory"),
     }

@@ -10,7 +10,6 @@ use Rattle.smt_text.specs.Reading.{Reads}
 use Rattle.smt_trees.specs.Sexp.{Sexp, Sexps, Nil, Cons, count}
 use Rattle.smt_faults.specs.declared.text_flaw.TextFlaw.{TextFlaw}
 use Rattle.smt_script.specs.CommandView.{command_view}
-use Rattle.smt_script.specs.StackView.{initial_print_success_of}
 use Rattle.smt_script.specs.declared.command.Command.{Command}
 use Rattle.smt_dialogue.proofs.DialogueLemmas.{decided_first, lines_silent, part_silent}
 use Rattle.smt_dialogue.proofs.ExchangeLemmas.{early_closed}
@@ -28,11 +27,12 @@ use Rattle.smt_dialogue.specs.Pairing.{AreCommands}
 use Rattle.smt_dialogue.specs.Pairs.{Pair, answer_count, answers_taken, answers_then, with_answer}
 use Rattle.smt_dialogue.specs.Report.{ArePaired, IsTurn, lines_at_end}
 use Rattle.smt_dialogue.specs.SoFar.{IsBeginning, is_verdict_line, lines_at}
-use Rattle.smt_dialogue.specs.Internal.DialogueState.{Stands, state_behind}
+use Rattle.smt_dialogue.specs.Internal.DialogueState.{Stands, options_of, state_behind}
 use Rattle.smt_dialogue.specs.Internal.ExchangeView.{HasRested, IsClosing, IsCut, IsInTurn, IsTurned, IsUnderWay}
 use Rattle.smt_dialogue.specs.Internal.ExchangeView.{Texts, turn_of, waiting}
 use Rattle.smt_dialogue.specs.Internal.FrontView.{HasFront}
 use Rattle.smt_dialogue.specs.declared.exchange.Exchange.{Exchange}
+use Rattle.smt_dialogue.specs.declared.options.Options.{Options}
 use Rattle.smt_dialogue.specs.declared.turn.Turn.{Turn}
 use Rattle.smt_dialogue.specs.declared.turn.Turn.TheVariants as turns
 use Rattle.smt_report.specs.declared.line.Line.{Line}
@@ -90,7 +90,8 @@ taken_count : (o : Option Sexp) (rest : Sexps) → count (with_answer o rest) �
 taken_count None rest = omega arith
 taken_count (Some a) rest = omega arith
 
-answers_counted : (pairs : List Pair) (rest : Sexps) → count (answers_then pairs rest) ≡ answers_taken pairs + count rest
+answers_counted : (pairs : List Pair) (rest : Sexps)
+    → count (answers_then pairs rest) ≡ answers_taken pairs + count rest
 answers_counted [] rest = omega arith
 answers_counted (p ∷ ps) rest =
     omega (arith, taken_count p.answer (answers_then ps rest), answers_counted ps rest)
@@ -138,15 +139,16 @@ turned_on turn old new texts pairs later rest is h =
 -- ---- rest
 
 turn_kept : (x y : Exchange) (texts : Texts) (pairs : List Pair) (later rest : Sexps)
-    → initial_print_success_of y.dialogue.stack ≡ initial_print_success_of x.dialogue.stack
+    → options_of y.dialogue ≡ options_of x.dialogue
     → turn_of y texts pairs later rest ≡ turn_of x texts pairs later rest
 turn_kept x y texts pairs later rest same =
-    ap (λ b. turn_at b pairs (record texts.answers { trees = rest }) texts.script.told texts.script.fault later) same
+    ap (λ (o : Options). turn_at o.print_success pairs (record texts.answers { trees = rest }) texts.script.told
+    texts.script.fault later) same
 
 -- y is x with what it keeps of the dialogue settled
 pub settled : (x y : Exchange) (texts : Texts) (pairs : List Pair) (later rest : Sexps) (closed : Bool)
     → y.script ≡ x.script → y.answers ≡ x.answers → y.command ≡ x.command
-    → initial_print_success_of y.dialogue.stack ≡ initial_print_success_of x.dialogue.stack
+    → options_of y.dialogue ≡ options_of x.dialogue
     → Stands closed (state_behind texts.taken y.dialogue) pairs → (closed ≡ true → IsClosing x.command texts later)
     → IsUnderWay x texts pairs later rest → IsUnderWay y texts pairs later rest
 settled x y texts pairs later rest closed script answers command start stands closing h = record {
@@ -157,13 +159,14 @@ settled x y texts pairs later rest closed script answers command start stands cl
   early = closed;
   stands = stands;
   closing = λ e. subst (λ o. IsClosing o texts later) (sym command) (closing e);
-  paired = subst (λ b. ArePaired b texts.script texts.answers pairs later rest) (sym start) h.paired;
+  paired = subst (λ (o : Options). ArePaired o.print_success texts.script texts.answers pairs later rest)
+      (sym start) h.paired;
 }
 
 -- y is x with lines gathered
 pub gathered : (x y : Exchange) (texts : Texts) (pairs : List Pair) (later rest : Sexps)
     → y.script ≡ x.script → y.answers ≡ x.answers → y.command ≡ x.command
-    → initial_print_success_of y.dialogue.stack ≡ initial_print_success_of x.dialogue.stack
+    → options_of y.dialogue ≡ options_of x.dialogue
     → ((early : Bool) → Stands early (state_behind texts.taken x.dialogue) pairs
     → Stands early (state_behind texts.taken y.dialogue) pairs)
     → IsUnderWay x texts pairs later rest → IsUnderWay y texts pairs later rest
@@ -171,17 +174,16 @@ gathered x y texts pairs later rest script answers command start stands h =
     settled x y texts pairs later rest h.early script answers command start (stands h.early h.stands) h.closing h
 
 -- the dialogue waits, with the lines that are decided
-pub waits_at : (old x y : Exchange) (texts : Texts) (pairs : List Pair) (later rest : Sexps) (start closed : Bool)
-    → initial_print_success_of old.dialogue.stack ≡ start
-    → initial_print_success_of x.dialogue.stack ≡ initial_print_success_of old.dialogue.stack
+pub waits_at : (old x y : Exchange) (texts : Texts) (pairs : List Pair) (later rest : Sexps) (options : Options)
+    (closed : Bool) → options_of old.dialogue ≡ options → options_of x.dialogue ≡ options_of old.dialogue
     → y.script ≡ x.script → y.answers ≡ x.answers → y.command ≡ x.command
-    → initial_print_success_of y.dialogue.stack ≡ initial_print_success_of x.dialogue.stack
+    → options_of y.dialogue ≡ options_of x.dialogue
     → ((early : Bool) → Stands early (state_behind texts.taken x.dialogue) pairs → (early ≡ true → closed ≡ true)
     → Stands closed (state_behind texts.taken y.dialogue) pairs
-    × (texts.taken ++ waiting y ≡ lines_in closed [] pairs []))
+    × (texts.taken ++ waiting y ≡ lines_in y.dialogue.checks.limit.steps closed [] pairs []))
     → IsTurned (turns.Waits closed) old x texts pairs later rest
-    → HasRested None start y texts
-waits_at old x y texts pairs later rest start closed begun kept script answers command same settle t =
+    → HasRested None options y texts
+waits_at old x y texts pairs later rest options closed begun kept script answers command same settle t =
     let h = t.0 in
     let turn = turn_kept old x texts pairs later rest kept ∙ t.1 in
     let done = settle h.early h.stands (early_closed x texts pairs later rest closed h turn) in (
@@ -192,19 +194,21 @@ waits_at old x y texts pairs later rest start closed begun kept script answers c
       settled x y texts pairs later rest closed script answers command same done.0 t.2 h,
       same ∙ kept ∙ begun,
       turn_kept x y texts pairs later rest same ∙ turn,
-      done.1,
+      done.1 ∙ ap (λ (o : Options). lines_in o.limit.steps closed [] pairs []) (same ∙ kept ∙ begun),
     )
 
 -- the dialogue has ended behind the pairs
-pub ends_at : (old new : Exchange) (texts : Texts) (pairs : List Pair) (later rest : Sexps) (start : Bool)
-    (fault : Option Line) → initial_print_success_of old.dialogue.stack ≡ start
+pub ends_at : (old new : Exchange) (texts : Texts) (pairs : List Pair) (later rest : Sexps) (options : Options)
+    (fault : Option Line) → options_of old.dialogue ≡ options
     → IsUnderWay old texts pairs later rest → IsTurned (turns.Ends fault) old new texts pairs later rest
-    → IsTurn start texts.script texts.answers pairs (first_fault.Ends fault)
-ends_at old new texts pairs later rest start fault begun h t = record {
+    → IsTurn options.print_success texts.script texts.answers pairs (first_fault.Ends fault)
+ends_at old new texts pairs later rest options fault begun h t = record {
   later = later;
   rest = rest;
-  paired = subst (λ b. ArePaired b texts.script texts.answers pairs later rest) begun h.paired;
-  turn_is = sym (ap (λ b. turn_at b pairs (record texts.answers { trees = rest }) texts.script.told
+  paired = subst (λ (o : Options). ArePaired o.print_success texts.script texts.answers pairs later rest) begun
+      h.paired;
+  turn_is = sym (ap (λ (o : Options). turn_at o.print_success pairs
+      (record texts.answers { trees = rest }) texts.script.told
       texts.script.fault later) begun) ∙ t.2;
 }
 
@@ -229,22 +233,28 @@ begins_all xs ys zs all ms is h = (
 )
 
 -- what was gathered begins the lines so far
-pub cut_at : (x : Exchange) (texts : Texts) (pairs : List Pair) (later rest : Sexps) (ls : List Line) (start : Bool)
-    → initial_print_success_of x.dialogue.stack ≡ start → ls ≡ waiting x → IsUnderWay x texts pairs later rest
-    → IsCut start ls texts
-cut_at x texts pairs later rest ls start begun is h =
+pub cut_at : (x : Exchange) (texts : Texts) (pairs : List Pair) (later rest : Sexps) (ls : List Line)
+    (options : Options)
+    → options_of x.dialogue ≡ options → ls ≡ waiting x → IsUnderWay x texts pairs later rest
+    → IsCut options ls texts
+cut_at x texts pairs later rest ls options begun is h =
+    let start = options.print_success in
+    let steps = options.limit.steps in
     let w = way_through start later pairs texts.script.told texts.script.fault texts.answers.told rest
     texts.answers.fault in
-    let paired = subst (λ b. ArePaired b texts.script texts.answers pairs later rest) begun h.paired in
+    let paired = subst (λ (o : Options). ArePaired o.print_success texts.script texts.answers pairs later rest)
+    begun h.paired in
     let turn = way_more start texts.script texts.answers pairs later rest paired w in
     let first = decided_first h.early (state_behind texts.taken x.dialogue) pairs h.stands in
-    let all = begins_so pairs w.pairs w.turn h.early w.rests
+    let mine : lines_in steps h.early [] pairs [] ≡ (state_behind texts.taken x.dialogue).checks.lines ++ first.0 =
+    sym (ap (λ (o : Options). lines_in o.limit.steps h.early [] pairs []) begun) ∙ first.1 in
+    let all = begins_so steps pairs w.pairs w.turn h.early w.rests
     (λ e. next_pair start texts x.command pairs later h.left rest h.in_turn (h.closing e) w) in (
-      lines_at (pairs ++ w.pairs) w.turn,
+      lines_at steps (pairs ++ w.pairs) w.turn,
       record { pairs = pairs ++ w.pairs; turn = w.turn; rests = w.rests; turn_is = turn; lines_are = refl },
-      begins_all (texts.taken ++ ls) x.dialogue.checks.lines.items first.0 (lines_in h.early [] pairs [])
-          (lines_at (pairs ++ w.pairs) w.turn)
-          (first.1 ∙ ap (λ xs. ((texts.taken ++ xs) ++ x.dialogue.checks.lines.items) ++ first.0) (sym is)) all,
+      begins_all (texts.taken ++ ls) x.dialogue.checks.lines.items first.0 (lines_in steps h.early [] pairs [])
+          (lines_at steps (pairs ++ w.pairs) w.turn)
+          (mine ∙ ap (λ xs. ((texts.taken ++ xs) ++ x.dialogue.checks.lines.items) ++ first.0) (sym is)) all,
       part_silent (texts.taken ++ ls) x.dialogue.checks.lines.items
           (state_behind texts.taken x.dialogue).checks.lines
           (ap (λ xs. (texts.taken ++ xs) ++ x.dialogue.checks.lines.items) (sym is))
@@ -252,12 +262,12 @@ cut_at x texts pairs later rest ls start begun is h =
     )
 
 -- where the dialogue ends, the first of its lines
-pub cut_ended : (texts : Texts) (pairs : List Pair) (fault : Option Line) (ls : List Line) (start : Bool)
-    → IsTurn start texts.script texts.answers pairs (first_fault.Ends fault)
-    → IsBeginning (texts.taken ++ ls) (lines_at_end pairs fault)
-    × (list_any is_verdict_line (texts.taken ++ ls) ≡ false) → IsCut start ls texts
-cut_ended texts pairs fault ls start turn first = (
-  lines_at_end pairs fault,
+pub cut_ended : (texts : Texts) (pairs : List Pair) (fault : Option Line) (ls : List Line) (options : Options)
+    → IsTurn options.print_success texts.script texts.answers pairs (first_fault.Ends fault)
+    → IsBeginning (texts.taken ++ ls) (lines_at_end options.limit.steps pairs fault)
+    × (list_any is_verdict_line (texts.taken ++ ls) ≡ false) → IsCut options ls texts
+cut_ended texts pairs fault ls options turn first = (
+  lines_at_end options.limit.steps pairs fault,
   record { pairs = pairs; turn = first_fault.Ends fault; rests = tt; turn_is = turn; lines_are = refl },
   first.0,
   first.1,

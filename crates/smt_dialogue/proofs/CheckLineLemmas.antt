@@ -32,7 +32,6 @@ use Rattle.smt_report.specs.Verdict.{is_undecided_line, tally_of}
 use Rattle.smt_report.specs.declared.line.CheckAnswer.{CheckAnswer}
 use Rattle.smt_report.specs.declared.line.Line.{Line}
 use Rattle.smt_report.specs.declared.line.Line.TheVariants as lines
-use Rattle.smt_report.specs.declared.verdict.Tally.{Tally}
 
 -- one line at most, and it is none of a fault, nor that of a verdict
 pub record IsSmall (ls : List Line) : Type 0 where
@@ -66,6 +65,7 @@ IsFaultless (Some line) = IsPlain line
 judged_faultless : (k n g : ℕ) (j : Judgement) → IsFaultless (line_of_judgement k n g j)
 judged_faultless k n g (judgements.ItemFault item flaw) = record { faultless = refl; silent = refl }
 judged_faultless k n g (judgements.Lacks declaration) = record { faultless = refl; silent = refl }
+judged_faultless k n g judgements.TooLong = record { faultless = refl; silent = refl }
 judged_faultless k n g (judgements.Refuted claim) = record { faultless = refl; silent = refl }
 judged_faultless k n g (judgements.NotDecided claim) = record { faultless = refl; silent = refl }
 judged_faultless k n g judgements.Confirmed = tt
@@ -74,14 +74,14 @@ or_faultless : (o p : Option Line) → IsFaultless o → IsFaultless p → IsFau
 or_faultless None p h g = g
 or_faultless (Some line) p h g = h
 
-unconfirmed_faultless : (k n : ℕ) (names : Signature) (claims : List Claimed) (ms : List Printed)
-    → IsFaultless (unconfirmed_line k n names claims ms)
-unconfirmed_faultless k n names claims [] = tt
-unconfirmed_faultless k n names claims (m ∷ ms) =
-    or_faultless (line_of_judgement k n m.command (judgement_of names claims m.parts))
-    (unconfirmed_line k n names claims ms)
-    (judged_faultless k n m.command (judgement_of names claims m.parts))
-    (unconfirmed_faultless k n names claims ms)
+unconfirmed_faultless : (steps k n : ℕ) (names : Signature) (claims : List Claimed) (ms : List Printed)
+    → IsFaultless (unconfirmed_line steps k n names claims ms)
+unconfirmed_faultless steps k n names claims [] = tt
+unconfirmed_faultless steps k n names claims (m ∷ ms) =
+    or_faultless (line_of_judgement k n m.command (judgement_of steps names claims m.parts))
+    (unconfirmed_line steps k n names claims ms)
+    (judged_faultless k n m.command (judgement_of steps names claims m.parts))
+    (unconfirmed_faultless steps k n names claims ms)
 
 confirmed_faultless : (k n : ℕ) (some : Bool) → IsPlain (confirmed_line k n some)
 confirmed_faultless k n true = record { faultless = refl; silent = refl }
@@ -97,62 +97,63 @@ unchecked_small : (k n : ℕ) (u : Option CheckAnswer) (ls : List Line) → IsSm
 unchecked_small k n (Some answer) ls h = record { few = omega arith; faultless = refl; silent = refl }
 unchecked_small k n None ls h = h
 
-answer_small : (closed : Bool) (before : List Pair) (k : ℕ) (o : Option Sexp) (after : List Pair)
-    → IsSmall (lines_of_answer closed before k o after)
-answer_small closed before k None after = none_small
-answer_small closed before k (Some answer) after =
+answer_small : (steps : ℕ) (closed : Bool) (before : List Pair) (k : ℕ) (o : Option Sexp) (after : List Pair)
+    → IsSmall (lines_of_answer steps closed before k o after)
+answer_small steps closed before k None after = none_small
+answer_small steps closed before k (Some answer) after =
     let n = length before + 1 in
     let names = signature_after before in
     let claims = claims_after before in
     let models = models_from (n + 1) (window after) in
-    let ls = lines_of_sat closed k n names claims (n + 1) after in
+    let ls = lines_of_sat steps closed k n names claims (n + 1) after in
     unchecked_small k n (unchecked_answer answer) (cond (is_symbol (codes "sat") answer) ls [])
     (if_small (is_symbol (codes "sat") answer) ls
-    (sat_small k n (unconfirmed_line k n names claims models) (not (is_empty models)) (closed || list_any closes after)
-    (unconfirmed_faultless k n names claims models)))
+    (sat_small k n (unconfirmed_line steps k n names claims models) (not (is_empty models))
+    (closed || list_any closes after)
+    (unconfirmed_faultless steps k n names claims models)))
 
 some_small : (b : Bool) (ls : List Line) → IsSmall ls → length (cond b ls []) ≤ cond b 1 0
 some_small true ls h = h.few
 some_small false ls h = omega arith
 
-pub few_lines : (closed : Bool) (before pairs after : List Pair)
-    → length (lines_in closed before pairs after) ≤ checks_in pairs
-few_lines closed before [] after = omega arith
-few_lines closed before (p ∷ ps) after =
-    let mine = lines_of_pair closed before p (ps ++ after) in
-    let others = lines_in closed (before ++ p ∷ []) ps after in
+pub few_lines : (steps : ℕ) (closed : Bool) (before pairs after : List Pair)
+    → length (lines_in steps closed before pairs after) ≤ checks_in pairs
+few_lines steps closed before [] after = omega arith
+few_lines steps closed before (p ∷ ps) after =
+    let mine = lines_of_pair steps closed before p (ps ++ after) in
+    let others = lines_in steps closed (before ++ p ∷ []) ps after in
     omega (
       arith,
       length-append mine others,
       some_small (is_check p.command)
-          (lines_of_answer closed before (checks_in before + 1) p.answer (ps ++ after))
-          (answer_small closed before (checks_in before + 1) p.answer (ps ++ after)),
-      few_lines closed (before ++ p ∷ []) ps after,
+          (lines_of_answer steps closed before (checks_in before + 1) p.answer (ps ++ after))
+          (answer_small steps closed before (checks_in before + 1) p.answer (ps ++ after)),
+      few_lines steps closed (before ++ p ∷ []) ps after,
     )
 
-pair_small : (closed : Bool) (before : List Pair) (p : Pair) (after : List Pair)
-    → IsSmall (lines_of_pair closed before p after)
-pair_small closed before p after =
-    if_small (is_check p.command) (lines_of_answer closed before (checks_in before + 1) p.answer after)
-    (answer_small closed before (checks_in before + 1) p.answer after)
+pair_small : (steps : ℕ) (closed : Bool) (before : List Pair) (p : Pair) (after : List Pair)
+    → IsSmall (lines_of_pair steps closed before p after)
+pair_small steps closed before p after =
+    if_small (is_check p.command) (lines_of_answer steps closed before (checks_in before + 1) p.answer after)
+    (answer_small steps closed before (checks_in before + 1) p.answer after)
 
-pub no_faults : (closed : Bool) (before pairs after : List Pair)
-    → list_any is_fault_line (lines_in closed before pairs after) ≡ false
-no_faults closed before [] after = refl
-no_faults closed before (p ∷ ps) after =
-    let others = lines_in closed (before ++ p ∷ []) ps after in
-    list_any-append is_fault_line (lines_of_pair closed before p (ps ++ after)) others
-    ∙ ap (λ b. b || list_any is_fault_line others) (pair_small closed before p (ps ++ after)).faultless
-    ∙ no_faults closed (before ++ p ∷ []) ps after
+pub no_faults : (steps : ℕ) (closed : Bool) (before pairs after : List Pair)
+    → list_any is_fault_line (lines_in steps closed before pairs after) ≡ false
+no_faults steps closed before [] after = refl
+no_faults steps closed before (p ∷ ps) after =
+    let others = lines_in steps closed (before ++ p ∷ []) ps after in
+    list_any-append is_fault_line (lines_of_pair steps closed before p (ps ++ after)) others
+    ∙ ap (λ b. b || list_any is_fault_line others) (pair_small steps closed before p (ps ++ after)).faultless
+    ∙ no_faults steps closed (before ++ p ∷ []) ps after
 
-pub no_verdicts : (closed : Bool) (before pairs after : List Pair)
-    → list_any is_verdict_line (lines_in closed before pairs after) ≡ false
-no_verdicts closed before [] after = refl
-no_verdicts closed before (p ∷ ps) after =
-    let others = lines_in closed (before ++ p ∷ []) ps after in
-    list_any-append is_verdict_line (lines_of_pair closed before p (ps ++ after)) others
-    ∙ ap (λ b. b || list_any is_verdict_line others) (pair_small closed before p (ps ++ after)).silent
-    ∙ no_verdicts closed (before ++ p ∷ []) ps after
+pub no_verdicts : (steps : ℕ) (closed : Bool) (before pairs after : List Pair)
+    → list_any is_verdict_line (lines_in steps closed before pairs after) ≡ false
+no_verdicts steps closed before [] after = refl
+no_verdicts steps closed before (p ∷ ps) after =
+    let others = lines_in steps closed (before ++ p ∷ []) ps after in
+    list_any-append is_verdict_line (lines_of_pair steps closed before p (ps ++ after)) others
+    ∙ ap (λ b. b || list_any is_verdict_line others) (pair_small steps closed before p (ps ++ after)).silent
+    ∙ no_verdicts steps closed (before ++ p ∷ []) ps after
 
 -- ---- the line of a fault is none that is counted
 

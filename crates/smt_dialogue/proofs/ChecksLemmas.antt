@@ -38,11 +38,11 @@ sat_lines-closing true false more k n = refl
 sat_lines-closing false true more k n = refl
 sat_lines-closing false false more k n = refl
 
-pub pending-closing : (closed : Bool) (o : Option PendingCheck) (names : Signature) (claims : List Claimed)
+pub pending-closing : (steps : ℕ) (closed : Bool) (o : Option PendingCheck) (names : Signature) (claims : List Claimed)
     (m : ℕ) (p : Pair) (after : List Pair) → closes p ≡ true
-    → pending_lines closed o names claims m (p ∷ after) ≡ closing_lines o
-pending-closing closed None names claims m p after h = refl
-pending-closing closed (Some c) names claims m p after h =
+    → pending_lines steps closed o names claims m (p ∷ after) ≡ closing_lines o
+pending-closing steps closed None names claims m p after h = refl
+pending-closing steps closed (Some c) names claims m p after h =
     rw h (sat_lines-closing closed c.some_model (list_any closes after) c.check c.command)
 
 -- the models that a pair printed
@@ -50,32 +50,33 @@ abbrev models_of : ℕ → Pair → List Printed
 models_of m p = cond (is_effective p) (printed_by m p.command p.answer) []
 
 -- a pair that neither ends the window nor prints a model leaves the lines as they are
-pending-past : (closed : Bool) (o : Option PendingCheck) (names : Signature) (claims : List Claimed) (m : ℕ)
+pending-past : (steps : ℕ) (closed : Bool) (o : Option PendingCheck) (names : Signature) (claims : List Claimed) (m : ℕ)
     (p : Pair) (after : List Pair) → closes p ≡ false → models_of m p ≡ []
-    → pending_lines closed o names claims m (p ∷ after) ≡ pending_lines closed o names claims (m + 1) after
-pending-past closed None names claims m p after h none = refl
-pending-past closed (Some c) names claims m p after h none = rw (h, none) refl
+    → pending_lines steps closed o names claims m (p ∷ after) ≡ pending_lines steps closed o names claims (m + 1) after
+pending-past steps closed None names claims m p after h none = refl
+pending-past steps closed (Some c) names claims m p after h none = rw (h, none) refl
 
 -- ## The checks go on
 
 -- t is s after one more pair: so many more checks, and the lines for whatever pairs come
 pub record GoesOn (s : ChecksState) (pairs : List Pair) (p : Pair) (t : ChecksState) : Type 0 where
+  pub limit : t.limit ≡ s.limit
   pub count : t.count ≡ s.count + checks_in (p ∷ [])
   pub lines : (closed : Bool) (after : List Pair)
-      → s.lines ++ (pending_lines closed s.pending (signature_after pairs) (claims_after pairs)
-      (length pairs + 1) (p ∷ after) ++ lines_of_pair closed pairs p after)
-      ≡ t.lines ++ pending_lines closed t.pending (signature_after (pairs ++ p ∷ []))
+      → s.lines ++ (pending_lines s.limit closed s.pending (signature_after pairs) (claims_after pairs)
+      (length pairs + 1) (p ∷ after) ++ lines_of_pair s.limit closed pairs p after)
+      ≡ t.lines ++ pending_lines t.limit closed t.pending (signature_after (pairs ++ p ∷ []))
       (claims_after (pairs ++ p ∷ [])) (length (pairs ++ p ∷ []) + 1) after
 
 -- the lines where the window ends at a pair that has these lines itself
 closes_with : (s : ChecksState) (pairs : List Pair) (p : Pair) (closed : Bool) (after : List Pair)
-    (own : List Line) → closes p ≡ true → lines_of_pair closed pairs p after ≡ own
-    → s.lines ++ (pending_lines closed s.pending (signature_after pairs) (claims_after pairs)
-    (length pairs + 1) (p ∷ after) ++ lines_of_pair closed pairs p after)
+    (own : List Line) → closes p ≡ true → lines_of_pair s.limit closed pairs p after ≡ own
+    → s.lines ++ (pending_lines s.limit closed s.pending (signature_after pairs) (claims_after pairs)
+    (length pairs + 1) (p ∷ after) ++ lines_of_pair s.limit closed pairs p after)
     ≡ (s.lines ++ closing_lines s.pending) ++ own
 closes_with s pairs p closed after own h is =
-    ap (λ (ls : List Line). s.lines ++ (ls ++ lines_of_pair closed pairs p after))
-    (pending-closing closed s.pending (signature_after pairs) (claims_after pairs) (length pairs + 1)
+    ap (λ (ls : List Line). s.lines ++ (ls ++ lines_of_pair s.limit closed pairs p after))
+    (pending-closing s.limit closed s.pending (signature_after pairs) (claims_after pairs) (length pairs + 1)
     p after h)
     ∙ ap (λ (ls : List Line). s.lines ++ (closing_lines s.pending ++ ls)) is
     ∙ sym (append_assoc s.lines (closing_lines s.pending) own)
@@ -84,41 +85,43 @@ closes_with s pairs p closed after own h is =
 ends_window : (s : ChecksState) (pairs : List Pair) (p : Pair) → closes p ≡ true → is_check p.command ≡ false
     → GoesOn s pairs p (with_window_ended s)
 ends_window s pairs p ends other = record {
+  limit = refl;
   count = rw other (omega arith);
   lines = λ closed after. closes_with s pairs p closed after [] ends (rw other refl);
 }
 
 -- the lines of a check whose window goes on behind a pair that changes nothing
-pending-idle : (closed : Bool) (o : Option PendingCheck) (pairs : List Pair) (p : Pair) (after : List Pair)
+pending-idle : (steps : ℕ) (closed : Bool) (o : Option PendingCheck) (pairs : List Pair) (p : Pair) (after : List Pair)
     → IsIdle pairs p
-    → pending_lines closed o (signature_after pairs) (claims_after pairs) ((length pairs + 1) + 1) after
-    ≡ pending_lines closed o (signature_after (pairs ++ p ∷ [])) (claims_after (pairs ++ p ∷ []))
+    → pending_lines steps closed o (signature_after pairs) (claims_after pairs) ((length pairs + 1) + 1) after
+    ≡ pending_lines steps closed o (signature_after (pairs ++ p ∷ [])) (claims_after (pairs ++ p ∷ []))
     (length (pairs ++ p ∷ []) + 1) after
-pending-idle closed o pairs p after idle =
+pending-idle steps closed o pairs p after idle =
     let new = pairs ++ p ∷ [] in
     let len : length new ≡ length pairs + 1 = length-append pairs (p ∷ []) ∙ omega arith in
-    ap (λ (m : ℕ). pending_lines closed o (signature_after pairs) (claims_after pairs) (m + 1) after)
+    ap (λ (m : ℕ). pending_lines steps closed o (signature_after pairs) (claims_after pairs) (m + 1) after)
     (sym len)
-    ∙ ap (λ (es : Signature). pending_lines closed o es (claims_after pairs) (length new + 1) after)
+    ∙ ap (λ (es : Signature). pending_lines steps closed o es (claims_after pairs) (length new + 1) after)
     (sym idle.signature)
-    ∙ ap (λ (es : List Claimed). pending_lines closed o (signature_after new) es (length new + 1) after)
+    ∙ ap (λ (es : List Claimed). pending_lines steps closed o (signature_after new) es (length new + 1) after)
     (sym (ap claims_of idle.assertions))
 
 -- a pair that neither ends the window nor prints a model, and changes nothing, leaves all as it is
 stays : (s : ChecksState) (pairs : List Pair) (p : Pair) → closes p ≡ false → is_check p.command ≡ false
     → ((m : ℕ) → models_of m p ≡ []) → IsIdle pairs p → GoesOn s pairs p s
 stays s pairs p open' other none idle = record {
+  limit = refl;
   count = rw other (omega arith);
   lines = λ closed after.
       let names = signature_after pairs in
       let claims = claims_after pairs in
-      let here = pending_lines closed s.pending names claims (length pairs + 1) (p ∷ after) in
+      let here = pending_lines s.limit closed s.pending names claims (length pairs + 1) (p ∷ after) in
       ap (λ (ls : List Line). s.lines ++ (here ++ ls)) (rw other refl)
       ∙ ap (λ (ls : List Line). s.lines ++ ls) (append-nil here)
       ∙ ap (λ (ls : List Line). s.lines ++ ls)
-      (pending-past closed s.pending names claims (length pairs + 1) p after open'
+      (pending-past s.limit closed s.pending names claims (length pairs + 1) p after open'
       (none (length pairs + 1)))
-      ∙ ap (λ (ls : List Line). s.lines ++ ls) (pending-idle closed s.pending pairs p after idle);
+      ∙ ap (λ (ls : List Line). s.lines ++ ls) (pending-idle s.limit closed s.pending pairs p after idle);
 }
 
 neither : {A : Type 0} (b : Bool) → ◌≡◌ {A = List A} (cond b [] []) []
@@ -146,11 +149,12 @@ check_closes c o is = ap (λ (k : Kind). asks_check k || changes_force k && is_e
 answered_goes : (s : ChecksState) (pairs : List Pair) (c : Command) (a : Sexp) (line : Line)
     → kind_of c ≡ kinds.Check
     → ((closed : Bool) (after : List Pair)
-    → lines_of_answer closed pairs (checks_in pairs + 1) (Some a) after ≡ line ∷ [])
+    → lines_of_answer s.limit closed pairs (checks_in pairs + 1) (Some a) after ≡ line ∷ [])
     → GoesOn s pairs (pair_of c (Some a))
     (record (with_window_ended s)
     { count = s.count + 1; lines = (with_window_ended s).lines ++ line ∷ [] })
 answered_goes s pairs c a line is own = record {
+  limit = refl;
   count = rw is (omega arith);
   lines = λ closed after. closes_with s pairs (pair_of c (Some a)) closed after (line ∷ [])
       (check_closes c (Some a) is) (rw is (own closed after))
@@ -161,8 +165,8 @@ answered_goes s pairs c a line is own = record {
 begun_goes : (s : ChecksState) (pairs : List Pair) (c : Command) (a : Sexp) (k n : ℕ)
     → kind_of c ≡ kinds.Check → k ≡ checks_in pairs + 1 → n ≡ length pairs + 1
     → ((closed : Bool) (after : List Pair)
-    → lines_of_answer closed pairs (checks_in pairs + 1) (Some a) after
-    ≡ lines_of_sat closed (checks_in pairs + 1) (length pairs + 1) (signature_after pairs)
+    → lines_of_answer s.limit closed pairs (checks_in pairs + 1) (Some a) after
+    ≡ lines_of_sat s.limit closed (checks_in pairs + 1) (length pairs + 1) (signature_after pairs)
     (claims_after pairs) ((length pairs + 1) + 1) after)
     → GoesOn s pairs (pair_of c (Some a))
     (record (with_window_ended s)
@@ -171,17 +175,18 @@ begun_goes s pairs c a k n is is_k is_n own =
     let p = pair_of c (Some a) in
     let begun : Option PendingCheck = Some (record { check = k; command = n; some_model = false }) in
     record {
+      limit = refl;
       count = rw is (omega arith);
       lines = λ closed after.
           closes_with s pairs p closed after _ (check_closes c (Some a) is) (rw is (own closed after))
           ∙ ap (λ (i : ℕ). (with_window_ended s).lines
-          ++ lines_of_sat closed i (length pairs + 1) (signature_after pairs) (claims_after pairs)
+          ++ lines_of_sat s.limit closed i (length pairs + 1) (signature_after pairs) (claims_after pairs)
           ((length pairs + 1) + 1) after) (sym is_k)
           ∙ ap (λ (i : ℕ). (with_window_ended s).lines
-          ++ lines_of_sat closed k i (signature_after pairs) (claims_after pairs)
+          ++ lines_of_sat s.limit closed k i (signature_after pairs) (claims_after pairs)
           ((length pairs + 1) + 1) after) (sym is_n)
           ∙ ap (λ (ls : List Line). (with_window_ended s).lines ++ ls)
-          (pending-idle closed begun pairs p after
+          (pending-idle s.limit closed begun pairs p after
           (quiet_is_idle pairs p (quiet c (ap changes_force is))));
     }
 
@@ -207,7 +212,7 @@ check_by s pairs c a (Some other) is_check' is h count =
     answered_goes s pairs c a (lines.Unchecked (s.count + 1) (length pairs + 1) other) is_check'
     (λ closed after. ap (λ (v : Option CheckAnswer). unchecked_line_or (checks_in pairs + 1)
     (length pairs + 1) v (cond (is_symbol (codes "sat") a)
-    (lines_of_sat closed (checks_in pairs + 1) (length pairs + 1) (signature_after pairs)
+    (lines_of_sat s.limit closed (checks_in pairs + 1) (length pairs + 1) (signature_after pairs)
     (claims_after pairs) ((length pairs + 1) + 1) after) [])) is
     ∙ ap (λ (i : ℕ). lines.Unchecked i (length pairs + 1) other ∷ []) (sym is_k))
 check_by s pairs c a None is_check' is h count =
@@ -218,7 +223,7 @@ check_by s pairs c a None is_check' is h count =
     begun_goes s pairs c a (s.count + 1) (length pairs + 1) is_check' is_k refl
     (λ closed after. ap (λ (v : Option CheckAnswer). unchecked_line_or (checks_in pairs + 1)
     (length pairs + 1) v (cond (is_symbol (codes "sat") a)
-    (lines_of_sat closed (checks_in pairs + 1) (length pairs + 1) (signature_after pairs)
+    (lines_of_sat s.limit closed (checks_in pairs + 1) (length pairs + 1) (signature_after pairs)
     (claims_after pairs) ((length pairs + 1) + 1) after) [])) is ∙ rw sat refl)
 
 -- ## Models
@@ -235,26 +240,26 @@ model_idle : (pairs : List Pair) (d : Command) (o : Option Sexp) → kind_of d �
 model_idle pairs d o is = quiet_is_idle pairs (pair_of d o) (quiet d (ap changes_force is))
 
 -- the lines of a pending check at one more model
-pending-model : (closed : Bool) (c : PendingCheck) (names : Signature) (claims : List Claimed) (m : ℕ)
+pending-model : (steps : ℕ) (closed : Bool) (c : PendingCheck) (names : Signature) (claims : List Claimed) (m : ℕ)
     (d : Command) (parts : Sexps) (after : List Pair) → kind_of d ≡ kinds.Model
     → is_effective_with (Some (Items parts)) ≡ true
-    → pending_lines closed (Some c) names claims m (pair_of d (Some (Items parts)) ∷ after)
+    → pending_lines steps closed (Some c) names claims m (pair_of d (Some (Items parts)) ∷ after)
     ≡ sat_lines c.check c.command
-    (option_or (line_of_judgement c.check c.command m (judgement_of names claims parts))
-    (unconfirmed_line c.check c.command names claims (models_from (m + 1) (window after)))) true
+    (option_or (line_of_judgement c.check c.command m (judgement_of steps names claims parts))
+    (unconfirmed_line steps c.check c.command names claims (models_from (m + 1) (window after)))) true
     (closed || list_any closes after)
-pending-model closed c names claims m d parts after is h =
+pending-model steps closed c names claims m d parts after is h =
     let p = pair_of d (Some (Items parts)) in
     let further = models_from (m + 1) (window after) in
     let printed : models_of m p ≡ record { command = m; parts = parts } ∷ [] =
     ap (λ (e : Bool). cond e (printed_by m d (Some (Items parts))) []) h
     ∙ ap (λ (k : Kind). cond (asks_model k) (printed_in m (Some (Items parts))) []) is in
     ap (λ (b : Bool). sat_lines c.check c.command
-    (unconfirmed_line c.check c.command names claims (models_from m (cond b [] (p ∷ window after))))
+    (unconfirmed_line steps c.check c.command names claims (models_from m (cond b [] (p ∷ window after))))
     (c.some_model || not (is_empty (models_from m (cond b [] (p ∷ window after)))))
     (closed || (b || list_any closes after))) (model_open d (Some (Items parts)) is)
     ∙ ap (λ (ms : List Printed). sat_lines c.check c.command
-    (unconfirmed_line c.check c.command names claims (ms ++ further))
+    (unconfirmed_line steps c.check c.command names claims (ms ++ further))
     (c.some_model || not (is_empty (ms ++ further))) (closed || list_any closes after)) printed
     ∙ rw or_true refl
 
@@ -263,28 +268,28 @@ at_model : (s : ChecksState) (pairs : List Pair) (c : PendingCheck) (d : Command
     (l : Option Line) (closed : Bool) (after : List Pair)
     → s.pending ≡ Some c → kind_of d ≡ kinds.Model → is_effective_with (Some (Items parts)) ≡ true
     → line_of_judgement c.check c.command (length pairs + 1)
-    (judgement_of (signature_after pairs) (claims_after pairs) parts) ≡ l
-    → s.lines ++ (pending_lines closed s.pending (signature_after pairs) (claims_after pairs)
+    (judgement_of s.limit (signature_after pairs) (claims_after pairs) parts) ≡ l
+    → s.lines ++ (pending_lines s.limit closed s.pending (signature_after pairs) (claims_after pairs)
     (length pairs + 1) (pair_of d (Some (Items parts)) ∷ after)
-    ++ lines_of_pair closed pairs (pair_of d (Some (Items parts))) after)
+    ++ lines_of_pair s.limit closed pairs (pair_of d (Some (Items parts))) after)
     ≡ s.lines ++ sat_lines c.check c.command
-    (option_or l (unconfirmed_line c.check c.command (signature_after pairs) (claims_after pairs)
+    (option_or l (unconfirmed_line s.limit c.check c.command (signature_after pairs) (claims_after pairs)
     (models_from ((length pairs + 1) + 1) (window after)))) true (closed || list_any closes after)
 at_model s pairs c d parts l closed after is_pending is_model h is =
     let p = pair_of d (Some (Items parts)) in
-    let here = pending_lines closed s.pending (signature_after pairs) (claims_after pairs) (length pairs + 1)
+    let here = pending_lines s.limit closed s.pending (signature_after pairs) (claims_after pairs) (length pairs + 1)
     (p ∷ after) in
     ap (λ (k : Kind). s.lines ++ (here
-    ++ cond (asks_check k) (lines_of_answer closed pairs (checks_in pairs + 1) (Some (Items parts)) after) []))
+    ++ cond (asks_check k) (lines_of_answer s.limit closed pairs (checks_in pairs + 1) (Some (Items parts)) after) []))
     is_model
     ∙ ap (λ (ls : List Line). s.lines ++ ls) (append-nil here)
-    ∙ ap (λ (o : Option PendingCheck). s.lines ++ pending_lines closed o (signature_after pairs)
+    ∙ ap (λ (o : Option PendingCheck). s.lines ++ pending_lines s.limit closed o (signature_after pairs)
     (claims_after pairs) (length pairs + 1) (p ∷ after)) is_pending
     ∙ ap (λ (ls : List Line). s.lines ++ ls)
-    (pending-model closed c (signature_after pairs) (claims_after pairs) (length pairs + 1) d parts after
+    (pending-model s.limit closed c (signature_after pairs) (claims_after pairs) (length pairs + 1) d parts after
     is_model h)
     ∙ ap (λ (x : Option Line). s.lines ++ sat_lines c.check c.command
-    (option_or x (unconfirmed_line c.check c.command (signature_after pairs) (claims_after pairs)
+    (option_or x (unconfirmed_line s.limit c.check c.command (signature_after pairs) (claims_after pairs)
     (models_from ((length pairs + 1) + 1) (window after)))) true (closed || list_any closes after)) is
 
 -- what is added where the model has a line, and where it is confirmed
@@ -292,9 +297,10 @@ model_line : (s : ChecksState) (pairs : List Pair) (c : PendingCheck) (d : Comma
     (l : Option Line) → s.pending ≡ Some c → kind_of d ≡ kinds.Model
     → is_effective_with (Some (Items parts)) ≡ true
     → line_of_judgement c.check c.command (length pairs + 1)
-    (judgement_of (signature_after pairs) (claims_after pairs) parts) ≡ l
+    (judgement_of s.limit (signature_after pairs) (claims_after pairs) parts) ≡ l
     → GoesOn s pairs (pair_of d (Some (Items parts))) (with_line s c l)
 model_line s pairs c d parts (Some line) is_pending is_model h is = record {
+  limit = refl;
   count = rw is_model (omega arith);
   lines = λ closed after. at_model s pairs c d parts (Some line) closed after is_pending is_model h is
       ∙ sym (append-nil (s.lines ++ line ∷ []));
@@ -303,10 +309,11 @@ model_line s pairs c d parts None is_pending is_model h is =
     let p = pair_of d (Some (Items parts)) in
     let noted : PendingCheck = record c { some_model = true } in
     record {
+      limit = refl;
       count = rw is_model (omega arith);
       lines = λ closed after. at_model s pairs c d parts None closed after is_pending is_model h is
           ∙ ap (λ (ls : List Line). s.lines ++ ls)
-          (pending-idle closed (Some noted) pairs p after (model_idle pairs d (Some (Items parts)) is_model));
+          (pending-idle s.limit closed (Some noted) pairs p after (model_idle pairs d (Some (Items parts)) is_model));
     }
 
 -- an answer that is no model leaves all as it is
@@ -322,6 +329,7 @@ model_goes : (s : ChecksState) (pairs : List Pair) (pending : Option PendingChec
     → GoesOn s pairs (pair_of d o)
     (with_models s pending (signature_after pairs) (claims_after pairs) (length pairs + 1) e o)
 model_goes s pairs None d e o is_model is_pending is = record {
+  limit = refl;
   count = rw is_model (omega arith);
   lines = λ closed after. rw (is_pending, is_model) refl;
 }
@@ -335,7 +343,7 @@ model_goes s pairs (Some c) d true (Some (Reserved w)) is_model is_pending is =
 model_goes s pairs (Some c) d true (Some (Items parts)) is_model is_pending is =
     model_line s pairs c d parts
     (line_of_judgement c.check c.command (length pairs + 1)
-    (judgement_of (signature_after pairs) (claims_after pairs) parts)) is_pending is_model is refl
+    (judgement_of s.limit (signature_after pairs) (claims_after pairs) parts)) is_pending is_model is refl
 
 -- ## Every command
 
@@ -413,8 +421,8 @@ or_false true = refl
 or_false false = refl
 
 -- at the end the window that has not ended does
-pub pending-end : (o : Option PendingCheck) (names : Signature) (claims : List Claimed) (m : ℕ)
-    → pending_lines true o names claims m [] ≡ closing_lines o
-pending-end None names claims m = refl
-pending-end (Some c) names claims m =
+pub pending-end : (steps : ℕ) (o : Option PendingCheck) (names : Signature) (claims : List Claimed) (m : ℕ)
+    → pending_lines steps true o names claims m [] ≡ closing_lines o
+pending-end steps None names claims m = refl
+pending-end steps (Some c) names claims m =
     ap (λ (b : Bool). confirmed_line c.check c.command b ∷ []) (or_false c.some_model)

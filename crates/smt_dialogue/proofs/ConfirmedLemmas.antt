@@ -1,7 +1,7 @@
 -- What the lines of a report say of each check: the bridge from known values to the standard's.
 use Rattle.std.proofs.Common.{◌≡◌, ◌+◌, ℕ, Bool, true, false, not, ◌||◌, List, [], ◌∷◌, ◌++◌, length, Option}
 use Rattle.std.proofs.Common.{Some, None, Result, Ok, Err, cond, codes, refl, ap, sym, ◌∙◌, subst, arith}
-use Rattle.std.proofs.Common.{append_assoc}
+use Rattle.std.proofs.Common.{append_assoc, nat_lt}
 use Rattle.std.proofs.lemmas.List.{append-nil}
 use Rattle.std.specs.List.{AllByRecursion, list_any}
 use Rattle.smt_trees.specs.Sexp as sexp
@@ -21,7 +21,7 @@ use Rattle.smt_report.specs.Verdict.{is_refuted_line, is_undecided_line}
 use Rattle.std.specs.Option.{option_or}
 use Rattle.smt_dialogue.specs.Window.{Printed, models_from, structure_at, window}
 use Rattle.smt_dialogue.specs.Judgement.{Claimed, claims_of, first_claim, is_false_over, is_open_over}
-use Rattle.smt_dialogue.specs.Judgement.{judged_in, judgement_of, refuted_or}
+use Rattle.smt_dialogue.specs.Judgement.{claims_cost, judged_in, judged_over, judgement_of, refuted_or}
 use Rattle.smt_values.specs.Element.{Agrees, Element, Truth, Integer, Vector}
 use Rattle.smt_values.specs.Operations.{DivisionByZero}
 use Rattle.smt_values.specs.KnownOperations.{is_known}
@@ -78,25 +78,25 @@ asserted_formula earlier p term is effective h =
     (rw (effective, is) at h)
 
 -- the lines of a pair are among those of all pairs
-pub lines_at : (before : List Pair) (p : Pair) (after : List Pair)
-    → lines_in true [] (before ++ p ∷ after) []
-    ≡ lines_in true [] before ((p ∷ after) ++ [])
-    ++ (lines_of_pair true before p after ++ lines_in true (before ++ p ∷ []) after [])
-lines_at before p after =
-    lines_in-append true [] before (p ∷ after) []
-    ∙ ap (λ (a : List Pair). lines_in true [] before ((p ∷ after) ++ [])
-    ++ (lines_of_pair true before p a ++ lines_in true (before ++ p ∷ []) after [])) (append-nil after)
+pub lines_at : (steps : ℕ) (before : List Pair) (p : Pair) (after : List Pair)
+    → lines_in steps true [] (before ++ p ∷ after) []
+    ≡ lines_in steps true [] before ((p ∷ after) ++ [])
+    ++ (lines_of_pair steps true before p after ++ lines_in steps true (before ++ p ∷ []) after [])
+lines_at steps before p after =
+    lines_in-append steps true [] before (p ∷ after) []
+    ∙ ap (λ (a : List Pair). lines_in steps true [] before ((p ∷ after) ++ [])
+    ++ (lines_of_pair steps true before p a ++ lines_in steps true (before ++ p ∷ []) after [])) (append-nil after)
 
 -- the lines of a check that was answered sat
-pub lines_of_sat_at : (before after : List Pair) (p : Pair) → IsSatCheck p
-    → lines_of_pair true before p after
-    ≡ lines_of_sat true (checks_in before + 1) (length before + 1) (signature_after before)
+pub lines_of_sat_at : (steps : ℕ) (before after : List Pair) (p : Pair) → IsSatCheck p
+    → lines_of_pair steps true before p after
+    ≡ lines_of_sat steps true (checks_in before + 1) (length before + 1) (signature_after before)
     (claims_after before) ((length before + 1) + 1) after
-lines_of_sat_at before after p s =
+lines_of_sat_at steps before after p s =
     let w = is_word (codes "sat") s.answer s.sat in
     let e : s.answer ≡ Atom sexp.Symbol (codes "sat") = w.1 ∙ ap (λ (x : List ℕ). Atom sexp.Symbol x) w.2 in
-    ap (λ (b : Bool). cond b (lines_of_answer true before (checks_in before + 1) p.answer after) []) s.check
-    ∙ ap (λ (o : Option Sexp). lines_of_answer true before (checks_in before + 1) o after)
+    ap (λ (b : Bool). cond b (lines_of_answer steps true before (checks_in before + 1) p.answer after) []) s.check
+    ∙ ap (λ (o : Option Sexp). lines_of_answer steps true before (checks_in before + 1) o after)
     (s.answered ∙ ap (λ (a : Sexp). Some a) e)
 
 -- ## Judgements
@@ -153,17 +153,24 @@ refuted_none (Some n) o h = absurd (cc)
 refuted_none None (Some n) h = absurd (cc)
 refuted_none None None h = (refl, refl)
 
+-- a model that is confirmed is not too long
+short_confirmed : (b : Bool) (j : Judgement) → cond b judgements.TooLong j ≡ judgements.Confirmed
+    → j ≡ judgements.Confirmed
+short_confirmed true j h = absurd (cc)
+short_confirmed false j h = h
+
 -- a model that is confirmed has definitions over which no assertion is false or open
-confirmed_over : (script : Signature) (as' : List Claimed) (r : Result Signature ModelFlaw)
-    → judged_in script as' r ≡ judgements.Confirmed
+confirmed_over : (steps : ℕ) (script : Signature) (as' : List Claimed) (r : Result Signature ModelFlaw)
+    → judged_in steps script as' r ≡ judgements.Confirmed
     → (d : Signature) × (r ≡ Ok d) × (first_claim (is_false_over (structure_of script d)) as' ≡ None)
     × (first_claim (is_open_over (structure_of script d)) as' ≡ None)
-confirmed_over script as' (Ok d) h =
+confirmed_over steps script as' (Ok d) h =
     let s = structure_of script d in
-    let none = refuted_none (first_claim (is_false_over s) as') (first_claim (is_open_over s) as') h in
+    let none = refuted_none (first_claim (is_false_over s) as') (first_claim (is_open_over s) as')
+    (short_confirmed (nat_lt steps (claims_cost s as')) (judged_over as' s) h) in
     (d, refl, none.0, none.1)
-confirmed_over script as' (Err (faults.Item n f)) h = absurd (cc)
-confirmed_over script as' (Err (faults.Lacks n)) h = absurd (cc)
+confirmed_over steps script as' (Err (faults.Item n f)) h = absurd (cc)
+confirmed_over steps script as' (Err (faults.Lacks n)) h = absurd (cc)
 
 -- what is claimed is asserted
 pub asserted_by : (before : List Pair) (check : Pair) (claim : Claim) (earlier : List Pair) (term : Sexp)
@@ -173,12 +180,12 @@ asserted_by before check (claims.Assertion command) earlier term h = h.0
 -- ## Models that are confirmed are true
 
 -- a model that is confirmed under what is in force is a true one
-pub true_model : Laws → (pairs before after : List Pair) (p : Pair) (parts : Sexps)
+pub true_model : (steps : ℕ) → Laws → (pairs before after : List Pair) (p : Pair) (parts : Sexps)
     → pairs ≡ before ++ p ∷ after → AreFaultless [] pairs
-    → judgement_of (signature_after before) (claims_after before) parts ≡ judgements.Confirmed
+    → judgement_of steps (signature_after before) (claims_after before) parts ≡ judgements.Confirmed
     → IsTrueModel before p parts
-true_model laws pairs before after p parts place faultless h =
-    let confirmed = confirmed_over (signature_after before) (claims_after before)
+true_model steps laws pairs before after p parts place faultless h =
+    let confirmed = confirmed_over steps (signature_after before) (claims_after before)
     (model_in (signature_after before) parts) h in
     record {
       definitions = confirmed.0;
@@ -217,20 +224,21 @@ or_none (Some line) r h = absurd (cc)
 judged_confirmed : (k n g : ℕ) (j : Judgement) → line_of_judgement k n g j ≡ None → j ≡ judgements.Confirmed
 judged_confirmed k n g (judgements.ItemFault i f) h = absurd (cc)
 judged_confirmed k n g (judgements.Lacks d) h = absurd (cc)
+judged_confirmed k n g judgements.TooLong h = absurd (cc)
 judged_confirmed k n g (judgements.Refuted a) h = absurd (cc)
 judged_confirmed k n g (judgements.NotDecided a) h = absurd (cc)
 judged_confirmed k n g judgements.Confirmed h = refl
 
 -- where no model has a line, each is confirmed
-all_confirmed : (k n : ℕ) (names : Signature) (as' : List Claimed) (ms : List Printed)
-    → unconfirmed_line k n names as' ms ≡ None
-    → AllByRecursion (λ (m : Printed). judgement_of names as' m.parts ≡ judgements.Confirmed) ms
-all_confirmed k n names as' [] h = tt
-all_confirmed k n names as' (m ∷ ms) h =
-    let none = or_none (line_of_judgement k n m.command (judgement_of names as' m.parts))
-    (unconfirmed_line k n names as' ms) h in (
-      judged_confirmed k n m.command (judgement_of names as' m.parts) none.0,
-      all_confirmed k n names as' ms none.1,
+all_confirmed : (steps : ℕ) (k n : ℕ) (names : Signature) (as' : List Claimed) (ms : List Printed)
+    → unconfirmed_line steps k n names as' ms ≡ None
+    → AllByRecursion (λ (m : Printed). judgement_of steps names as' m.parts ≡ judgements.Confirmed) ms
+all_confirmed steps k n names as' [] h = tt
+all_confirmed steps k n names as' (m ∷ ms) h =
+    let none = or_none (line_of_judgement k n m.command (judgement_of steps names as' m.parts))
+    (unconfirmed_line steps k n names as' ms) h in (
+      judged_confirmed k n m.command (judgement_of steps names as' m.parts) none.0,
+      all_confirmed steps k n names as' ms none.1,
     )
 
 all_weaker : {A : Type 0} (P Q : A → Type 0) (xs : List A) → ((x : A) → P x → Q x) → AllByRecursion P xs
@@ -248,6 +256,8 @@ shown k n g (judgements.ItemFault i f) line h =
     ap (λ (l : Line). is_refuted_line l || is_undecided_line l) (sym (some_same h))
 shown k n g (judgements.Lacks d) line h =
     ap (λ (l : Line). is_refuted_line l || is_undecided_line l) (sym (some_same h))
+shown k n g judgements.TooLong line h =
+    ap (λ (l : Line). is_refuted_line l || is_undecided_line l) (sym (some_same h))
 shown k n g (judgements.Refuted a) line h =
     ap (λ (l : Line). is_refuted_line l || is_undecided_line l) (sym (some_same h))
 shown k n g (judgements.NotDecided a) line h =
@@ -260,13 +270,13 @@ first_shown : (k n g : ℕ) (j : Judgement) (l r : Option Line) (line : Line) �
 first_shown k n g j None r line is later h = later h
 first_shown k n g j (Some other) r line is later h = shown k n g j line (is ∙ h)
 
-unconfirmed_shown : (k n : ℕ) (names : Signature) (as' : List Claimed) (ms : List Printed) (line : Line)
-    → unconfirmed_line k n names as' ms ≡ Some line → is_refuted_line line || is_undecided_line line ≡ true
-unconfirmed_shown k n names as' [] line h = absurd (cc)
-unconfirmed_shown k n names as' (m ∷ ms) line h =
-    first_shown k n m.command (judgement_of names as' m.parts)
-    (line_of_judgement k n m.command (judgement_of names as' m.parts))
-    (unconfirmed_line k n names as' ms) line refl (unconfirmed_shown k n names as' ms line) h
+unconfirmed_shown : (steps : ℕ) (k n : ℕ) (names : Signature) (as' : List Claimed) (ms : List Printed) (line : Line)
+    → unconfirmed_line steps k n names as' ms ≡ Some line → is_refuted_line line || is_undecided_line line ≡ true
+unconfirmed_shown steps k n names as' [] line h = absurd (cc)
+unconfirmed_shown steps k n names as' (m ∷ ms) line h =
+    first_shown k n m.command (judgement_of steps names as' m.parts)
+    (line_of_judgement k n m.command (judgement_of steps names as' m.parts))
+    (unconfirmed_line steps k n names as' ms) line refl (unconfirmed_shown steps k n names as' ms line) h
 
 both_false : {P : Type 0} (r u : Bool) → r || u ≡ true → r || false ≡ false → u || false ≡ false → P
 both_false true u h a b = absurd (cc)
@@ -274,51 +284,51 @@ both_false false true h a b = absurd (cc)
 both_false false false h a b = absurd (cc)
 
 -- a check without the line of a refuted or an undecided one has a model, and no model of it has a line
-sat_confirmed : (k n : ℕ) (names : Signature) (as' : List Claimed) (ms : List Printed) (l : Option Line)
-    → unconfirmed_line k n names as' ms ≡ l
+sat_confirmed : (steps : ℕ) (k n : ℕ) (names : Signature) (as' : List Claimed) (ms : List Printed) (l : Option Line)
+    → unconfirmed_line steps k n names as' ms ≡ l
     → list_any is_refuted_line (sat_lines k n l (not (is_empty ms)) true) ≡ false
     → list_any is_undecided_line (sat_lines k n l (not (is_empty ms)) true) ≡ false
     → (first : Printed) × (others : List Printed) × (ms ≡ first ∷ others)
-    × (unconfirmed_line k n names as' ms ≡ None)
-sat_confirmed k n names as' ms (Some line) is r u =
-    both_false (is_refuted_line line) (is_undecided_line line) (unconfirmed_shown k n names as' ms line is)
+    × (unconfirmed_line steps k n names as' ms ≡ None)
+sat_confirmed steps k n names as' ms (Some line) is r u =
+    both_false (is_refuted_line line) (is_undecided_line line) (unconfirmed_shown steps k n names as' ms line is)
     r u
-sat_confirmed k n names as' [] None is r u = absurd (cc)
-sat_confirmed k n names as' (m ∷ ms) None is r u = (m, ms, refl, is)
+sat_confirmed steps k n names as' [] None is r u = absurd (cc)
+sat_confirmed steps k n names as' (m ∷ ms) None is r u = (m, ms, refl, is)
 
 -- where the lines of all pairs have neither, each check that was answered sat is confirmed
-pub confirmed_at : Laws → (pairs before after : List Pair) (p : Pair) → pairs ≡ before ++ p ∷ after
-    → AreFaultless [] pairs → list_any is_refuted_line (lines_in true [] pairs []) ≡ false
-    → list_any is_undecided_line (lines_in true [] pairs []) ≡ false → IsSatCheck p
+pub confirmed_at : (steps : ℕ) → Laws → (pairs before after : List Pair) (p : Pair) → pairs ≡ before ++ p ∷ after
+    → AreFaultless [] pairs → list_any is_refuted_line (lines_in steps true [] pairs []) ≡ false
+    → list_any is_undecided_line (lines_in steps true [] pairs []) ≡ false → IsSatCheck p
     → IsConfirmed before p after
-confirmed_at laws pairs before after p place faultless refuted undecided sat =
+confirmed_at steps laws pairs before after p place faultless refuted undecided sat =
     let k = checks_in before + 1 in
     let n = length before + 1 in
     let names = signature_after before in
     let claimed = claims_after before in
     let ms = models_from (n + 1) (window after) in
-    let parts : lines_in true [] pairs []
-    ≡ lines_in true [] before ((p ∷ after) ++ [])
-    ++ (lines_of_pair true before p after ++ lines_in true (before ++ p ∷ []) after []) =
-    ap (λ (ps : List Pair). lines_in true [] ps []) place ∙ lines_at before p after in
-    let here : (test : Line → Bool) → list_any test (lines_in true [] pairs []) ≡ false
-    → list_any test (lines_of_sat true k n names claimed (n + 1) after) ≡ false =
-    λ test h. ap (list_any test) (sym (lines_of_sat_at before after p sat))
-    ∙ (none_of test (lines_of_pair true before p after) (lines_in true (before ++ p ∷ []) after [])
-    (none_of test (lines_in true [] before ((p ∷ after) ++ []))
-    (lines_of_pair true before p after ++ lines_in true (before ++ p ∷ []) after [])
+    let parts : lines_in steps true [] pairs []
+    ≡ lines_in steps true [] before ((p ∷ after) ++ [])
+    ++ (lines_of_pair steps true before p after ++ lines_in steps true (before ++ p ∷ []) after []) =
+    ap (λ (ps : List Pair). lines_in steps true [] ps []) place ∙ lines_at steps before p after in
+    let here : (test : Line → Bool) → list_any test (lines_in steps true [] pairs []) ≡ false
+    → list_any test (lines_of_sat steps true k n names claimed (n + 1) after) ≡ false =
+    λ test h. ap (list_any test) (sym (lines_of_sat_at steps before after p sat))
+    ∙ (none_of test (lines_of_pair steps true before p after) (lines_in steps true (before ++ p ∷ []) after [])
+    (none_of test (lines_in steps true [] before ((p ∷ after) ++ []))
+    (lines_of_pair steps true before p after ++ lines_in steps true (before ++ p ∷ []) after [])
     (ap (list_any test) (sym parts) ∙ h)).1).0 in
-    let found = sat_confirmed k n names claimed ms (unconfirmed_line k n names claimed ms) refl
+    let found = sat_confirmed steps k n names claimed ms (unconfirmed_line steps k n names claimed ms) refl
     (here is_refuted_line refuted) (here is_undecided_line undecided) in
-    let all : AllByRecursion (λ (m : Printed). judgement_of names claimed m.parts ≡ judgements.Confirmed)
+    let all : AllByRecursion (λ (m : Printed). judgement_of steps names claimed m.parts ≡ judgements.Confirmed)
     (found.0 ∷ found.1) = subst
-    (AllByRecursion (λ (m : Printed). judgement_of names claimed m.parts ≡ judgements.Confirmed)) found.2
-    (all_confirmed k n names claimed ms found.3) in
+    (AllByRecursion (λ (m : Printed). judgement_of steps names claimed m.parts ≡ judgements.Confirmed)) found.2
+    (all_confirmed steps k n names claimed ms found.3) in
     record {
       first = found.0;
       others = found.1;
       models = ap (λ (i : ℕ). models_from i (window after)) (omega arith) ∙ found.2;
-      true_models = all_weaker (λ (m : Printed). judgement_of names claimed m.parts ≡ judgements.Confirmed)
+      true_models = all_weaker (λ (m : Printed). judgement_of steps names claimed m.parts ≡ judgements.Confirmed)
           (λ (m : Printed). IsTrueModel before p m.parts) (found.0 ∷ found.1)
-          (λ m h. true_model laws pairs before after p m.parts place faultless h) all;
+          (λ m h. true_model steps laws pairs before after p m.parts place faultless h) all;
     }

@@ -48,13 +48,13 @@ or_false true = refl
 or_false false = refl
 
 -- the lines of the pairs and one more
-lines_in-push : (closed : Bool) (pairs : List Pair) (p : Pair) (after : List Pair)
-    → lines_in closed [] (pairs ++ p ∷ []) after
-    ≡ lines_in closed [] pairs (p ∷ after) ++ lines_of_pair closed pairs p after
-lines_in-push closed pairs p after =
-    lines_in-append closed [] pairs (p ∷ []) after
-    ∙ ap (λ (ls : List Line). lines_in closed [] pairs (p ∷ after) ++ ls)
-    (append-nil (lines_of_pair closed pairs p after))
+lines_in-push : (steps : ℕ) (closed : Bool) (pairs : List Pair) (p : Pair) (after : List Pair)
+    → lines_in steps closed [] (pairs ++ p ∷ []) after
+    ≡ lines_in steps closed [] pairs (p ∷ after) ++ lines_of_pair steps closed pairs p after
+lines_in-push steps closed pairs p after =
+    lines_in-append steps closed [] pairs (p ∷ []) after
+    ∙ ap (λ (ls : List Line). lines_in steps closed [] pairs (p ∷ after) ++ ls)
+    (append-nil (lines_of_pair steps closed pairs p after))
 
 -- the stack behind one more pair
 stack_push : (s t : State) (pairs : List Pair) (p : Pair) → s.commands ≡ length pairs
@@ -68,7 +68,8 @@ stack_push s t pairs p count stack =
 
 -- the checks behind one more pair
 checks_push : (early : Bool) (s t : State) (pairs : List Pair) (c : Command) (o : Option Sexp)
-    → IsAnswered (role_of c) o → Stands early s pairs → stacks.StandsFor t.stack (effective_commands (pairs ++ pair_of c o ∷ []))
+    → IsAnswered (role_of c) o → Stands early s pairs
+    → stacks.StandsFor t.stack (effective_commands (pairs ++ pair_of c o ∷ []))
     → ((cs : List Numbered) → stacks.StandsFor t.stack cs
     → t.checks ≡ checks_after (is_effective_with o) s.checks (signature_in_force cs)
     (claims_of (assertions_in_force cs)) (s.commands + 1) (role_of c) o)
@@ -115,12 +116,13 @@ accepted_stands early s t pairs c o h check before applied last checks commands 
       checks = omega (arith, g.count, before.checks, checks_in-append pairs (p ∷ []));
       tally = tally ∙ before.tally ∙ ap tally_of (sym gathered);
       lines = λ closed after early'.
-          lines_in-push closed pairs p after
-          ∙ ap (λ (ls : List Line). ls ++ lines_of_pair closed pairs p after)
+          ap (λ (n : ℕ). lines_in n closed [] (pairs ++ p ∷ []) after) g.limit
+          ∙ lines_in-push s.checks.limit closed pairs p after
+          ∙ ap (λ (ls : List Line). ls ++ lines_of_pair s.checks.limit closed pairs p after)
           (before.lines closed (p ∷ after) (λ e. closing_check closed p after (check e)))
           ∙ append_assoc s.checks.lines
-          (pending_lines closed s.checks.pending (signature_after pairs) (claims_after pairs)
-          (length pairs + 1) (p ∷ after)) (lines_of_pair closed pairs p after)
+          (pending_lines s.checks.limit closed s.checks.pending (signature_after pairs) (claims_after pairs)
+          (length pairs + 1) (p ∷ after)) (lines_of_pair s.checks.limit closed pairs p after)
           ∙ g.lines closed after;
     }
 
@@ -144,9 +146,10 @@ refused_stands early s t pairs before stack last checks commands answers tally g
   answers = answers ∙ before.answers;
   checks = ap (λ (c : ChecksState). c.count) checks ∙ before.checks;
   tally = tally ∙ before.tally ∙ ap tally_of (sym gathered);
-  lines = λ closed after early'. before.lines closed after early'
+  lines = λ closed after early'. ap (λ (c : ChecksState). lines_in c.limit closed [] pairs after) checks
+      ∙ before.lines closed after early'
       ∙ ap (λ (c : ChecksState). c.lines
-      ++ pending_lines closed c.pending (signature_after pairs) (claims_after pairs) (length pairs + 1)
+      ++ pending_lines c.limit closed c.pending (signature_after pairs) (claims_after pairs) (length pairs + 1)
       after) (sym checks);
 }
 
@@ -164,7 +167,8 @@ refused_fault early s t pairs c o e fault flaw is before (inr expected) told aft
 
 -- the same of a command, said of whether it took effect and of what it is for the window
 pub accepted : (early : Bool) (s t : State) (pairs : List Pair) (c : Command) (o : Option Sexp) (e : Bool) (r : Role)
-    → e ≡ is_effective_with o → r ≡ role_of c → IsAnswered (role_of c) o → (early ≡ true → is_check c ≡ true) → Stands early s pairs
+    → e ≡ is_effective_with o → r ≡ role_of c → IsAnswered (role_of c) o → (early ≡ true → is_check c ≡ true)
+    → Stands early s pairs
     → (flaw_if e (effective_commands pairs) (s.commands + 1) c ≡ None)
     × stacks.StandsFor t.stack (effective_commands pairs ++ numbered_if e (s.commands + 1) c)
     → last_of t.stack ≤ s.commands + 1
@@ -181,12 +185,12 @@ accepted early s t pairs c o e r is role h check before applied last checks comm
     )
 
 -- where every window is closed at once, the lines of the check whose window has not ended are those of its end
-closing_is : (o : Option PendingCheck) (closed : Bool) (names : Signature) (claims : List Claimed) (m : ℕ)
-    (after : List Pair) → Closing closed after → pending_lines closed o names claims m after ≡ closing_lines o
-closing_is None closed names claims m after h = refl
-closing_is (Some c) closed names claims m after h =
+closing_is : (steps : ℕ) (o : Option PendingCheck) (closed : Bool) (names : Signature) (claims : List Claimed) (m : ℕ)
+    (after : List Pair) → Closing closed after → pending_lines steps closed o names claims m after ≡ closing_lines o
+closing_is steps None closed names claims m after h = refl
+closing_is steps (Some c) closed names claims m after h =
     let at : List Pair → Bool → List Line = λ w b. sat_lines c.check c.command
-    (unconfirmed_line c.check c.command names claims (models_from m w))
+    (unconfirmed_line steps c.check c.command names claims (models_from m w))
     (c.some_model || not (is_empty (models_from m w))) b in
     ap (λ w. at w (closed || list_any closes after)) h.none ∙ ap (at []) h.closed
     ∙ ap (λ b. confirmed_line c.check c.command b ∷ []) (or_false c.some_model)
@@ -203,13 +207,15 @@ ended_early sooner s t pairs before stack checks commands answers tally gathered
   checks = ap (λ (c : ChecksState). c.count) checks ∙ before.checks;
   tally = tally ∙ before.tally ∙ ap tally_of (sym gathered);
   lines = λ closed after early.
-      before.lines closed after (λ e. early refl)
+      ap (λ (c : ChecksState). lines_in c.limit closed [] pairs after) checks
+      ∙ before.lines closed after (λ e. early refl)
       ∙ ap (λ (ls : List Line). s.checks.lines ++ ls)
-      (closing_is s.checks.pending closed (signature_after pairs) (claims_after pairs) (length pairs + 1) after
+      (closing_is s.checks.limit s.checks.pending closed (signature_after pairs) (claims_after pairs)
+      (length pairs + 1) after
       (early refl))
       ∙ sym (append-nil (s.checks.lines ++ closing_lines s.checks.pending))
       ∙ ap (λ (c : ChecksState). c.lines
-      ++ pending_lines closed c.pending (signature_after pairs) (claims_after pairs) (length pairs + 1) after)
+      ++ pending_lines c.limit closed c.pending (signature_after pairs) (claims_after pairs) (length pairs + 1) after)
       (sym checks);
 }
 
@@ -221,8 +227,8 @@ closed_end = record { none = refl; closed = refl }
 
 -- what was decided, and what a check whose window has not ended adds where all are closed
 lines_at_once : (early : Bool) (s : State) (pairs : List Pair) → Stands early s pairs
-    → lines_in true [] pairs []
-    ≡ s.checks.lines ++ pending_lines true s.checks.pending (signature_after pairs) (claims_after pairs)
+    → lines_in s.checks.limit true [] pairs []
+    ≡ s.checks.lines ++ pending_lines s.checks.limit true s.checks.pending (signature_after pairs) (claims_after pairs)
     (length pairs + 1) []
 lines_at_once early s pairs h = h.lines true [] (λ e. closed_end)
 
@@ -230,13 +236,14 @@ lines_at_once early s pairs h = h.lines true [] (λ e. closed_end)
 pub lines_few : (early : Bool) (s : State) (pairs : List Pair) → Stands early s pairs
     → length s.checks.lines ≤ s.checks.count
 lines_few early s pairs h =
-    let pending = pending_lines true s.checks.pending (signature_after pairs) (claims_after pairs) (length pairs + 1) []
+    let pending = pending_lines s.checks.limit true s.checks.pending (signature_after pairs)
+    (claims_after pairs) (length pairs + 1) []
     in
     omega (
       arith,
       ap length (lines_at_once early s pairs h),
       length-append s.checks.lines pending,
-      few_lines true [] pairs [],
+      few_lines s.checks.limit true [] pairs [],
       h.checks,
     )
 
@@ -248,21 +255,23 @@ first_none false b h = refl
 pub lines_faultless : (early : Bool) (s : State) (pairs : List Pair) → Stands early s pairs
     → list_any is_fault_line s.checks.lines ≡ false
 lines_faultless early s pairs h =
-    let pending = pending_lines true s.checks.pending (signature_after pairs) (claims_after pairs) (length pairs + 1) []
+    let pending = pending_lines s.checks.limit true s.checks.pending (signature_after pairs)
+    (claims_after pairs) (length pairs + 1) []
     in
     first_none (list_any is_fault_line s.checks.lines) (list_any is_fault_line pending)
     (sym (list_any-append is_fault_line s.checks.lines pending)
-    ∙ sym (ap (list_any is_fault_line) (lines_at_once early s pairs h)) ∙ no_faults true [] pairs [])
+    ∙ sym (ap (list_any is_fault_line) (lines_at_once early s pairs h)) ∙ no_faults s.checks.limit true [] pairs [])
 
 -- nor is any that of the verdict
 pub lines_silent : (early : Bool) (s : State) (pairs : List Pair) → Stands early s pairs
     → list_any is_verdict_line s.checks.lines ≡ false
 lines_silent early s pairs h =
-    let pending = pending_lines true s.checks.pending (signature_after pairs) (claims_after pairs) (length pairs + 1) []
+    let pending = pending_lines s.checks.limit true s.checks.pending (signature_after pairs)
+    (claims_after pairs) (length pairs + 1) []
     in
     first_none (list_any is_verdict_line s.checks.lines) (list_any is_verdict_line pending)
     (sym (list_any-append is_verdict_line s.checks.lines pending)
-    ∙ sym (ap (list_any is_verdict_line) (lines_at_once early s pairs h)) ∙ no_verdicts true [] pairs [])
+    ∙ sym (ap (list_any is_verdict_line) (lines_at_once early s pairs h)) ∙ no_verdicts s.checks.limit true [] pairs [])
 
 pub part_silent : (ls rest all : List Line) → all ≡ ls ++ rest → list_any is_verdict_line all ≡ false
     → list_any is_verdict_line ls ≡ false
@@ -306,37 +315,39 @@ gathered_stands early s t pairs before stack checks commands answers tally = rec
   answers = answers ∙ before.answers;
   checks = ap (λ (c : ChecksState). c.count) checks ∙ before.checks;
   tally = tally;
-  lines = λ closed after early'. before.lines closed after early'
+  lines = λ closed after early'. ap (λ (c : ChecksState). lines_in c.limit closed [] pairs after) checks
+      ∙ before.lines closed after early'
       ∙ ap (λ (c : ChecksState). c.lines
-      ++ pending_lines closed c.pending (signature_after pairs) (claims_after pairs) (length pairs + 1)
+      ++ pending_lines c.limit closed c.pending (signature_after pairs) (claims_after pairs) (length pairs + 1)
       after) (sym checks);
 }
 
 -- where nothing comes yet, a check whose window has not ended adds nothing
-none_pending : (o : Option PendingCheck) (names : Signature) (claims : List Claimed) (m : ℕ)
-    → pending_lines false o names claims m [] ≡ []
-none_pending None names claims m = refl
-none_pending (Some c) names claims m = refl
+none_pending : (steps : ℕ) (o : Option PendingCheck) (names : Signature) (claims : List Claimed) (m : ℕ)
+    → pending_lines steps false o names claims m [] ≡ []
+none_pending steps None names claims m = refl
+none_pending steps (Some c) names claims m = refl
 
 pub waiting_lines : (s : State) (pairs : List Pair) → Stands false s pairs
-    → lines_in false [] pairs [] ≡ s.checks.lines
+    → lines_in s.checks.limit false [] pairs [] ≡ s.checks.lines
 waiting_lines s pairs h =
     h.lines false [] (λ e. absurd (cc))
     ∙ ap (λ ls. s.checks.lines ++ ls)
-    (none_pending s.checks.pending (signature_after pairs) (claims_after pairs) (length pairs + 1))
+    (none_pending s.checks.limit s.checks.pending (signature_after pairs) (claims_after pairs) (length pairs + 1))
     ∙ append-nil s.checks.lines
 
 -- and where no window is open, nothing where all are closed
 pub closed_lines : (early : Bool) (s : State) (pairs : List Pair) → s.checks.pending ≡ None → Stands early s pairs
-    → lines_in true [] pairs [] ≡ s.checks.lines
+    → lines_in s.checks.limit true [] pairs [] ≡ s.checks.lines
 closed_lines early s pairs none h =
     lines_at_once early s pairs h
-    ∙ ap (λ o. s.checks.lines ++ pending_lines true o (signature_after pairs) (claims_after pairs) (length pairs + 1) [])
+    ∙ ap (λ o. s.checks.lines ++ pending_lines s.checks.limit true o (signature_after pairs)
+    (claims_after pairs) (length pairs + 1) [])
     none ∙ append-nil s.checks.lines
 
 -- what is decided begins the lines, whatever comes
 pub decided_first : (early : Bool) (s : State) (pairs : List Pair) → Stands early s pairs
-    → (later : List Line) × (lines_in early [] pairs [] ≡ s.checks.lines ++ later)
+    → (later : List Line) × (lines_in s.checks.limit early [] pairs [] ≡ s.checks.lines ++ later)
 decided_first true s pairs h = (_, lines_at_once true s pairs h)
 decided_first false s pairs h = ([], waiting_lines s pairs h ∙ sym (append-nil s.checks.lines))
 
@@ -344,13 +355,13 @@ decided_first false s pairs h = ([], waiting_lines s pairs h ∙ sym (append-nil
 
 pub settled_closed : (closed : Bool) (u : State) (pairs : List Pair) → closed ≡ true → Stands true u pairs
     → u.checks.pending ≡ None → u.checks.lines ≡ u.gathered
-    → Stands closed u pairs × (u.gathered ≡ lines_in closed [] pairs [])
+    → Stands closed u pairs × (u.gathered ≡ lines_in u.checks.limit closed [] pairs [])
 settled_closed true u pairs is h none all = (h, sym (closed_lines true u pairs none h ∙ all))
 settled_closed false u pairs is h none all = absurd (cc)
 
 pub settled_open : (closed early : Bool) (u : State) (pairs : List Pair) → closed ≡ false
     → (early ≡ true → closed ≡ true) → Stands early u pairs → u.checks.lines ≡ u.gathered
-    → Stands closed u pairs × (u.gathered ≡ lines_in closed [] pairs [])
+    → Stands closed u pairs × (u.gathered ≡ lines_in u.checks.limit closed [] pairs [])
 settled_open true early u pairs is same h all = absurd (cc)
 settled_open false true u pairs is same h all = absurd (let e = same refl in cc)
 settled_open false false u pairs is same h all = (h, sym (waiting_lines u pairs h ∙ all))
@@ -365,11 +376,12 @@ begins_trans xs ys zs h g = (h.0 ++ g.0, g.1 ∙ ap (λ l. l ++ g.0) h.1 ∙ app
 
 -- lines with which those that are decided begin
 pub begins_end : (early : Bool) (s : State) (pairs : List Pair) (fault : Option Line) (ls rest : List Line)
-    → s.checks.lines ≡ ls ++ rest → Stands early s pairs → IsBeginning ls (lines_at_end pairs fault)
+    → s.checks.lines ≡ ls ++ rest → Stands early s pairs → IsBeginning ls (lines_at_end s.checks.limit pairs fault)
 begins_end early s pairs fault ls rest is h =
-    let pending = pending_lines true s.checks.pending (signature_after pairs) (claims_after pairs) (length pairs + 1) []
+    let pending = pending_lines s.checks.limit true s.checks.pending (signature_after pairs)
+    (claims_after pairs) (length pairs + 1) []
     in
-    let mine = lines_in true [] pairs [] in
+    let mine = lines_in s.checks.limit true [] pairs [] in
     let first : IsBeginning ls mine = (
       rest ++ pending,
       lines_at_once early s pairs h ∙ ap (λ l. l ++ pending) is ∙ append_assoc ls rest pending,

@@ -23,13 +23,14 @@ use Rattle.smt_dialogue.specs.FirstFault.{turn_of_rest, turn_of_taken}
 use Rattle.smt_dialogue.specs.InForce.{flaw_of_pair, has_exited_after, need_after}
 use Rattle.smt_dialogue.specs.Pairs.{Pair, answers_taken, answers_then, next_of, pair_of, with_answer}
 use Rattle.smt_dialogue.specs.Report.{ArePaired}
-use Rattle.smt_dialogue.specs.Internal.DialogueState.{Stands, state_behind}
+use Rattle.smt_dialogue.specs.Internal.DialogueState.{Stands, options_of, state_behind}
 use Rattle.smt_dialogue.specs.Internal.ExchangeView.{IsClosing, IsInTurn, IsNext, IsTurned, IsUnderWay, Texts, turn_of}
 use Rattle.smt_dialogue.specs.Internal.FrontView.{HasFront, IsAhead, next_trees}
 use Rattle.smt_dialogue.specs.Internal.Turns.{IsTakenUp, taken_for}
 use Rattle.smt_dialogue.specs.declared.dialogue.Dialogue.{Dialogue}
 use Rattle.smt_dialogue.specs.declared.exchange.Exchange.{Exchange}
 use Rattle.smt_dialogue.specs.declared.front.Ahead.TheVariants as comes
+use Rattle.smt_dialogue.specs.declared.options.Options.{Options}
 use Rattle.smt_dialogue.specs.declared.turn.Turn.{Turn}
 use Rattle.smt_dialogue.specs.declared.turn.Turn.TheVariants as turns
 use Rattle.smt_report.specs.declared.line.Line.{Line}
@@ -217,7 +218,7 @@ command_turn x texts pairs later rest c left h =
 
 pub taken_up : (turn : Turn) (old new : Exchange) (texts : Texts) (pairs : List Pair) (later rest : Sexps)
     (c : Command) → old.command ≡ Some c → new.script ≡ old.script
-    → initial_print_success_of new.dialogue.stack ≡ initial_print_success_of old.dialogue.stack
+    → options_of new.dialogue ≡ options_of old.dialogue
     → (turn ≡ turns.GoesOn → new.command ≡ None) → ((closed : Bool) → turn ≡ turns.Waits closed → new.command ≡ Some c)
     → ((early : Bool) → Stands early (state_behind texts.taken old.dialogue) pairs
     → (early ≡ true → commands.is_check (command_view c) ≡ true)
@@ -243,7 +244,7 @@ taken_up turns.GoesOn old new texts pairs later rest c some script start gone st
         early = false;
         stands = up.stands;
         closing = λ e. absurd (cc);
-        paired = subst (λ b. ArePaired b texts.script texts.answers
+        paired = subst (λ (o : Options). ArePaired o.print_success texts.script texts.answers
             (pairs ++ pair_of (command_view c) up.answer ∷ []) h.left up.left) (sym start) after;
       },
       start,
@@ -259,7 +260,8 @@ taken_up (turns.Waits closed) old new texts pairs later rest c some script start
         early = h.early;
         stands = up.2;
         closing = λ e. subst (λ o. IsClosing o texts later) (some ∙ sym (stays closed refl)) (h.closing e);
-        paired = subst (λ b. ArePaired b texts.script texts.answers pairs later rest) (sym start) h.paired;
+        paired = subst (λ (o : Options). ArePaired o.print_success texts.script texts.answers pairs later rest)
+            (sym start) h.paired;
       },
       command_turn old texts pairs later rest c h.left turn ∙ up.0,
       λ e. subst (λ o. IsClosing o texts later) (sym (stays closed refl))
@@ -285,7 +287,7 @@ pub turned_behind : (turn : Turn) (old middle new : Exchange) (texts : Texts) (p
     → middle.dialogue ≡ old.dialogue → IsTurned turn middle new texts pairs later rest
     → IsTurned turn old new texts pairs later rest
 turned_behind turns.GoesOn old middle new texts pairs later rest same h =
-    (h.0, h.1, h.2, h.3, h.4 ∙ ap (λ d. initial_print_success_of d.stack) same)
+    (h.0, h.1, h.2, h.3, h.4 ∙ ap options_of same)
 turned_behind (turns.Waits closed) old middle new texts pairs later rest same h =
     (h.0, sym (same_turn old middle texts pairs later rest same) ∙ h.1, h.2)
 turned_behind (turns.Ends fault) old middle new texts pairs later rest same h =

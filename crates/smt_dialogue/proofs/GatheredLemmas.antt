@@ -1,5 +1,5 @@
 -- Lines that were gathered stand before those that are kept, however the checks go on.
-use Rattle.std.proofs.Common.{◌≡◌, ℕ, ◌+◌, Bool, true, false, List, [], ◌∷◌, ◌++◌, Option, Some, None, refl, ap}
+use Rattle.std.proofs.Common.{◌≡◌, ℕ, ◌+◌, Bool, true, false, List, [], ◌∷◌, Option, Some, None, refl, ap}
 use Rattle.std.proofs.Common.{◌∙◌, append_assoc}
 use Rattle.smt_trees.specs.Sexp.{Sexp, Atom, Items, Reserved}
 use Rattle.smt_terms.specs.Signature.{Signature}
@@ -48,7 +48,7 @@ models_behind m s (Some c) names claims n true None = refl
 models_behind m s (Some c) names claims n true (Some (Atom kind bytes)) = refl
 models_behind m s (Some c) names claims n true (Some (Reserved word)) = refl
 models_behind m s (Some c) names claims n true (Some (Items parts)) =
-    line_behind m s c (line_of_judgement c.check c.command n (judgement_of names claims parts))
+    line_behind m s c (line_of_judgement c.check c.command n (judgement_of s.limit names claims parts))
 
 pub after_behind : (m : List Line) (effective : Bool) (s : ChecksState) (names : Signature) (claims : List Claimed)
     (n : ℕ) (r : Role) (answer : Option Sexp)

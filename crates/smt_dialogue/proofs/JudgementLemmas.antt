@@ -1,14 +1,19 @@
 -- Judging a model assertion by assertion.
 use Rattle.std.proofs.Common.{◌≡◌, true, false, not, List, [], ◌∷◌, Option, Some, None, is_some, length}
+use Rattle.std.proofs.Common.{ℕ, ◌+◌, ◌-◌, ◌^◌, ◌<◌, ◌≤◌, Bool, cond, min, nat_lt, arith}
 use Rattle.std.proofs.Common.{refl, ap, sym, subst, ◌∙◌}
+use Rattle.std.proofs.lemmas.Bool.{lt-ltb, ltb-true}
 use Rattle.smt_trees.specs.Sexp.{Sexp}
 use Rattle.smt_script.specs.Stack as stacks
 use Rattle.smt_script.specs.StackView.{AreAssertions}
 use Rattle.smt_terms.specs.Contents.{Contents}
 use Rattle.smt_terms.specs.Library.{IsTermOf}
 use Rattle.smt_dialogue.specs.Judgement.{claims_of, first_claim, is_false_over, is_open_over}
-use Rattle.smt_dialogue.specs.Judgement.{open_or_confirmed, refuted_or}
+use Rattle.smt_dialogue.specs.Judgement.{Claimed, claims_cost, judged_over, judged_within, open_or_confirmed}
+use Rattle.smt_dialogue.specs.Judgement.{refuted_or}
 use Rattle.smt_values.specs.KnownOperations.{is_known}
+use Rattle.smt_machine.specs.Costs.{capped}
+use Rattle.smt_eval.specs.Cost.{cost_over}
 use Rattle.smt_eval.specs.Known.{known_over}
 use Rattle.smt_terms.specs.Signature.{Signature}
 use Rattle.smt_values.specs.Element.{Element, Truth}
@@ -16,7 +21,7 @@ use Rattle.smt_script.specs.declared.stack.Assertion as code
 use Rattle.smt_report.specs.declared.claim.Claim.{Claim}
 use Rattle.smt_report.specs.declared.claim.Claim.TheVariants.{Assertion}
 use Rattle.smt_dialogue.specs.declared.judgement.Judgement.{Judgement}
-use Rattle.smt_dialogue.specs.declared.judgement.Judgement.TheVariants.{Refuted}
+use Rattle.smt_dialogue.specs.declared.judgement.Judgement.TheVariants.{Refuted, TooLong}
 
 -- the first of two that is there
 abbrev pub or_first : Option Claim → Option Claim → Option Claim
@@ -151,3 +156,84 @@ pub left-none : (l : Contents) (left : List code.Assertion) (d : Signature) (fir
 left-none l (a ∷ as') d first found here h = cc
 left-none l [] d None found here h = sym (ap (judged_from d None) (none_left l h.0 h.1)) ∙ h.2
 left-none l [] d (Some n) found here h = sym (ap (judged_from d (Some n)) (none_left l h.0 h.1)) ∙ h.2
+
+-- ---- what assertions cost
+
+-- all that are left cost so many at most
+abbrev pub CostsLeft : Contents → List code.Assertion → Signature → ℕ → Type 0
+CostsLeft l left d n = (rest : List stacks.Assertion) → AreAssertions l left rest
+    → claims_cost d (claims_of rest) ≤ n
+
+-- the next with others behind it
+with_next : (l : Contents) (left as' : List code.Assertion) (a : code.Assertion) (t : Sexp)
+    (rest : List stacks.Assertion) → left ≡ a ∷ as' → IsTermOf l a.term t → AreAssertions l as' rest
+    → AreAssertions l left (record { command = a.command; term = t } ∷ rest)
+with_next l left as' a t rest here term are =
+    subst (λ ls. AreAssertions l ls (record { command = a.command; term = t } ∷ rest)) (sym here)
+    (refl, term, are)
+
+pub cost_first : (l : Contents) (left as' : List code.Assertion) (a : code.Assertion) (d : Signature) (n : ℕ)
+    (t : Sexp) → left ≡ a ∷ as' → CostsLeft l left d n → (all : List stacks.Assertion) × AreAssertions l left all
+    → IsTermOf l a.term t → cost_over d t ≤ n
+cost_first l left as' a d n t here enough terms term =
+    let next = terms_left l left as' a here terms in
+    let most = enough (record { command = a.command; term = t } ∷ next.0)
+    (with_next l left as' a t next.0 here term next.1) in
+    omega (arith, most)
+
+pub cost_rest : (l : Contents) (left as' : List code.Assertion) (a : code.Assertion) (d : Signature) (n m : ℕ)
+    (t : Sexp) → left ≡ a ∷ as' → CostsLeft l left d n → IsTermOf l a.term t → n ≤ m + cost_over d t
+    → CostsLeft l as' d m
+cost_rest l left as' a d n m t here enough term paid = λ rest are.
+    let most = enough (record { command = a.command; term = t } ∷ rest)
+    (with_next l left as' a t rest here term are) in
+    omega (arith, most, paid)
+
+-- with what was counted so far, those that are left cost what all do
+abbrev pub SumsTo : Contents → List code.Assertion → Signature → ℕ → ℕ → Type 0
+SumsTo l left d sum all = (rest : List stacks.Assertion) × AreAssertions l left rest
+    × (capped (sum + claims_cost d (claims_of rest)) ≡ capped all)
+
+capped_next : (before cost after first rest both all : ℕ) → both ≡ first + rest → cost ≡ capped first
+    → after ≡ min (before + cost) (2 ^ 64 - 1) → capped (before + both) ≡ capped all
+    → capped (after + rest) ≡ capped all
+capped_next before cost after first rest both all split is sum so_far = omega (arith, split, is, sum, so_far)
+
+pub sum_next : (l : Contents) (left as' : List code.Assertion) (a : code.Assertion) (d : Signature)
+    (before cost after all : ℕ) → left ≡ a ∷ as'
+    → ((t : Sexp) → IsTermOf l a.term t → cost ≡ capped (cost_over d t))
+    → after ≡ min (before + cost) (2 ^ 64 - 1) → SumsTo l left d before all → SumsTo l as' d after all
+sum_next l left as' a d before cost after all here is sum h =
+    let next = next_term l a as' h.0 (subst (λ ls. AreAssertions l ls h.0) here h.1) in (
+      next.1,
+      next.5,
+      capped_next before cost after (cost_over d next.0.term) (claims_cost d (claims_of next.1))
+          (claims_cost d (claims_of h.0)) all (ap (λ xs. claims_cost d (claims_of xs)) next.2)
+          (is next.0.term next.4) sum h.2,
+    )
+
+pub sum_end : (l : Contents) (left : List code.Assertion) (d : Signature) (sum all : ℕ) → length left ≡ 0
+    → sum < 2 ^ 64 → SumsTo l left d sum all → sum ≡ capped all
+sum_end l (a ∷ as') d sum all here most h = cc
+sum_end l [] d sum all here most h =
+    let none = ap (λ xs. claims_cost d (claims_of xs)) (none_left l h.0 h.1) in
+    let is = h.2 in omega (arith, none, is, most)
+
+pub too_long : (limit sum : ℕ) (claims : List Claimed) (d : Signature) → sum ≡ capped (claims_cost d claims)
+    → limit < sum → TooLong ≡ judged_within limit claims d
+too_long limit sum claims d is more =
+    let passed : limit < claims_cost d claims = omega (arith, is, more) in
+    sym (ap (λ b. cond b TooLong (judged_over claims d)) (lt-ltb limit (claims_cost d claims) passed))
+
+pub enough_steps : (limit sum n : ℕ) → sum ≡ capped n → sum ≤ limit → limit < 2 ^ 64 - 1 → n ≤ sum
+enough_steps limit sum n is most below = omega (arith, is, most, below)
+
+pub short : (limit sum : ℕ) (claims : List Claimed) (d : Signature) → sum ≡ capped (claims_cost d claims)
+    → sum ≤ limit → limit < 2 ^ 64 - 1 → judged_over claims d ≡ judged_within limit claims d
+short limit sum claims d is most below = by (nat_lt limit (claims_cost d claims)) refl
+  where
+    by : (b : Bool) → nat_lt limit (claims_cost d claims) ≡ b
+        → judged_over claims d ≡ cond b TooLong (judged_over claims d)
+    by true passed = absurd (let more = ltb-true limit (claims_cost d claims) passed in
+        let enough = enough_steps limit sum (claims_cost d claims) is most below in omega (arith, more, enough, most))
+    by false passed = refl

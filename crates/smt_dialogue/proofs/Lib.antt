@@ -7,6 +7,7 @@ pub mod GatheredLemmas
 pub mod DialogueLemmas
 pub mod StepLemmas
 pub mod JudgementLemmas
+pub mod TooLongLemmas
 pub mod FirstFaultLemmas
 pub mod PairingUnique
 pub mod ReportUnique

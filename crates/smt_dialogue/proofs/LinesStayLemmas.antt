@@ -73,16 +73,16 @@ window_whole : (xs : List Pair) → list_any closes xs ≡ false → window xs �
 window_whole xs h = ap window (sym (append-nil xs)) ∙ (window_open xs [] h).0 ∙ append-nil xs
 
 -- pairs of which none closes a window have no line of their own
-no_lines : (c : Bool) (before xs after : List Pair) → list_any closes xs ≡ false
-    → lines_in c before xs after ≡ []
-no_lines c before [] after h = refl
-no_lines c before (x ∷ xs) after h =
+no_lines : (steps : ℕ) (c : Bool) (before xs after : List Pair) → list_any closes xs ≡ false
+    → lines_in steps c before xs after ≡ []
+no_lines steps c before [] after h = refl
+no_lines steps c before (x ∷ xs) after h =
     let open' : closes x ≡ false = left_false (closes x) (list_any closes xs) h in
     let none : is_check x.command ≡ false =
     left_false (is_check x.command) (closes_window x.command && is_effective x) open' in
-    ap (λ b. cond b (lines_of_answer c before (checks_in before + 1) x.answer (xs ++ after)) []
-    ++ lines_in c (before ++ x ∷ []) xs after) none
-    ∙ no_lines c (before ++ x ∷ []) xs after (right_false (closes x) (list_any closes xs) h)
+    ap (λ b. cond b (lines_of_answer steps c before (checks_in before + 1) x.answer (xs ++ after)) []
+    ++ lines_in steps c (before ++ x ∷ []) xs after) none
+    ∙ no_lines steps c (before ++ x ∷ []) xs after (right_false (closes x) (list_any closes xs) h)
 
 -- ---- models
 
@@ -94,31 +94,33 @@ models_more m (x ∷ xs) ys =
     let rest = models_more (m + 1) xs ys in
     (rest.0, ap (λ ms. here ++ ms) rest.1 ∙ sym (append_assoc here (models_from (m + 1) xs) rest.0))
 
-unconfirmed_more : (k n : ℕ) (names : Signature) (claims : List Claimed) (ms ns : List Printed) (line : Line)
-    → unconfirmed_line k n names claims ms ≡ Some line
-    → unconfirmed_line k n names claims (ms ++ ns) ≡ Some line
-unconfirmed_more k n names claims [] ns line h = absurd (cc)
-unconfirmed_more k n names claims (m ∷ ms) ns line h =
-    by (line_of_judgement k n m.command (judgement_of names claims m.parts)) h
-    (unconfirmed_more k n names claims ms ns line)
+unconfirmed_more : (steps : ℕ) (k n : ℕ) (names : Signature) (claims : List Claimed) (ms ns : List Printed)
+    (line : Line)
+    → unconfirmed_line steps k n names claims ms ≡ Some line
+    → unconfirmed_line steps k n names claims (ms ++ ns) ≡ Some line
+unconfirmed_more steps k n names claims [] ns line h = absurd (cc)
+unconfirmed_more steps k n names claims (m ∷ ms) ns line h =
+    by (line_of_judgement k n m.command (judgement_of steps names claims m.parts)) h
+    (unconfirmed_more steps k n names claims ms ns line)
   where
-    by : (o : Option Line) → option_or o (unconfirmed_line k n names claims ms) ≡ Some line
-        → (unconfirmed_line k n names claims ms ≡ Some line
-        → unconfirmed_line k n names claims (ms ++ ns) ≡ Some line)
-        → option_or o (unconfirmed_line k n names claims (ms ++ ns)) ≡ Some line
+    by : (o : Option Line) → option_or o (unconfirmed_line steps k n names claims ms) ≡ Some line
+        → (unconfirmed_line steps k n names claims ms ≡ Some line
+        → unconfirmed_line steps k n names claims (ms ++ ns) ≡ Some line)
+        → option_or o (unconfirmed_line steps k n names claims (ms ++ ns)) ≡ Some line
     by (Some l) e on = e
     by None e on = on e
 
 -- ---- the lines of one check
 
 -- a check whose window is closed among the pairs that there are
-sat_closed : (c d : Bool) (k n : ℕ) (names : Signature) (claims : List Claimed) (m : ℕ) (after xs : List Pair)
+sat_closed : (steps : ℕ) (c d : Bool) (k n : ℕ) (names : Signature) (claims : List Claimed) (m : ℕ)
+    (after xs : List Pair)
     → list_any closes after ≡ true
-    → lines_of_sat c k n names claims m after ≡ lines_of_sat d k n names claims m (after ++ xs)
-sat_closed c d k n names claims m after xs h =
+    → lines_of_sat steps c k n names claims m after ≡ lines_of_sat steps d k n names claims m (after ++ xs)
+sat_closed steps c d k n names claims m after xs h =
     let e = window_closed after xs h in
     let lines_with : Bool → List Pair → List Line = λ closed w.
-    sat_lines k n (unconfirmed_line k n names claims (models_from m w)) (not (is_empty (models_from m w))) closed
+    sat_lines k n (unconfirmed_line steps k n names claims (models_from m w)) (not (is_empty (models_from m w))) closed
     in
     ap (λ b. lines_with (c || b) (window after)) h ∙ ap (λ b. lines_with b (window after)) (or_true c)
     ∙ ap (λ w. lines_with true w) (sym e.0)
@@ -126,26 +128,26 @@ sat_closed c d k n names claims m after xs h =
     ∙ ap (λ b. lines_with (d || b) (window (after ++ xs))) (sym e.1)
 
 -- one whose window isn't has the line of a model that isn't confirmed, or none yet
-sat_open : (c : Bool) (k n : ℕ) (names : Signature) (claims : List Claimed) (m : ℕ) (after xs : List Pair)
+sat_open : (steps : ℕ) (c : Bool) (k n : ℕ) (names : Signature) (claims : List Claimed) (m : ℕ) (after xs : List Pair)
     → list_any closes after ≡ false
-    → (lines_of_sat false k n names claims m after ≡ lines_of_sat c k n names claims m (after ++ xs))
-    ⊎ (lines_of_sat false k n names claims m after ≡ [])
-sat_open c k n names claims m after xs h =
-    by (unconfirmed_line k n names claims (models_from m (window after))) refl
+    → (lines_of_sat steps false k n names claims m after ≡ lines_of_sat steps c k n names claims m (after ++ xs))
+    ⊎ (lines_of_sat steps false k n names claims m after ≡ [])
+sat_open steps c k n names claims m after xs h =
+    by (unconfirmed_line steps k n names claims (models_from m (window after))) refl
   where
     some_model : List Pair → Bool
     some_model w = not (is_empty (models_from m w))
 
-    by : (o : Option Line) → unconfirmed_line k n names claims (models_from m (window after)) ≡ o
-        → (lines_of_sat false k n names claims m after ≡ lines_of_sat c k n names claims m (after ++ xs))
-        ⊎ (lines_of_sat false k n names claims m after ≡ [])
+    by : (o : Option Line) → unconfirmed_line steps k n names claims (models_from m (window after)) ≡ o
+        → (lines_of_sat steps false k n names claims m after ≡ lines_of_sat steps c k n names claims m (after ++ xs))
+        ⊎ (lines_of_sat steps false k n names claims m after ≡ [])
     by (Some line) is =
         let more = models_more m after (window xs) in
-        let there : unconfirmed_line k n names claims (models_from m (window (after ++ xs))) ≡ Some line =
-        ap (λ w. unconfirmed_line k n names claims (models_from m w)) (window_open after xs h).0
-        ∙ ap (unconfirmed_line k n names claims) more.1
-        ∙ unconfirmed_more k n names claims (models_from m after) more.0 line
-        (ap (λ w. unconfirmed_line k n names claims (models_from m w)) (sym (window_whole after h)) ∙ is) in
+        let there : unconfirmed_line steps k n names claims (models_from m (window (after ++ xs))) ≡ Some line =
+        ap (λ w. unconfirmed_line steps k n names claims (models_from m w)) (window_open after xs h).0
+        ∙ ap (unconfirmed_line steps k n names claims) more.1
+        ∙ unconfirmed_more steps k n names claims (models_from m after) more.0 line
+        (ap (λ w. unconfirmed_line steps k n names claims (models_from m w)) (sym (window_whole after h)) ∙ is) in
         inl (ap (λ o. sat_lines k n o (some_model (window after)) (false || list_any closes after)) is
         ∙ sym (ap (λ o. sat_lines k n o (some_model (window (after ++ xs)))
         (c || list_any closes (after ++ xs))) there))
@@ -153,13 +155,14 @@ sat_open c k n names claims m after xs h =
         inr (ap (λ o. sat_lines k n o (some_model (window after)) (false || list_any closes after)) is
         ∙ ap (λ b. sat_lines k n None (some_model (window after)) (false || b)) h)
 
-sat_closing : (c : Bool) (k n : ℕ) (names : Signature) (claims : List Claimed) (m : ℕ) (after xs : List Pair)
+sat_closing : (steps : ℕ) (c : Bool) (k n : ℕ) (names : Signature) (claims : List Claimed) (m : ℕ)
+    (after xs : List Pair)
     → Closing c xs → list_any closes after ≡ false
-    → lines_of_sat true k n names claims m after ≡ lines_of_sat c k n names claims m (after ++ xs)
-sat_closing c k n names claims m after xs g h =
+    → lines_of_sat steps true k n names claims m after ≡ lines_of_sat steps c k n names claims m (after ++ xs)
+sat_closing steps c k n names claims m after xs g h =
     let e = window_open after xs h in
     let lines_with : Bool → List Pair → List Line = λ closed w.
-    sat_lines k n (unconfirmed_line k n names claims (models_from m w)) (not (is_empty (models_from m w))) closed
+    sat_lines k n (unconfirmed_line steps k n names claims (models_from m w)) (not (is_empty (models_from m w))) closed
     in
     let same : window after ≡ window (after ++ xs) =
     window_whole after h ∙ sym (append-nil after) ∙ ap (λ w. after ++ w) (sym g.none) ∙ sym e.0 in
@@ -169,11 +172,11 @@ sat_closing c k n names claims m after xs g h =
 
 -- ---- the lines of a pair
 
-pair_same : (c d : Bool) (before : List Pair) (p : Pair) (after after' : List Pair)
+pair_same : (steps : ℕ) (c d : Bool) (before : List Pair) (p : Pair) (after after' : List Pair)
     → ((k n : ℕ) (names : Signature) (claims : List Claimed) (m : ℕ)
-    → lines_of_sat c k n names claims m after ≡ lines_of_sat d k n names claims m after')
-    → lines_of_pair c before p after ≡ lines_of_pair d before p after'
-pair_same c d before p after after' h =
+    → lines_of_sat steps c k n names claims m after ≡ lines_of_sat steps d k n names claims m after')
+    → lines_of_pair steps c before p after ≡ lines_of_pair steps d before p after'
+pair_same steps c d before p after after' h =
     ap (λ ls. cond (is_check p.command) ls []) (by p.answer)
   where
     n : ℕ
@@ -182,17 +185,18 @@ pair_same c d before p after after' h =
     k : ℕ
     k = checks_in before + 1
 
-    by : (o : Option Sexp) → lines_of_answer c before k o after ≡ lines_of_answer d before k o after'
+    by : (o : Option Sexp) → lines_of_answer steps c before k o after ≡ lines_of_answer steps d before k o after'
     by None = refl
     by (Some answer) =
         ap (λ ls. unchecked_line_or k n (unchecked_answer answer)
         (cond (is_symbol (codes "sat") answer) ls []))
         (h k n (signature_after before) (claims_after before) (n + 1))
 
-pair_open : (c : Bool) (before : List Pair) (p : Pair) (after xs : List Pair) → list_any closes after ≡ false
-    → (lines_of_pair false before p after ≡ lines_of_pair c before p (after ++ xs))
-    ⊎ (lines_of_pair false before p after ≡ [])
-pair_open c before p after xs h = by_check (is_check p.command)
+pair_open : (steps : ℕ) (c : Bool) (before : List Pair) (p : Pair) (after xs : List Pair)
+    → list_any closes after ≡ false
+    → (lines_of_pair steps false before p after ≡ lines_of_pair steps c before p (after ++ xs))
+    ⊎ (lines_of_pair steps false before p after ≡ [])
+pair_open steps c before p after xs h = by_check (is_check p.command)
   where
     n : ℕ
     n = length before + 1
@@ -207,23 +211,23 @@ pair_open c before p after xs h = by_check (is_check p.command)
     claims = claims_after before
 
     by_sat : (b : Bool) (u : Option CheckAnswer)
-        → (unchecked_line_or k n u (cond b (lines_of_sat false k n names claims (n + 1) after) [])
-        ≡ unchecked_line_or k n u (cond b (lines_of_sat c k n names claims (n + 1) (after ++ xs)) []))
-        ⊎ (unchecked_line_or k n u (cond b (lines_of_sat false k n names claims (n + 1) after) []) ≡ [])
+        → (unchecked_line_or k n u (cond b (lines_of_sat steps false k n names claims (n + 1) after) [])
+        ≡ unchecked_line_or k n u (cond b (lines_of_sat steps c k n names claims (n + 1) (after ++ xs)) []))
+        ⊎ (unchecked_line_or k n u (cond b (lines_of_sat steps false k n names claims (n + 1) after) []) ≡ [])
     by_sat b (Some u) = inl refl
     by_sat false None = inl refl
-    by_sat true None = sat_open c k n names claims (n + 1) after xs h
+    by_sat true None = sat_open steps c k n names claims (n + 1) after xs h
 
     by_answer : (o : Option Sexp)
-        → (lines_of_answer false before k o after ≡ lines_of_answer c before k o (after ++ xs))
-        ⊎ (lines_of_answer false before k o after ≡ [])
+        → (lines_of_answer steps false before k o after ≡ lines_of_answer steps c before k o (after ++ xs))
+        ⊎ (lines_of_answer steps false before k o after ≡ [])
     by_answer None = inl refl
     by_answer (Some answer) = by_sat (is_symbol (codes "sat") answer) (unchecked_answer answer)
 
     by_check : (b : Bool)
-        → (cond b (lines_of_answer false before k p.answer after) []
-        ≡ cond b (lines_of_answer c before k p.answer (after ++ xs)) [])
-        ⊎ (cond b (lines_of_answer false before k p.answer after) [] ≡ [])
+        → (cond b (lines_of_answer steps false before k p.answer after) []
+        ≡ cond b (lines_of_answer steps c before k p.answer (after ++ xs)) [])
+        ⊎ (cond b (lines_of_answer steps false before k p.answer after) [] ≡ [])
     by_check true = by_answer p.answer
     by_check false = inl refl
 
@@ -232,64 +236,66 @@ pair_open c before p after xs h = by_check (is_check p.command)
 beginning_of : (as' ls ms : List Line) → IsBeginning ls ms → IsBeginning (as' ++ ls) (as' ++ ms)
 beginning_of as' ls ms h = (h.0, ap (λ xs. as' ++ xs) h.1 ∙ sym (append_assoc as' ls h.0))
 
-stays_open : (c : Bool) (before ps xs : List Pair)
-    → IsBeginning (lines_in false before ps []) (lines_in c before ps xs)
-stays_open c before [] xs = ([], refl)
-stays_open c before (p ∷ ps) xs = by (list_any closes ps) refl (stays_open c (before ++ p ∷ []) ps xs)
+stays_open : (steps : ℕ) (c : Bool) (before ps xs : List Pair)
+    → IsBeginning (lines_in steps false before ps []) (lines_in steps c before ps xs)
+stays_open steps c before [] xs = ([], refl)
+stays_open steps c before (p ∷ ps) xs = by (list_any closes ps) refl (stays_open steps c (before ++ p ∷ []) ps xs)
   where
     all : List Line
-    all = lines_in c before (p ∷ ps) xs
+    all = lines_in steps c before (p ∷ ps) xs
 
     later : List Line
-    later = lines_in false (before ++ p ∷ []) ps []
+    later = lines_in steps false (before ++ p ∷ []) ps []
 
-    with_same : lines_of_pair false before p (ps ++ []) ≡ lines_of_pair c before p (ps ++ xs)
-        → IsBeginning later (lines_in c (before ++ p ∷ []) ps xs)
-        → IsBeginning (lines_in false before (p ∷ ps) []) all
+    with_same : lines_of_pair steps false before p (ps ++ []) ≡ lines_of_pair steps c before p (ps ++ xs)
+        → IsBeginning later (lines_in steps c (before ++ p ∷ []) ps xs)
+        → IsBeginning (lines_in steps false before (p ∷ ps) []) all
     with_same e rest = subst (λ ls. IsBeginning (ls ++ later) all) (sym e)
-        (beginning_of (lines_of_pair c before p (ps ++ xs)) later (lines_in c (before ++ p ∷ []) ps xs) rest)
+        (beginning_of (lines_of_pair steps c before p (ps ++ xs)) later
+        (lines_in steps c (before ++ p ∷ []) ps xs) rest)
 
-    nil : lines_of_pair false before p (ps ++ []) ≡ lines_of_pair false before p ps
-    nil = ap (lines_of_pair false before p) (append-nil ps)
+    nil : lines_of_pair steps false before p (ps ++ []) ≡ lines_of_pair steps false before p ps
+    nil = ap (lines_of_pair steps false before p) (append-nil ps)
 
     by_open : list_any closes ps ≡ false
-        → (lines_of_pair false before p ps ≡ lines_of_pair c before p (ps ++ xs))
-        ⊎ (lines_of_pair false before p ps ≡ [])
-        → IsBeginning later (lines_in c (before ++ p ∷ []) ps xs)
-        → IsBeginning (lines_in false before (p ∷ ps) []) all
+        → (lines_of_pair steps false before p ps ≡ lines_of_pair steps c before p (ps ++ xs))
+        ⊎ (lines_of_pair steps false before p ps ≡ [])
+        → IsBeginning later (lines_in steps c (before ++ p ∷ []) ps xs)
+        → IsBeginning (lines_in steps false before (p ∷ ps) []) all
     by_open is (inl e) rest = with_same (nil ∙ e) rest
     by_open is (inr e) rest =
-        let none : lines_in false before (p ∷ ps) [] ≡ [] =
-        ap (λ ls. ls ++ later) (nil ∙ e) ∙ no_lines false (before ++ p ∷ []) ps [] is in
+        let none : lines_in steps false before (p ∷ ps) [] ≡ [] =
+        ap (λ ls. ls ++ later) (nil ∙ e) ∙ no_lines steps false (before ++ p ∷ []) ps [] is in
         subst (λ ls. IsBeginning ls all) (sym none) (all, refl)
 
-    by : (b : Bool) → list_any closes ps ≡ b → IsBeginning later (lines_in c (before ++ p ∷ []) ps xs)
-        → IsBeginning (lines_in false before (p ∷ ps) []) all
-    by true is rest = with_same (nil ∙ pair_same false c before p ps (ps ++ xs)
-        (λ k n names claims m. sat_closed false c k n names claims m ps xs is)) rest
-    by false is rest = by_open is (pair_open c before p ps xs is) rest
+    by : (b : Bool) → list_any closes ps ≡ b → IsBeginning later (lines_in steps c (before ++ p ∷ []) ps xs)
+        → IsBeginning (lines_in steps false before (p ∷ ps) []) all
+    by true is rest = with_same (nil ∙ pair_same steps false c before p ps (ps ++ xs)
+        (λ k n names claims m. sat_closed steps false c k n names claims m ps xs is)) rest
+    by false is rest = by_open is (pair_open steps c before p ps xs is) rest
 
-stays_closed : (c : Bool) (before ps xs : List Pair) → Closing c xs
-    → lines_in true before ps [] ≡ lines_in c before ps xs
-stays_closed c before [] xs g = refl
-stays_closed c before (p ∷ ps) xs g =
-    ap (λ ls. ls ++ lines_in true (before ++ p ∷ []) ps [])
-    (ap (lines_of_pair true before p) (append-nil ps)
-    ∙ pair_same true c before p ps (ps ++ xs) (λ k n names claims m. by k n names claims m (list_any closes ps) refl))
-    ∙ ap (λ ls. lines_of_pair c before p (ps ++ xs) ++ ls) (stays_closed c (before ++ p ∷ []) ps xs g)
+stays_closed : (steps : ℕ) (c : Bool) (before ps xs : List Pair) → Closing c xs
+    → lines_in steps true before ps [] ≡ lines_in steps c before ps xs
+stays_closed steps c before [] xs g = refl
+stays_closed steps c before (p ∷ ps) xs g =
+    ap (λ ls. ls ++ lines_in steps true (before ++ p ∷ []) ps [])
+    (ap (lines_of_pair steps true before p) (append-nil ps)
+    ∙ pair_same steps true c before p ps (ps ++ xs)
+    (λ k n names claims m. by k n names claims m (list_any closes ps) refl))
+    ∙ ap (λ ls. lines_of_pair steps c before p (ps ++ xs) ++ ls) (stays_closed steps c (before ++ p ∷ []) ps xs g)
   where
     by : (k n : ℕ) (names : Signature) (claims : List Claimed) (m : ℕ) (b : Bool) → list_any closes ps ≡ b
-        → lines_of_sat true k n names claims m ps ≡ lines_of_sat c k n names claims m (ps ++ xs)
-    by k n names claims m true is = sat_closed true c k n names claims m ps xs is
-    by k n names claims m false is = sat_closing c k n names claims m ps xs g is
+        → lines_of_sat steps true k n names claims m ps ≡ lines_of_sat steps c k n names claims m (ps ++ xs)
+    by k n names claims m true is = sat_closed steps true c k n names claims m ps xs is
+    by k n names claims m false is = sat_closing steps c k n names claims m ps xs g is
 
 -- ---- the lines where a dialogue is at rest
 
-stays : (closed c : Bool) (pairs xs : List Pair) → (closed ≡ true → Closing c xs)
-    → IsBeginning (lines_in closed [] pairs []) (lines_in c [] pairs xs)
-stays false c pairs xs g = stays_open c [] pairs xs
-stays true c pairs xs g =
-    ([], sym (stays_closed c [] pairs xs (g refl)) ∙ sym (append-nil (lines_in true [] pairs [])))
+stays : (steps : ℕ) (closed c : Bool) (pairs xs : List Pair) → (closed ≡ true → Closing c xs)
+    → IsBeginning (lines_in steps closed [] pairs []) (lines_in steps c [] pairs xs)
+stays steps false c pairs xs g = stays_open steps c [] pairs xs
+stays steps true c pairs xs g =
+    ([], sym (stays_closed steps c [] pairs xs (g refl)) ∙ sym (append-nil (lines_in steps true [] pairs [])))
 
 closing_next : (c : Bool) (ws : List Pair) → ClosesNext ws (Waits c) → Closing c (ws ++ [])
 closing_next c [] next = record { none = refl; closed = ap (λ b. b || false) next }
@@ -303,29 +309,29 @@ ended_next [] fault next = refl
 ended_next (w ∷ ws) fault next = next
 
 -- the lines of more pairs
-more_lines : (c : Bool) (pairs ws : List Pair) (ls : List Line)
-    → IsBeginning ls (lines_in c [] pairs (ws ++ [])) → IsBeginning ls (lines_in c [] (pairs ++ ws) [])
-more_lines c pairs ws ls h = (
-  h.0 ++ lines_in c pairs ws [],
-  lines_in-append c [] pairs ws [] ∙ ap (λ ms. ms ++ lines_in c pairs ws []) h.1
-      ∙ append_assoc ls h.0 (lines_in c pairs ws []),
+more_lines : (steps : ℕ) (c : Bool) (pairs ws : List Pair) (ls : List Line)
+    → IsBeginning ls (lines_in steps c [] pairs (ws ++ [])) → IsBeginning ls (lines_in steps c [] (pairs ++ ws) [])
+more_lines steps c pairs ws ls h = (
+  h.0 ++ lines_in steps c pairs ws [],
+  lines_in-append steps c [] pairs ws [] ∙ ap (λ ms. ms ++ lines_in steps c pairs ws []) h.1
+      ∙ append_assoc ls h.0 (lines_in steps c pairs ws []),
 )
 
 followed : (ls ms ns : List Line) → IsBeginning ls ms → IsBeginning ls (ms ++ ns)
 followed ls ms ns h = (h.0 ++ ns, ap (λ xs. xs ++ ns) h.1 ∙ append_assoc ls h.0 ns)
 
-pub begins_so : (pairs ws : List Pair) (turn : Turn) (closed : Bool) → IsRest turn
+pub begins_so : (steps : ℕ) (pairs ws : List Pair) (turn : Turn) (closed : Bool) → IsRest turn
     → (closed ≡ true → ClosesNext ws turn)
-    → IsBeginning (lines_in closed [] pairs []) (lines_at (pairs ++ ws) turn)
-begins_so pairs ws GoesOn closed rests next = absurd rests
-begins_so pairs ws (Waits c) closed rests next =
-    more_lines c pairs ws (lines_in closed [] pairs [])
-    (stays closed c pairs (ws ++ []) (λ e. closing_next c ws (next e)))
-begins_so pairs ws (Ends fault) closed rests next =
-    let ls = lines_in closed [] pairs [] in
-    let ms = lines_in true [] (pairs ++ ws) [] in
+    → IsBeginning (lines_in steps closed [] pairs []) (lines_at steps (pairs ++ ws) turn)
+begins_so steps pairs ws GoesOn closed rests next = absurd rests
+begins_so steps pairs ws (Waits c) closed rests next =
+    more_lines steps c pairs ws (lines_in steps closed [] pairs [])
+    (stays steps closed c pairs (ws ++ []) (λ e. closing_next c ws (next e)))
+begins_so steps pairs ws (Ends fault) closed rests next =
+    let ls = lines_in steps closed [] pairs [] in
+    let ms = lines_in steps true [] (pairs ++ ws) [] in
     let shown = ms ++ lines_of_end fault in
     followed ls shown (lines.Verdict (verdict_of shown) (tally_of shown) ∷ [])
     (followed ls ms (lines_of_end fault)
-    (more_lines true pairs ws ls (stays closed true pairs (ws ++ [])
+    (more_lines steps true pairs ws ls (stays steps closed true pairs (ws ++ [])
     (λ e. closing_next true ws (ended_next ws fault (next e))))))

@@ -154,19 +154,19 @@ pub answers_taken-le : (xs : List Pair) → answers_taken xs ≤ length xs
 answers_taken-le [] = omega arith
 answers_taken-le (x ∷ xs) = omega (arith, answers_taken-le xs, answer_count-le x.answer)
 
-pub lines_in-append : (closed : Bool) (before xs ys after : List Pair)
-    → lines_in closed before (xs ++ ys) after
-    ≡ lines_in closed before xs (ys ++ after) ++ lines_in closed (before ++ xs) ys after
-lines_in-append closed before [] ys after =
-    ap (λ (b : List Pair). lines_in closed b ys after) (sym (append-nil before))
-lines_in-append closed before (x ∷ xs) ys after =
-    let rest = lines_in closed (before ++ x ∷ []) xs (ys ++ after) in
-    let far = lines_in closed (before ++ x ∷ xs) ys after in
-    ap (λ (b : List Line). lines_of_pair closed before x ((xs ++ ys) ++ after) ++ b)
-    (lines_in-append closed (before ++ x ∷ []) xs ys after
-    ∙ ap (λ (b : List Pair). rest ++ lines_in closed b ys after) (append_assoc before (x ∷ []) xs))
-    ∙ ap (λ (a : List Pair). lines_of_pair closed before x a ++ (rest ++ far)) (append_assoc xs ys after)
-    ∙ sym (append_assoc (lines_of_pair closed before x (xs ++ (ys ++ after))) rest far)
+pub lines_in-append : (steps : ℕ) (closed : Bool) (before xs ys after : List Pair)
+    → lines_in steps closed before (xs ++ ys) after
+    ≡ lines_in steps closed before xs (ys ++ after) ++ lines_in steps closed (before ++ xs) ys after
+lines_in-append steps closed before [] ys after =
+    ap (λ (b : List Pair). lines_in steps closed b ys after) (sym (append-nil before))
+lines_in-append steps closed before (x ∷ xs) ys after =
+    let rest = lines_in steps closed (before ++ x ∷ []) xs (ys ++ after) in
+    let far = lines_in steps closed (before ++ x ∷ xs) ys after in
+    ap (λ (b : List Line). lines_of_pair steps closed before x ((xs ++ ys) ++ after) ++ b)
+    (lines_in-append steps closed (before ++ x ∷ []) xs ys after
+    ∙ ap (λ (b : List Pair). rest ++ lines_in steps closed b ys after) (append_assoc before (x ∷ []) xs))
+    ∙ ap (λ (a : List Pair). lines_of_pair steps closed before x a ++ (rest ++ far)) (append_assoc xs ys after)
+    ∙ sym (append_assoc (lines_of_pair steps closed before x (xs ++ (ys ++ after))) rest far)
 
 pub answers_then-append : (xs ys : List Pair) (rest : Sexps)
     → answers_then (xs ++ ys) rest ≡ answers_then xs (answers_then ys rest)

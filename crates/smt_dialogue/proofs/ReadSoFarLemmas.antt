@@ -25,7 +25,7 @@ some_so_far every options script_told answers_told script answers =
     let first = text script_told read.0 read.1 in
     let second = text answers_told printed.0 printed.1 in
     let way = some_rest options.print_success first second in (
-      lines_at way.0 way.1,
+      lines_at options.limit.steps way.0 way.1,
       record {
         script_text = first;
         script_read = record { told_so = refl; reads = read.2 };
@@ -41,11 +41,12 @@ some_so_far every options script_told answers_told script answers =
       },
     )
 
-one_lines : (start : Bool) (script answers : TextSoFar) (ls ms : List Line) → AreLinesSoFar start script answers ls
-    → AreLinesSoFar start script answers ms → ls ≡ ms
-one_lines start script answers ls ms x y =
-    let way = one_turn start script answers x.pairs y.pairs x.turn y.turn x.rests y.rests x.turn_is y.turn_is in
-    x.lines_are ∙ ap (λ ps. lines_at ps x.turn) way.0 ∙ ap (lines_at y.pairs) way.1 ∙ sym y.lines_are
+one_lines : (options : Options) (script answers : TextSoFar) (ls ms : List Line)
+    → AreLinesSoFar options script answers ls → AreLinesSoFar options script answers ms → ls ≡ ms
+one_lines options script answers ls ms x y =
+    let steps = options.limit.steps in
+    let way = one_turn options.print_success script answers x.pairs y.pairs x.turn y.turn x.rests y.rests x.turn_is y.turn_is in
+    x.lines_are ∙ ap (λ ps. lines_at steps ps x.turn) way.0 ∙ ap (lines_at steps y.pairs) way.1 ∙ sym y.lines_are
 
 pub one_so_far : OneReading → (options : Options) (script_told answers_told : Bool) (script answers : List ℕ)
     (ls ms : List Line) → IsSoFar options script_told script answers_told answers ls
@@ -55,9 +56,9 @@ one_so_far one options script_told answers_told script answers ls ms x y =
     let scripts = same_text one script_told script y.script_text x.script_text y.script_read x.script_read in
     let printed = same_text one answers_told answers y.answers_text x.answers_text y.answers_read x.answers_read
     in
-    one_lines start x.script_text x.answers_text ls ms x.lines_are
-    (subst (λ t. AreLinesSoFar start x.script_text t ms) printed
-    (subst (λ t. AreLinesSoFar start t y.answers_text ms) scripts y.lines_are))
+    one_lines options x.script_text x.answers_text ls ms x.lines_are
+    (subst (λ t. AreLinesSoFar options x.script_text t ms) printed
+    (subst (λ t. AreLinesSoFar options t y.answers_text ms) scripts y.lines_are))
 
 -- ---- both ends told
 
@@ -77,7 +78,7 @@ so_far_is_report options script answers ls x =
         pairs = l.pairs;
         fault = end'.0;
         ends = subst (IsTurn start x.script_text x.answers_text l.pairs) end'.1 l.turn_is;
-        lines_are = l.lines_are ∙ ap (lines_at l.pairs) end'.1;
+        lines_are = l.lines_are ∙ ap (lines_at options.limit.steps l.pairs) end'.1;
       };
     }
 

@@ -289,7 +289,7 @@ some_report every options script answers =
     let way = way_through start read.0 [] true read.1 true printed.0 printed.1 in
     let ends = ends_there start way.pairs way.later read.1 way.rest printed.1 way.turn way.rests way.turn_is
     in (
-      lines_at_end way.pairs ends.0,
+      lines_at_end options.limit.steps way.pairs ends.0,
       record {
         script_text = whole_text read.0 read.1;
         script_read = record { told_so = refl; reads = read.2 };

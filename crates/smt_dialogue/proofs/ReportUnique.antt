@@ -138,5 +138,5 @@ one_report one options script answers ls ms x y =
     both first in
     let way = one_turn start x.script_text x.answers_text x.lines_are.pairs y.lines_are.pairs
     (Ends x.lines_are.fault) (Ends y.lines_are.fault) tt tt x.lines_are.ends other in
-    x.lines_are.lines_are ∙ ap (λ (ps : List Pair). lines_at_end ps x.lines_are.fault) way.0
-    ∙ ap (lines_at_end y.lines_are.pairs) (ends_same way.1) ∙ sym y.lines_are.lines_are
+    x.lines_are.lines_are ∙ ap (λ (ps : List Pair). lines_at_end options.limit.steps ps x.lines_are.fault) way.0
+    ∙ ap (lines_at_end options.limit.steps y.lines_are.pairs) (ends_same way.1) ∙ sym y.lines_are.lines_are

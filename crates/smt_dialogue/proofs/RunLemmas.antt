@@ -1,6 +1,6 @@
 -- Runs: what was pulled and put so far, and what a fault leaves.
-use Rattle.std.proofs.Common.{◌≡◌, ◌≤◌, ℕ, ◌+◌, Bool, true, false, List, [], ◌∷◌, ◌++◌, length, take, Option, Some}
-use Rattle.std.proofs.Common.{Result, Ok, Err, IfErr, OnErr, OnOk, MatchResult, None, refl, ap, sym, ◌∙◌, subst, append_assoc, arith}
+use Rattle.std.proofs.Common.{◌≡◌, ℕ, ◌+◌, Bool, true, false, List, [], ◌∷◌, ◌++◌, length, take, Option, Some}
+use Rattle.std.proofs.Common.{Result, Ok, Err, IfErr, OnErr, OnOk, MatchResult, None, refl, ap, sym, ◌∙◌, subst, append_assoc}
 use Rattle.std.proofs.Math.Seq.{take-append-add}
 use Rattle.std.proofs.lemmas.List.{append-nil}
 use Rattle.std.specs.Io.KnownBytes.{Appends, Consumes, IsAtEnd}
@@ -9,7 +9,7 @@ use Rattle.smt_dialogue.proofs.SessionVerdictLemmas.{reported}
 use Rattle.smt_dialogue.specs.History.{AreDecided, AreFirstDecided, History, begun, with_taken}
 use Rattle.smt_dialogue.specs.Report.{IsReport}
 use Rattle.smt_dialogue.specs.SoFar.{IsSoFar}
-use Rattle.smt_dialogue.specs.Run.{ArePulled, Devices, HasRun, HasStopped, text_of_lines}
+use Rattle.smt_dialogue.specs.Run.{Devices, HasRun, HasStopped, text_of_lines}
 use Rattle.smt_dialogue.specs.Session.{AreLines, IsVerdictIn, StandsFor, failure_of, is_script_ended, lines_waiting}
 use Rattle.smt_dialogue.specs.Session.{is_answers_ended}
 use Rattle.smt_dialogue.specs.Validity.{IsInvalid, IsValid}

@@ -1,14 +1,11 @@
 -- Sessions: what each call makes of what was told before.
-use Rattle.std.proofs.Common.{◌≡◌, ◌≤◌, ◌<◌, ◌^◌, ℕ, ◌+◌, Bool, true, false, ◌||◌, List, [], ◌∷◌, ◌++◌, length, Option}
-use Rattle.std.proofs.Common.{Some, None, is_some, refl, ap, sym, ◌∙◌, subst, arith, inl, inr, ◌⊎◌, length-append, lit<}
+use Rattle.std.proofs.Common.{◌≡◌, ◌<◌, ◌^◌, ℕ, ◌+◌, Bool, true, false, List, [], ◌∷◌, ◌++◌, length, Option}
+use Rattle.std.proofs.Common.{Some, None, is_some, refl, ap, sym, ◌∙◌, subst, arith, inl, inr, length-append, lit<}
 use Rattle.std.proofs.lemmas.List.{append-nil}
-use Rattle.std.proofs.lemmas.List.Folds.{list_any-append}
 use Rattle.std.specs.List.{list_any}
 use Rattle.smt_text.specs.Grammar.{Forest, limit}
-use Rattle.smt_text.specs.Reading.{AreSettled, Reads}
+use Rattle.smt_text.specs.Reading.{Reads}
 use Rattle.smt_trees.specs.Sexp.{Sexps, Nil, Cons, append}
-use Rattle.smt_faults.specs.declared.text_flaw.TextFlaw.{TextFlaw}
-use Rattle.smt_script.specs.StackView.{initial_print_success_of}
 use Rattle.smt_dialogue.proofs.CheckLineLemmas.{no_verdicts}
 use Rattle.smt_dialogue.proofs.DialogueLemmas.{begins_trans}
 use Rattle.smt_dialogue.proofs.ReadSoFarLemmas.{FaultsStay, TreesStay, grown_text, some_so_far}
@@ -21,27 +18,24 @@ use Rattle.smt_dialogue.specs.History.{AreDecided, AreFirstDecided, HasGrown, Hi
 use Rattle.smt_dialogue.specs.History.{with_answers_end, with_script, with_script_end, with_taken}
 use Rattle.smt_dialogue.specs.Lines.{lines_in}
 use Rattle.smt_dialogue.specs.Pairs.{Pair}
-use Rattle.smt_dialogue.specs.Report.{ArePaired, AreLinesOf, IsRead, IsTurn, lines_at_end, lines_of_end}
-use Rattle.smt_dialogue.specs.Session.{AreCounted, AreLines, IsVerdictIn, StandsFor, failure_of, is_answers_ended}
+use Rattle.smt_dialogue.specs.Report.{ArePaired, IsRead, IsTurn, lines_at_end, lines_of_end}
+use Rattle.smt_dialogue.specs.Session.{AreCounted, AreLines, IsVerdictIn, StandsFor, is_answers_ended}
 use Rattle.smt_dialogue.specs.Session.{is_script_ended, lines_waiting}
 use Rattle.smt_dialogue.specs.SoFar.{AreGrown, AreLinesSoFar, IsBeginning, IsGrown, is_verdict_line}
-use Rattle.smt_dialogue.specs.Validity.{IsInvalid, IsValid}
-use Rattle.smt_dialogue.specs.Internal.DecidedView.{IsFaultLine}
-use Rattle.smt_dialogue.specs.Internal.ExchangeView.{HasRested, IsCut, IsUnderWay, Texts, turn_of, waiting}
+use Rattle.smt_dialogue.specs.Internal.DialogueState.{options_of}
+use Rattle.smt_dialogue.specs.Internal.ExchangeView.{HasRested, IsCut, IsUnderWay, Texts, waiting}
 use Rattle.smt_dialogue.specs.Internal.SessionStep.{IsGoingOn}
 use Rattle.smt_dialogue.specs.Internal.SessionView.{AreRead, GoesOn, HasEnded, IsOpen, texts_of}
 use Rattle.smt_dialogue.specs.declared.exchange.Exchange.{Exchange}
 use Rattle.smt_dialogue.specs.declared.options.Options.{Options}
-use Rattle.smt_dialogue.specs.declared.dialogue.Dialogue.{Dialogue}
 use Rattle.smt_dialogue.specs.declared.session.Failed.{Failed}
 use Rattle.smt_dialogue.specs.declared.session.Fed.{Fed}
 use Rattle.smt_dialogue.specs.declared.session.Failed.TheVariants.{Long, Memory}
 use Rattle.smt_dialogue.specs.declared.session.Session.{Session}
-use Rattle.smt_report.specs.Verdict.{IsVerdictOf, is_fault_line, tally_of, verdict_of}
+use Rattle.smt_report.specs.Verdict.{IsVerdictOf, tally_of, verdict_of}
 use Rattle.smt_report.specs.declared.line.Line.{Line}
 use Rattle.smt_report.specs.declared.line.Line.TheVariants as lines
 use Rattle.smt_report.specs.declared.verdict.Verdict.{Verdict}
-use Rattle.smt_report.specs.declared.verdict.Verdict.TheVariants.{Invalid, Valid}
 
 -- what the laws of the reader's crate say
 pub record TextLaws : Type 0 where
@@ -77,14 +71,13 @@ grown_lines : TextLaws → (h g : History) → HasGrown h g → (ls ms : List Li
     → IsBeginning ls ms
 grown_lines laws h g s ls ms x y =
     let grown = grown_text laws.one laws.trees_stay laws.faults_stay in
-    lines_stay h.options.print_success x.script_text x.answers_text y.script_text y.answers_text ls ms
+    lines_stay h.options x.script_text x.answers_text y.script_text y.answers_text ls ms
     (grown h.script_told h.script g.script_told g.script x.script_text y.script_text s.script x.script_read
     y.script_read)
     (grown h.answers_told h.answers g.answers_told g.answers x.answers_text y.answers_text s.answers x.answers_read
     y.answers_read)
     x.lines_are
-    (subst (λ (o : Options). AreLinesSoFar o.print_success y.script_text y.answers_text
-    ms) s.options y.lines_are)
+    (subst (λ (o : Options). AreLinesSoFar o y.script_text y.answers_text ms) s.options y.lines_are)
 
 first_grown : TextLaws → (h g : History) → HasGrown h g → (ls : List Line) → AreFirstDecided h ls
     → AreFirstDecided g ls
@@ -136,8 +129,10 @@ ended_grown laws verdict h g ls s e =
       fault = e.fault;
       ends = subst (λ (o : Options). IsTurn o.print_success r.0 r.1 e.pairs (Ends e.fault)) (sym s.options)
           (ends_stay h.options.print_success e.script e.answers r.0 r.1 e.pairs e.fault r.3 r.4 e.ends);
-      lines_are = e.lines_are;
-      verdict_is = e.verdict_is;
+      lines_are = subst (λ (o : Options). ls ≡ lines_at_end o.limit.steps e.pairs e.fault) (sym s.options) e.lines_are;
+      verdict_is = subst (λ (o : Options). verdict
+          ≡ verdict_of (lines_in o.limit.steps true [] e.pairs [] ++ lines_of_end e.fault))
+          (sym s.options) e.verdict_is;
     }
 
 ended_lines : (verdict : Verdict) (h : History) (ls : List Line) → HasEnded verdict h ls → AreDecided h ls
@@ -151,7 +146,7 @@ ended_lines verdict h ls e = record {
 
 pub ended_verdict : (verdict : Verdict) (h : History) (ls : List Line) → HasEnded verdict h ls → IsVerdictOf verdict ls
 ended_verdict verdict h ls e =
-    let all = lines_in true [] e.pairs [] ++ lines_of_end e.fault in (
+    let all = lines_in h.options.limit.steps true [] e.pairs [] ++ lines_of_end e.fault in (
       all,
       tally_of all,
       e.lines_are ∙ ap (λ v. all ++ lines.Verdict v (tally_of all) ∷ []) (sym e.verdict_is),
@@ -253,7 +248,7 @@ ended_stands laws s t h g v is none unset verdict exchange told more taken count
 -- ---- the turns come to rest
 
 rested_lines : (h : History) (script answers : TextSoFar) (x : Exchange) (ls : List Line) → AreRead h script answers
-    → HasRested None h.options.print_success x (texts_of h script answers) → ls ≡ h.taken ++ waiting x
+    → HasRested None h.options x (texts_of h script answers) → ls ≡ h.taken ++ waiting x
     → AreDecided h ls × (list_any is_verdict_line ls ≡ false)
 rested_lines h script answers x ls r o is = (
   record {
@@ -268,19 +263,19 @@ rested_lines h script answers x ls r o is = (
       turn_is = record {
         later = o.2;
         rest = o.3;
-        paired = subst (λ b. ArePaired b script answers o.1 o.2 o.3) o.5 o.4.paired;
-        turn_is = subst (λ b. turn_at b o.1 (record answers { trees = o.3 })
+        paired = subst (λ (p : Options). ArePaired p.print_success script answers o.1 o.2 o.3) o.5 o.4.paired;
+        turn_is = subst (λ (p : Options). turn_at p.print_success o.1 (record answers { trees = o.3 })
             script.told script.fault o.2 ≡ Waits o.0) o.5 o.6;
       };
       lines_are = is ∙ o.7;
     };
   },
-  ap (list_any is_verdict_line) (is ∙ o.7) ∙ no_verdicts o.0 [] o.1 [],
+  ap (list_any is_verdict_line) (is ∙ o.7) ∙ no_verdicts h.options.limit.steps o.0 [] o.1 [],
 )
 
 pub waits_stands : (s t : Session) (h : History) → (on : IsGoingOn s h) → t.failure ≡ None → t.verdict ≡ None
     → AreTold t h → AreCounted t h
-    → HasRested None h.options.print_success t.exchange (texts_of h on.open'.script on.open'.answers)
+    → HasRested None h.options t.exchange (texts_of h on.open'.script on.open'.answers)
     → StandsFor t h
 waits_stands s t h on none unset told counted o =
     let r = rested_lines h on.open'.script on.open'.answers t.exchange (h.taken ++ lines_waiting t) on.open'.read o refl
@@ -307,7 +302,7 @@ waits_stands s t h on none unset told counted o =
 
 pub ends_stands : (s t : Session) (h : History) (v : Verdict) → (on : IsGoingOn s h) → t.failure ≡ None
     → t.verdict ≡ Some v → AreTold t h → AreCounted t h
-    → HasRested (Some v) h.options.print_success t.exchange (texts_of h on.open'.script on.open'.answers)
+    → HasRested (Some v) h.options t.exchange (texts_of h on.open'.script on.open'.answers)
     → StandsFor t h
 ends_stands s t h v on none some told counted o =
     let e : HasEnded v h (h.taken ++ lines_waiting t) = record {
@@ -343,7 +338,7 @@ counted_on s t h script answers counted = record {
 
 pub rests_stands : (s t : Session) (h : History) (verdict : Option Verdict) → (on : IsGoingOn s h) → t.failure ≡ None
     → t.verdict ≡ verdict → AreTold t h → t.script ≡ s.script → t.answers ≡ s.answers
-    → HasRested verdict h.options.print_success t.exchange (texts_of h on.open'.script on.open'.answers)
+    → HasRested verdict h.options t.exchange (texts_of h on.open'.script on.open'.answers)
     → StandsFor t h
 rests_stands s t h None on none is told script answers o =
     waits_stands s t h on none is told (counted_on s t h script answers on.counted) o
@@ -353,7 +348,7 @@ rests_stands s t h (Some v) on none is told script answers o =
 -- memory was refused: the lines are the first
 pub cut_stands : (s t : Session) (h : History) → (on : IsGoingOn s h) → t.failure ≡ Some Memory → t.verdict ≡ None
     → AreTold t h
-    → IsCut h.options.print_success (lines_waiting t) (texts_of h on.open'.script on.open'.answers) → StandsFor t h
+    → IsCut h.options (lines_waiting t) (texts_of h on.open'.script on.open'.answers) → StandsFor t h
 cut_stands s t h on some unset told o = record {
   lines = subst (λ f. AreLines f h (h.taken ++ lines_waiting t)) (sym some) (
     o.0,
@@ -410,7 +405,7 @@ open_script laws x y h piece open' dialogue feeds o =
       later = on.0;
       rest = o.rest;
       way = on.1;
-      start = ap (λ (d : Dialogue). initial_print_success_of d.stack) dialogue ∙ o.start;
+      start = ap options_of dialogue ∙ o.start;
     }
 
 pub script_fed : TextLaws → (s t : Session) (h : History) (piece : List ℕ) → s.failure ≡ None
@@ -460,7 +455,7 @@ finished_script laws x y h dialogue finishes o =
       later = on.0;
       rest = o.rest;
       way = on.1;
-      start = ap (λ (d : Dialogue). initial_print_success_of d.stack) dialogue ∙ o.start;
+      start = ap options_of dialogue ∙ o.start;
     }
 
 pub script_finished : TextLaws → (s t : Session) (h : History) → s.failure ≡ None → false ≡ is_some s.verdict
@@ -494,7 +489,8 @@ script_grows s h piece open' k = record {
   answers = as_before h.answers_told h.answers;
 }
 
-pub script_ends : (s : Session) (h : History) → is_script_ended s ≡ false → StandsFor s h → HasGrown h (with_script_end h)
+pub script_ends : (s : Session) (h : History) → is_script_ended s ≡ false → StandsFor s h
+    → HasGrown h (with_script_end h)
 script_ends s h open' k = record {
   options = refl;
   script = end_told h.script_told h.script (sym k.script_ended ∙ open');
@@ -526,7 +522,7 @@ open_answers laws x y h piece open' dialogue feeds o =
       later = o.later;
       rest = on.0;
       way = on.1;
-      start = ap (λ (d : Dialogue). initial_print_success_of d.stack) dialogue ∙ o.start;
+      start = ap options_of dialogue ∙ o.start;
     }
 
 pub answers_fed : TextLaws → (s t : Session) (h : History) (piece : List ℕ) → s.failure ≡ None
@@ -576,7 +572,7 @@ finished_answers laws x y h dialogue finishes o =
       later = o.later;
       rest = on.0;
       way = on.1;
-      start = ap (λ (d : Dialogue). initial_print_success_of d.stack) dialogue ∙ o.start;
+      start = ap options_of dialogue ∙ o.start;
     }
 
 pub answers_finished : TextLaws → (s t : Session) (h : History) → s.failure ≡ None → false ≡ is_some s.verdict
@@ -610,7 +606,8 @@ answers_grows s h piece open' k = record {
   script = as_before h.script_told h.script;
 }
 
-pub answers_ends : (s : Session) (h : History) → is_answers_ended s ≡ false → StandsFor s h → HasGrown h (with_answers_end h)
+pub answers_ends : (s : Session) (h : History) → is_answers_ended s ≡ false → StandsFor s h
+    → HasGrown h (with_answers_end h)
 answers_ends s h open' k = record {
   options = refl;
   answers = end_told h.answers_told h.answers (sym k.answers_ended ∙ open');
@@ -645,7 +642,7 @@ nothing_read one none = (
 pub new_stands : OneForest → Forest limit [] Nil → (s : Session) (options : Options) → s.verdict ≡ None
     → s.failure ≡ None → is_script_ended s ≡ false → is_answers_ended s ≡ false
     → s.script.bytes ≡ 0 → s.answers.bytes ≡ 0 → lines_waiting s ≡ []
-    → initial_print_success_of s.exchange.dialogue.stack ≡ options.print_success
+    → options_of s.exchange.dialogue ≡ options
     → ((script answers : TextSoFar) → IsRead false [] script → IsRead false [] answers
     → IsUnderWay s.exchange (texts_of (begun options) script answers) [] script.trees answers.trees)
     → StandsFor s (begun options)
@@ -700,7 +697,7 @@ new_stands one none s options no_verdict no_failure open' answers_open zero answ
 -- ---- lines are taken
 
 taken_on : (x y : Exchange) (h : History) (ls : List Line) → y.script ≡ x.script
-    → initial_print_success_of y.dialogue.stack ≡ initial_print_success_of x.dialogue.stack
+    → options_of y.dialogue ≡ options_of x.dialogue
     → ((texts : Texts) (pairs : List Pair) (later rest : Sexps) → IsUnderWay x texts pairs later rest
     → IsUnderWay y (record texts { taken = texts.taken ++ ls }) pairs later rest)
     → IsOpen x h → IsOpen y (with_taken h ls)
@@ -730,7 +727,7 @@ ended_taken v h ls ms ns same e = record {
 
 goes_taken : (v : Option Verdict) (f : Option Failed) (x y : Exchange) (h : History) (ls : List Line)
     → (h.taken ++ waiting x) ≡ ((h.taken ++ ls) ++ waiting y) → y.script ≡ x.script
-    → initial_print_success_of y.dialogue.stack ≡ initial_print_success_of x.dialogue.stack
+    → options_of y.dialogue ≡ options_of x.dialogue
     → ((texts : Texts) (pairs : List Pair) (later rest : Sexps) → IsUnderWay x texts pairs later rest
     → IsUnderWay y (record texts { taken = texts.taken ++ ls }) pairs later rest)
     → GoesOn v f x h → GoesOn v f y (with_taken h ls)
@@ -747,7 +744,7 @@ lines_taken (Some failed) h ls ms x = x
 pub taken_stands : (s t : Session) (h : History) (ls : List Line) → ls ≡ lines_waiting s → lines_waiting t ≡ []
     → t.failure ≡ s.failure → t.verdict ≡ s.verdict → t.script ≡ s.script → t.answers ≡ s.answers
     → t.exchange.script ≡ s.exchange.script
-    → initial_print_success_of t.exchange.dialogue.stack ≡ initial_print_success_of s.exchange.dialogue.stack
+    → options_of t.exchange.dialogue ≡ options_of s.exchange.dialogue
     → ((texts : Texts) (pairs : List Pair) (later rest : Sexps) → IsUnderWay s.exchange texts pairs later rest
     → IsUnderWay t.exchange (record texts { taken = texts.taken ++ ls }) pairs later rest)
     → StandsFor s h → StandsFor t (with_taken h ls)

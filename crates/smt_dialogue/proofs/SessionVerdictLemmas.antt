@@ -54,21 +54,22 @@ no_fault (Some line) ls is h = absurd (
     let e : true ≡ false = sym first ∙ last in cc)
 
 faultless_end : (v : Verdict) (h : History) (ls : List Line) → (e : HasEnded v h ls)
-    → list_any is_fault_line (lines_in true [] e.pairs [] ++ lines_of_end e.fault) ≡ false → e.fault ≡ None
+    → list_any is_fault_line (lines_in h.options.limit.steps true [] e.pairs [] ++ lines_of_end e.fault) ≡ false
+    → e.fault ≡ None
 faultless_end v h ls e clean =
-    no_fault e.fault (lines_in true [] e.pairs [])
+    no_fault e.fault (lines_in h.options.limit.steps true [] e.pairs [])
     (subst IsFaultTurn e.ends.turn_is
     (fault_turn h.options.print_success e.pairs (record e.answers { trees = e.ends.rest }) e.script.told e.script.fault
     e.ends.later)) clean
 
 lines_of : (v : Verdict) (h : History) (ls : List Line) → (e : HasEnded v h ls)
-    → AreLinesOf h.options.print_success e.script e.answers ls
+    → AreLinesOf h.options e.script e.answers ls
 lines_of v h ls e = record { pairs = e.pairs; fault = e.fault; ends = e.ends; lines_are = e.lines_are }
 
 pub ended_valid : Laws → OneForest → (h : History) (ls : List Line) → HasEnded Valid h ls
     → IsValid h.options h.script h.answers
 ended_valid laws one h ls e =
-    let all = lines_in true [] e.pairs [] ++ lines_of_end e.fault in
+    let all = lines_in h.options.limit.steps true [] e.pairs [] ++ lines_of_end e.fault in
     let told = ended_told Valid h ls e (faultless_end Valid h ls e (valid_lines all (sym e.verdict_is)).0) in
     valid_means laws one h.options h.script h.answers e.script e.answers ls Valid
     (subst (λ b. IsRead b h.script e.script) told.0 e.read.script_read)
@@ -78,7 +79,7 @@ ended_valid laws one h ls e =
 pub ended_invalid : Laws → (h : History) (ls : List Line) → HasEnded Invalid h ls
     → IsInvalid h.options h.script h.answers ls
 ended_invalid laws h ls e =
-    let all = lines_in true [] e.pairs [] ++ lines_of_end e.fault in
+    let all = lines_in h.options.limit.steps true [] e.pairs [] ++ lines_of_end e.fault in
     let told = ended_told Invalid h ls e (faultless_end Invalid h ls e (invalid_lines all (sym e.verdict_is)).0) in
     invalid_means laws h.options h.script h.answers e.script e.answers ls Invalid
     (subst (λ b. IsRead b h.script e.script) told.0 e.read.script_read)
@@ -92,7 +93,7 @@ pub reported : (options : Options) (script answers : List ℕ) (ls : List Line) 
     → list_any is_verdict_line ls ≡ false → ⊥
 reported options script answers ls r h =
     let l = r.lines_are in
-    let all = lines_in true [] l.pairs [] ++ lines_of_end l.fault in
+    let all = lines_in options.limit.steps true [] l.pairs [] ++ lines_of_end l.fault in
     let last = lines.Verdict (verdict_of all) (tally_of all) ∷ [] in
     let seen : list_any is_verdict_line ls ≡ true =
     ap (list_any is_verdict_line) l.lines_are ∙ list_any-append is_verdict_line all last

@@ -1,5 +1,5 @@
 -- Lines so far are one answer, there always are some, and they stay as both texts grow.
-use Rattle.std.proofs.Common.{◌≡◌, Bool, true, List, [], ◌∷◌, ◌++◌, Option, ap}
+use Rattle.std.proofs.Common.{◌≡◌, ℕ, Bool, true, List, [], ◌∷◌, ◌++◌, Option, ap}
 use Rattle.std.proofs.Common.{sym, ◌∙◌, subst, append_assoc}
 use Rattle.std.proofs.lemmas.List.{append-nil}
 use Rattle.smt_trees.specs.Sexp.{Sexps, Nil, Cons, append}
@@ -17,6 +17,7 @@ use Rattle.smt_dialogue.specs.Pairing.{AllTake, AreCommands}
 use Rattle.smt_dialogue.specs.Pairs.{Pair, answers_then, next_of}
 use Rattle.smt_dialogue.specs.Report.{ArePaired, IsTurn}
 use Rattle.smt_dialogue.specs.SoFar.{AreLinesSoFar, IsBeginning, IsGrown, lines_at}
+use Rattle.smt_dialogue.specs.declared.options.Options.{Options}
 use Rattle.smt_report.specs.declared.line.Line.{Line}
 
 -- ---- pairs behind pairs
@@ -96,8 +97,9 @@ all_of : (ls ms : List Line) → ls ≡ ms → IsBeginning ls ms
 all_of ls ms h = ([], sym h ∙ sym (append-nil ls))
 
 -- the lines of one turn, and of the one that is the same
-same_lines : (xs ys : List Pair) (f g : Turn) → (xs ≡ ys) × (f ≡ g) → lines_at xs f ≡ lines_at ys g
-same_lines xs ys f g h = ap (λ ps. lines_at ps f) h.0 ∙ ap (lines_at ys) h.1
+same_lines : (steps : ℕ) (xs ys : List Pair) (f g : Turn) → (xs ≡ ys) × (f ≡ g)
+    → lines_at steps xs f ≡ lines_at steps ys g
+same_lines steps xs ys f g h = ap (λ ps. lines_at steps ps f) h.0 ∙ ap (lines_at steps ys) h.1
 
 -- a dialogue that has ended has ended so still
 pub ends_stay : (start : Bool) (script answers grown_script grown_answers : TextSoFar) (pairs : List Pair)
@@ -113,21 +115,27 @@ ends_stay start script answers grown_script grown_answers pairs fault s g t = re
       t.turn_is;
 }
 
-pub lines_stay : (start : Bool) (script answers grown_script grown_answers : TextSoFar) (ls ms : List Line)
+pub lines_stay : (options : Options) (script answers grown_script grown_answers : TextSoFar) (ls ms : List Line)
     → IsGrown script grown_script → IsGrown answers grown_answers
-    → AreLinesSoFar start script answers ls → AreLinesSoFar start grown_script grown_answers ms
+    → AreLinesSoFar options script answers ls → AreLinesSoFar options grown_script grown_answers ms
     → IsBeginning ls ms
-lines_stay start script answers grown_script grown_answers ls ms s g x y =
+lines_stay options script answers grown_script grown_answers ls ms s g x y =
     subst (λ xs. IsBeginning xs ms) (sym x.lines_are)
-    (subst (IsBeginning (lines_at x.pairs x.turn)) (sym y.lines_are) (by x.turn x.rests x.turn_is))
+    (subst (IsBeginning (lines_at options.limit.steps x.pairs x.turn)) (sym y.lines_are) (by x.turn x.rests x.turn_is))
   where
+    start : Bool
+    start = options.print_success
+
+    steps : ℕ
+    steps = options.limit.steps
+
     by : (turn : Turn) → IsRest turn → IsTurn start script answers x.pairs turn
-        → IsBeginning (lines_at x.pairs turn) (lines_at y.pairs y.turn)
+        → IsBeginning (lines_at steps x.pairs turn) (lines_at steps y.pairs y.turn)
     by GoesOn rests t = absurd rests
     by (Ends fault) rests t =
         let later = ends_stay start script answers grown_script grown_answers x.pairs fault s g t in
-        all_of (lines_at x.pairs (Ends fault)) (lines_at y.pairs y.turn)
-        (same_lines x.pairs y.pairs (Ends fault) y.turn
+        all_of (lines_at steps x.pairs (Ends fault)) (lines_at steps y.pairs y.turn)
+        (same_lines steps x.pairs y.pairs (Ends fault) y.turn
         (one_turn start grown_script grown_answers x.pairs y.pairs (Ends fault) y.turn tt y.rests later y.turn_is))
     by (Waits closed) rests t =
         let trees = append t.later s.later in
@@ -140,8 +148,8 @@ lines_stay start script answers grown_script grown_answers ls ms s g x y =
         next_closes start x.pairs w.pairs script.told grown_script.told t.later s.later w.later script.fault
         grown_script.fault answers.told grown_answers.told t.rest w.rest answers.fault grown_answers.fault
         w.turn (growth_of script grown_script s) (t.turn_is ∙ ap Waits e) w.commands w.turn_is w.rests in
-        subst (IsBeginning (lines_in closed [] x.pairs []))
-        (same_lines (x.pairs ++ w.pairs) y.pairs w.turn y.turn
+        subst (IsBeginning (lines_in steps closed [] x.pairs []))
+        (same_lines steps (x.pairs ++ w.pairs) y.pairs w.turn y.turn
         (one_turn start grown_script grown_answers (x.pairs ++ w.pairs) y.pairs w.turn y.turn w.rests y.rests
         turn y.turn_is))
-        (begins_so x.pairs w.pairs w.turn closed w.rests next)
+        (begins_so steps x.pairs w.pairs w.turn closed w.rests next)

@@ -1,10 +1,9 @@
 -- What the verdicts mean.
 use Rattle.std.proofs.Common.{◌≡◌, ◌+◌, ℕ, Bool, true, false, not, ◌||◌, List, [], ◌∷◌, ◌++◌, length, Option}
 use Rattle.std.proofs.Common.{Some, None, is_some, Result, Ok, Err, cond, codes, refl, ap, sym, ◌∙◌, subst}
-use Rattle.std.proofs.Common.{arith, append_assoc}
+use Rattle.std.proofs.Common.{arith, append_assoc, nat_lt}
 use Rattle.std.proofs.lemmas.List.{append-nil}
 use Rattle.std.specs.List.{list_any}
-use Rattle.std.specs.Result.{IfOk}
 use Rattle.smt_text.specs.Grammar.{Forest, limit}
 use Rattle.smt_text.specs.Reading.{Reads}
 use Rattle.smt_trees.specs.Sexp.{Sexp, Sexps, Nil, is_symbol}
@@ -17,7 +16,7 @@ use Rattle.smt_dialogue.proofs.ConfirmedLemmas.{Laws, asserted_formula, closed_v
 use Rattle.smt_dialogue.proofs.ConfirmedLemmas.{faultless_at, is_false_value, lines_at, lines_of_sat_at}
 use Rattle.smt_script.specs.Command.{is_check}
 use Rattle.smt_dialogue.specs.FirstFault.{TextSoFar, is_over}
-use Rattle.smt_dialogue.specs.Report.{AreLinesOf, IsRead, IsReport, lines_of_end}
+use Rattle.smt_dialogue.specs.Report.{AreLinesOf, IsRead, lines_of_end}
 use Rattle.smt_dialogue.specs.declared.options.Options.{Options}
 use Rattle.smt_dialogue.specs.Validity.{IsFullyPaired, IsInvalid, IsSatCheck}
 use Rattle.smt_dialogue.specs.Validity.{IsValid}
@@ -33,7 +32,8 @@ use Rattle.smt_report.specs.Verdict.{verdict_of, with_verdict}
 use Rattle.std.specs.Option.{option_or}
 use Rattle.smt_dialogue.specs.Window.{Printed, models_from, structure_at, window}
 use Rattle.smt_dialogue.specs.Judgement.{Claimed, claims_of, first_claim, is_false_over, is_open_over}
-use Rattle.smt_dialogue.specs.Judgement.{judged_in, judgement_of, open_or_confirmed, refuted_or}
+use Rattle.smt_dialogue.specs.Judgement.{claims_cost, judged_in, judged_over, judgement_of, open_or_confirmed}
+use Rattle.smt_dialogue.specs.Judgement.{refuted_or}
 use Rattle.smt_values.specs.Element.{Truth}
 use Rattle.smt_eval.specs.Known.{known_over}
 use Rattle.smt_eval.specs.Model.{model_in}
@@ -48,8 +48,6 @@ use Rattle.smt_report.specs.declared.claim.Claim.TheVariants as claims
 use Rattle.smt_report.specs.declared.line.CheckAnswer.{CheckAnswer}
 use Rattle.smt_report.specs.declared.line.Line.{Line}
 use Rattle.smt_report.specs.declared.line.Line.TheVariants as lines
-use Rattle.smt_faults.specs.declared.memory.Memory.{Memory}
-use Rattle.smt_report.specs.declared.report.Report.{Report}
 use Rattle.smt_report.specs.declared.verdict.Tally.{Tally}
 use Rattle.smt_report.specs.declared.verdict.Verdict.{Verdict}
 use Rattle.smt_report.specs.declared.verdict.Verdict.TheVariants.{Valid, Invalid}
@@ -57,13 +55,14 @@ use Rattle.smt_report.specs.declared.verdict.Verdict.TheVariants.{Valid, Invalid
 -- ## A dialogue without the line of a fault is paired whole
 
 pub fully_paired : (options : Options) (script answers : List ℕ) (st at' : TextSoFar) (ls : List Line)
-    → IsRead true script st → IsRead true answers at' → (j : AreLinesOf options.print_success st at' ls)
-    → list_any is_fault_line (lines_in true [] j.pairs [] ++ lines_of_end j.fault) ≡ false
+    → IsRead true script st → IsRead true answers at' → (j : AreLinesOf options st at' ls)
+    → list_any is_fault_line (lines_in options.limit.steps true [] j.pairs [] ++ lines_of_end j.fault) ≡ false
     → IsFullyPaired options script answers j.pairs × (j.fault ≡ None)
 fully_paired options script answers st at' ls rs ra j h =
     let start = options.print_success in
     let clean = ends_clean start j.pairs st.told at'.told j.ends.later st.fault j.ends.rest at'.fault j.fault
-    j.ends.turn_is (none_of is_fault_line (lines_in true [] j.pairs []) (lines_of_end j.fault) h).1 in
+    j.ends.turn_is (none_of is_fault_line (lines_in options.limit.steps true [] j.pairs [])
+    (lines_of_end j.fault) h).1 in
     let over : is_over at' ≡ true = ap (λ (b : Bool). b || is_some at'.fault) ra.told_so in
     let told : IsPairingSoFar true start j.pairs st.trees j.ends.later at'.trees j.ends.rest =
     subst (λ (b : Bool). IsPairingSoFar b start j.pairs st.trees j.ends.later at'.trees j.ends.rest)
@@ -131,10 +130,10 @@ only_pairing one options script answers pairs others trees answered rest whole f
 
 pub valid_means : Laws → OneForest
     → (options : Options) (script answers : List ℕ) (st at' : TextSoFar) (ls : List Line) (v : Verdict)
-    → IsRead true script st → IsRead true answers at' → AreLinesOf options.print_success st at' ls
+    → IsRead true script st → IsRead true answers at' → AreLinesOf options st at' ls
     → IsVerdictOf v ls → v ≡ Valid → IsValid options script answers
 valid_means laws one options script answers st at' ls v rs ra l verdict h =
-    let mine = lines_in true [] l.pairs [] in
+    let mine = lines_in options.limit.steps true [] l.pairs [] in
     let tests = valid_lines (mine ++ lines_of_end l.fault)
     (sym (verdict_of_lines v ls (mine ++ lines_of_end l.fault) verdict l.lines_are) ∙ h) in
     let whole = (fully_paired options script answers st at' ls rs ra l tests.0).0 in
@@ -144,7 +143,7 @@ valid_means laws one options script answers st at' ls v rs ra l verdict h =
       only = λ others trees answered rest f g p.
           only_pairing one options script answers l.pairs others trees answered rest whole f g p;
       confirmed = λ before after p place sat.
-          confirmed_at laws l.pairs before after p place l.ends.paired.faultless
+          confirmed_at options.limit.steps laws l.pairs before after p place l.ends.paired.faultless
           (none_of is_refuted_line mine (lines_of_end l.fault) tests.1).0
           (none_of is_undecided_line mine (lines_of_end l.fault) tests.2).0 sat;
     }
@@ -156,36 +155,36 @@ by_or true b h f g = f refl
 by_or false b h f g = g h
 
 -- the pair that has a line of a kind
-pub record HasLine (test : Line → Bool) (before pairs : List Pair) : Type 0 where
+pub record HasLine (steps : ℕ) (test : Line → Bool) (before pairs : List Pair) : Type 0 where
   pub first : List Pair
   pub pair : Pair
   pub last : List Pair
   pub place : pairs ≡ first ++ pair ∷ last
-  pub line : list_any test (lines_of_pair true (before ++ first) pair last) ≡ true
+  pub line : list_any test (lines_of_pair steps true (before ++ first) pair last) ≡ true
 
-some_line : (test : Line → Bool) (before pairs : List Pair)
-    → list_any test (lines_in true before pairs []) ≡ true → HasLine test before pairs
-some_line test before [] h = absurd (cc)
-some_line test before (p ∷ ps) h =
-    by_or (list_any test (lines_of_pair true before p (ps ++ [])))
-    (list_any test (lines_in true (before ++ p ∷ []) ps []))
-    (sym (any-append test (lines_of_pair true before p (ps ++ []))
-    (lines_in true (before ++ p ∷ []) ps [])) ∙ h)
+some_line : (steps : ℕ) (test : Line → Bool) (before pairs : List Pair)
+    → list_any test (lines_in steps true before pairs []) ≡ true → HasLine steps test before pairs
+some_line steps test before [] h = absurd (cc)
+some_line steps test before (p ∷ ps) h =
+    by_or (list_any test (lines_of_pair steps true before p (ps ++ [])))
+    (list_any test (lines_in steps true (before ++ p ∷ []) ps []))
+    (sym (any-append test (lines_of_pair steps true before p (ps ++ []))
+    (lines_in steps true (before ++ p ∷ []) ps [])) ∙ h)
     (λ here. record {
       first = [];
       pair = p;
       last = ps;
       place = refl;
-      line = ap (λ (b : List Pair). list_any test (lines_of_pair true b p ps)) (append-nil before)
-          ∙ ap (λ (a : List Pair). list_any test (lines_of_pair true before p a)) (sym (append-nil ps))
+      line = ap (λ (b : List Pair). list_any test (lines_of_pair steps true b p ps)) (append-nil before)
+          ∙ ap (λ (a : List Pair). list_any test (lines_of_pair steps true before p a)) (sym (append-nil ps))
           ∙ here;
     })
-    (λ there. let g = some_line test (before ++ p ∷ []) ps there in record {
+    (λ there. let g = some_line steps test (before ++ p ∷ []) ps there in record {
       first = p ∷ g.first;
       pair = g.pair;
       last = g.last;
       place = ap (λ (xs : List Pair). p ∷ xs) g.place;
-      line = ap (λ (b : List Pair). list_any test (lines_of_pair true b g.pair g.last))
+      line = ap (λ (b : List Pair). list_any test (lines_of_pair steps true b g.pair g.last))
           (sym (append_assoc before (p ∷ []) g.first)) ∙ g.line;
     })
 
@@ -198,25 +197,25 @@ answer_cases None true k n ls h = (refl, h)
 answer_cases None false k n ls h = absurd (cc)
 
 -- a pair that has the line of a refuted model is a check that was answered sat
-pub record IsRefutedCheck (before : List Pair) (p : Pair) (after : List Pair) : Type 0 where
+pub record IsRefutedCheck (steps : ℕ) (before : List Pair) (p : Pair) (after : List Pair) : Type 0 where
   pub sat : IsSatCheck p
   pub line : list_any is_refuted_line
-      (lines_of_sat true (checks_in before + 1) (length before + 1) (signature_after before)
+      (lines_of_sat steps true (checks_in before + 1) (length before + 1) (signature_after before)
       (claims_after before) ((length before + 1) + 1) after) ≡ true
 
-refuted_check : (before : List Pair) (p : Pair) (after : List Pair)
-    → list_any is_refuted_line (lines_of_pair true before p after) ≡ true → IsRefutedCheck before p after
-refuted_check before p after h = by (is_check p.command) p.answer refl refl h
+refuted_check : (steps : ℕ) (before : List Pair) (p : Pair) (after : List Pair)
+    → list_any is_refuted_line (lines_of_pair steps true before p after) ≡ true → IsRefutedCheck steps before p after
+refuted_check steps before p after h = by (is_check p.command) p.answer refl refl h
   where
     by : (b : Bool) (o : Option Sexp) → is_check p.command ≡ b → p.answer ≡ o
-        → list_any is_refuted_line (cond b (lines_of_answer true before (checks_in before + 1) o after) [])
+        → list_any is_refuted_line (cond b (lines_of_answer steps true before (checks_in before + 1) o after) [])
         ≡ true
-        → IsRefutedCheck before p after
+        → IsRefutedCheck steps before p after
     by false o is has refuted = absurd (cc)
     by true None is has refuted = absurd (cc)
     by true (Some a) is has refuted =
         let cases = answer_cases (unchecked_answer a) (is_symbol (codes "sat") a) (checks_in before + 1)
-        (length before + 1) (lines_of_sat true (checks_in before + 1) (length before + 1)
+        (length before + 1) (lines_of_sat steps true (checks_in before + 1) (length before + 1)
         (signature_after before) (claims_after before) ((length before + 1) + 1) after) refuted in
         record {
           sat = record { check = is; answer = a; answered = has; sat = cases.0 };
@@ -240,69 +239,72 @@ refuted_judgement k n g (judgements.ItemFault i f) line h r = let e =
     ap is_refuted_line (some_line_same h) ∙ r in absurd (cc)
 refuted_judgement k n g (judgements.Lacks d) line h r = let e =
     ap is_refuted_line (some_line_same h) ∙ r in absurd (cc)
+refuted_judgement k n g judgements.TooLong line h r = let e =
+    ap is_refuted_line (some_line_same h) ∙ r in absurd (cc)
 refuted_judgement k n g (judgements.NotDecided a) line h r = let e =
     ap is_refuted_line (some_line_same h) ∙ r in absurd (cc)
 refuted_judgement k n g judgements.Confirmed line h r = absurd (cc)
 
 -- the model that has the line
-pub record HasModel (k n : ℕ) (names : Signature) (as' : List Claimed) (ms : List Printed) (line : Line)
+pub record HasModel (steps : ℕ) (k n : ℕ) (names : Signature) (as' : List Claimed) (ms : List Printed) (line : Line)
     : Type 0 where
   pub first : List Printed
   pub model : Printed
   pub last : List Printed
   pub place : ms ≡ first ++ model ∷ last
-  pub refuted : IsRefutedLine k n model.command (judgement_of names as' model.parts) line
+  pub refuted : IsRefutedLine k n model.command (judgement_of steps names as' model.parts) line
 
-first_model : (k n : ℕ) (names : Signature) (as' : List Claimed) (m : Printed) (ms : List Printed)
-    (line : Line) (l : Option Line) → line_of_judgement k n m.command (judgement_of names as' m.parts) ≡ l
+first_model : (steps : ℕ) (k n : ℕ) (names : Signature) (as' : List Claimed) (m : Printed) (ms : List Printed)
+    (line : Line) (l : Option Line) → line_of_judgement k n m.command (judgement_of steps names as' m.parts) ≡ l
     → is_refuted_line line ≡ true
-    → (unconfirmed_line k n names as' ms ≡ Some line → HasModel k n names as' ms line)
-    → option_or l (unconfirmed_line k n names as' ms) ≡ Some line → HasModel k n names as' (m ∷ ms) line
-first_model k n names as' m ms line None is r later h = let g = later h in record {
+    → (unconfirmed_line steps k n names as' ms ≡ Some line → HasModel steps k n names as' ms line)
+    → option_or l (unconfirmed_line steps k n names as' ms) ≡ Some line → HasModel steps k n names as' (m ∷ ms) line
+first_model steps k n names as' m ms line None is r later h = let g = later h in record {
   first = m ∷ g.first;
   model = g.model;
   last = g.last;
   place = ap (λ (xs : List Printed). m ∷ xs) g.place;
   refuted = g.refuted;
 }
-first_model k n names as' m ms line (Some other) is r later h = record {
+first_model steps k n names as' m ms line (Some other) is r later h = record {
   first = [];
   model = m;
   last = ms;
   place = refl;
-  refuted = refuted_judgement k n m.command (judgement_of names as' m.parts) line (is ∙ h) r;
+  refuted = refuted_judgement k n m.command (judgement_of steps names as' m.parts) line (is ∙ h) r;
 }
 
-refuted_model : (k n : ℕ) (names : Signature) (as' : List Claimed) (ms : List Printed) (line : Line)
-    → is_refuted_line line ≡ true → unconfirmed_line k n names as' ms ≡ Some line
-    → HasModel k n names as' ms line
-refuted_model k n names as' [] line r h = absurd (cc)
-refuted_model k n names as' (m ∷ ms) line r h =
-    first_model k n names as' m ms line (line_of_judgement k n m.command (judgement_of names as' m.parts))
-    refl r (refuted_model k n names as' ms line r) h
+refuted_model : (steps : ℕ) (k n : ℕ) (names : Signature) (as' : List Claimed) (ms : List Printed) (line : Line)
+    → is_refuted_line line ≡ true → unconfirmed_line steps k n names as' ms ≡ Some line
+    → HasModel steps k n names as' ms line
+refuted_model steps k n names as' [] line r h = absurd (cc)
+refuted_model steps k n names as' (m ∷ ms) line r h =
+    first_model steps k n names as' m ms line (line_of_judgement k n m.command (judgement_of steps names as' m.parts))
+    refl r (refuted_model steps k n names as' ms line r) h
 
 or_false_true : (b : Bool) → b || false ≡ true → b ≡ true
 or_false_true true h = refl
 or_false_true false h = cc
 
 -- a check with the line of a refuted model
-pub record HasRefuted (k n : ℕ) (names : Signature) (as' : List Claimed) (ms : List Printed) (ls : List Line)
+pub record HasRefuted (steps : ℕ) (k n : ℕ) (names : Signature) (as' : List Claimed) (ms : List Printed)
+    (ls : List Line)
     : Type 0 where
   pub line : Line
-  pub model : HasModel k n names as' ms line
+  pub model : HasModel steps k n names as' ms line
   pub lines_are : ls ≡ line ∷ []
 
-sat_refuted : (k n : ℕ) (names : Signature) (as' : List Claimed) (ms : List Printed) (some : Bool)
-    (l : Option Line) → unconfirmed_line k n names as' ms ≡ l
+sat_refuted : (steps : ℕ) (k n : ℕ) (names : Signature) (as' : List Claimed) (ms : List Printed) (some : Bool)
+    (l : Option Line) → unconfirmed_line steps k n names as' ms ≡ l
     → list_any is_refuted_line (sat_lines k n l some true) ≡ true
-    → HasRefuted k n names as' ms (sat_lines k n l some true)
-sat_refuted k n names as' ms some (Some line) is h = record {
+    → HasRefuted steps k n names as' ms (sat_lines k n l some true)
+sat_refuted steps k n names as' ms some (Some line) is h = record {
   line = line;
-  model = refuted_model k n names as' ms line (or_false_true (is_refuted_line line) h) is;
+  model = refuted_model steps k n names as' ms line (or_false_true (is_refuted_line line) h) is;
   lines_are = refl;
 }
-sat_refuted k n names as' ms true None is h = absurd (cc)
-sat_refuted k n names as' ms false None is h = absurd (cc)
+sat_refuted steps k n names as' ms true None is h = absurd (cc)
+sat_refuted steps k n names as' ms false None is h = absurd (cc)
 
 -- ## What makes an assertion false
 
@@ -344,20 +346,27 @@ refuted_first : (f o : Option Claim) (claim : Claim) → refuted_or f o ≡ judg
 refuted_first (Some m) o claim h = cc
 refuted_first None o claim h = open_not_refuted o claim h
 
+-- a model that is refuted is not too long
+short_refuted : (b : Bool) (j : Judgement) (claim : Claim) → cond b judgements.TooLong j ≡ judgements.Refuted claim
+    → j ≡ judgements.Refuted claim
+short_refuted true j claim h = absurd (cc)
+short_refuted false j claim h = h
+
 -- a model that is refuted has definitions over which the assertion is false
-refuted_over : (script : Signature) (as' : List Assertion) (r : Result Signature ModelFlaw) (claim : Claim)
-    → judged_in script (claims_of as') r ≡ judgements.Refuted claim
+refuted_over : (steps : ℕ) (script : Signature) (as' : List Assertion) (r : Result Signature ModelFlaw) (claim : Claim)
+    → judged_in steps script (claims_of as') r ≡ judgements.Refuted claim
     → (d : Signature) × (r ≡ Ok d) × HasFirst (is_false_over (structure_of script d)) as' claim
-refuted_over script as' (Ok d) claim h =
+refuted_over steps script as' (Ok d) claim h =
     let s = structure_of script d in (
       d,
       refl,
       first_some (is_false_over s) as' claim
           (refuted_first (first_claim (is_false_over s) (claims_of as'))
-          (first_claim (is_open_over s) (claims_of as')) claim h),
+          (first_claim (is_open_over s) (claims_of as')) claim
+          (short_refuted (nat_lt steps (claims_cost s (claims_of as'))) (judged_over (claims_of as') s) claim h)),
     )
-refuted_over script as' (Err (faults.Item i f)) claim h = absurd (cc)
-refuted_over script as' (Err (faults.Lacks m)) claim h = absurd (cc)
+refuted_over steps script as' (Err (faults.Item i f)) claim h = absurd (cc)
+refuted_over steps script as' (Err (faults.Lacks m)) claim h = absurd (cc)
 
 -- ## The meaning of an invalid verdict
 
@@ -368,46 +377,47 @@ line_place l1 l2 end line = append_assoc l1 (line ∷ l2) end
 
 pub invalid_means : Laws
     → (options : Options) (script answers : List ℕ) (st at' : TextSoFar) (ls : List Line) (v : Verdict)
-    → IsRead true script st → IsRead true answers at' → AreLinesOf options.print_success st at' ls
+    → IsRead true script st → IsRead true answers at' → AreLinesOf options st at' ls
     → IsVerdictOf v ls → v ≡ Invalid → IsInvalid options script answers ls
 invalid_means laws options script answers st at' ls v rs ra j verdict h =
-    let mine = lines_in true [] j.pairs [] in
+    let mine = lines_in options.limit.steps true [] j.pairs [] in
     let tests = invalid_lines (mine ++ lines_of_end j.fault)
     (sym (verdict_of_lines v ls (mine ++ lines_of_end j.fault) verdict j.lines_are) ∙ h) in
     let whole = fully_paired options script answers st at' ls rs ra j tests.0 in
     let no_fault : mine ++ lines_of_end j.fault ≡ mine =
     ap (λ (f : Option Line). mine ++ lines_of_end f) whole.1 ∙ append-nil mine in
-    let at_pair = some_line is_refuted_line [] j.pairs
+    let at_pair = some_line options.limit.steps is_refuted_line [] j.pairs
     (ap (list_any is_refuted_line) (sym no_fault) ∙ tests.1) in
     let before = at_pair.first in
     let p = at_pair.pair in
-    let check : IsRefutedCheck before p at_pair.last =
-    refuted_check before p at_pair.last at_pair.line in
+    let check : IsRefutedCheck options.limit.steps before p at_pair.last =
+    refuted_check options.limit.steps before p at_pair.last at_pair.line in
     let k = checks_in before + 1 in
     let n = length before + 1 in
     let names = signature_after before in
     let assertions = assertions_after before in
     let claimed = claims_after before in
     let ms = models_from (n + 1) (window at_pair.last) in
-    let found = sat_refuted k n names claimed ms (not (is_empty ms)) (unconfirmed_line k n names claimed ms)
+    let found = sat_refuted options.limit.steps k n names claimed ms (not (is_empty ms))
+    (unconfirmed_line options.limit.steps k n names claimed ms)
     refl check.line in
-    let over = refuted_over names assertions (model_in names found.model.model.parts)
+    let over = refuted_over options.limit.steps names assertions (model_in names found.model.model.parts)
     found.model.refuted.claim found.model.refuted.found in
     let standing = laws.found (effective_commands before)
     over.2.first over.2.last over.2.assertion over.2.place in
     let source = comes_from before standing.0 standing.1 over.2.assertion standing.2 standing.3 standing.4 in
     let asserted = source.asserted in
     let q = asserted.pair in
-    let l1 = lines_in true [] before ((p ∷ at_pair.last) ++ []) in
-    let l2 = lines_in true (before ++ p ∷ []) at_pair.last [] in
+    let l1 = lines_in options.limit.steps true [] before ((p ∷ at_pair.last) ++ []) in
+    let l2 = lines_in options.limit.steps true (before ++ p ∷ []) at_pair.last [] in
     let claim = claims.Assertion (length source.earlier + 1) in
     let line = lines.Refuted k n found.model.model.command claim in
     let same : found.model.refuted.claim ≡ claim = sym over.2.claim_is ∙ ap claims.Assertion source.number in
     let far : j.pairs ≡ source.earlier ++ q ∷ (asserted.between ++ p ∷ at_pair.last) =
     at_pair.place ∙ ap (λ (b : List Pair). b ++ p ∷ at_pair.last) asserted.place
     ∙ append_assoc source.earlier (q ∷ asserted.between) (p ∷ at_pair.last) in
-    let here : lines_of_pair true before p at_pair.last ≡ line ∷ [] =
-    lines_of_sat_at before at_pair.last p check.sat ∙ found.lines_are
+    let here : lines_of_pair options.limit.steps true before p at_pair.last ≡ line ∷ [] =
+    lines_of_sat_at options.limit.steps before at_pair.last p check.sat ∙ found.lines_are
     ∙ ap (λ (l : Line). l ∷ []) found.model.refuted.line_is
     ∙ ap (λ (c : Claim). lines.Refuted k n found.model.model.command c ∷ []) same in
     let end : List Line = lines.Verdict (verdict_of (mine ++ lines_of_end j.fault))
@@ -442,7 +452,7 @@ invalid_means laws options script answers st at' ls v rs ra j verdict h =
       lines_after = l2 ++ end;
       line = j.lines_are
           ∙ ap (λ (x : List Line). x ++ end)
-          (no_fault ∙ ap (λ (ps : List Pair). lines_in true [] ps []) at_pair.place
-          ∙ lines_at before p at_pair.last ∙ ap (λ (x : List Line). l1 ++ (x ++ l2)) here)
+          (no_fault ∙ ap (λ (ps : List Pair). lines_in options.limit.steps true [] ps []) at_pair.place
+          ∙ lines_at options.limit.steps before p at_pair.last ∙ ap (λ (x : List Line). l1 ++ (x ++ l2)) here)
           ∙ line_place l1 l2 end line;
     }

@@ -1,9 +1,10 @@
 -- What is found of a model. These are this project's rules.
-use Rattle.std.specs.Prelude.{List, [], ◌∷◌, Bool, true, false, not, Option, Some, None, Result, Ok, Err}
-use Rattle.std.specs.Prelude.{map, if◌then◌else◌}
+use Rattle.std.specs.Prelude.{ℕ, ◌+◌, List, [], ◌∷◌, Bool, true, false, not, Option, Some, None, Result, Ok, Err}
+use Rattle.std.specs.Prelude.{map, nat_lt, if◌then◌else◌}
 use Rattle.smt_trees.specs.Sexp.{Sexp, Sexps}
 use Rattle.smt_values.specs.KnownOperations.{is_known}
 use Rattle.smt_terms.specs.Signature.{Signature}
+use Rattle.smt_eval.specs.Cost.{cost_over}
 use Rattle.smt_eval.specs.Known.{known_over}
 use Rattle.smt_eval.specs.Model.{model_in}
 use Rattle.smt_eval.specs.Structure.{structure_of}
@@ -14,7 +15,7 @@ use Rattle.smt_report.specs.declared.claim.Claim.{Claim}
 use Rattle.smt_report.specs.declared.claim.Claim.TheVariants as claiming
 use Rattle.smt_dialogue.specs.declared.judgement.Judgement.{Judgement}
 use Rattle.smt_dialogue.specs.declared.judgement.Judgement.TheVariants.{ItemFault, Lacks, Refuted, NotDecided}
-use Rattle.smt_dialogue.specs.declared.judgement.Judgement.TheVariants.{Confirmed}
+use Rattle.smt_dialogue.specs.declared.judgement.Judgement.TheVariants.{Confirmed, TooLong}
 
 -- what a check claims of each of its models: a formula, and its term
 pub record Claimed : Type 0 where
@@ -52,15 +53,26 @@ abbrev pub judged_over : List Claimed → Signature → Judgement
 judged_over claims structure =
     refuted_or (first_claim (is_false_over structure) claims) (first_claim (is_open_over structure) claims)
 
+-- what the evaluation of all claims costs
+abbrev pub claims_cost : Signature → List Claimed → ℕ
+claims_cost structure [] = 0
+claims_cost structure (c ∷ claims) = cost_over structure c.term + claims_cost structure claims
+
+-- where that is more than the limit, nothing is evaluated
+abbrev pub judged_within : ℕ → List Claimed → Signature → Judgement
+judged_within limit claims structure =
+    if nat_lt limit (claims_cost structure claims) then TooLong else judged_over claims structure
+
 abbrev pub judgement_of_flaw : ModelFlaw → Judgement
 judgement_of_flaw (Item number flaw) = ItemFault number flaw
 judgement_of_flaw (LacksName command) = Lacks command
 
 -- what is found of a model of the script's names, from its definitions or its flaw
-abbrev pub judged_in : Signature → List Claimed → Result Signature ModelFlaw → Judgement
-judged_in script claims (Ok definitions) = judged_over claims (structure_of script definitions)
-judged_in script claims (Err flaw) = judgement_of_flaw flaw
+abbrev pub judged_in : ℕ → Signature → List Claimed → Result Signature ModelFlaw → Judgement
+judged_in limit script claims (Ok definitions) = judged_within limit claims (structure_of script definitions)
+judged_in limit script claims (Err flaw) = judgement_of_flaw flaw
 
--- what is found of a model under a signature, of which these are claimed
-abbrev pub judgement_of : Signature → List Claimed → Sexps → Judgement
-judgement_of script claims parts = judged_in script claims (model_in script parts)
+-- what is found of a model under a signature, of which these are claimed, where their evaluation may cost as
+-- much as the limit
+abbrev pub judgement_of : ℕ → Signature → List Claimed → Sexps → Judgement
+judgement_of limit script claims parts = judged_in limit script claims (model_in script parts)

@@ -22,16 +22,17 @@ use Rattle.smt_report.specs.declared.line.Line.TheVariants as lines
 abbrev pub line_of_judgement : ℕ → ℕ → ℕ → Judgement → Option Line
 line_of_judgement k n g (judgements.ItemFault item flaw) = Some (lines.ItemFault k n g item flaw)
 line_of_judgement k n g (judgements.Lacks declaration) = Some (lines.Lacks k n g declaration)
+line_of_judgement k n g judgements.TooLong = Some (lines.TooLong k n g)
 line_of_judgement k n g (judgements.Refuted claim) = Some (lines.Refuted k n g claim)
 line_of_judgement k n g (judgements.NotDecided claim) = Some (lines.NotDecided k n g claim)
 line_of_judgement k n g judgements.Confirmed = None
 
 -- the line of the first model that isn't confirmed
-abbrev pub unconfirmed_line : ℕ → ℕ → Signature → List Claimed → List Printed → Option Line
-unconfirmed_line k n names claims [] = None
-unconfirmed_line k n names claims (m ∷ ms) =
-    option_or (line_of_judgement k n m.command (judgement_of names claims m.parts))
-    (unconfirmed_line k n names claims ms)
+abbrev pub unconfirmed_line : ℕ → ℕ → ℕ → Signature → List Claimed → List Printed → Option Line
+unconfirmed_line limit k n names claims [] = None
+unconfirmed_line limit k n names claims (m ∷ ms) =
+    option_or (line_of_judgement k n m.command (judgement_of limit names claims m.parts))
+    (unconfirmed_line limit k n names claims ms)
 
 abbrev pub is_empty : {A : Type 0} → List A → Bool
 is_empty [] = true
@@ -49,10 +50,10 @@ sat_lines k n None some_model closed = if closed then confirmed_line k n some_mo
 
 -- the lines of a check that was answered `sat`, the pairs `after` it beginning with command m. `closed` says
 -- that its window is closed behind these, whatever they are
-abbrev pub lines_of_sat : Bool → ℕ → ℕ → Signature → List Claimed → ℕ → List Pair → List Line
-lines_of_sat closed k n names claims m after =
+abbrev pub lines_of_sat : ℕ → Bool → ℕ → ℕ → Signature → List Claimed → ℕ → List Pair → List Line
+lines_of_sat limit closed k n names claims m after =
     let models = models_from m (window after) in
-    sat_lines k n (unconfirmed_line k n names claims models) (not (is_empty models))
+    sat_lines k n (unconfirmed_line limit k n names claims models) (not (is_empty models))
     (closed || list_any closes after)
 
 -- what a check was answered otherwise than `sat`
@@ -74,23 +75,23 @@ abbrev pub claims_after : List Pair → List Claimed
 claims_after pairs = claims_of (assertions_after pairs)
 
 -- the lines of a check with its answer
-abbrev pub lines_of_answer : Bool → List Pair → ℕ → Option Sexp → List Pair → List Line
-lines_of_answer closed before k None after = []
-lines_of_answer closed before k (Some answer) after =
+abbrev pub lines_of_answer : ℕ → Bool → List Pair → ℕ → Option Sexp → List Pair → List Line
+lines_of_answer limit closed before k None after = []
+lines_of_answer limit closed before k (Some answer) after =
     let n = length before + 1 in
     unchecked_line_or k n (unchecked_answer answer)
     (if is_symbol (codes "sat") answer
-    then lines_of_sat closed k n (signature_after before) (claims_after before) (n + 1) after else [])
+    then lines_of_sat limit closed k n (signature_after before) (claims_after before) (n + 1) after else [])
 
 -- the lines that a pair has, for what stands before and after it: a check has one, once it is decided
-abbrev pub lines_of_pair : Bool → List Pair → Pair → List Pair → List Line
-lines_of_pair closed before pair after =
-    if is_check pair.command then lines_of_answer closed before (checks_in before + 1) pair.answer after
+abbrev pub lines_of_pair : ℕ → Bool → List Pair → Pair → List Pair → List Line
+lines_of_pair limit closed before pair after =
+    if is_check pair.command then lines_of_answer limit closed before (checks_in before + 1) pair.answer after
     else []
 
 -- the lines that pairs have, for what stands before and after them; `closed` says that every window is closed
 -- behind these
-abbrev pub lines_in : Bool → List Pair → List Pair → List Pair → List Line
-lines_in closed before [] after = []
-lines_in closed before (pair ∷ pairs) after =
-    lines_of_pair closed before pair (pairs ++ after) ++ lines_in closed (before ++ pair ∷ []) pairs after
+abbrev pub lines_in : ℕ → Bool → List Pair → List Pair → List Pair → List Line
+lines_in limit closed before [] after = []
+lines_in limit closed before (pair ∷ pairs) after =
+    lines_of_pair limit closed before pair (pairs ++ after) ++ lines_in limit closed (before ++ pair ∷ []) pairs after

@@ -16,9 +16,10 @@ abbrev pub lines_of_end : Option Line → List Line
 lines_of_end None = []
 lines_of_end (Some line) = line ∷ []
 
--- the lines where the dialogue ends behind pairs: theirs, that of the fault, and that of the verdict
-abbrev pub lines_at_end : List Pair → Option Line → List Line
-lines_at_end pairs fault = with_verdict (lines_in true [] pairs [] ++ lines_of_end fault)
+-- the lines where the dialogue ends behind pairs: theirs, where a model may take so many steps, that of the
+-- fault, and that of the verdict
+abbrev pub lines_at_end : ℕ → List Pair → Option Line → List Line
+lines_at_end steps pairs fault = with_verdict (lines_in steps true [] pairs [] ++ lines_of_end fault)
 
 -- the pairs are a pairing of the first commands with answers, and none has a fault: these trees and answers
 -- are left. `initial` says whether `success` is printed at the start
@@ -37,11 +38,11 @@ pub record IsTurn (initial : Bool) (script answers : TextSoFar) (pairs : List Pa
       ≡ turn
 
 -- the lines where a dialogue of these texts ends
-pub record AreLinesOf (initial : Bool) (script answers : TextSoFar) (ls : List Line) : Type 0 where
+pub record AreLinesOf (options : Options) (script answers : TextSoFar) (ls : List Line) : Type 0 where
   pub pairs : List Pair
   pub fault : Option Line
-  pub ends : IsTurn initial script answers pairs (Ends fault)
-  pub lines_are : ls ≡ lines_at_end pairs fault
+  pub ends : IsTurn options.print_success script answers pairs (Ends fault)
+  pub lines_are : ls ≡ lines_at_end options.limit.steps pairs fault
 
 -- this is read of the bytes of a text so far, whose end was told or not
 pub record IsRead (told : Bool) (bytes : List ℕ) (text : TextSoFar) : Type 0 where
@@ -54,4 +55,4 @@ pub record IsReport (options : Options) (script answers : List ℕ) (ls : List L
   pub script_read : IsRead true script script_text
   pub answers_text : TextSoFar
   pub answers_read : IsRead true answers answers_text
-  pub lines_are : AreLinesOf options.print_success script_text answers_text ls
+  pub lines_are : AreLinesOf options script_text answers_text ls

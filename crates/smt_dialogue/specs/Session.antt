@@ -1,5 +1,5 @@
 -- What a session stands for: the lines of what it was told, and their verdict.
-use Rattle.std.specs.Prelude.{◌≡◌, ◌<◌, ◌^◌, ℕ, List, ◌++◌, length, Bool, true, false, Option, Some, None}
+use Rattle.std.specs.Prelude.{◌≡◌, ◌<◌, ◌^◌, ℕ, List, ◌++◌, length, Bool, false, Option, Some, None}
 use Rattle.std.specs.List.{list_any}
 use Rattle.smt_dialogue.specs.History.{AreFirstDecided, AreDecided, History, IsLong}
 use Rattle.smt_dialogue.specs.SoFar.{is_verdict_line}

@@ -12,18 +12,18 @@ use Rattle.smt_report.specs.declared.line.Line.TheVariants as lines
 
 -- the lines behind pairs where it is this turn: all, where the dialogue ends; where it waits, those of the
 -- checks that are decided
-abbrev pub lines_at : List Pair → Turn → List Line
-lines_at pairs GoesOn = []
-lines_at pairs (Waits closed) = lines_in closed [] pairs []
-lines_at pairs (Ends fault) = lines_at_end pairs fault
+abbrev pub lines_at : ℕ → List Pair → Turn → List Line
+lines_at steps pairs GoesOn = []
+lines_at steps pairs (Waits closed) = lines_in steps closed [] pairs []
+lines_at steps pairs (Ends fault) = lines_at_end steps pairs fault
 
 -- the lines of a dialogue of these texts, which waits or has ended
-pub record AreLinesSoFar (initial : Bool) (script answers : TextSoFar) (ls : List Line) : Type 0 where
+pub record AreLinesSoFar (options : Options) (script answers : TextSoFar) (ls : List Line) : Type 0 where
   pub pairs : List Pair
   pub turn : Turn
   pub rests : IsRest turn
-  pub turn_is : IsTurn initial script answers pairs turn
-  pub lines_are : ls ≡ lines_at pairs turn
+  pub turn_is : IsTurn options.print_success script answers pairs turn
+  pub lines_are : ls ≡ lines_at options.limit.steps pairs turn
 
 -- the lines so far of a script and answers, whose ends were told or not
 pub record IsSoFar (options : Options) (script_told : Bool) (script : List ℕ) (answers_told : Bool)
@@ -32,7 +32,7 @@ pub record IsSoFar (options : Options) (script_told : Bool) (script : List ℕ) 
   pub script_read : IsRead script_told script script_text
   pub answers_text : TextSoFar
   pub answers_read : IsRead answers_told answers answers_text
-  pub lines_are : AreLinesSoFar options.print_success script_text answers_text ls
+  pub lines_are : AreLinesSoFar options script_text answers_text ls
 
 -- ---- growth
 

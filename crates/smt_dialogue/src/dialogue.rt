@@ -1,6 +1,6 @@
 //! The dialogue so far: what is in force, the checks, and the lines of the report.
 
-ghost use Rattle.std.specs.Prelude.{Bool, ◌≡◌, ◌≤◌, ◌<◌, ◌+◌, ◌^◌, ◌++◌, ◌∷◌, ◌⊎◌, List, [], None, Some, true};
+ghost use Rattle.std.specs.Prelude.{Bool, ◌≡◌, ◌≤◌, ◌<◌, ◌+◌, ◌^◌, ◌++◌, ◌∷◌, List, [], None, Some, true};
 ghost use Rattle.std.specs.Prelude.{IfOk, IfErr, OnErr, OnOk, false, option_map};
 ghost use Rattle.std.specs.List.{list_any};
 ghost use Rattle.smt_trees.specs.Tree.{sexp_of};
@@ -17,15 +17,16 @@ ghost use Rattle.smt_dialogue.specs.Lines.{lines_in};
 ghost use Rattle.smt_dialogue.specs.Report.{lines_at_end, lines_of_end};
 ghost use Rattle.smt_dialogue.specs.SoFar.{IsBeginning, is_verdict_line};
 ghost use Rattle.smt_report.specs.Verdict.{verdict_of};
-ghost use Rattle.smt_dialogue.specs.Pairs.{Pair, answer_count, numbered_if, pair_of};
+ghost use Rattle.smt_dialogue.specs.Pairs.{Pair, answer_count, numbered_if};
 ghost use Rattle.smt_dialogue.specs.Internal.ChecksState.{IsAnswered, role_of};
 ghost use Rattle.smt_dialogue.specs.Internal.DecidedView.{IsFaultLine};
-ghost use Rattle.smt_dialogue.specs.Internal.DialogueState.{Stands, StandsFor, answered, flaw_if};
+ghost use Rattle.smt_dialogue.specs.Internal.DialogueState.{Stands, StandsFor, answered, flaw_if, options_of};
 ghost use Rattle.smt_dialogue.specs.Internal.DialogueState.{state_behind};
 ghost use Rattle.smt_report.specs.declared.line.Line.{Line as ReportLine};
 
 use crate::answer::is_effective;
 use crate::decided::Decided;
+use crate::options::Options;
 use crate::window::{Checks, role_of};
 use smt_eval::Memory;
 use smt_report::{Line, Verdict};
@@ -46,16 +47,15 @@ pub struct Dialogue {
 }
 
 impl Dialogue {
-    /// A dialogue without pairs. `initial_print_success` says whether
-    /// `success` is printed at the start.
-    pub(crate) fn new(alloc: Global, initial_print_success: bool) -> Self
+    /// A dialogue without pairs.
+    pub(crate) fn new(alloc: Global, options: Options) -> Self
         ensures stands { StandsFor (state_behind [] result) [] }
         ensures decided { result.decided.lines.items ≡ [] }
-        ensures start { initial_print_success_of result.stack ≡ initial_print_success }
+        ensures start { options_of result ≡ options }
     {
         Dialogue {
-            stack: Stack::new(alloc, initial_print_success),
-            checks: Checks::new(alloc),
+            stack: Stack::new(alloc, options.print_success),
+            checks: Checks::new(alloc, options.limit),
             decided: Decided::new(alloc),
             commands: 0,
             answers: 0,
@@ -89,7 +89,8 @@ impl Dialogue {
             → (flaw_of_pair pairs (answered command.now answer.now) ≡ Some flaw)
             × Stands early (state_behind taken self.new) pairs) }
         ensures decided { self.new.decided ≡ self.old.decided }
-        ensures start { initial_print_success_of self.new.stack ≡ initial_print_success_of self.old.stack }
+        ensures start { options_of self.new ≡ options_of self.old }
+        ensures limit { self.new.checks.limit ≡ self.old.checks.limit }
     {
         let number = self.commands + 1;
         let effective = is_effective(answer);
@@ -118,7 +119,7 @@ impl Dialogue {
         ensures pending { OnOk result (self.new.checks.pending ≡ self.old.checks.pending) }
         ensures kept { IsBeginning self.old.decided.lines.items self.new.decided.lines.items }
         ensures cut { OnErr result (self.new.decided.lines.items ≡ self.old.decided.lines.items) }
-        ensures start { initial_print_success_of self.new.stack ≡ initial_print_success_of self.old.stack }
+        ensures start { options_of self.new ≡ options_of self.old }
     {
         if self.checks.lines.is_empty() {
             return Ok(());
@@ -133,10 +134,10 @@ impl Dialogue {
         ensures settled { OnOk result ((taken : List ReportLine) (early : Bool) (pairs : List Pair)
             → Stands early (state_behind taken self.old) pairs → (early ≡ true → closed ≡ true)
             → Stands closed (state_behind taken self.new) pairs
-            × (taken ++ self.new.decided.lines.items ≡ lines_in closed [] pairs [])) }
+            × (taken ++ self.new.decided.lines.items ≡ lines_in self.new.checks.limit.steps closed [] pairs [])) }
         ensures kept { IsBeginning self.old.decided.lines.items self.new.decided.lines.items }
         ensures cut { OnErr result (self.new.decided.lines.items ≡ self.old.decided.lines.items) }
-        ensures start { initial_print_success_of self.new.stack ≡ initial_print_success_of self.old.stack }
+        ensures start { options_of self.new ≡ options_of self.old }
     {
         if closed {
             self.end_window()?;
@@ -152,11 +153,11 @@ impl Dialogue {
         requires few { self.old.checks.count < 2 ^ 64 }
         ensures ended { IfOk result (λ verdict. (taken : List ReportLine) (early : Bool) (pairs : List Pair)
             → Stands early (state_behind taken self.old) pairs
-            → (taken ++ self.new.decided.lines.items ≡ lines_at_end pairs fault)
-            × (verdict ≡ verdict_of (lines_in true [] pairs [] ++ lines_of_end fault))) }
+            → (taken ++ self.new.decided.lines.items ≡ lines_at_end self.old.checks.limit.steps pairs fault)
+            × (verdict ≡ verdict_of (lines_in self.old.checks.limit.steps true [] pairs [] ++ lines_of_end fault))) }
         ensures cut { OnErr result ((taken : List ReportLine) (early : Bool) (pairs : List Pair)
             → Stands early (state_behind taken self.old) pairs
-            → IsBeginning (taken ++ self.new.decided.lines.items) (lines_at_end pairs fault)
+            → IsBeginning (taken ++ self.new.decided.lines.items) (lines_at_end self.old.checks.limit.steps pairs fault)
             × (list_any is_verdict_line (taken ++ self.new.decided.lines.items) ≡ false)) }
         ensures kept { IsBeginning self.old.decided.lines.items self.new.decided.lines.items }
     {
@@ -174,7 +175,7 @@ impl Dialogue {
         ensures ended { OnOk result (self.new.checks.pending ≡ None) }
         ensures decided { self.new.decided ≡ self.old.decided }
         ensures count { self.new.checks.count ≡ self.old.checks.count }
-        ensures start { initial_print_success_of self.new.stack ≡ initial_print_success_of self.old.stack }
+        ensures start { options_of self.new ≡ options_of self.old }
     {
         self.checks.end_window()
     }

@@ -6,17 +6,18 @@ ghost use Rattle.smt_text.specs.Grammar.{limit};
 ghost use Rattle.smt_text.specs.Reading.{Reads};
 ghost use Rattle.smt_text.specs.Reader.{bytes_fed, is_finished};
 ghost use Rattle.smt_trees.specs.Sexp.{Nil, Sexps, count};
-ghost use Rattle.smt_script.specs.StackView.{initial_print_success_of};
 ghost use Rattle.smt_dialogue.specs.FirstFault.{TextSoFar};
 ghost use Rattle.smt_dialogue.specs.Pairs.{Pair};
 ghost use Rattle.smt_dialogue.specs.Report.{IsRead};
 ghost use Rattle.smt_dialogue.specs.SoFar.{IsBeginning};
+ghost use Rattle.smt_dialogue.specs.Internal.DialogueState.{options_of};
 ghost use Rattle.smt_dialogue.specs.Internal.ExchangeView.{HasRested, IsCut, IsNext, IsTurned, IsUnderWay};
 ghost use Rattle.smt_dialogue.specs.Internal.ExchangeView.{Texts, waiting};
 ghost use Rattle.smt_faults.specs.declared.text_flaw.TextFlaw.{TextFlaw};
 
 use crate::dialogue::Dialogue;
 use crate::front::{Ahead, Front};
+use crate::options::Options;
 use crate::turn::{Turn, refused, take_up};
 use smt_eval::Memory;
 use smt_report::{Line, Side, Verdict};
@@ -47,9 +48,8 @@ pub struct Exchange {
 }
 
 impl Exchange {
-    /// Of texts of which nothing has come. `initial_print_success` says whether `success` is printed at the
-    /// start.
-    pub(crate) fn new(alloc: Global, initial_print_success: bool) -> Self
+    /// Of texts of which nothing has come.
+    pub(crate) fn new(alloc: Global, options: Options) -> Self
         ensures way { (script answers : TextSoFar) → IsRead false [] script → IsRead false [] answers
             → IsUnderWay result (record {
               script_bytes = [];
@@ -59,14 +59,14 @@ impl Exchange {
               taken = [];
             }) [] script.trees answers.trees }
         ensures waiting { waiting result ≡ [] }
-        ensures start { initial_print_success_of result.dialogue.stack ≡ initial_print_success }
+        ensures start { options_of result.dialogue ≡ options }
         ensures script_fed { bytes_fed result.script.reader ≡ 0 }
         ensures answers_fed { bytes_fed result.answers.reader ≡ 0 }
         ensures script_open { is_finished result.script.reader ≡ false }
         ensures answers_open { is_finished result.answers.reader ≡ false }
     {
         Exchange {
-            dialogue: Dialogue::new(alloc, initial_print_success),
+            dialogue: Dialogue::new(alloc, options),
             script: Front::new(alloc),
             answers: Front::new(alloc),
             command: None,
@@ -80,8 +80,7 @@ impl Exchange {
         ensures way { (texts : Texts) (pairs : List Pair) (later rest : Sexps)
             → IsUnderWay self.old texts pairs later rest
             → IsUnderWay self.new (record texts { taken = texts.taken ++ result.items }) pairs later rest }
-        ensures start { initial_print_success_of self.new.dialogue.stack
-            ≡ initial_print_success_of self.old.dialogue.stack }
+        ensures start { options_of self.new.dialogue ≡ options_of self.old.dialogue }
         ensures script { self.new.script ≡ self.old.script }
         ensures answers { self.new.answers ≡ self.old.answers }
         ensures command { self.new.command ≡ self.old.command }
@@ -98,10 +97,10 @@ impl Exchange {
             × IsUnderWay self.old texts pairs later rest }
         ensures rests { IfOk result (λ verdict. (texts : Texts) (pairs : List Pair) (later rest : Sexps)
             → IsUnderWay self.old texts pairs later rest
-            → HasRested verdict (initial_print_success_of self.old.dialogue.stack) self.new texts) }
+            → HasRested verdict (options_of self.old.dialogue) self.new texts) }
         ensures cut { OnErr result ((texts : Texts) (pairs : List Pair) (later rest : Sexps)
             → IsUnderWay self.old texts pairs later rest
-            → IsCut (initial_print_success_of self.old.dialogue.stack) (waiting self.new) texts) }
+            → IsCut (options_of self.old.dialogue) (waiting self.new) texts) }
         ensures kept { IsBeginning (waiting self.old) (waiting self.new) }
     {
         // A law: there are no more pairs than bytes, so that the turns come to an end.
@@ -202,8 +201,7 @@ impl Exchange {
             → IsTurned turn self.old self.new texts pairs later rest) }
         ensures script_fed { bytes_fed self.new.script.reader ≡ bytes_fed self.old.script.reader }
         ensures answers_fed { bytes_fed self.new.answers.reader ≡ bytes_fed self.old.answers.reader }
-        ensures start { IfOk result (λ _. initial_print_success_of self.new.dialogue.stack
-            ≡ initial_print_success_of self.old.dialogue.stack) }
+        ensures start { IfOk result (λ _. options_of self.new.dialogue ≡ options_of self.old.dialogue) }
         ensures decided { self.new.dialogue.decided ≡ self.old.dialogue.decided }
     {
         match self.ready_command()? {
@@ -326,8 +324,7 @@ impl Exchange {
             → IsTurned turn self.old self.new texts pairs later rest) }
         ensures script_fed { bytes_fed self.new.script.reader ≡ bytes_fed self.old.script.reader }
         ensures answers_fed { bytes_fed self.new.answers.reader ≡ bytes_fed self.old.answers.reader }
-        ensures start { IfOk result (λ _. initial_print_success_of self.new.dialogue.stack
-            ≡ initial_print_success_of self.old.dialogue.stack) }
+        ensures start { IfOk result (λ _. options_of self.new.dialogue ≡ options_of self.old.dialogue) }
         ensures decided { self.new.dialogue.decided ≡ self.old.dialogue.decided }
     {
         trees_are_few();

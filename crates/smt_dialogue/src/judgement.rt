@@ -1,20 +1,23 @@
 //! What is found of a model under what is in force. This file knows no windows, and no lines of a report.
 
-ghost use Rattle.std.specs.Prelude.{◌≡◌, List, Some, true, false, IfOk, MatchOption};
+ghost use Rattle.std.specs.Prelude.{◌≡◌, ◌≤◌, List, Some, true, false, IfOk, MatchOption};
 ghost use Rattle.smt_values.specs.Element.{Truth, known_element};
 ghost use Rattle.smt_values.specs.KnownOperations.{is_known};
+ghost use Rattle.smt_machine.specs.Costs.{capped};
 ghost use Rattle.smt_terms.specs.Contents.{contents_of};
 ghost use Rattle.smt_terms.specs.Library as libraries;
 ghost use Rattle.smt_terms.specs.Signature.{Signature};
-ghost use Rattle.smt_eval.specs.Interpretation.{Fits, IsInterpretation, Serves};
+ghost use Rattle.smt_eval.specs.Interpretation.{Fits, IsInterpretation, KnowsCosts, Serves};
 ghost use Rattle.smt_eval.specs.Structure.{structure_of};
 ghost use Rattle.smt_script.specs.Stack as stacks;
 ghost use Rattle.smt_script.specs.Stack.{Numbered, assertions_in_force, signature_in_force};
 ghost use Rattle.smt_script.specs.StackView.{AreAssertions, StandsFor};
 ghost use Rattle.smt_dialogue.specs.Judgement as spec;
-ghost use Rattle.smt_dialogue.specs.Judgement.{claims_of, judged_over, judgement_of};
+ghost use Rattle.smt_dialogue.specs.Judgement.{claims_cost, claims_of, judged_over, judged_within};
+ghost use Rattle.smt_dialogue.specs.Judgement.{judgement_of};
 
-use smt_eval::{Interpretation, Machine, Memory, ModelFlaw, eval_by};
+use crate::options::Limit;
+use smt_eval::{Interpretation, Machine, Memory, ModelFlaw, cost, eval_by};
 use smt_faults::TermFlaw;
 use smt_report::Claim;
 use smt_script::{Assertion, Stack};
@@ -29,6 +32,8 @@ pub enum Judgement {
     ItemFault { item: u64, flaw: TermFlaw },
     /// The declaration of the first name that no item defines.
     Lacks { declaration: u64 },
+    /// The evaluation of all claims costs more than the limit.
+    TooLong,
     /// The first claim that is known to be false.
     Refuted { claim: Claim },
     /// The first claim that is open, where none is known to be false.
@@ -37,24 +42,17 @@ pub enum Judgement {
     Confirmed,
 }
 
-/// Judges a model under what is in force.
-pub(crate) fn judge(stack: &Stack, model: &Trees) -> Result<Judgement, Memory>
+/// Judges a model under what is in force, which is evaluated where it costs as much as the limit or less.
+pub(crate) fn judge(stack: &Stack, model: &Trees, limit: Limit) -> Result<Judgement, Memory>
     requires { (commands : List Numbered) × StandsFor stack.now commands }
     ensures { (commands : List Numbered) → StandsFor stack.now commands
-        → IfOk result (λ j. j ≡ judgement_of (signature_in_force commands)
+        → IfOk result (λ j. j ≡ judgement_of limit.steps (signature_in_force commands)
         (claims_of (assertions_in_force commands)) model.now) }
 {
     let library = stack.library();
     match Interpretation::read(library, model) {
         Ok(interpretation) => {
-            let mut machine = Machine::new(library.alloc());
-            let judgement = judge_assertions(
-                &mut machine,
-                library,
-                &interpretation,
-                stack.assertions(),
-            );
-            drop(machine);
+            let judgement = judge_within(library, &interpretation, stack.assertions(), limit);
             drop(interpretation);
             judgement
         }
@@ -76,17 +74,76 @@ fn judgement_of_flaw(flaw: ModelFlaw) -> Judgement
     }
 }
 
+// What is found of assertions over the definitions of a model and the script's own: nothing is evaluated
+// before it is known that the limit is enough for all.
+fn judge_within(
+    library: &Library,
+    interpretation: &Interpretation,
+    assertions: &[Assertion],
+    limit: Limit,
+) -> Result<Judgement, Memory>
+    requires terms { (all : List stacks.Assertion)
+        × AreAssertions (contents_of library.now) assertions.now all }
+    requires fits { Fits interpretation.now library.now }
+    requires counted { KnowsCosts interpretation.now library.now }
+    ensures { (script definitions : Signature) (all : List stacks.Assertion)
+        → libraries.StandsFor library.now script → IsInterpretation interpretation.now script definitions
+        → AreAssertions (contents_of library.now) assertions.now all
+        → IfOk result (λ j. j
+        ≡ judged_within limit.steps (claims_of all) (structure_of script definitions)) }
+{
+    let mut steps = cost_of_all(library, interpretation, assertions);
+    if steps > limit.steps {
+        return Ok(Judgement::TooLong);
+    }
+    let mut machine = Machine::new(library.alloc());
+    let judgement = judge_assertions(
+        &mut machine,
+        library,
+        interpretation,
+        assertions,
+        &mut steps,
+    );
+    drop(machine);
+    judgement
+}
+
+// What the evaluation of all assertions costs; 2^64 - 1 for that and more.
+fn cost_of_all(library: &Library, interpretation: &Interpretation, assertions: &[Assertion]) -> u64
+    requires terms { (all : List stacks.Assertion)
+        × AreAssertions (contents_of library.now) assertions.now all }
+    requires fits { Fits interpretation.now library.now }
+    requires counted { KnowsCosts interpretation.now library.now }
+    ensures { (script definitions : Signature) (all : List stacks.Assertion)
+        → libraries.StandsFor library.now script → IsInterpretation interpretation.now script definitions
+        → AreAssertions (contents_of library.now) assertions.now all
+        → result ≡ capped (claims_cost (structure_of script definitions) (claims_of all)) }
+{
+    let mut sum: u64 = 0;
+    let mut left = assertions;
+    while let Some((assertion, rest)) = left.split_first() {
+        sum = sum.saturating_add(cost(library, interpretation, assertion.term));
+        left = rest;
+    }
+    sum
+}
+
 // The first assertion that is false over the definitions of a model and the script's own, else the first that
-// is open, as a claim.
+// is open, as a claim. There are steps enough for all.
 fn judge_assertions(
     machine: &mut Machine,
     library: &Library,
     interpretation: &Interpretation,
     assertions: &[Assertion],
+    steps: &mut u64,
 ) -> Result<Judgement, Memory>
     requires terms { (all : List stacks.Assertion)
         × AreAssertions (contents_of library.now) assertions.now all }
     requires fits { Fits interpretation.now library.now }
+    requires enough { (script definitions : Signature) (all : List stacks.Assertion)
+        → libraries.StandsFor library.now script → IsInterpretation interpretation.now script definitions
+        → AreAssertions (contents_of library.now) assertions.now all
+        → claims_cost (structure_of script definitions) (claims_of all) ≤ steps.old }
     requires serves { Serves machine.old interpretation.now library.now }
     ensures { (script definitions : Signature) (all : List stacks.Assertion)
         → libraries.StandsFor library.now script → IsInterpretation interpretation.now script definitions
@@ -99,7 +156,8 @@ fn judge_assertions(
         let claim = Claim::Assertion {
             command: assertion.command,
         };
-        match truth_of(eval_by(machine, library, interpretation, assertion.term)?) {
+        let value = eval_by(machine, library, interpretation, assertion.term, steps)?;
+        match truth_of(value) {
             Some(true) => {}
             Some(false) => return Ok(Judgement::Refuted { claim }),
             None => {

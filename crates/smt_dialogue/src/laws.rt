@@ -3,7 +3,7 @@
 
 pub mod so_far;
 
-ghost use Rattle.std.specs.Prelude.{◌≡◌, ◌≤◌, ℕ, ◌+◌, List, [], ◌∷◌, ◌++◌, length, Bool, true, false, ◌&&◌};
+ghost use Rattle.std.specs.Prelude.{◌≡◌, ◌≤◌, ◌<◌, ℕ, ◌+◌, List, [], ◌∷◌, ◌++◌, length, Bool, true, false, ◌&&◌};
 ghost use Rattle.std.specs.Prelude.{Option, Ok, Err};
 ghost use Rattle.smt_text.specs.Grammar.{Forest, limit};
 ghost use Rattle.smt_trees.specs.Sexp.{Sexp, Sexps, Nil};
@@ -15,12 +15,13 @@ ghost use Rattle.smt_terms.specs.Signature.{Signature, in_assertion, names_of};
 ghost use Rattle.smt_eval.specs.CompleteModel.{IsModelOf};
 ghost use Rattle.smt_eval.specs.Meaning.{value_over};
 ghost use Rattle.smt_eval.specs.Model.{model_in};
-ghost use Rattle.smt_eval.specs.Structure.{IsStructure};
+ghost use Rattle.smt_eval.specs.Structure.{IsStructure, structure_of};
 ghost use Rattle.smt_eval.specs.declared.model_fault.ModelFlaw.{ModelFlaw};
 ghost use Rattle.smt_script.specs.Command.{Assert};
 ghost use Rattle.smt_script.specs.Stack.{Assertion as Asserted, is_reset};
 ghost use Rattle.smt_dialogue.specs.InForce.{assertions_after, levels_after, signature_after};
 ghost use Rattle.smt_script.specs.Command.{is_check};
+ghost use Rattle.smt_dialogue.specs.Judgement.{Claimed, claims_cost, judgement_of};
 ghost use Rattle.smt_dialogue.specs.Pairing.{IsPairing};
 ghost use Rattle.smt_dialogue.specs.Pairs.{Pair, checks_in, is_effective};
 ghost use Rattle.smt_dialogue.specs.FirstFault.{Ends, IsRest, TextSoFar, Turn};
@@ -28,6 +29,7 @@ ghost use Rattle.smt_dialogue.specs.Report.{IsReport, IsTurn};
 ghost use Rattle.smt_dialogue.specs.Validity.{IsAsserted, IsFullyPaired, IsInvalid, IsValid};
 ghost use Rattle.smt_dialogue.specs.VerdictLaws.{IsModelIn, IsSatOf};
 ghost use Rattle.smt_dialogue.specs.Window.{Printed, closes, models_from, structure_at, window};
+ghost use Rattle.smt_dialogue.specs.declared.judgement.Judgement.TheVariants.{TooLong};
 ghost use Rattle.smt_dialogue.specs.declared.options.Options.{Options};
 ghost use Rattle.smt_report.specs.declared.claim.Claim.TheVariants.{Assertion};
 ghost use Rattle.smt_report.specs.declared.line.Line.{Line};
@@ -166,6 +168,19 @@ pub fn invalid_names_what_is_false()
         × (first : List Line) × (last : List Line)
         × (ls ≡ first ++ Refuted (checks_in before + 1) (length before + 1) model.command
         (Assertion (length earlier + 1)) ∷ last) }
+{}
+
+/// A model is too long exactly where it is one of the names in force, and what is claimed of it costs more than
+/// the limit: no model with a fault is, and none is evaluated before.
+pub fn too_long_models_cost_more_than_the_limit()
+    ensures long { (steps : ℕ) (names : Signature) (claims : List Claimed) (parts : Sexps)
+        → judgement_of steps names claims parts ≡ TooLong
+        → (definitions : Signature) × (model_in names parts ≡ Ok definitions)
+        × (steps < claims_cost (structure_of names definitions) claims) }
+    ensures told { (steps : ℕ) (names : Signature) (claims : List Claimed) (parts : Sexps)
+        (definitions : Signature) → model_in names parts ≡ Ok definitions
+        → steps < claims_cost (structure_of names definitions) claims
+        → judgement_of steps names claims parts ≡ TooLong }
 {}
 
 /// In the window of a check nothing that is in force changes, and it goes on to the first command that ends

@@ -22,7 +22,7 @@ mod validation;
 mod window;
 
 pub use live::{RunFault, run};
-pub use options::Options;
+pub use options::{Limit, Options};
 pub use session::{Failed, Session};
 pub use smt_eval::Memory;
 pub use smt_report::{CheckAnswer, Claim, Line, Report, Side, Tally, Verdict};

@@ -1,9 +1,21 @@
 //! What a dialogue is checked with, beside its two texts. This file knows no command line.
 
+ghost use Rattle.std.specs.Prelude.{◌<◌, ◌-◌, ◌^◌};
+
+/// How many terms may be evaluated for a model: what the assertions in force cost (`smt_eval::cost`). A model
+/// that costs more is not evaluated.
+#[derive(Clone, Copy)]
+pub struct Limit {
+    pub steps: u64,
+    // costs are counted up to 2^64 - 1, which says that much or more
+    pub ghost below: { steps < 2 ^ 64 - 1 },
+}
+
 /// What is said of a dialogue beside its two texts.
 #[derive(Clone, Copy)]
 pub struct Options {
     /// Whether the solver prints `success`, from the start on, for commands without an answer of their own
     /// (SMT-LIB 2.6, section 4.1.7); a script may say otherwise later.
     pub print_success: bool,
+    pub limit: Limit,
 }

@@ -68,7 +68,7 @@ impl Session {
             ended: false,
         };
         Session {
-            exchange: Exchange::new(alloc, options.print_success),
+            exchange: Exchange::new(alloc, options),
             script: nothing,
             answers: nothing,
             verdict: None,

@@ -13,7 +13,7 @@ ghost use Rattle.smt_dialogue.specs.FirstFault as first_fault;
 ghost use Rattle.smt_dialogue.specs.FirstFault.{TextSoFar};
 ghost use Rattle.smt_dialogue.specs.Pairs.{Pair};
 ghost use Rattle.smt_dialogue.specs.Internal.ChecksState.{IsAnswered, role_of};
-ghost use Rattle.smt_dialogue.specs.Internal.DialogueState.{Stands, answered, state_behind};
+ghost use Rattle.smt_dialogue.specs.Internal.DialogueState.{Stands, answered, options_of, state_behind};
 ghost use Rattle.smt_dialogue.specs.Internal.FrontView.{HasFront};
 ghost use Rattle.smt_dialogue.specs.Internal.Turns.{IsDone, IsTakenUp, turn_of_line};
 ghost use Rattle.smt_report.specs.declared.line.Line.{Line as ReportLine};
@@ -61,7 +61,7 @@ pub(crate) fn take_up(
         → IsTakenUp turn early (initial_print_success_of dialogue.old.stack) pairs (command_view command.now)
         text rest bytes answers.new (state_behind taken dialogue.new)) }
     ensures start { IfOk result
-        (λ _. initial_print_success_of dialogue.new.stack ≡ initial_print_success_of dialogue.old.stack) }
+        (λ _. options_of dialogue.new ≡ options_of dialogue.old) }
     ensures decided { dialogue.new.decided ≡ dialogue.old.decided }
     ensures fed { bytes_fed answers.new.reader ≡ bytes_fed answers.old.reader }
     ensures finished { is_finished answers.new.reader ≡ is_finished answers.old.reader }
@@ -101,7 +101,7 @@ fn take_up_with(
         → (line : Option ReportLine) × (turn ≡ turn_of_line line)
         × IsDone line early pairs (answered command.now answer.now) (state_behind taken dialogue.new)) }
     ensures start { IfOk result
-        (λ _. initial_print_success_of dialogue.new.stack ≡ initial_print_success_of dialogue.old.stack) }
+        (λ _. options_of dialogue.new ≡ options_of dialogue.old) }
     ensures decided { dialogue.new.decided ≡ dialogue.old.decided }
 {
     let number = dialogue.commands + 1;

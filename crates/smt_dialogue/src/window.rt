@@ -15,6 +15,7 @@ ghost use Rattle.smt_dialogue.specs.Judgement.{claims_of, judgement_of};
 
 use crate::answer::is_error;
 use crate::judgement::{Judgement, judge};
+use crate::options::Limit;
 use smt_eval::Memory;
 use smt_report::{CheckAnswer, Line};
 use smt_script::{Command, Kind, Stack};
@@ -45,10 +46,11 @@ pub struct PendingCheck {
     pub some_model: bool,
 }
 
-/// The checks so far: how many there were, the one whose window has not ended, and the lines that are
-/// decided.
+/// The checks so far: how many steps a model may take, how many checks there were, the one whose window has
+/// not ended, and the lines that are decided.
 #[derive(Drop)]
 pub struct Checks {
+    pub limit: Limit,
     pub count: u64,
     pub pending: Option<PendingCheck>,
     pub lines: Vec<Line>,
@@ -56,10 +58,13 @@ pub struct Checks {
 
 impl Checks {
     /// No checks.
-    pub(crate) fn new(alloc: Global) -> Self
-        ensures { checks_state result ≡ record { count = 0; pending = None; lines = [] } }
+    pub(crate) fn new(alloc: Global, limit: Limit) -> Self
+        ensures checks { checks_state result
+            ≡ record { limit = limit.steps; count = 0; pending = None; lines = [] } }
+        ensures limit { result.limit ≡ limit }
     {
         Checks {
+            limit,
             count: 0,
             pending: None,
             lines: Vec::new(alloc),
@@ -79,7 +84,8 @@ impl Checks {
         requires count { self.old.count + 1 < 2 ^ 64 }
         requires stands { (commands : List Numbered) × StandsFor stack.now commands }
         requires answered { IsAnswered role (option_map sexp_of answer.now) }
-        ensures { OnOk result ((commands : List Numbered) → StandsFor stack.now commands
+        ensures limit { self.new.limit ≡ self.old.limit }
+        ensures checks { OnOk result ((commands : List Numbered) → StandsFor stack.now commands
             → checks_state self.new
             ≡ checks_after effective (checks_state self.old) (signature_in_force commands)
             (claims_of (assertions_in_force commands)) number role (option_map sexp_of answer.now)) }
@@ -98,7 +104,8 @@ impl Checks {
     // Notes a check: it ends the window of the one before it, and begins one if its answer is `sat`.
     fn note_check(&mut self, number: u64, answer: &Tree) -> Result<(), Memory>
         requires count { self.old.count + 1 < 2 ^ 64 }
-        ensures { OnOk result (checks_state self.new
+        ensures limit { self.new.limit ≡ self.old.limit }
+        ensures checks { OnOk result (checks_state self.new
             ≡ with_check (checks_state self.old) number (sexp_of answer.now)) }
     {
         self.end_window()?;
@@ -128,7 +135,8 @@ impl Checks {
         stack: &Stack,
     ) -> Result<(), Memory>
         requires { (commands : List Numbered) × StandsFor stack.now commands }
-        ensures { OnOk result ((commands : List Numbered) → StandsFor stack.now commands
+        ensures limit { self.new.limit ≡ self.old.limit }
+        ensures checks { OnOk result ((commands : List Numbered) → StandsFor stack.now commands
             → checks_state self.new ≡ with_models (checks_state self.old) self.old.pending
             (signature_in_force commands) (claims_of (assertions_in_force commands)) number effective
             (option_map sexp_of answer.now)) }
@@ -150,14 +158,15 @@ impl Checks {
         stack: &Stack,
     ) -> Result<(), Memory>
         requires { (commands : List Numbered) × StandsFor stack.now commands }
-        ensures { OnOk result ((commands : List Numbered) → StandsFor stack.now commands
+        ensures limit { self.new.limit ≡ self.old.limit }
+        ensures checks { OnOk result ((commands : List Numbered) → StandsFor stack.now commands
             → checks_state self.new
             ≡ with_line (checks_state self.old) pending
             (check_lines.line_of_judgement pending.check pending.command number
-            (judgement_of (signature_in_force commands) (claims_of (assertions_in_force commands))
+            (judgement_of self.old.limit.steps (signature_in_force commands) (claims_of (assertions_in_force commands))
             model.now))) }
     {
-        let judgement = judge(stack, model)?;
+        let judgement = judge(stack, model, self.limit)?;
         match line_of_judgement(pending, number, judgement) {
             Some(line) => {
                 self.lines.push(line)?;
@@ -173,7 +182,8 @@ impl Checks {
 
     // Ends the window where a command took effect.
     fn end_window_if(&mut self, effective: bool) -> Result<(), Memory>
-        ensures { OnOk result (checks_state self.new
+        ensures limit { self.new.limit ≡ self.old.limit }
+        ensures checks { OnOk result (checks_state self.new
             ≡ (if effective then with_window_ended (checks_state self.old) else checks_state self.old)) }
     {
         if effective { self.end_window() } else { Ok(()) }
@@ -181,6 +191,7 @@ impl Checks {
 
     /// Ends the window of the last check, if it has not ended: each model in it is confirmed.
     pub(crate) fn end_window(&mut self) -> Result<(), Memory>
+        ensures limit { self.new.limit ≡ self.old.limit }
         ensures ended { OnOk result (checks_state self.new ≡ with_window_ended (checks_state self.old)) }
         ensures count { self.new.count ≡ self.old.count }
     {
@@ -237,6 +248,11 @@ fn line_of_judgement(pending: PendingCheck, model: u64, judgement: Judgement) ->
             command,
             model,
             declaration,
+        }),
+        Judgement::TooLong => Some(Line::TooLong {
+            check,
+            command,
+            model,
         }),
         Judgement::Refuted { claim } => Some(Line::Refuted {
             check,

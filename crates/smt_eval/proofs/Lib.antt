@@ -21,3 +21,9 @@ pub mod HeadLemmas
 pub mod NodeValueLemmas
 pub mod NodeNameLemmas
 pub mod StructureNodeLemmas
+pub mod CostLemmas
+pub mod NodeCostLemmas
+pub mod NodeNameCostLemmas
+pub mod StructureCostLemmas
+pub mod TermCostLemmas
+pub mod CostExampleLemmas

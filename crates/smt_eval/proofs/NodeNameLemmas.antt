@@ -62,7 +62,7 @@ pub record HasNames (g : Giving) (off : ℕ) (declared : List ℕ) (t : Table) (
 same_count : (a b : ℕ) → (a == b) ≡ true → a ≡ b
 same_count a b h = grind (arith, h)
 
-some_op : (o : Option Op) (op : Op) → ok_or o Unknown ≡ Ok op → is_some o ≡ true
+pub some_op : (o : Option Op) (op : Op) → ok_or o Unknown ≡ Ok op → is_some o ≡ true
 some_op (Some p) op h = refl
 some_op None op h = cc
 
@@ -71,7 +71,7 @@ pub record IsNodeOf (head : Head) (js : List ℕ) (n : Node) : Type 0 where
   pub counted : length js ≡ head.arity
   pub is : n ≡ node_at head.place js
 
-node_of_head : (head : Head) (js : List ℕ) (n : Node) → named_node (Some head) js ≡ Some n
+pub node_of_head : (head : Head) (js : List ℕ) (n : Node) → named_node (Some head) js ≡ Some n
     → IsNodeOf head js n
 node_of_head head js n h = by (length js == head.arity) refl h
   where
@@ -95,7 +95,7 @@ module _ (g : Giving) (off : ℕ) (declared : List ℕ) (t : Table) (es : List E
       → slice_get t.bodies p ≡ Some j → j < last → length vs ≡ head.arity
       → g (off + j) vs ≡ meaning n (Plain x) vs
 
-  named_at : (n : ℕ) (x : List ℕ) (head : Head) → look_up (take n t.heads) x ≡ Some head
+  pub named_at : (n : ℕ) (x : List ℕ) (head : Head) → look_up (take n t.heads) x ≡ Some head
       → IsNamed t es (declared_among es) 0 0 0 t.bodies n x head
   named_at n x head at = found t es 0 0 0 t.bodies n x head names.bodies
       (ap (λ hs. look_up (take n hs) x) (sym names.heads) ∙ at)

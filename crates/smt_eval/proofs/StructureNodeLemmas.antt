@@ -34,13 +34,13 @@ use Rattle.smt_eval.specs.Structure.{structure_of}
 
 -- ---- lists
 
-at_map : {A B : Type 0} (f : A → B) (xs : List A) (k : ℕ) (x : A) → slice_get xs k ≡ Some x
+pub at_map : {A B : Type 0} (f : A → B) (xs : List A) (k : ℕ) (x : A) → slice_get xs k ≡ Some x
     → slice_get (map f xs) k ≡ Some (f x)
 at_map f [] k x h = cc
 at_map f (y ∷ xs) zero x h = let is : y ≡ x = cc in ap (λ z. Some (f z)) is
 at_map f (y ∷ xs) (suc k) x h = at_map f xs k x h
 
-within : {A : Type 0} (xs : List A) (k : ℕ) (x : A) → slice_get xs k ≡ Some x → k < length xs
+pub within : {A : Type 0} (xs : List A) (k : ℕ) (x : A) → slice_get xs k ≡ Some x → k < length xs
 within [] k x h = cc
 within (y ∷ xs) zero x h = omega arith
 within (y ∷ xs) (suc k) x h = let w = within xs k x h in omega (arith, w)
@@ -124,7 +124,7 @@ row_within rows i around o h = by (slice_get rows i) refl h
     by None at is = absurd is
     by (Some row) at is = within rows i row at
 
-denotes_within : (t : Table) (slots : Slots) (next around i : ℕ) (term : Sexp)
+pub denotes_within : (t : Table) (slots : Slots) (next around i : ℕ) (term : Sexp)
     → Denotes t slots next around i term → i < length t.rows
 denotes_within t slots next around i (Atom Symbol x) d = row_within t.rows i around _ d.0
 denotes_within t slots next around i (Atom Numeral x) d = row_within t.rows i around _ d.0
@@ -155,13 +155,13 @@ module _ (has : (nodes : List machine.Node) (i : ℕ) (frame : Frame)
     (all : AllDefined definitions.entries) (theories : definitions.theories ≡ names.theories)
     (distinct : AreDistinct (structure_of names definitions).entries)
     (gives : GivesBodies declared names definitions model.bodies) where
-  abbrev g : machine.Giving
+  abbrev pub g : machine.Giving
   g = given (nodes_over model script declared)
 
-  abbrev count : ℕ
+  abbrev pub count : ℕ
   count = length model.rows
 
-  abbrev whole : Signature
+  abbrev pub whole : Signature
   whole = structure_of names definitions
 
   abbrev of_model : Row → machine.Node
@@ -178,7 +178,7 @@ module _ (has : (nodes : List machine.Node) (i : ℕ) (frame : Frame)
       (none_among names.entries x (not_named names.theories names.entries x terms.free
       (ap (λ ts. is_plain_operator ts x) (sym theories) ∙ plain)))
 
-  model_names : HasNames g 0 [] model definitions.entries whole (λ n. n)
+  pub model_names : HasNames g 0 [] model definitions.entries whole (λ n. n)
   model_names = record {
     rows = λ k row at frame. has (nodes_over model script declared) (0 + k) frame
         ∙ ap (node_value (0 + k) g frame)
@@ -195,7 +195,7 @@ module _ (has : (nodes : List machine.Node) (i : ℕ) (frame : Frame)
   }
 
   -- so many definitions are seen where the first n names of the script are
-  abbrev seen : ℕ → ℕ
+  abbrev pub seen : ℕ → ℕ
   seen n = length definitions.entries + defined_before names.entries n
 
   -- the body of the definition that the model gives to a declared name gives what the name means
@@ -218,7 +218,7 @@ module _ (has : (nodes : List machine.Node) (i : ℕ) (frame : Frame)
             (counted ∙ sym m.counted),
       )
 
-  script_names : HasNames g count declared script names.entries whole seen
+  pub script_names : HasNames g count declared script names.entries whole seen
   script_names = record {
     rows = λ k row at frame. has (nodes_over model script declared) (count + k) frame
         ∙ ap (node_value (count + k) g frame) (at_right (map of_model model.rows) (map of_script script.rows)
@@ -237,13 +237,13 @@ module _ (has : (nodes : List machine.Node) (i : ℕ) (frame : Frame)
   }
 
   -- all of the script's names
-  abbrev all_names : ℕ
+  abbrev pub all_names : ℕ
   all_names = length script.heads
 
   names_counted : all_names ≡ length names.entries
   names_counted = ap (λ (hs : List (List ℕ × Head)). length hs) terms.heads ∙ heads_counted 0 0 names.entries
 
-  all_seen : first (seen all_names) whole ≡ whole
+  pub all_seen : first (seen all_names) whole ≡ whole
   all_seen = all_first whole (seen all_names)
       (ap (λ k. length definitions.entries + length (defined_among (take k names.entries))) names_counted
       ∙ ap (λ es. length definitions.entries + length (defined_among es)) (take-length names.entries)

@@ -1,12 +1,15 @@
 -- What a contract sees of an interpretation: the definitions that it was read from.
-use Rattle.std.specs.Prelude.{◌≡◌}
+use Rattle.std.specs.Prelude.{◌≡◌, ◌≤◌, ℕ}
+use Rattle.smt_trees.specs.Sexp.{Sexp}
+use Rattle.smt_machine.specs.Costs.{AreCosts}
 use Rattle.smt_machine.specs.Memory.{Remembers}
 use Rattle.smt_machine.specs.declared.machine.Machine.{Machine}
-use Rattle.smt_terms.specs.Library.{StandsFor, terms_of}
+use Rattle.smt_terms.specs.Library.{IsTerm, StandsFor, terms_of}
 use Rattle.smt_terms.specs.Signature.{AreDistinct, Signature}
 use Rattle.smt_terms.specs.declared.library.Library.{Library}
+use Rattle.smt_eval.specs.Cost.{cost_over}
 use Rattle.smt_eval.specs.Internal.DefinitionValues.{AllDefined}
-use Rattle.smt_eval.specs.NodeValues.{GivesBodies, nodes_over}
+use Rattle.smt_eval.specs.NodeValues.{GivesBodies, arounds_over, nodes_over}
 use Rattle.smt_eval.specs.Structure.{structure_of}
 use Rattle.smt_eval.specs.declared.interpretation.Interpretation.{Interpretation}
 
@@ -32,3 +35,15 @@ pub record Fits (interpretation : Interpretation) (library : Library) : Type 0 w
 abbrev pub Serves : Machine → Interpretation → Library → Type 0
 Serves machine interpretation library = Remembers machine
     (nodes_over (terms_of interpretation.definitions) (terms_of library) interpretation.declared.items)
+
+-- the costs that the interpretation keeps are those of its nodes and of the library's as they are now
+abbrev pub KnowsCosts : Interpretation → Library → Type 0
+KnowsCosts interpretation library = AreCosts
+    (nodes_over (terms_of interpretation.definitions) (terms_of library) interpretation.declared.items)
+    (arounds_over (terms_of interpretation.definitions) (terms_of library)) interpretation.costs.items
+
+-- a term of the library costs so many at most over the interpretation
+abbrev pub CostsAtMost : ℕ → Library → Interpretation → ℕ → Type 0
+CostsAtMost n library interpretation term = (script definitions : Signature) (t : Sexp)
+    → StandsFor library script → IsInterpretation interpretation script definitions → IsTerm library term t
+    → cost_over (structure_of script definitions) t ≤ n

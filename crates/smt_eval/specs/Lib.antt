@@ -1,5 +1,7 @@
 pub mod Meaning
 pub mod Known
+pub mod Cost
+pub mod CostExamples
 pub mod NodeValues
 pub mod Agreement
 pub mod Model

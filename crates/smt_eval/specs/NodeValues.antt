@@ -12,6 +12,10 @@ nodes_over model script declared =
     map (λ row. resolved 0 model.bodies [] row.node) model.rows
     ++ map (λ row. resolved (length model.rows) script.bodies declared row.node) script.rows
 
+-- how many annotations stand round each of these nodes
+abbrev pub arounds_over : (model script : Table) → List ℕ
+arounds_over model script = map (λ row. row.around) model.rows ++ map (λ row. row.around) script.rows
+
 -- the k-th of these nodes is the body, among these, of a definition of the declared name with as many
 -- parameters
 pub record IsGivenBody (declared : List ℕ) (definitions : List Entry) (bodies : List ℕ) (k : ℕ)

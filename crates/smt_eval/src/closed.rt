@@ -1,21 +1,24 @@
 //! Terms that a library has checked, as numbered nodes. This file looks into no node.
 
-ghost use Rattle.std.specs.Prelude.{◌≡◌, [], length, IfOk};
+ghost use Rattle.std.specs.Prelude.{◌≡◌, ◌≤◌, ◌<◌, ◌+◌, length, IfOk, OnOk};
 ghost use Rattle.smt_trees.specs.Sexp.{Sexp};
 ghost use Rattle.smt_values.specs.Element.{known_element};
-ghost use Rattle.smt_machine.specs.Tables.{model_count, nodes_of};
+ghost use Rattle.smt_machine.specs.Costs.{capped};
+ghost use Rattle.smt_machine.specs.Tables.{arounds_of, model_count, nodes_of};
 ghost use Rattle.smt_terms.specs.Library.{IsTerm, StandsFor, terms_of};
 ghost use Rattle.smt_terms.specs.Signature.{Signature};
-ghost use Rattle.smt_eval.specs.Interpretation.{Fits, IsInterpretation, Serves};
+ghost use Rattle.smt_eval.specs.Cost.{cost_over};
+ghost use Rattle.smt_eval.specs.Interpretation.{CostsAtMost, Fits, IsInterpretation, KnowsCosts, Serves};
 ghost use Rattle.smt_eval.specs.Known.{known_over};
-ghost use Rattle.smt_eval.specs.NodeValues.{nodes_over};
+ghost use Rattle.smt_eval.specs.NodeValues.{arounds_over, nodes_over};
 ghost use Rattle.smt_eval.specs.Structure.{structure_of};
 
 use crate::checked::Checked;
 use crate::interpretation::Interpretation;
-use crate::laws::nodes_give_the_values_of_their_terms;
+use crate::laws::{nodes_give_the_values_of_their_terms, nodes_have_the_costs_of_their_terms};
+use crate::tables::tables;
 use smt_faults::Memory;
-use smt_machine::{Machine, Tables};
+use smt_machine::{Machine, Tables, cost_of_term};
 use smt_terms::{Library, TermId};
 use smt_values::Value;
 
@@ -32,22 +35,48 @@ impl Checked for Closed<'_> {
 
     ghost IsTerm = { IsClosed };
 
-    fn known(&self) -> Result<Option<Value>, Memory> {
-        eval(self.library, self.interpretation, self.term)
+    fn known(&self, left: &mut u64) -> Result<Option<Value>, Memory> {
+        eval(self.library, self.interpretation, self.term, left)
     }
+}
+
+/// What the evaluation of a term of the library costs over the structure that an interpretation gives to its
+/// names; 2^64 - 1 for that and more. The interpretation was read over the library as it is now, and counted
+/// then: here a number is looked up, and no memory is taken.
+pub fn cost(library: &Library, interpretation: &Interpretation, term: TermId) -> u64
+    requires term { (t : Sexp) × IsTerm library.now term t }
+    requires fits { Fits interpretation.now library.now }
+    requires counted { KnowsCosts interpretation.now library.now }
+    ensures { (script definitions : Signature) (t : Sexp) → StandsFor library.now script
+        → IsInterpretation interpretation.now script definitions → IsTerm library.now term t
+        → result ≡ capped (cost_over (structure_of script definitions) t) }
+{
+    nodes_have_the_costs_of_their_terms();
+    cost_of_term(
+        interpretation.costs.as_slice(),
+        tables_of(library, interpretation),
+        term,
+    )
 }
 
 /// What is known of a term of the library over the structure that an interpretation gives to its names;
 /// `None` says that it is open. The term is closed, and a term of this library; the interpretation is one of
-/// a model of the names that the library has now.
+/// a model of the names that the library has now. Of what is left, one is taken for each term that is
+/// evaluated, its parts and the bodies that it names among them; there is enough for the cost of the term.
 pub fn eval(
     library: &Library,
     interpretation: &Interpretation,
     term: TermId,
+    left: &mut u64,
 ) -> Result<Option<Value>, Memory>
     requires term { (t : Sexp) × IsTerm library.now term t }
     requires fits { Fits interpretation.now library.now }
-    ensures { (script definitions : Signature) (t : Sexp) → StandsFor library.now script
+    requires enough { CostsAtMost left.old library.now interpretation.now term }
+    ensures fewer { OnOk result (left.new < left.old) }
+    ensures paid { (script definitions : Signature) (t : Sexp) → StandsFor library.now script
+        → IsInterpretation interpretation.now script definitions → IsTerm library.now term t
+        → OnOk result (left.old ≤ left.new + cost_over (structure_of script definitions) t) }
+    ensures known { (script definitions : Signature) (t : Sexp) → StandsFor library.now script
         → IsInterpretation interpretation.now script definitions → IsTerm library.now term t
         → IfOk result (λ v. known_element v ≡ known_over (structure_of script definitions) t) }
 {
@@ -56,6 +85,7 @@ pub fn eval(
         library,
         interpretation,
         term,
+        left,
     )
 }
 
@@ -66,30 +96,37 @@ pub fn eval_by(
     library: &Library,
     interpretation: &Interpretation,
     term: TermId,
+    left: &mut u64,
 ) -> Result<Option<Value>, Memory>
     requires term { (t : Sexp) × IsTerm library.now term t }
     requires fits { Fits interpretation.now library.now }
+    requires enough { CostsAtMost left.old library.now interpretation.now term }
     requires serves { Serves machine.old interpretation.now library.now }
     ensures serves { IfOk result (λ _. Serves machine.new interpretation.now library.now) }
+    ensures fewer { OnOk result (left.new < left.old) }
+    ensures paid { (script definitions : Signature) (t : Sexp) → StandsFor library.now script
+        → IsInterpretation interpretation.now script definitions → IsTerm library.now term t
+        → OnOk result (left.old ≤ left.new + cost_over (structure_of script definitions) t) }
     ensures known { (script definitions : Signature) (t : Sexp) → StandsFor library.now script
         → IsInterpretation interpretation.now script definitions → IsTerm library.now term t
         → IfOk result (λ v. known_element v ≡ known_over (structure_of script definitions) t) }
 {
     nodes_give_the_values_of_their_terms();
-    machine.eval(tables(library, interpretation), term)
+    nodes_have_the_costs_of_their_terms();
+    machine.eval(tables_of(library, interpretation), term, left)
 }
 
 // The tables of the model and of the script.
-fn tables<'a>(library: &'a Library, interpretation: &'a Interpretation) -> Tables<'a>
+fn tables_of<'a>(library: &'a Library, interpretation: &'a Interpretation) -> Tables<'a>
     ensures nodes { nodes_of result ≡ nodes_over (terms_of interpretation.now.definitions)
         (terms_of library.now) interpretation.now.declared.items }
+    ensures arounds { arounds_of result ≡ arounds_over (terms_of interpretation.now.definitions)
+        (terms_of library.now) }
     ensures count { model_count result ≡ length (terms_of interpretation.now.definitions).rows }
 {
-    Tables {
-        model: interpretation.definitions.nodes(),
-        model_bodies: interpretation.definitions.bodies(),
-        script: library.nodes(),
-        script_bodies: library.bodies(),
-        declared: interpretation.declared.as_slice(),
-    }
+    tables(
+        library,
+        &interpretation.definitions,
+        interpretation.declared.as_slice(),
+    )
 }

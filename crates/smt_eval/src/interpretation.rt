@@ -1,42 +1,51 @@
 //! Models, as solvers print them. This file looks into no item: a library takes them.
 
-ghost use Rattle.std.specs.Prelude.{◌≡◌, List, [], ◌∷◌, ◌++◌, None, Ok, MatchOption, MatchResult, OnOk, slice_get};
+ghost use Rattle.std.specs.Prelude.{◌≡◌, List, [], ◌∷◌, ◌++◌, None, Ok, MatchOption, MatchResult};
+ghost use Rattle.std.specs.Prelude.{IfOk, OnOk, slice_get};
 ghost use Rattle.smt_trees.specs.Tree.{sexps_of};
+ghost use Rattle.smt_machine.specs.Costs.{AreCosts};
 ghost use Rattle.smt_terms.specs.Items.{items_before};
 ghost use Rattle.smt_terms.specs.Library.{StandsFor, terms_of};
 ghost use Rattle.smt_terms.specs.Signature.{Entry, Signature, declared_among, entry_named};
 ghost use Rattle.smt_eval.specs.Internal.DefinitionValues.{AllDefined};
 ghost use Rattle.smt_eval.specs.Internal.GivenBodies.{GiveBodies, GivesBody, TellsLacking};
 ghost use Rattle.smt_eval.specs.Internal.ItemFault.{model_fault_of_item};
-ghost use Rattle.smt_eval.specs.Interpretation.{IsInterpretation};
+ghost use Rattle.smt_eval.specs.Interpretation.{IsInterpretation, KnowsCosts};
 ghost use Rattle.smt_eval.specs.Model.{first_lacking, model_in, items_from, items_of};
 ghost use Rattle.smt_eval.specs.ModelFaults.{TellsModel};
+ghost use Rattle.smt_eval.specs.NodeValues.{arounds_over, nodes_over};
 
 use crate::laws::{models_are_complete, structures_are_distinct};
 use crate::model_fault::ModelFault;
+use crate::tables::tables;
 use smt_faults::Memory;
+use smt_machine::costs;
 use smt_nodes::TermId;
 use smt_terms::laws::items_are_well_sorted;
 use smt_terms::{Found, Library, TermFault};
 use smt_trees::{Tree, Trees, split_first};
 
-/// The definitions of a model, and for each name that the script declares the body that the model gives to it.
+/// The definitions of a model, for each name that the script declares the body that the model gives to it, and
+/// what each node of both costs.
 #[derive(Drop)]
 pub struct Interpretation {
     pub(crate) definitions: Library,
     pub(crate) declared: Vec<TermId>,
+    pub(crate) costs: Vec<u64>,
 }
 
 impl Interpretation {
-    /// Reads a model of the names of a library (SMT-LIB 2.6, section 4.2.6), and evaluates nothing. Refused
+    /// Reads a model of the names of a library (SMT-LIB 2.6, section 4.2.6), counts what its nodes and the
+    /// library's cost, and evaluates nothing. Refused
     /// are the first item with a fault, before the first declared name that is lacking, and want of memory.
     /// The library stands for a signature, as every one does that `Library::new` and the calls after it made.
     pub fn read(declared: &Library, model: &Trees) -> Result<Interpretation, ModelFault>
         requires { (s : Signature) × StandsFor declared.now s }
-        ensures { (s : Signature) → StandsFor declared.now s
+        ensures model { (s : Signature) → StandsFor declared.now s
             → MatchResult result (λ i. (d : Signature) × (model_in s model.now ≡ Ok d)
             × IsInterpretation i s d)
             (TellsModel (model_in s model.now)) }
+        ensures costs { IfOk result (λ i. KnowsCosts i declared.now) }
     {
         // Laws: each item is a definition; no two have one name, nor one of them that of a definition of the
         // script; and each declared name has its rank.
@@ -44,10 +53,11 @@ impl Interpretation {
         models_are_complete();
         structures_are_distinct();
         let definitions = read_items(declared, items(model.as_slice()))?;
-        match declared_bodies(declared, &definitions) {
-            Ok(declared) => Ok(Interpretation {
+        match bodies_and_costs(declared, &definitions) {
+            Ok((declared, costs)) => Ok(Interpretation {
                 definitions,
                 declared,
+                costs,
             }),
             Err(fault) => {
                 // (dropped by name: the prover takes long over a library that is owned on more than one path)
@@ -95,6 +105,28 @@ fn items(trees: &[Tree]) -> &[Tree]
         Some((first, rest)) if first.is_symbol(b"model") => rest,
         _ => trees,
     }
+}
+
+// The bodies of declared names, and with these the costs of all nodes.
+fn bodies_and_costs(
+    declared: &Library,
+    definitions: &Library,
+) -> Result<(Vec<TermId>, Vec<u64>), ModelFault>
+    requires { (s : Signature) × StandsFor declared.now s }
+    ensures bodies { (s d : Signature) → StandsFor declared.now s → StandsFor definitions.now d
+        → AllDefined d.entries → MatchResult result (λ found. (first_lacking s.entries d.entries ≡ None)
+        × GiveBodies d.entries (terms_of definitions.now).bodies (declared_among s.entries) found.0.items)
+        (TellsLacking (first_lacking s.entries d.entries)) }
+    ensures costs { IfOk result (λ found. AreCosts
+        (nodes_over (terms_of definitions.now) (terms_of declared.now) found.0.items)
+        (arounds_over (terms_of definitions.now) (terms_of declared.now)) found.1.items) }
+{
+    let bodies = declared_bodies(declared, definitions)?;
+    let costs = costs(
+        definitions.alloc(),
+        tables(declared, definitions, bodies.as_slice()),
+    )?;
+    Ok((bodies, costs))
 }
 
 // For each declared name, in order, the node that is the body of its definition; or the command of the first

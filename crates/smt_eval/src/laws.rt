@@ -1,11 +1,12 @@
 //! What holds of the definitions that the contracts name. Nothing here does anything: each contract is a law.
 
-ghost use Rattle.std.specs.Prelude.{◌≡◌, ◌↔◌, ℕ, ◌+◌, List, [], Ok, Err, Option, length};
+ghost use Rattle.std.specs.Prelude.{◌≡◌, ◌↔◌, ℕ, ◌+◌, ◌*◌, ◌^◌, List, [], ◌∷◌, Ok, Err, Option, length};
 ghost use Rattle.smt_trees.specs.Sexp.{Sexp, Sexps};
 ghost use Rattle.smt_trees.specs.Tree.{sexp_of};
 ghost use Rattle.smt_theory.specs.declared.sort.Sort.{Sort};
 ghost use Rattle.smt_values.specs.Element.{Agrees, Element, IsOfSort};
 ghost use Rattle.smt_values.specs.Operations.{DivisionByZero};
+ghost use Rattle.smt_machine.specs.Costs.{cost};
 ghost use Rattle.smt_machine.specs.Given.{given};
 ghost use Rattle.smt_terms.specs.Checking.{sort_in};
 ghost use Rattle.smt_terms.specs.Denotes.{Denotes, Table};
@@ -17,13 +18,15 @@ ghost use Rattle.smt_terms.specs.WellSorted.{AreIntroduced, AreWellSorted};
 ghost use Rattle.smt_eval.specs.Agreement.{AgreesWith, FitsScope};
 ghost use Rattle.smt_faults.specs.declared.term_flaw.TermFlaw.{TermFlaw};
 ghost use Rattle.smt_eval.specs.CompleteModel.{IsModelOf};
+ghost use Rattle.smt_eval.specs.Cost.{cost_of, cost_over, costs_after, no_costs};
+ghost use Rattle.smt_eval.specs.CostExamples.{annotated_twice, doubling_name, doublings, sum_is_three, two_for_x};
 ghost use Rattle.smt_eval.specs.Internal.DefinitionValues.{AllDefined};
 ghost use Rattle.smt_eval.specs.Interpretation.{IsInterpretation};
 ghost use Rattle.smt_eval.specs.Known.{known_in, known_of, known_over};
 ghost use Rattle.smt_eval.specs.Meaning.{value_over};
 ghost use Rattle.smt_eval.specs.Model.{AreDefined, AreItems, HasFirstFlaw, IsFirstLacking, items_of};
 ghost use Rattle.smt_eval.specs.Model.{model_in};
-ghost use Rattle.smt_eval.specs.NodeValues.{GivesBodies, nodes_over};
+ghost use Rattle.smt_eval.specs.NodeValues.{GivesBodies, arounds_over, nodes_over};
 ghost use Rattle.smt_eval.specs.Structure.{IsStructure, structure_of};
 ghost use Rattle.smt_eval.specs.PlainTerm.{entries_of};
 ghost use Rattle.smt_eval.specs.declared.closed.Closed.{Closed};
@@ -33,7 +36,7 @@ ghost use Rattle.smt_eval.specs.declared.model_fault.ModelFlaw.TheVariants.{Item
 use crate::checked::Checked;
 use crate::closed::Closed;
 use crate::plain;
-use smt_machine::laws::nodes_have_their_values;
+use smt_machine::laws::{nodes_have_their_costs, nodes_have_their_values};
 use smt_terms::laws::{items_are_well_sorted, sorts_are_kept};
 use smt_theory::laws::{ranks_are_the_table, sorts_are_compared};
 use smt_values::laws::{known_results_are_true, results_are_of_their_sorts};
@@ -151,3 +154,26 @@ pub fn nodes_give_the_values_of_their_terms()
 {
     nodes_have_their_values();
 }
+
+/// A node of a script costs what the term does which it stands for, and the annotations without a label that
+/// stand round it: over the structure that a model gives to the script, as its value is.
+pub fn nodes_have_the_costs_of_their_terms()
+    ensures { (model script : Table) (declared : List ℕ) (names definitions : Signature) (around i : ℕ)
+        (term : Sexp) → AreTermsOf script names → AreTermsOf model definitions
+        → AllDefined definitions.entries → definitions.theories ≡ names.theories →
+        AreDistinct (structure_of names definitions).entries → GivesBodies declared names definitions model.bodies
+        → Denotes script [] 0 around i term
+        → cost (nodes_over model script declared) (arounds_over model script) (length model.rows + i)
+        ≡ around + cost_over (structure_of names definitions) term }
+{
+    nodes_have_their_values();
+    nodes_have_their_costs();
+}
+
+/// What some terms cost: `(= (+ x 1) 3)` where `x` is 2; two annotations round `true`; and functions each of which
+/// calls the one before twice.
+pub fn some_costs_are_told_in_numbers()
+    ensures sum { cost_of (costs_after no_costs (two_for_x ∷ [])) [] sum_is_three ≡ 6 }
+    ensures annotated { cost_of no_costs [] annotated_twice ≡ 3 }
+    ensures doubling { (k : ℕ) → costs_after no_costs (doublings k) (doubling_name k) + 3 ≡ 6 * 2 ^ k }
+{}

@@ -12,9 +12,10 @@ mod interpretation;
 pub mod laws;
 mod model_fault;
 pub mod plain;
+mod tables;
 
 pub use checked::Checked;
-pub use closed::{Closed, eval, eval_by};
+pub use closed::{Closed, cost, eval, eval_by};
 pub use interpretation::Interpretation;
 pub use model_fault::{ModelFault, ModelFlaw};
 pub use smt_faults::Memory;

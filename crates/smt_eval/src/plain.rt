@@ -6,7 +6,7 @@
 //! ```text
 //! let x = Definition { name: b"x", params: &[], result: Sort::Int, body: &three };
 //! let closed = Closed { alloc, theories, definitions: &[x], tree: &product };
-//! closed.known()?                                                           // Some(Value::Int(9))
+//! closed.value()?                                                           // Some(Value::Int(9))
 //! ```
 
 ghost use Rattle.std.specs.Prelude.{◌≡◌, IfOk};
@@ -48,17 +48,34 @@ pub struct Closed<'a> {
     pub tree: &'a Tree,
 }
 
-impl Checked for Closed<'_> {
+impl Closed<'_> {
+    ghost use Rattle.smt_trees.specs.Sexp.{Sexp};
+    ghost use Rattle.smt_terms.specs.Signature.{Signature};
     ghost use Rattle.smt_eval.specs.PlainTerm.{IsPlain};
 
-    ghost IsTerm = { IsPlain };
-
-    fn known(&self) -> Result<Option<Value>, Memory> {
+    /// What is known of the term's value, whatever it costs; `None` says that it is open.
+    pub fn value(&self) -> Result<Option<Value>, Memory>
+        ensures { IfOk result (λ v. (structure : Signature) (term : Sexp) → IsPlain self.now structure term
+            → known_element v ≡ known_over structure term) }
+    {
         let over = Definitions {
             alloc: self.alloc,
             theories: self.theories,
             seen: self.definitions,
         };
         known_value(over, &[], self.tree)
+    }
+}
+
+impl Checked for Closed<'_> {
+    ghost use Rattle.smt_eval.specs.PlainTerm.{IsPlain};
+
+    ghost IsTerm = { IsPlain };
+
+    fn known(&self, left: &mut u64) -> Result<Option<Value>, Memory> {
+        // What the recursion evaluates is not counted: of an ill-sorted term, which may stand here, it is not
+        // bounded by the cost.
+        *left -= 1;
+        self.value()
     }
 }

@@ -7,7 +7,7 @@ use Rattle.std.proofs.lemmas.Bool.Decides.{nat_tests}
 use Rattle.std.proofs.lemmas.Option.{slice_get_past}
 use Rattle.smt_values.specs.KnownOperations.{known_step}
 use Rattle.smt_machine.specs.Given.{fill, given, open_everywhere}
-use Rattle.smt_machine.specs.Internal.Costs.{cost, first_cost, last_cost, part_cost, parts_cost}
+use Rattle.smt_machine.specs.Costs.{around_at, cost, first_cost, last_cost, node_cost, part_cost, parts_cost}
 use Rattle.smt_machine.specs.Nodes.{Frame, Giving, Node, Known, Slot, Apply, Call, Let, node_value, part}
 use Rattle.smt_machine.specs.Nodes.{parts}
 
@@ -172,30 +172,32 @@ last_cost_same i c d (Some (Apply op args)) agree = refl
 last_cost_same i c d (Some (Call body args)) agree = part_cost_same i c d body agree
 last_cost_same i c d (Some (Let values body)) agree = part_cost_same i c d body agree
 
-cost_law_by : (nodes : List Node) (i : ℕ) → (i < length nodes) ⊎ (length nodes ≤ i)
-    → cost nodes i
-    ≡ 1 + first_cost i (cost nodes) (slice_get nodes i) + last_cost i (cost nodes) (slice_get nodes i)
+node_cost_same : (i : ℕ) (c d : ℕ → ℕ) (around : ℕ) (node : Option Node) → CostBelow i c d
+    → node_cost i c around node ≡ node_cost i d around node
+node_cost_same i c d around node agree =
+    let first = first_cost_same i c d node agree in let last = last_cost_same i c d node agree in
+    omega (arith, first, last)
+
+cost_law_by : (nodes : List Node) (arounds : List ℕ) (i : ℕ) → (i < length nodes) ⊎ (length nodes ≤ i)
+    → cost nodes arounds i ≡ node_cost i (cost nodes arounds) (around_at arounds i) (slice_get nodes i)
 unfolding cost
-cost_law_by nodes i (inl h) =
-    let make : (ℕ → ℕ) → ℕ → ℕ =
-    λ c k. 1 + first_cost k c (slice_get nodes k) + last_cost k c (slice_get nodes k) in
-    let base : ℕ → ℕ = λ k. 1 in
-    let agree : CostBelow i (fill base make i) (cost nodes) = record {
+cost_law_by nodes arounds i (inl h) =
+    let make : (ℕ → ℕ) → ℕ → ℕ = λ c k. node_cost k c (around_at arounds k) (slice_get nodes k) in
+    let base : ℕ → ℕ = λ k. 1 + around_at arounds k in
+    let agree : CostBelow i (fill base make i) (cost nodes arounds) = record {
       at = λ j below. fill_at base make i j below ∙ sym (fill_at base make (length nodes) j (omega arith));
     } in
-    let first = first_cost_same i (fill base make i) (cost nodes) (slice_get nodes i) agree in
-    let last = last_cost_same i (fill base make i) (cost nodes) (slice_get nodes i) agree in
     fill_at base make (length nodes) i h
-    ∙ ap (λ k. 1 + k + last_cost i (fill base make i) (slice_get nodes i)) first
-    ∙ ap (λ k. 1 + first_cost i (cost nodes) (slice_get nodes i) + k) last
-cost_law_by nodes i (inr h) =
-    let make : (ℕ → ℕ) → ℕ → ℕ =
-    λ c k. 1 + first_cost k c (slice_get nodes k) + last_cost k c (slice_get nodes k) in
-    let base : ℕ → ℕ = λ k. 1 in
-    fill_past base make (length nodes) i h
-    ∙ ap (λ n. 1 + first_cost i (cost nodes) n + last_cost i (cost nodes) n) (sym (slice_get_past nodes i h))
+    ∙ node_cost_same i (fill base make i) (cost nodes arounds) (around_at arounds i) (slice_get nodes i) agree
+cost_law_by nodes arounds i (inr h) =
+    let make : (ℕ → ℕ) → ℕ → ℕ = λ c k. node_cost k c (around_at arounds k) (slice_get nodes k) in
+    let base : ℕ → ℕ = λ k. 1 + around_at arounds k in
+    let past : 1 + around_at arounds i ≡ node_cost i (cost nodes arounds) (around_at arounds i) None =
+    omega arith in
+    fill_past base make (length nodes) i h ∙ past
+    ∙ ap (node_cost i (cost nodes arounds) (around_at arounds i)) (sym (slice_get_past nodes i h))
 
-pub cost_law : (nodes : List Node) (i : ℕ)
-    → cost nodes i
-    ≡ 1 + first_cost i (cost nodes) (slice_get nodes i) + last_cost i (cost nodes) (slice_get nodes i)
-cost_law nodes i = cost_law_by nodes i (within_or_past (length nodes) i)
+-- the cost of a node, at every number
+pub cost_law : (nodes : List Node) (arounds : List ℕ) (i : ℕ)
+    → cost nodes arounds i ≡ node_cost i (cost nodes arounds) (around_at arounds i) (slice_get nodes i)
+cost_law nodes arounds i = cost_law_by nodes arounds i (within_or_past (length nodes) i)

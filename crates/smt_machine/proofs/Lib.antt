@@ -3,3 +3,4 @@ pub mod RunLemmas
 pub mod StateLemmas
 pub mod StepLemmas
 pub mod KeptLemmas
+pub mod SumLemmas

@@ -1,5 +1,5 @@
 -- What stacks of tasks lead to, and how much is left to do.
-use Rattle.std.proofs.Common.{◌≡◌, ℕ, ◌+◌, ◌-◌, ◌*◌, ◌<◌, Bool, true, false, cond, List, [], ◌∷◌, ◌++◌}
+use Rattle.std.proofs.Common.{◌≡◌, ℕ, ◌+◌, ◌-◌, ◌*◌, ◌<◌, ◌≤◌, Bool, true, false, cond, List, [], ◌∷◌, ◌++◌}
 use Rattle.std.proofs.Common.{length, map, take, drop, slice_get, Option, Some, None, refl, ap, sym, ◌∙◌}
 use Rattle.std.proofs.Common.{subst, arith, nat_lt, append_assoc, append-nil, length-append}
 use Rattle.std.proofs.Math.Seq.{drop-append_seam}
@@ -8,11 +8,12 @@ use Rattle.smt_values.specs.Element.{Element}
 use Rattle.smt_values.specs.KnownOperations.{known_step}
 use Rattle.smt_machine.proofs.GivenLemmas.{given_law, cost_law}
 use Rattle.smt_machine.specs.Given.{given}
-use Rattle.smt_machine.specs.Internal.Costs.{cost, first_cost, part_cost, parts_cost}
+use Rattle.smt_machine.specs.Costs.{cost, first_cost, part_cost, parts_cost}
 use Rattle.smt_machine.specs.Internal.States.{State, before_last, frame_of, last_of, state_of, with_last}
 use Rattle.smt_machine.specs.Internal.States.{with_value}
 use Rattle.smt_machine.specs.Internal.Tasks.{AreDue, IsAt, IsBased, IsDone, IsDue, IsPlanned, IsStep, finished}
-use Rattle.smt_machine.specs.Internal.Tasks.{part_task, run, run_all, task_work, visits, work}
+use Rattle.smt_machine.specs.Internal.Tasks.{charge, part_task, run, run_all, task_cost, task_work, tasks_cost, visits}
+use Rattle.smt_machine.specs.Internal.Tasks.{work}
 use Rattle.smt_machine.specs.Internal.KeptView.{kept_at}
 use Rattle.smt_machine.specs.Memory.{Remembers}
 use Rattle.smt_machine.specs.Nodes.{Frame, Node, Known, Slot, Apply, Call, Let, node_value, part, parts}
@@ -66,16 +67,16 @@ run_visits nodes i (j ∷ js) s =
     ∙ values_more (part i (given nodes) (frame_of s) j) (parts i (given nodes) (frame_of s) js) s
 
 work_part_by : (nodes : List Node) (i j : ℕ) (b : Bool)
-    → task_work nodes (cond b (Visit j) Open) ≡ 3 * cond b (cost nodes j) 1
+    → task_work nodes (cond b (Visit j) Open) ≡ 3 * cond b (cost nodes [] j) 1
 work_part_by nodes i j true = refl
 work_part_by nodes i j false = refl
 
 pub work_part : (nodes : List Node) (i j : ℕ)
-    → task_work nodes (part_task i j) ≡ 3 * part_cost i (cost nodes) j
+    → task_work nodes (part_task i j) ≡ 3 * part_cost i (cost nodes []) j
 work_part nodes i j = work_part_by nodes i j (nat_lt j i)
 
 pub work_visits : (nodes : List Node) (i : ℕ) (js : List ℕ)
-    → work nodes (visits i js) ≡ 3 * parts_cost i (cost nodes) js
+    → work nodes (visits i js) ≡ 3 * parts_cost i (cost nodes []) js
 work_visits nodes i [] = refl
 work_visits nodes i (j ∷ js) = omega (
   arith,
@@ -83,6 +84,37 @@ work_visits nodes i (j ∷ js) = omega (
   work_visits nodes i js,
   work_part nodes i j,
 )
+
+-- ---- what is counted
+
+pub cost-append : (nodes : List Node) (c : ℕ → ℕ) (xs ys : List Task)
+    → tasks_cost nodes c (xs ++ ys) ≡ tasks_cost nodes c xs + tasks_cost nodes c ys
+cost-append nodes c [] ys = omega arith
+cost-append nodes c (t ∷ xs) ys = omega (arith, cost-append nodes c xs ys)
+
+cost_part_by : (nodes : List Node) (c : ℕ → ℕ) (j : ℕ) (b : Bool)
+    → task_cost nodes c (cond b (Visit j) Open) ≡ cond b (c j) 1
+cost_part_by nodes c j true = refl
+cost_part_by nodes c j false = refl
+
+pub cost_part : (nodes : List Node) (c : ℕ → ℕ) (i j : ℕ)
+    → task_cost nodes c (part_task i j) ≡ part_cost i c j
+cost_part nodes c i j = cost_part_by nodes c j (nat_lt j i)
+
+pub cost_visits : (nodes : List Node) (c : ℕ → ℕ) (i : ℕ) (js : List ℕ)
+    → tasks_cost nodes c (visits i js) ≡ parts_cost i c js
+cost_visits nodes c i [] = refl
+cost_visits nodes c i (j ∷ js) = omega (
+  arith,
+  cost-append nodes c (visits i js) (part_task i j ∷ []),
+  cost_visits nodes c i js,
+  cost_part nodes c i j,
+)
+
+-- the tasks that another plans cost no more than it, with what was counted
+abbrev pub Pays : List Node → Task → List Task → Type 0
+Pays nodes task more = (arounds : List ℕ) → tasks_cost nodes (cost nodes arounds) more + charge arounds task
+    ≤ task_cost nodes (cost nodes arounds) task
 
 -- ---- values that are due
 
@@ -185,15 +217,20 @@ pub grown : (nodes : List Node) (task : Task) (before after : Machine) (more : L
     → run_all nodes more (state_of after) ≡ run nodes task (state_of before)
     → IsBased (state_of after)
     → work nodes more < task_work nodes task
+    → Pays nodes task more
     → Remembers after nodes
     → AreDue nodes more (state_of after)
     → IsDone nodes task before after
-grown nodes task before after more tasks leads based less remembers due = record {
+grown nodes task before after more tasks leads based less pays remembers due = record {
   answer = ap (λ ts. run_all nodes ts (state_of after)) tasks
       ∙ run_all-append nodes before.tasks.items more (state_of after)
       ∙ ap (run_all nodes before.tasks.items) leads;
   based = based;
   falls = let e = ap (work nodes) tasks in omega (arith, e, work-append nodes before.tasks.items more);
+  pays = λ arounds.
+      let c : ℕ → ℕ = cost nodes arounds in
+      let e = ap (tasks_cost nodes c) tasks in
+      omega (arith, e, cost-append nodes c before.tasks.items more, pays arounds);
   remembers = remembers;
   due = λ earlier.
       let P : State → Type 0 = λ s. AreDue nodes before.tasks.items s in
@@ -206,10 +243,11 @@ pub settled : (nodes : List Node) (task : Task) (before after : Machine)
     → IsAt (run nodes task (state_of before)) before after
     → IsBased (run nodes task (state_of before))
     → 0 < task_work nodes task
+    → Pays nodes task []
     → IsStep nodes task before after
-settled nodes task before after is based less = λ remembers due.
+settled nodes task before after is based less pays = λ remembers due.
     grown nodes task before after [] (is.tasks ∙ sym (append-nil before.tasks.items)) is.state
-    (let P : State → Type 0 = λ s. IsBased s in subst P (sym is.state) based) less
+    (let P : State → Type 0 = λ s. IsBased s in subst P (sym is.state) based) less pays
     (remembered nodes before after is.kept remembers) tt
 
 pub planned : (nodes : List Node) (task : Task) (before after : Machine) (more : List Task) (s : State)
@@ -217,11 +255,12 @@ pub planned : (nodes : List Node) (task : Task) (before after : Machine) (more :
     → run_all nodes more s ≡ run nodes task (state_of before)
     → IsBased s
     → work nodes more < task_work nodes task
+    → Pays nodes task more
     → AreDue nodes more s
     → IsStep nodes task before after
-planned nodes task before after more s is leads based less dues = λ remembers due.
+planned nodes task before after more s is leads based less pays dues = λ remembers due.
     grown nodes task before after more is.tasks (ap (run_all nodes more) is.state ∙ leads)
-    (let P : State → Type 0 = λ s. IsBased s in subst P (sym is.state) based) less
+    (let P : State → Type 0 = λ s. IsBased s in subst P (sym is.state) based) less pays
     (remembered nodes before after is.kept remembers)
     (let P : State → Type 0 = λ s. AreDue nodes more s in subst P (sym is.state) dues)
 
@@ -240,7 +279,8 @@ visited nodes i n v before after at is made based =
     ∙ ap (node_value i (given nodes) (frame_of (state_of before))) (sym at) ∙ is in
     settled nodes (Visit i) before after
     (let P : Option Element → Type 0 = λ w. IsAt (with_value w (state_of before)) before after in
-    subst P (sym e) made) based (omega (arith, cost_law nodes i))
+    subst P (sym e) made) based (omega (arith, cost_law nodes [] i))
+    (λ arounds. omega (arith, cost_law nodes arounds i))
 
 first_cost_is : (i : ℕ) (c : ℕ → ℕ) (n : Node) → first_cost i c (Some n) ≡ parts_cost i c (first_parts n)
 first_cost_is i c (Known v) = refl
@@ -266,8 +306,13 @@ visit_planned nodes i n before after at compound is based =
     ∙ ap (λ v. with_value v s) (sym (given_law nodes i (frame_of s))))
     based
     (let firsts = work_visits nodes i (first_parts n) in
-    let first = ap (first_cost i (cost nodes)) (sym at) ∙ first_cost_is i (cost nodes) n in
-    omega (arith, firsts, first, cost_law nodes i))
+    let first = ap (first_cost i (cost nodes [])) (sym at) ∙ first_cost_is i (cost nodes []) n in
+    omega (arith, firsts, first, cost_law nodes [] i))
+    (λ arounds.
+    let c : ℕ → ℕ = cost nodes arounds in
+    let firsts = cost_visits nodes c i (first_parts n) in
+    let first = ap (first_cost i c) (sym at) ∙ first_cost_is i c n in
+    omega (arith, firsts, first, cost_law nodes arounds i))
     (tt, due_visits nodes i (first_parts n) s)
 
 -- ---- the loop that plans visits, from the last part on

@@ -1,7 +1,7 @@
 -- What a step of the machine does for each task and each form of node.
 use Rattle.std.proofs.Common.{◌≡◌, ℕ, ◌+◌, ◌-◌, ◌*◌, ◌<◌, ◌≤◌, Bool, true, false, cond, List, [], ◌∷◌, ◌++◌}
 use Rattle.std.proofs.Common.{length, take, min, slice_get, Option, Some, None, refl, ap, sym, ◌∙◌, subst}
-use Rattle.std.proofs.Common.{arith, append-nil, length-append, length-drop, nat_eq, nat_lt, Result, Ok, Err}
+use Rattle.std.proofs.Common.{inl, inr, ◌⊎◌, arith, append-nil, length-append, length-drop, nat_eq, nat_lt, Result, Ok, Err}
 use Rattle.std.proofs.Common.{IfOk}
 use Rattle.std.proofs.Math.Seq.{drop-append_seam}
 use Rattle.std.proofs.lemmas.Bool.Decides.{nat_tests}
@@ -16,16 +16,17 @@ use Rattle.smt_machine.proofs.GivenLemmas.{given_law, cost_law}
 use Rattle.smt_machine.proofs.RunLemmas.{due_before, due_later, due_part, due_visits, grown, last_of_more}
 use Rattle.smt_machine.proofs.RunLemmas.{made_of_last, planned, remembered, run_all-append, run_part}
 use Rattle.smt_machine.proofs.RunLemmas.{run_visits, settled, visited, work-append, work_part, work_visits}
-use Rattle.smt_machine.proofs.RunLemmas.{with_values}
+use Rattle.smt_machine.proofs.RunLemmas.{Pays, cost-append, cost_part, cost_visits, with_values}
 use Rattle.smt_machine.specs.Given.{given}
-use Rattle.smt_machine.specs.Internal.Costs.{cost, first_cost, last_cost, part_cost}
+use Rattle.smt_machine.specs.Costs.{cost, first_cost, last_cost, part_cost}
 use Rattle.smt_machine.specs.Internal.States.{State, before_last, first_of, frame_of, last_of, state_of}
 use Rattle.smt_machine.specs.Internal.KeptView.{kept_at}
 use Rattle.smt_machine.specs.Internal.States.{with_base, with_last, with_moved, with_value, without_last}
 use Rattle.smt_machine.specs.Internal.Tasks.{AreDue, IsAt, IsBased, IsBegun, IsChoice, IsDone, IsDue}
-use Rattle.smt_machine.specs.Internal.Tasks.{IsKeeping, IsPlanned, IsRunning, IsStep}
+use Rattle.smt_machine.specs.Internal.Tasks.{IsKeeping, IsPaid, IsPlanned, IsRunning, IsStep}
 use Rattle.smt_machine.specs.Internal.Tasks.{branches_cost, branches_of, empty_state, chosen, chosen_between}
-use Rattle.smt_machine.specs.Internal.Tasks.{chosen_cost, finished, part_task, run, run_all, task_work}
+use Rattle.smt_machine.specs.Internal.Tasks.{charge, chosen_cost, finished, part_task, run, run_all, task_cost}
+use Rattle.smt_machine.specs.Internal.Tasks.{task_work, tasks_cost}
 use Rattle.smt_machine.specs.Internal.Tasks.{visits, work}
 use Rattle.smt_machine.specs.Memory.{Remembers}
 use Rattle.smt_machine.specs.Nodes.{Frame, Node, Apply, Call, Let, node_value, part}
@@ -41,10 +42,10 @@ if_done (Err e) p f = tt
 -- a task that changes nothing
 pub idle : (nodes : List Node) (task : Task) (m : Machine)
     → run nodes task (state_of m) ≡ state_of m
-    → IsBased (state_of m) → 0 < task_work nodes task → IsStep nodes task m m
-idle nodes task m same based less =
+    → IsBased (state_of m) → 0 < task_work nodes task → Pays nodes task [] → IsStep nodes task m m
+idle nodes task m same based less pays =
     settled nodes task m m (record { tasks = refl; state = sym same; kept = refl })
-    (let P : State → Type 0 = λ s. IsBased s in subst P (sym same) based) less
+    (let P : State → Type 0 = λ s. IsBased s in subst P (sym same) based) less pays
 
 -- ---- a choice
 
@@ -63,9 +64,14 @@ choice_planned_at nodes i c a b before after at is based =
     ∙ ap (λ m. with_value (node_value i (given nodes) (frame_of s) m) s) at
     ∙ ap (λ v. with_value v s) (sym (given_law nodes i (frame_of s))))
     based
-    (let first = ap (first_cost i (cost nodes)) (sym at) in
-    let later = ap (chosen_cost i (cost nodes)) (sym at) in
-    omega (arith, work_visits nodes i (c ∷ []), first, later, cost_law nodes i))
+    (let first = ap (first_cost i (cost nodes [])) (sym at) in
+    let later = ap (chosen_cost i (cost nodes [])) (sym at) in
+    omega (arith, work_visits nodes i (c ∷ []), first, later, cost_law nodes [] i))
+    (λ arounds.
+    let k : ℕ → ℕ = cost nodes arounds in
+    let first = ap (first_cost i k) (sym at) in
+    let later = ap (chosen_cost i k) (sym at) in
+    omega (arith, cost_visits nodes k i (c ∷ []), first, later, cost_law nodes arounds i))
     (tt, due_visits nodes i (c ∷ []) s)
 
 pub choice_planned : (nodes : List Node) (i : ℕ) (op : Op) (args condition : List ℕ) (before after : Machine)
@@ -106,10 +112,15 @@ chosen_is nodes i a b op args t s at branches is =
 
 branch_less : (nodes : List Node) (i a b : ℕ) (op : Op) (args : List ℕ)
     → Some (Apply op args) ≡ slice_get nodes i → Some (a, b) ≡ branches_of args
-    → 3 * (part_cost i (cost nodes) a + part_cost i (cost nodes) b) + 2 ≡ task_work nodes (Choose i)
+    → 3 * (part_cost i (cost nodes []) a + part_cost i (cost nodes []) b) + 2 ≡ task_work nodes (Choose i)
 branch_less nodes i a b op args at branches =
-    ap (λ p. 3 * branches_cost i (cost nodes) p + 2) branches
-    ∙ ap (λ m. 3 * chosen_cost i (cost nodes) m + 2) at
+    ap (λ p. 3 * branches_cost i (cost nodes []) p + 2) branches
+    ∙ ap (λ m. 3 * chosen_cost i (cost nodes []) m + 2) at
+
+branch_pays : (nodes : List Node) (i a b : ℕ) (op : Op) (args : List ℕ) (c : ℕ → ℕ)
+    → Some (Apply op args) ≡ slice_get nodes i → Some (a, b) ≡ branches_of args
+    → part_cost i c a + part_cost i c b ≡ task_cost nodes c (Choose i)
+branch_pays nodes i a b op args c at branches = ap (branches_cost i c) branches ∙ ap (chosen_cost i c) at
 
 branch_value : (value : ℕ → Option Element) (c : Bool) (a b : ℕ)
     → value (cond c a b) ≡ cond c (value a) (value b)
@@ -144,8 +155,13 @@ chosen_one nodes i a b op args t c before middle after at branches is some taken
     ∙ chosen_is nodes i a b op args t s at branches is)
     based
     (let less = branch_less nodes i a b op args at branches in
-    let one = branch_cost (part_cost i (cost nodes)) c a b in
+    let one = branch_cost (part_cost i (cost nodes [])) c a b in
     omega (arith, less, one, work_part nodes i (if c then a else b)))
+    (λ arounds.
+    let k : ℕ → ℕ = cost nodes arounds in
+    let pays = branch_pays nodes i a b op args k at branches in
+    let one = branch_cost (part_cost i k) c a b in
+    omega (arith, pays, one, cost_part nodes k i (if c then a else b)))
     (due_part nodes i (if c then a else b) (without_last 1 s))
 
 -- no truth value to choose by
@@ -171,7 +187,7 @@ chosen_none nodes i a b op args t before middle after at branches is none taken 
       kept = left.kept ∙ taken.kept;
     })
     (let here : IsBased (with_last 1 None s) = based in subst B leads here)
-    (omega arith)
+    (omega arith) (λ arounds. omega arith)
 
 -- no choice
 pub chosen_idle : (nodes : List Node) (i : ℕ) (op : Op) (args : List ℕ) (m : Machine)
@@ -181,6 +197,7 @@ chosen_idle nodes i op args m at branches based =
     idle nodes (Choose i) m
     (ap (λ n. chosen nodes i n (state_of m)) (sym at)
     ∙ ap (λ p. chosen_between nodes i p (state_of m)) (sym branches)) based (omega arith)
+    (λ arounds. omega arith)
 
 -- ---- what a node does with the last values
 
@@ -198,7 +215,7 @@ operated_step nodes i n op args before after at count is based =
     let B : State → Type 0 = λ z. IsBased z in
     settled nodes (Finish i) before after (subst A leads is)
     (let here : IsBased (with_last n (known_step op (last_of n s.values)) s) = based in subst B leads here)
-    (omega arith)
+    (omega arith) (λ arounds. omega arith)
 
 lesser_is : (m n : ℕ) → m ≤ n → min m n ≡ m
 lesser_is m n h = omega arith
@@ -230,7 +247,10 @@ entered_step nodes i n body args before after at count is based =
     ∙ ap (λ k. with_last k (part i (given nodes) (last_of k s.values) body) s) (sym count)
     ∙ ap (λ m. finished nodes i m s) at)
     (omega (arith, length-append s.frames (last_of n s.values)))
-    (let last = ap (last_cost i (cost nodes)) (sym at) in omega (arith, last, work_part nodes i body))
+    (let last = ap (last_cost i (cost nodes [])) (sym at) in omega (arith, last, work_part nodes i body))
+    (λ arounds.
+    let c : ℕ → ℕ = cost nodes arounds in
+    let last = ap (last_cost i c) (sym at) in omega (arith, last, cost_part nodes c i body))
     (tt, due_part nodes i body inner)
 
 pub bound_step : (nodes : List Node) (i n body : ℕ) (values : List ℕ) (before after : Machine)
@@ -256,7 +276,10 @@ bound_step nodes i n body values before after at count is based =
     ∙ ap (λ k. with_last k (part i (given nodes) (frame_of s ++ last_of k s.values) body) s) (sym count)
     ∙ ap (λ m. finished nodes i m s) at)
     (omega (arith, length-append s.frames (last_of n s.values)))
-    (let last = ap (last_cost i (cost nodes)) (sym at) in omega (arith, last, work_part nodes i body))
+    (let last = ap (last_cost i (cost nodes [])) (sym at) in omega (arith, last, work_part nodes i body))
+    (λ arounds.
+    let c : ℕ → ℕ = cost nodes arounds in
+    let last = ap (last_cost i c) (sym at) in omega (arith, last, cost_part nodes c i body))
     (tt, due_part nodes i body inner)
 
 -- ---- constants
@@ -333,10 +356,16 @@ closed_step nodes i j k before after at below is based =
     (body ∙ ap (λ v. with_value v s)
     (ap (λ n. given nodes n []) here.1 ∙ sym (constant_value nodes i j (frame_of s) at here.0)))
     (omega arith)
-    (let last = ap (last_cost i (cost nodes)) (sym at) in
-    let part = ap (λ b. cond b (cost nodes j) 1) here.0 in
-    let same = ap (cost nodes) here.1 in
-    omega (arith, last, part, same, cost_law nodes i)) (
+    (let last = ap (last_cost i (cost nodes [])) (sym at) in
+    let part = ap (λ b. cond b (cost nodes [] j) 1) here.0 in
+    let same = ap (cost nodes []) here.1 in
+    omega (arith, last, part, same, cost_law nodes [] i))
+    (λ arounds.
+    let c : ℕ → ℕ = cost nodes arounds in
+    let last = ap (last_cost i c) (sym at) in
+    let part = ap (λ b. cond b (c j) 1) here.0 in
+    let same = ap c here.1 in
+    omega (arith, last, part, same, cost_law nodes arounds i)) (
       ap (λ z. first_of (last_of 1 z.values)) body
           ∙ ap first_of (last_of_more s.values (value ∷ []) 1 refl),
       (tt, (tt, tt)),
@@ -358,6 +387,7 @@ pub keeping_step : (nodes : List Node) (k : ℕ) (before after : Machine)
 keeping_step nodes k before after is based = λ remembers due.
     grown nodes (Keep k) before after [] (is.tasks ∙ sym (append-nil before.tasks.items)) is.state
     (let P : State → Type 0 = λ s. IsBased s in subst P (sym is.state) based) (omega arith)
+    (λ arounds. omega arith)
     (λ number v here. kept_by nodes k number (nat_eq number k) v before
     (first_of (last_of 1 (state_of before).values)) refl remembers due (sym (is.kept number) ∙ here)) tt
 
@@ -433,6 +463,81 @@ turned_less nodes v task before middle after running state kept tasks step =
     let done = done_of nodes v task before middle after running state kept tasks step in
     let e = ap (work nodes) tasks in
     omega (arith, e, work-append nodes middle.tasks.items (task ∷ []), done.falls)
+
+-- a task costs what is counted for it
+charge_cost : (nodes : List Node) (arounds : List ℕ) (task : Task)
+    → charge arounds task ≤ task_cost nodes (cost nodes arounds) task
+charge_cost nodes arounds (Visit i) = omega (arith, cost_law nodes arounds i)
+charge_cost nodes arounds _ = omega arith
+
+-- at first all is left
+pub started_paid : (nodes : List Node) (arounds : List ℕ) (root first : ℕ) (before m : Machine)
+    → IsBegun (Visit root) before m → cost nodes arounds root ≤ first → IsPaid nodes arounds root first first m
+started_paid nodes arounds root first before m begun enough =
+    let e = ap (tasks_cost nodes (cost nodes arounds)) begun.tasks in
+    record {
+      enough = omega (arith, e, enough);
+      paid = omega (arith, e);
+      within = omega arith;
+      fewer = inl begun.tasks;
+    }
+
+-- there is enough for the next task
+pub task_paid : (nodes : List Node) (arounds : List ℕ) (root first left : ℕ) (task : Task)
+    (before middle : Machine) → IsPaid nodes arounds root first left before
+    → before.tasks.items ≡ middle.tasks.items ++ task ∷ [] → charge arounds task ≤ left
+task_paid nodes arounds root first left task before middle paid tasks =
+    let c : ℕ → ℕ = cost nodes arounds in
+    let e = ap (tasks_cost nodes c) tasks ∙ cost-append nodes c middle.tasks.items (task ∷ []) in
+    let one = charge_cost nodes arounds task in
+    let h = paid.enough in omega (arith, e, one, h)
+
+-- what is left, when a task is taken off and done
+pub turned_paid : (nodes : List Node) (arounds : List ℕ) (root first left rest : ℕ) (v : Option Element)
+    (task : Task) (before middle after : Machine)
+    → IsRunning nodes v before → IsPaid nodes arounds root first left before
+    → state_of middle ≡ state_of before → middle.kept ≡ before.kept
+    → before.tasks.items ≡ middle.tasks.items ++ task ∷ []
+    → IsStep nodes task middle after
+    → rest + charge arounds task ≡ left
+    → IsPaid nodes arounds root first rest after
+turned_paid nodes arounds root first left rest v task before middle after running paid state kept tasks step
+    counted =
+    let done = done_of nodes v task before middle after running state kept tasks step in
+    let c : ℕ → ℕ = cost nodes arounds in
+    let e = ap (tasks_cost nodes c) tasks ∙ cost-append nodes c middle.tasks.items (task ∷ []) in
+    let pays = done.pays arounds in
+    record {
+      enough = let h = paid.enough in omega (arith, e, pays, h, counted);
+      paid = let h = paid.paid in omega (arith, e, pays, h, counted);
+      within = let h = paid.within in omega (arith, h, counted);
+      fewer = by paid.fewer;
+    }
+  where
+    last : (xs : List Task) → xs ++ task ∷ [] ≡ Visit root ∷ [] → task ≡ Visit root
+    last [] is = cc
+    last (x ∷ []) is = cc
+    last (x ∷ y ∷ xs) is = cc
+
+    by : (before.tasks.items ≡ Visit root ∷ []) ⊎ (left < first)
+        → (after.tasks.items ≡ Visit root ∷ []) ⊎ (rest < first)
+    by (inl only) =
+        let visits = ap (charge arounds) (last middle.tasks.items (sym tasks ∙ only)) in
+        inr (let h = paid.within in omega (arith, visits, counted, h))
+    by (inr less) = inr (omega (arith, counted, less))
+
+-- at the end
+pub ended_paid : (nodes : List Node) (arounds : List ℕ) (root first left : ℕ) (m : Machine)
+    → IsPaid nodes arounds root first left m → m.tasks.items ≡ [] → left < first
+ended_paid nodes arounds root first left m paid none = by paid.fewer
+  where
+    by : (m.tasks.items ≡ Visit root ∷ []) ⊎ (left < first) → left < first
+    by (inl only) = let both : [] ≡ Visit root ∷ [] = sym none ∙ only in cc
+    by (inr less) = less
+
+pub ended_cost : (nodes : List Node) (arounds : List ℕ) (root first left : ℕ) (m : Machine)
+    → IsPaid nodes arounds root first left m → first ≤ left + cost nodes arounds root
+ended_cost nodes arounds root first left m paid = let h = paid.paid in omega (arith, h)
 
 pub ended : (nodes : List Node) (v w : Option Element) (before middle : Machine)
     → IsRunning nodes v before

@@ -2,4 +2,4 @@ pub mod Parts
 pub mod States
 pub mod KeptView
 pub mod Tasks
-pub mod Costs
+pub mod Sums

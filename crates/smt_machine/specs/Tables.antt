@@ -2,6 +2,7 @@
 -- lead to the bodies of their definitions.
 use Rattle.std.specs.Prelude.{ℕ, ◌+◌, List, [], ◌++◌, Option, Some, None, length, map, option_map, slice_get}
 use Rattle.smt_values.specs.Literals.{bin_element, hex_element, numeral_element}
+use Rattle.smt_machine.specs.Costs.{cost}
 use Rattle.smt_machine.specs.Nodes as machine
 use Rattle.smt_nodes.specs.Node.{Node, Numeral, Hexadecimal, Binary, Slot, Apply, Declared, Defined, Let}
 use Rattle.smt_nodes.specs.Nodes.{rows_of}
@@ -38,3 +39,12 @@ nodes_of tables =
     map (λ row. resolved 0 tables.model_bodies.now [] row.node) (rows_of tables.model.now)
     ++ map (λ row. resolved (model_count tables) tables.script_bodies.now tables.declared.now row.node)
     (rows_of tables.script.now)
+
+-- how many annotations stand round each of these nodes
+abbrev pub arounds_of : Tables → List ℕ
+arounds_of tables =
+    map (λ row. row.around) (rows_of tables.model.now) ++ map (λ row. row.around) (rows_of tables.script.now)
+
+-- what a term of the script costs, by its number there
+abbrev pub term_cost : Tables → ℕ → ℕ
+term_cost tables term = cost (nodes_of tables) (arounds_of tables) (model_count tables + term)

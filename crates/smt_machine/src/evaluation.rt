@@ -1,19 +1,21 @@
 //! Evaluation of nodes, one task after another. This file knows no stack.
 
-ghost use Rattle.std.specs.Prelude.{◌≡◌, ◌+◌, ℕ, [], IfOk, IfSome, IsTrue, List, None, Option, Some, nat_lt};
+ghost use Rattle.std.specs.Prelude.{◌≡◌, ◌≤◌, ◌<◌, ◌+◌, ℕ, [], IfOk, OnOk, IfSome, IsTrue, List, None, Option};
+ghost use Rattle.std.specs.Prelude.{Some, nat_lt};
 ghost use Rattle.std.specs.Prelude.{if◌then◌else◌, option_map, slice_get};
 ghost use Rattle.smt_theory.specs.declared.op.CoreOp.TheVariants.{Ite};
 ghost use Rattle.smt_theory.specs.declared.op.Op.{Op};
 ghost use Rattle.smt_theory.specs.declared.op.Op.TheVariants.{Core};
 ghost use Rattle.smt_values.specs.Element.{known_element};
 ghost use Rattle.smt_values.specs.KnownOperations.{known_truth};
+ghost use Rattle.smt_machine.specs.Costs.{cost};
 ghost use Rattle.smt_machine.specs.Given.{given};
 ghost use Rattle.smt_machine.specs.Internal.States.{state_of};
 ghost use Rattle.smt_machine.specs.Internal.Parts.{meaning, number_of, numbers_of};
-ghost use Rattle.smt_machine.specs.Internal.Tasks.{IsBased, IsChoice, IsStep, branches_of};
+ghost use Rattle.smt_machine.specs.Internal.Tasks.{IsBased, IsChoice, IsStep, branches_of, charge};
 ghost use Rattle.smt_machine.specs.Memory.{Remembers};
 ghost use Rattle.smt_machine.specs.Nodes.{Apply, Call, Node as MachineNode};
-ghost use Rattle.smt_machine.specs.Tables.{call, model_count, nodes_of};
+ghost use Rattle.smt_machine.specs.Tables.{arounds_of, call, model_count, nodes_of, term_cost};
 ghost use Rattle.smt_machine.specs.declared.task.Task.TheVariants.{Choose, Finish, Visit};
 
 use crate::machine::Machine;
@@ -27,41 +29,61 @@ use smt_values::{Value, bin, hex, numeral};
 
 impl Machine {
     /// What is known of the value of a closed term of the script. The machine is new, or has evaluated terms
-    /// over these tables alone. Refused is only the growth of the machine.
-    pub fn eval(&mut self, tables: Tables<'_>, term: TermId) -> Result<Option<Value>, Memory>
-        requires { Remembers self.old (nodes_of tables) }
+    /// over these tables alone. Of what is left, one is taken for each node that is evaluated, and for each
+    /// annotation round it; there is enough for the cost of the term. Refused is only the growth of the machine.
+    pub fn eval(
+        &mut self,
+        tables: Tables<'_>,
+        term: TermId,
+        left: &mut u64,
+    ) -> Result<Option<Value>, Memory>
+        requires remembers { Remembers self.old (nodes_of tables) }
+        requires enough { term_cost tables term ≤ left.old }
         ensures serves { IfOk result (λ _. Remembers self.new (nodes_of tables.entry)) }
         ensures value { IfOk result (λ v. known_element v
             ≡ given (nodes_of tables.entry) (model_count tables.entry + term) []) }
+        ensures fewer { OnOk result (left.new < left.old) }
+        ensures paid { OnOk result (left.old ≤ left.new + term_cost tables.entry term) }
     {
         match tables.shift().checked_add(term.number()) {
-            Some(root) => self.run(&tables, root),
+            Some(root) => self.run(&tables, root, left),
             // So many nodes have no place in memory.
             None => Err(Memory),
         }
     }
 
     // What is known of the value of a closed node.
-    fn run(&mut self, tables: &Tables<'_>, root: usize) -> Result<Option<Value>, Memory>
-        requires { Remembers self.old (nodes_of tables.now) }
+    fn run(
+        &mut self,
+        tables: &Tables<'_>,
+        root: usize,
+        left: &mut u64,
+    ) -> Result<Option<Value>, Memory>
+        requires remembers { Remembers self.old (nodes_of tables.now) }
+        requires enough { cost (nodes_of tables.now) (arounds_of tables.now) root ≤ left.old }
         ensures serves { IfOk result (λ _. Remembers self.new (nodes_of tables.now)) }
         ensures value { IfOk result (λ v. known_element v ≡ given (nodes_of tables.now) root []) }
+        ensures fewer { OnOk result (left.new < left.old) }
+        ensures paid { OnOk result
+            (left.old ≤ left.new + cost (nodes_of tables.now) (arounds_of tables.now) root) }
     {
         self.begin(Task::Visit(root))?;
         while let Some(task) = self.take_task() {
-            self.act(tables, task)?;
+            self.act(tables, task, left)?;
         }
         Ok(self.take_last())
     }
 
-    // Does a task that was taken off.
+    // Does a task that was taken off, and takes what it counts of what is left.
     #[inline(always)]
-    fn act(&mut self, tables: &Tables<'_>, task: Task) -> Result<(), Memory>
-        requires { IsBased (state_of self.old) }
-        ensures { IfOk result (λ _. IsStep (nodes_of tables.now) task self.old self.new) }
+    fn act(&mut self, tables: &Tables<'_>, task: Task, left: &mut u64) -> Result<(), Memory>
+        requires based { IsBased (state_of self.old) }
+        requires enough { charge (arounds_of tables.now) task ≤ left.old }
+        ensures step { IfOk result (λ _. IsStep (nodes_of tables.now) task self.old self.new) }
+        ensures counted { left.new + charge (arounds_of tables.now) task ≡ left.old }
     {
         match task {
-            Task::Visit(number) => self.visit(tables, number),
+            Task::Visit(number) => self.visit(tables, number, left),
             Task::Open => self.leave(None),
             Task::Finish(number) => self.finish(tables, number),
             Task::Choose(number) => self.choose(tables, number),
@@ -77,13 +99,17 @@ impl Machine {
         }
     }
 
-    // Leaves the value of a node, or plans what has to come before.
+    // Counts a node, and leaves its value, or plans what has to come before.
     #[inline(always)]
-    fn visit(&mut self, tables: &Tables<'_>, number: usize) -> Result<(), Memory>
-        requires { IsBased (state_of self.old) }
-        ensures { IfOk result (λ _. IsStep (nodes_of tables.now) (Visit number) self.old self.new) }
+    fn visit(&mut self, tables: &Tables<'_>, number: usize, left: &mut u64) -> Result<(), Memory>
+        requires based { IsBased (state_of self.old) }
+        requires enough { charge (arounds_of tables.now) (Visit number) ≤ left.old }
+        ensures step { IfOk result (λ _. IsStep (nodes_of tables.now) (Visit number) self.old self.new) }
+        ensures counted { left.new + charge (arounds_of tables.now) (Visit number) ≡ left.old }
     {
         let place = tables.place(number);
+        *left -= 1;
+        *left -= place.around() as u64;
         match place.node() {
             Some(node) => self.visit_node(number, &place, &node),
             None => self.leave(None),

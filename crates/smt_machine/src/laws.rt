@@ -1,6 +1,7 @@
 //! What holds of the definitions that the contracts name. Nothing here does anything: each contract is a law.
 
 ghost use Rattle.std.specs.Prelude.{◌≡◌, ℕ, ◌<◌, List, ◌++◌, length, slice_get};
+ghost use Rattle.smt_machine.specs.Costs.{around_at, cost, node_cost};
 ghost use Rattle.smt_machine.specs.Given.{given};
 ghost use Rattle.smt_machine.specs.Nodes.{Frame, Node, node_value};
 
@@ -14,4 +15,10 @@ pub fn nodes_have_their_values()
 pub fn values_are_kept()
     ensures { (nodes more : List Node) (i : ℕ) (frame : Frame) → i < length nodes
         → given (nodes ++ more) i frame ≡ given nodes i frame }
+{}
+
+/// What a node costs is made of the costs of the nodes below it, at every number.
+pub fn nodes_have_their_costs()
+    ensures { (nodes : List Node) (arounds : List ℕ) (i : ℕ) → cost nodes arounds i
+        ≡ node_cost i (cost nodes arounds) (around_at arounds i) (slice_get nodes i) }
 {}

@@ -10,14 +10,20 @@
 //! of both tables, `nodes_of` of `specs/Tables.antt`, whatever these hold; by `nodes_have_their_values` of
 //! [`laws`] that is what each form of node makes of its parts, `node_value` of `specs/Nodes.antt`.
 //!
+//! What a term costs is known before: `costs` counts for every node how many nodes are evaluated for it at
+//! most, each annotation as one more, and `Machine::eval` takes as much of what is left, or less.
+//!
 //! A call, for the script's `(+ x 1)` as node `sum`, where the model has 2 for `x`:
 //!
 //! ```text
+//! let costs = costs(alloc, tables)?;
+//! let mut left = cost_of_term(costs.as_slice(), tables, sum);               // 4: the sum, 1, x, and its 2
 //! let mut machine = Machine::new(alloc);
-//! machine.eval(tables, sum)?                                                // Some(Value::Int(3))
+//! machine.eval(tables, sum, &mut left)?                                     // Some(Value::Int(3))
 //! ```
 #![tactic(auto)]
 
+mod counting;
 mod evaluation;
 mod items;
 mod kept;
@@ -29,6 +35,7 @@ mod task;
 #[cfg(test)]
 mod tests;
 
+pub use counting::{cost_of_term, costs};
 pub use machine::Machine;
 pub use smt_faults::Memory;
 pub use tables::Tables;

@@ -1,8 +1,9 @@
 //! The nodes of a model and of a script as one table, and what names lead to. This file evaluates nothing.
 
 ghost use Rattle.std.specs.Prelude.{◌≡◌, ◌+◌, option_map, slice_get};
-ghost use Rattle.smt_machine.specs.Internal.Parts.{found, meaning, number_of, numbers_of};
-ghost use Rattle.smt_machine.specs.Tables.{model_count, nodes_of, shifted};
+ghost use Rattle.smt_machine.specs.Costs.{around_at};
+ghost use Rattle.smt_machine.specs.Internal.Parts.{found, found_around, meaning, number_of, numbers_of};
+ghost use Rattle.smt_machine.specs.Tables.{arounds_of, model_count, nodes_of, shifted};
 
 use crate::items::item_at;
 use crate::parts::{Part, Parts};
@@ -48,7 +49,8 @@ impl<'a> Tables<'a> {
     /// Where the node of a number is looked for.
     #[inline(always)]
     pub(crate) fn place(&self, number: usize) -> Place<'a>
-        ensures { found result ≡ slice_get (nodes_of self.now) number }
+        ensures node { found result ≡ slice_get (nodes_of self.now) number }
+        ensures around { found_around result ≡ around_at (arounds_of self.now) number }
     {
         let shift = self.shift();
         if number < shift {
@@ -78,6 +80,17 @@ impl<'a> Place<'a> {
         ensures { option_map (meaning self.now) result ≡ found self.now }
     {
         self.nodes.get(self.number)
+    }
+
+    /// How many annotations stand round it; none where no node is.
+    #[inline(always)]
+    pub(crate) fn around(&self) -> usize
+        ensures { result ≡ found_around self.now }
+    {
+        match self.nodes.around(self.number) {
+            Some(around) => around,
+            None => 0,
+        }
     }
 
     /// Nodes of this table.

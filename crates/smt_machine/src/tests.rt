@@ -1,7 +1,7 @@
-//! A term over a model's function and the script's own, evaluated twice by one machine, of which memory may
-//! be refused once (`rt try --test --fail-alloc N`).
+//! A term over a model's function and the script's own: its cost, and its value, twice by one machine, of
+//! which memory may be refused once (`rt try --test --fail-alloc N`).
 
-use crate::{Machine, Tables};
+use crate::{Machine, Tables, cost_of_term, costs};
 use smt_faults::Memory;
 use smt_nodes::{Node, Nodes, TermId};
 use smt_theory::{Arithmetic, Comparison, CoreOp, IntsOp, Op, Sort};
@@ -55,7 +55,8 @@ fn script(alloc: Global) -> Result<(Nodes, TermId, TermId), Memory> {
     Ok((nodes, g, term))
 }
 
-fn value(alloc: Global) -> Result<Option<Value>, Memory> {
+// What the term costs, its value, and what is left of that when it was evaluated twice.
+fn value(alloc: Global) -> Result<(u64, Option<Value>, u64), Memory> {
     let (model, declared) = model(alloc)?;
     let (script, g, term) = script(alloc)?;
     let tables = Tables {
@@ -65,17 +66,28 @@ fn value(alloc: Global) -> Result<Option<Value>, Memory> {
         script_bodies: &[g],
         declared: &declared,
     };
+    let costs = costs(alloc, tables)?;
+    let cost = cost_of_term(costs.as_slice(), tables, term);
+    if cost > 1000 {
+        return Ok((cost, None, 0));
+    }
     let mut machine = Machine::new(alloc);
-    machine.eval(tables, term)?;
-    machine.eval(tables, term)
+    let mut left = cost;
+    machine.eval(tables, term, &mut left)?;
+    left = cost;
+    let value = machine.eval(tables, term, &mut left)?;
+    Ok((cost, value, left))
 }
 
+// In the second evaluation the body of `x` is not evaluated again, nor one of the branches of `ite`.
 #[test]
-fn a_term_has_its_value(rt: HostRuntime) {
+fn a_term_has_its_cost_and_its_value(rt: HostRuntime) {
     let mut evaluated = false;
     for _ in 0..2 {
-        if let Ok(value) = value(rt.alloc()) {
+        if let Ok((cost, value, left)) = value(rt.alloc()) {
+            assert_eq!(rt; cost, 29);
             assert!(rt; matches!(value, Some(Value::Int(-5))));
+            assert_eq!(rt; left, 11);
             evaluated = true;
         }
     }

@@ -7,7 +7,7 @@ use Rattle.smt_report.specs.declared.line.CheckAnswer.{CheckAnswer}
 use Rattle.smt_report.specs.declared.line.CheckAnswer.TheVariants.{Unsat, Unknown, Unsupported, Error}
 use Rattle.smt_report.specs.declared.line.Line.{Line}
 use Rattle.smt_report.specs.declared.line.Line.TheVariants.{Unchecked, Confirmed, NoModel, ItemFault, Lacks}
-use Rattle.smt_report.specs.declared.line.Line.TheVariants.{Refuted, NotDecided, TextFault, CommandFault}
+use Rattle.smt_report.specs.declared.line.Line.TheVariants.{TooLong, Refuted, NotDecided, TextFault, CommandFault}
 use Rattle.smt_report.specs.declared.line.Line.TheVariants.{MissingAnswer, UnexpectedAnswer, ExtraAnswer}
 use Rattle.smt_report.specs.declared.line.Line.TheVariants.{Verdict as VerdictLine}
 use Rattle.smt_report.specs.declared.line.Side.{Side}
@@ -62,6 +62,7 @@ text_of (ItemFault check command model item flaw) =
     (codes ": item " ++ (decimal item ++ (codes " " ++ text_of_term_flaw flaw)))
 text_of (Lacks check command model declaration) =
     model_line check command model (codes ": lacks the symbol of command " ++ decimal declaration)
+text_of (TooLong check command model) = model_line check command model (codes ": too long")
 text_of (Refuted check command model claim) =
     model_line check command model (codes ": refuted by the " ++ text_of_claim claim)
 text_of (NotDecided check command model claim) =

@@ -19,6 +19,7 @@ abbrev pub is_undecided_line : Line → Bool
 is_undecided_line (lines.NoModel k n) = true
 is_undecided_line (lines.ItemFault k n g i f) = true
 is_undecided_line (lines.Lacks k n g d) = true
+is_undecided_line (lines.TooLong k n g) = true
 is_undecided_line (lines.NotDecided k n g a) = true
 is_undecided_line _ = false
 

@@ -59,6 +59,12 @@ pub enum Line {
         model: u64,
         declaration: u64,
     },
+    /// A `sat` with a complete model whose evaluation costs more than the limit.
+    TooLong {
+        check: u64,
+        command: u64,
+        model: u64,
+    },
     /// A `sat` with a complete model that makes this claim false.
     Refuted {
         check: u64,
@@ -126,6 +132,7 @@ impl Line {
             Line::NoModel { .. }
             | Line::ItemFault { .. }
             | Line::Lacks { .. }
+            | Line::TooLong { .. }
             | Line::NotDecided { .. } => true,
             _ => false,
         }
@@ -193,6 +200,7 @@ impl fmt::Display for Line {
             | Line::NoModel { check, command }
             | Line::ItemFault { check, command, .. }
             | Line::Lacks { check, command, .. }
+            | Line::TooLong { check, command, .. }
             | Line::Refuted { check, command, .. }
             | Line::NotDecided { check, command, .. } => {
                 let outcome = Outcome { line: self };
@@ -233,6 +241,7 @@ impl fmt::Display for Outcome<'_> {
             Line::NoModel { .. } => f.write_str("sat, no model"),
             Line::ItemFault { model, .. }
             | Line::Lacks { model, .. }
+            | Line::TooLong { model, .. }
             | Line::Refuted { model, .. }
             | Line::NotDecided { model, .. } => {
                 let finding = Finding { line: self.line };
@@ -262,6 +271,7 @@ impl fmt::Display for Finding<'_> {
                 f,
                 "lacks the symbol of command {declaration}"
             ),
+            Line::TooLong { .. } => f.write_str("too long"),
             Line::Refuted { claim, .. } => write!(f, "refuted by the {claim}"),
             Line::NotDecided { claim, .. } => write!(f, "{claim} not decided"),
             _ => Ok(()),

@@ -1,10 +1,11 @@
 //! The program's work on files. This file knows no word of the command line, and judges nothing.
 
-use smt_dialogue::{Options, RunFault, Verdict};
+ghost use Rattle.std.specs.Prelude.{◌<◌, ◌-◌, ◌^◌};
+
+use smt_dialogue::{Limit, Options, RunFault, Verdict};
 use smt_streams::Device;
 use smtcheck_command_line::Settings;
-use std::alloc::Global;
-use std::io::{BufReader, Read};
+use std::io::Read;
 use std::rt::Files;
 use std::{fs, io};
 
@@ -12,7 +13,9 @@ use std::{fs, io};
 pub(crate) fn run<R: Files + AllocGlobal + Print>(
     rt: &R,
     settings: Settings,
-) -> Result<Verdict, RunFault> {
+) -> Result<Verdict, RunFault>
+    requires { settings.steps < 2 ^ 64 - 1 }
+{
     let Ok(script) = fs::open(rt, settings.script) else {
         return Err(RunFault::Script);
     };
@@ -21,6 +24,9 @@ pub(crate) fn run<R: Files + AllocGlobal + Print>(
     };
     let options = Options {
         print_success: settings.print_success,
+        limit: Limit {
+            steps: settings.steps,
+        },
     };
     run_open(rt, script, answers, options)
 }

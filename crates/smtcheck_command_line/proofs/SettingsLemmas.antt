@@ -1,21 +1,30 @@
 -- What clap's definition says of the program's command on two words that begin with no hyphen, alone or
--- behind the option with its word.
-use Rattle.std.proofs.Common.{◌≡◌, ◌∙◌, ◌==◌, ◌&&◌, ◌||◌, ◌++◌, ℕ, Bool, List, [], ◌∷◌, ap, true, false, not}
-use Rattle.std.proofs.Common.{Option, Some, None, unwrap_or, codes, refl, if◌then◌else◌}
+-- behind the options with their words.
+use Rattle.std.proofs.Common.{◌≡◌, ◌<◌, ◌∙◌, ◌==◌, ◌&&◌, ◌||◌, ◌++◌, ℕ, Bool, List, [], ◌∷◌, ap, true, false}
+use Rattle.std.proofs.Common.{not, arith, Option, Some, None, unwrap_or, codes, refl, if◌then◌else◌, subst}
+use Rattle.std.proofs.Common.{sym}
 use Rattle.std.specs.List.{list_all}
 use Rattle.std.specs.Option.{option_map_or}
-use Rattle.std.specs.Prelude.{fold}
+use Rattle.std.specs.Prelude.{⊤, fold}
 use Rattle.std.specs.Str.{bytes_eq}
+use Rattle.std.specs.Str.Parse.{IsNumeral, without_leading_plus}
+use Rattle.std.proofs.lemmas.Bool.{eqb-true}
 use Rattle.clap.specs.Lexer.{long_of, short_of}
-use Rattle.clap.specs.Words.{Rule, Text, first_of, matches_of, takes}
-use Rattle.clap.specs.Walk.{Held, Walk, after_step, arg_by_index, finished, idle, long_or_other, nothing_held}
-use Rattle.clap.specs.Walk.{short_or_plain, to_positional, trailing, value, walk, walk_from, walked, word_met}
+use Rattle.clap.specs.Words.{IsUnsignedIn, Row, Rule, Text, first_of, matches_of, one_of, takes}
+use Rattle.clap.specs.Walk.{Held, Waiting, Walk, after_step, arg_by_index, finished, idle, long_or_other}
+use Rattle.clap.specs.Walk.{nothing_held, option, plain_word, positional, settled, short_or_plain}
+use Rattle.clap.specs.Walk.{subcommand_met, subcommand_or_other, to_positional, trailing, value, walk}
+use Rattle.clap.specs.Walk.{walk_from, walked, word_met}
 use Rattle.clap.specs.Simple.{Shape, built}
-use Rattle.clap.specs.Takes.{bundle_passes, default_passes, flag_word_passes, is_valid, settle_passes}
-use Rattle.clap.specs.Takes.{step_passes, turn_passes, walk_passes, word_passes}
+use Rattle.clap.specs.Takes.{bundle_passes, default_passes, flag_word_passes, is_valid, other_passes}
+use Rattle.clap.specs.Takes.{settle_passes, step_passes, takes, turn_passes, walk_passes, word_passes}
+use Rattle.clap.specs.declared.builder.value_parser.ValueParser.TheVariants.{Unsigned}
 use Rattle.clap.proofs.TakesLemmas.{leaf_takes}
+use Rattle.clap.proofs.ValueTestLemmas.{Accepts-accepts}
 use Rattle.clap.proofs.OnLiterals.{clap_on_literals}
-use Rattle.smtcheck_command_line.specs.Settings.{Places, is_plain, smtcheck_app, success_word}
+use Rattle.smtcheck_command_line.specs.Settings.{Places, is_plain, most_steps, smtcheck_app, success_word}
+
+-- ---- words that begin with no hyphen
 
 is_false : (b : Bool) → not b ≡ true → b ≡ false
 is_false true e = cc
@@ -33,23 +42,34 @@ no_short : (word : Text) → is_plain word ≡ true → short_of word ≡ None
 no_short [] e = cc
 no_short (x ∷ xs) e = rw (is_false (x == 45) e) refl
 
--- such a word goes to a positional
-plain_met : (c : List Rule) (position : ℕ) (word : Text) (h : Held) → is_plain word ≡ true
-    → word_met c [] false idle position word h ≡ (h, value)
-plain_met c position word h e =
-    let dashes : word_met c [] false idle position word h ≡ long_or_other c idle word (long_of word) h =
-    ap (λ b. if b then (h, trailing position) else long_or_other c idle word (long_of word) h)
-    (no_dashes word e) in
-    dashes ∙ ap (λ o. long_or_other c idle word o h) (no_long word e) ∙ ap
-    (λ o. short_or_plain c idle word o h) (no_short word e)
+no_subcommand : (waiting : Waiting) (word : Text) → subcommand_met [] waiting word ≡ None
+no_subcommand idle word = refl
+no_subcommand (option id) word = refl
+no_subcommand positional word = refl
 
-plain_passes : (s : Shape) (word : Text) (h : Held) → is_plain word ≡ true
-    → word_passes s [] false idle word h ≡ true
-plain_passes s word h e =
+-- such a word is no flag
+plain_met : (c : List Rule) (waiting : Waiting) (position : ℕ) (word : Text) (h : Held)
+    → is_plain word ≡ true → word_met c [] false waiting position word h ≡ plain_word c waiting word h
+plain_met c waiting position word h e =
+    let other : word_met c [] false waiting position word h
+    ≡ subcommand_or_other c None waiting position word h =
+    ap (λ o. subcommand_or_other c o waiting position word h) (no_subcommand waiting word) in
+    let dashes : subcommand_or_other c None waiting position word h
+    ≡ long_or_other c waiting word (long_of word) h =
+    ap (λ b. if b then (h, trailing position) else long_or_other c waiting word (long_of word) h)
+    (no_dashes word e) in
+    other ∙ dashes ∙ ap (λ o. long_or_other c waiting word o h) (no_long word e) ∙ ap
+    (λ o. short_or_plain c waiting word o h) (no_short word e)
+
+plain_passes : (s : Shape) (waiting : Waiting) (word : Text) (h : Held) → is_plain word ≡ true
+    → word_passes s [] false waiting word h ≡ true
+plain_passes s waiting word h e =
     let flag = flag_word_passes s.rules s.args_override_self in
-    let dashes : word_passes s [] false idle word h ≡ flag (long_of word) word h = ap
+    let other : word_passes s [] false waiting word h ≡ other_passes s None word h = ap
+    (λ o. other_passes s o word h) (no_subcommand waiting word) in
+    let dashes : other_passes s None word h ≡ flag (long_of word) word h = ap
     (λ b. b || flag (long_of word) word h) (no_dashes word e) in
-    dashes ∙ ap (λ o. flag o word h) (no_long word e)
+    other ∙ dashes ∙ ap (λ o. flag o word h) (no_long word e)
     ∙ ap (λ o. option_map_or (λ flags. bundle_passes s.rules s.args_override_self flags h) o true)
     (no_short word e)
 
@@ -58,12 +78,13 @@ abbrev standing : ℕ → Held → Walk
 standing position h =
     record { held = h; waiting = idle; position = position; is_trailing = false; stopped = None }
 
+-- such a word goes to a positional
 plain_walked : (c : List Rule) (position : ℕ) (word : Text) (h : Held) → is_plain word ≡ true
     → walked c [] (standing position h) word
     ≡ to_positional c (arg_by_index c position) word (standing position h) h
 unfolding walked
 plain_walked c position word h e =
-    ap (λ m. after_step c word (standing position h) m.0 m.1) (plain_met c position word h e)
+    ap (λ m. after_step c word (standing position h) m.0 m.1) (plain_met c idle position word h e)
 
 plain_turn : (s : Shape) (position : ℕ) (word : Text) (h : Held) → is_plain word ≡ true
     → step_passes s position h value ≡ true
@@ -74,95 +95,228 @@ plain_turn s position word h e step =
     (word_met s.rules [] false idle position word h).1)
     ≡ (word_passes s [] false idle word h && step_passes s position h value) =
     ap (λ m. word_passes s [] false idle word h && step_passes s position m.0 m.1)
-    (plain_met s.rules position word h e) in
-    met ∙ ap (λ b. b && step_passes s position h value) (plain_passes s word h e) ∙ step
+    (plain_met s.rules idle position word h e) in
+    met ∙ ap (λ b. b && step_passes s position h value) (plain_passes s idle word h e) ∙ step
 
--- the words of the option, and what is held behind them, where it is given
-abbrev option_words : Option Bool → List Text
-option_words None = []
-option_words (Some prints) = codes "--print-success" ∷ success_word prints ∷ []
+-- a number has no hyphen
+plain_number : (low high : ℕ) (text : Text) → IsUnsignedIn low high text → is_plain text ≡ true
+plain_number low high [] is =
+    let bad : 0 < 0 = is.0.0 in
+    absurd (omega arith)
+plain_number low high (x ∷ xs) is = go (x == 45) refl
+  where
+    go : (b : Bool) → (x == 45) ≡ b → not b ≡ true
+    go false e = refl
+    go true e =
+        let hyphen : IsNumeral 10 (without_leading_plus (45 ∷ xs)) = subst
+        (λ (y : ℕ). IsNumeral 10 (without_leading_plus (y ∷ xs))) (eqb-true x 45 e) is.0 in
+        let bad : 36 < 10 = hyphen.1.0 in
+        absurd (omega arith)
 
-abbrev option_held : Option Bool → Held
-option_held None = nothing_held
-option_held (Some prints) =
-    record nothing_held { pending = Some (codes "print-success", success_word prints ∷ []) }
-
--- the program's name, the option and the two words
-abbrev pub line_of : Text → Option Bool → Text → Text → List Text
-line_of name option script answers = name ∷ option_words option ++ script ∷ answers ∷ []
+-- ---- the options
 
 abbrev top : Places → Shape
 top places = (built (smtcheck_app places)).top
 
--- what is held after the first word, and after both
-abbrev first_held : Places → Option Bool → Text → Held
-first_held places option script =
-    (to_positional (top places).rules (arg_by_index (top places).rules 1) script
-    (standing 1 (option_held option)) (option_held option)).held
+-- the words of each option, where it is given
+abbrev success_words : Option Bool → List Text
+success_words None = []
+success_words (Some prints) = codes "--print-success" ∷ success_word prints ∷ []
 
-abbrev both_held : Places → Option Bool → Text → Text → Held
-both_held places option script answers =
-    let h = first_held places option script in
-    (to_positional (top places).rules (arg_by_index (top places).rules 2) answers (standing 2 h) h).held
+abbrev steps_words : Option Text → List Text
+steps_words None = []
+steps_words (Some text) = codes "--steps" ∷ text ∷ []
 
-option_walked : (places : Places) (option : Option Bool) (rest : List Text)
-    → walk (top places).rules [] nothing_held (option_words option ++ rest)
-    ≡ fold (walked (top places).rules []) (standing 1 (option_held option)) rest
+-- the options, and the words behind them
+abbrev with_options : Option Bool → Option Text → List Text → List Text
+with_options success steps rest = success_words success ++ (steps_words steps ++ rest)
+
+-- the program's name, the options and the two words
+abbrev pub line_of : Text → Option Bool → Option Text → Text → Text → List Text
+line_of name success steps script answers = name ∷ with_options success steps (script ∷ answers ∷ [])
+
+-- the number is one that the option takes, where it is given
+abbrev pub IsTaken : Option Text → Type 0
+IsTaken None = ⊤
+IsTaken (Some text) = IsUnsignedIn 0 most_steps text
+
+-- what is held behind the first option
+abbrev success_held : Option Bool → Held
+success_held None = nothing_held
+success_held (Some prints) =
+    record nothing_held { pending = Some (codes "print-success", success_word prints ∷ []) }
+
+-- and behind the name of the second, and behind its word
+abbrev asked_held : Places → Held → Held
+asked_held places h = record (settled (top places).rules h) { pending = Some (codes "steps", []) }
+
+abbrev given_held : Places → Held → Text → Held
+given_held places h text = record (settled (top places).rules h) { pending = Some (codes "steps", text ∷ []) }
+
+abbrev options_held : Places → Option Bool → Option Text → Held
+options_held places success None = success_held success
+options_held places success (Some text) = given_held places (success_held success) text
+
+-- a walk that waits for the number
+abbrev asking : Places → Held → Walk
+asking places h = record (standing 1 (asked_held places h)) { waiting = option (codes "steps") }
+
+success_walked : (places : Places) (success : Option Bool) (rest : List Text)
+    → walk (top places).rules [] nothing_held (success_words success ++ rest)
+    ≡ fold (walked (top places).rules []) (standing 1 (success_held success)) rest
 unfolding smtcheck_app clap_on_literals
-option_walked places None rest = refl
-option_walked places (Some true) rest = refl
-option_walked places (Some false) rest = refl
+success_walked places None rest = refl
+success_walked places (Some true) rest = refl
+success_walked places (Some false) rest = refl
 
-option_passes : (places : Places) (option : Option Bool) (rest : List Text)
-    → walk_passes (top places) [] (walk_from nothing_held) (option_words option ++ rest)
-    ≡ walk_passes (top places) [] (standing 1 (option_held option)) rest
+asked : (places : Places) (h : Held)
+    → walked (top places).rules [] (standing 1 h) (codes "--steps") ≡ asking places h
 unfolding smtcheck_app clap_on_literals
-option_passes places None rest = refl
-option_passes places (Some true) rest = refl
-option_passes places (Some false) rest = refl
+asked places h = refl
 
-first_walked : (places : Places) (option : Option Bool) (script : Text) → is_plain script ≡ true
-    → walked (top places).rules [] (standing 1 (option_held option)) script
-    ≡ standing 2 (first_held places option script)
+number_walked : (places : Places) (h : Held) (text : Text) → is_plain text ≡ true
+    → walked (top places).rules [] (asking places h) text ≡ standing 1 (given_held places h text)
+unfolding smtcheck_app walked
+number_walked places h text e =
+    ap (λ m. after_step (top places).rules text (asking places h) m.0 m.1)
+    (plain_met (top places).rules (option (codes "steps")) 1 text (asked_held places h) e)
+
+options_walked : (places : Places) (success : Option Bool) (steps : Option Text) (rest : List Text)
+    → IsTaken steps → walk (top places).rules [] nothing_held (with_options success steps rest)
+    ≡ fold (walked (top places).rules []) (standing 1 (options_held places success steps)) rest
+options_walked places success None rest taken = success_walked places success rest
+options_walked places success (Some text) rest taken =
+    let h = success_held success in
+    success_walked places success (codes "--steps" ∷ text ∷ rest)
+    ∙ ap (λ w. fold (walked (top places).rules []) (walked (top places).rules [] w text) rest)
+    (asked places h)
+    ∙ ap (λ w. fold (walked (top places).rules []) w rest)
+    (number_walked places h text (plain_number 0 most_steps text taken))
+
+success_passes : (places : Places) (success : Option Bool) (rest : List Text)
+    → walk_passes (top places) [] (walk_from nothing_held) (success_words success ++ rest)
+    ≡ walk_passes (top places) [] (standing 1 (success_held success)) rest
+unfolding smtcheck_app clap_on_literals
+success_passes places None rest = refl
+success_passes places (Some true) rest = refl
+success_passes places (Some false) rest = refl
+
+-- what is held settles before the number is asked for
+asked_turn : (places : Places) (success : Option Bool)
+    → turn_passes (top places) [] (standing 1 (success_held success)) (codes "--steps") ≡ true
+unfolding smtcheck_app clap_on_literals
+asked_turn places None = refl
+asked_turn places (Some true) = refl
+asked_turn places (Some false) = refl
+
+number_turn : (places : Places) (h : Held) (text : Text) → is_plain text ≡ true
+    → turn_passes (top places) [] (asking places h) text ≡ true
 unfolding smtcheck_app
-first_walked places option script e = plain_walked (top places).rules 1 script (option_held option) e
+number_turn places h text e =
+    let waiting = option (codes "steps") in
+    let passes = word_passes (top places) [] false waiting text (asked_held places h) in
+    ap (λ m. passes && step_passes (top places) 1 m.0 m.1)
+    (plain_met (top places).rules waiting 1 text (asked_held places h) e)
+    ∙ ap (λ b. b && true) (plain_passes (top places) waiting text (asked_held places h) e)
 
-both_walked : (places : Places) (option : Option Bool) (script answers : Text) → is_plain script ≡ true
-    → is_plain answers ≡ true
-    → fold (walked (top places).rules []) (standing 1 (option_held option)) (script ∷ answers ∷ [])
-    ≡ standing 3 (both_held places option script answers)
-unfolding smtcheck_app
-both_walked places option script answers p q =
-    ap (λ w. walked (top places).rules [] w answers) (first_walked places option script p)
-    ∙ plain_walked (top places).rules 2 answers (first_held places option script) q
-
-line_walked : (places : Places) (option : Option Bool) (script answers : Text) → is_plain script ≡ true
-    → is_plain answers ≡ true
-    → walk (top places).rules [] nothing_held (option_words option ++ script ∷ answers ∷ [])
-    ≡ standing 3 (both_held places option script answers)
-line_walked places option script answers p q =
-    option_walked places option (script ∷ answers ∷ []) ∙ both_walked places option script answers p q
-
-steps_pass : (places : Places) (option : Option Bool) (script : Text)
-    → (step_passes (top places) 1 (option_held option) value ≡ true)
-    × (step_passes (top places) 2 (first_held places option script) value ≡ true)
-unfolding smtcheck_app
-steps_pass places None script = (refl, refl)
-steps_pass places (Some true) script = (refl, refl)
-steps_pass places (Some false) script = (refl, refl)
-
-both_pass : (places : Places) (option : Option Bool) (script answers : Text) → is_plain script ≡ true
-    → is_plain answers ≡ true
-    → walk_passes (top places) [] (standing 1 (option_held option)) (script ∷ answers ∷ []) ≡ true
+options_pass : (places : Places) (success : Option Bool) (steps : Option Text) (rest : List Text)
+    → IsTaken steps
+    → walk_passes (top places) [] (walk_from nothing_held) (with_options success steps rest)
+    ≡ walk_passes (top places) [] (standing 1 (options_held places success steps)) rest
 unfolding walk_passes
-both_pass places option script answers p q =
-    let steps = steps_pass places option script in
+options_pass places success None rest taken = success_passes places success rest
+options_pass places success (Some text) rest taken =
+    let h = success_held success in
+    let plain = plain_number 0 most_steps text taken in
+    let behind = λ (w : Walk). turn_passes (top places) [] w text
+    && walk_passes (top places) [] (walked (top places).rules [] w text) rest in
+    let more = λ (w : Walk). walk_passes (top places) [] w rest in
+    success_passes places success (codes "--steps" ∷ text ∷ rest)
+    ∙ ap (λ b. b && behind (walked (top places).rules [] (standing 1 h) (codes "--steps")))
+    (asked_turn places success) ∙ ap behind (asked places h)
+    ∙ ap (λ b. b && more (walked (top places).rules [] (asking places h) text))
+    (number_turn places h text plain) ∙ ap more (number_walked places h text plain)
+
+-- ---- the two words
+
+-- what is held after the first word, and after both
+abbrev after_word : Places → ℕ → Held → Text → Held
+after_word places position h word =
+    let c = (top places).rules in
+    (to_positional c (arg_by_index c position) word (standing position h) h).held
+
+abbrev first_held : Places → Held → Text → Held
+first_held places h script = after_word places 1 h script
+
+abbrev both_held : Places → Held → Text → Text → Held
+both_held places h script answers = after_word places 2 (first_held places h script) answers
+
+first_walked : (places : Places) (h : Held) (script : Text) → is_plain script ≡ true
+    → walked (top places).rules [] (standing 1 h) script ≡ standing 2 (first_held places h script)
+unfolding smtcheck_app
+first_walked places h script e = plain_walked (top places).rules 1 script h e
+
+both_walked : (places : Places) (h : Held) (script answers : Text) → is_plain script ≡ true
+    → is_plain answers ≡ true
+    → fold (walked (top places).rules []) (standing 1 h) (script ∷ answers ∷ [])
+    ≡ standing 3 (both_held places h script answers)
+unfolding smtcheck_app
+both_walked places h script answers p q =
+    ap (λ w. walked (top places).rules [] w answers) (first_walked places h script p)
+    ∙ plain_walked (top places).rules 2 answers (first_held places h script) q
+
+line_walked : (places : Places) (success : Option Bool) (steps : Option Text) (script answers : Text)
+    → IsTaken steps → is_plain script ≡ true → is_plain answers ≡ true
+    → walk (top places).rules [] nothing_held (with_options success steps (script ∷ answers ∷ []))
+    ≡ standing 3 (both_held places (options_held places success steps) script answers)
+line_walked places success steps script answers taken p q =
+    options_walked places success steps (script ∷ answers ∷ []) taken
+    ∙ both_walked places (options_held places success steps) script answers p q
+
+-- the second option settles, since its number is in its range
+number_settles : (places : Places) (success : Option Bool) (text : Text) → IsUnsignedIn 0 most_steps text
+    → settle_passes (top places).rules (top places).args_override_self
+    (given_held places (success_held success) text) ≡ true
+unfolding smtcheck_app
+number_settles places None text is =
+    ap (λ b. b && true) (Accepts-accepts false (Unsigned 0 most_steps) text is)
+number_settles places (Some true) text is =
+    ap (λ b. b && true) (Accepts-accepts false (Unsigned 0 most_steps) text is)
+number_settles places (Some false) text is =
+    ap (λ b. b && true) (Accepts-accepts false (Unsigned 0 most_steps) text is)
+
+first_passes : (places : Places) (success : Option Bool) (steps : Option Text) → IsTaken steps
+    → step_passes (top places) 1 (options_held places success steps) value ≡ true
+unfolding smtcheck_app
+first_passes places None None taken = refl
+first_passes places (Some true) None taken = refl
+first_passes places (Some false) None taken = refl
+first_passes places success (Some text) taken = number_settles places success text taken
+
+second_passes : (places : Places) (success : Option Bool) (steps : Option Text) (script : Text)
+    → step_passes (top places) 2 (first_held places (options_held places success steps) script) value ≡ true
+unfolding smtcheck_app
+second_passes places None None script = refl
+second_passes places (Some true) None script = refl
+second_passes places (Some false) None script = refl
+second_passes places None (Some text) script = refl
+second_passes places (Some true) (Some text) script = refl
+second_passes places (Some false) (Some text) script = refl
+
+both_pass : (places : Places) (success : Option Bool) (steps : Option Text) (script answers : Text)
+    → IsTaken steps → is_plain script ≡ true → is_plain answers ≡ true
+    → walk_passes (top places) [] (standing 1 (options_held places success steps)) (script ∷ answers ∷ [])
+    ≡ true
+unfolding walk_passes
+both_pass places success steps script answers taken p q =
+    let h = options_held places success steps in
     let behind = λ (w : Walk). turn_passes (top places) [] w answers && true in
-    let second : behind (standing 2 (first_held places option script)) ≡ true =
-    ap (λ b. b && true) (plain_turn (top places) 2 answers (first_held places option script) q steps.1) in
-    ap (λ b. b && behind (walked (top places).rules [] (standing 1 (option_held option)) script))
-    (plain_turn (top places) 1 script (option_held option) p steps.0)
-    ∙ ap behind (first_walked places option script p) ∙ second
+    let second : behind (standing 2 (first_held places h script)) ≡ true = ap (λ b. b && true)
+    (plain_turn (top places) 2 answers (first_held places h script) q
+    (second_passes places success steps script)) in
+    ap (λ b. b && behind (walked (top places).rules [] (standing 1 h) script))
+    (plain_turn (top places) 1 script h p (first_passes places success steps taken))
+    ∙ ap behind (first_walked places h script p) ∙ second
 
 -- what is checked after the words
 abbrev end_passes : Places → Held → Bool
@@ -170,73 +324,64 @@ end_passes places h = settle_passes (top places).rules (top places).args_overrid
     && (list_all default_passes (top places).rules
     && is_valid (top places) (finished (top places).rules h) false)
 
-end_holds : (places : Places) (option : Option Bool) (script answers : Text)
-    → end_passes places (both_held places option script answers) ≡ true
+end_holds : (places : Places) (success : Option Bool) (steps : Option Text) (script answers : Text)
+    → end_passes places (both_held places (options_held places success steps) script answers) ≡ true
 unfolding smtcheck_app
-end_holds places None script answers = refl
-end_holds places (Some true) script answers = refl
-end_holds places (Some false) script answers = refl
+end_holds places None None script answers = refl
+end_holds places (Some true) None script answers = refl
+end_holds places (Some false) None script answers = refl
+end_holds places None (Some text) script answers = refl
+end_holds places (Some true) (Some text) script answers = refl
+end_holds places (Some false) (Some text) script answers = refl
 
-pub line-taken : (places : Places) (name : Text) (option : Option Bool) (script answers : Text)
-    → is_plain script ≡ true → is_plain answers ≡ true
-    → takes (smtcheck_app places) (line_of name option script answers) ≡ true
+pub line-taken : (places : Places) (name : Text) (success : Option Bool) (steps : Option Text)
+    (script answers : Text) → IsTaken steps → is_plain script ≡ true → is_plain answers ≡ true
+    → takes (smtcheck_app places) (line_of name success steps script answers) ≡ true
 unfolding smtcheck_app
-line-taken places name option script answers p q =
-    let words = option_words option ++ script ∷ answers ∷ [] in
+line-taken places name success steps script answers taken p q =
+    let words = with_options success steps (script ∷ answers ∷ []) in
     let ends : end_passes places (walk (top places).rules [] nothing_held words).held ≡ true =
     ap (λ (w : Walk). end_passes places w.held)
-    (line_walked places option script answers p q) ∙ end_holds places option script answers in
-    let passes = option_passes places option
-    (script ∷ answers ∷ []) ∙ both_pass places option script answers p q in
+    (line_walked places success steps script answers taken p q)
+    ∙ end_holds places success steps script answers in
+    let passes = options_pass places success steps (script ∷ answers ∷ []) taken
+    ∙ both_pass places success steps script answers taken p q in
     leaf_takes (built (smtcheck_app places)) nothing_held words refl
     (ap (λ b. b && end_passes places (walk (top places).rules [] nothing_held words).held) passes ∙ ends)
 
--- the three values that the command has on the words
-abbrev value_of : Places → Text → Held → Option Text
-value_of places id h = first_of id (finished (top places).rules h)
+-- ---- the values that the command has on the words
 
-pub line-script : (places : Places) (name : Text) (option : Option Bool) (script answers : Text)
-    → is_plain script ≡ true → is_plain answers ≡ true
-    → first_of (codes "SCRIPT") (matches_of (smtcheck_app places) (line_of name option script answers))
-    ≡ Some script
-unfolding smtcheck_app
-line-script places name option script answers p q =
-    ap (λ (w : Walk). value_of places (codes "SCRIPT") w.held)
-    (line_walked places option script answers p q) ∙ held option
-  where
-    held : (o : Option Bool)
-        → value_of places (codes "SCRIPT") (both_held places o script answers) ≡ Some script
-    held None = refl
-    held (Some true) = refl
-    held (Some false) = refl
+-- the rows have these values: where an option is not given, its default
+pub record HasValues (success : Option Bool) (steps : Option Text) (script answers : Text) (rows : List Row)
+    : Type 0 where
+  pub of_script : first_of (codes "SCRIPT") rows ≡ Some script
+  pub of_answers : first_of (codes "ANSWERS") rows ≡ Some answers
+  pub of_success : first_of (codes "print-success") rows ≡ Some (success_word (unwrap_or success true))
+  pub of_steps : one_of (codes "steps") rows ≡ Some (unwrap_or steps (codes "10000000"))
 
-pub line-answers : (places : Places) (name : Text) (option : Option Bool) (script answers : Text)
-    → is_plain script ≡ true → is_plain answers ≡ true
-    → first_of (codes "ANSWERS") (matches_of (smtcheck_app places) (line_of name option script answers))
-    ≡ Some answers
+end_values : (places : Places) (success : Option Bool) (steps : Option Text) (script answers : Text)
+    → HasValues success steps script answers (finished (top places).rules
+    (both_held places (options_held places success steps) script answers))
 unfolding smtcheck_app
-line-answers places name option script answers p q =
-    ap (λ (w : Walk). value_of places (codes "ANSWERS") w.held)
-    (line_walked places option script answers p q) ∙ held option
-  where
-    held : (o : Option Bool)
-        → value_of places (codes "ANSWERS") (both_held places o script answers) ≡ Some answers
-    held None = refl
-    held (Some true) = refl
-    held (Some false) = refl
+end_values places None None script answers =
+    record { of_script = refl; of_answers = refl; of_success = refl; of_steps = refl }
+end_values places (Some true) None script answers =
+    record { of_script = refl; of_answers = refl; of_success = refl; of_steps = refl }
+end_values places (Some false) None script answers =
+    record { of_script = refl; of_answers = refl; of_success = refl; of_steps = refl }
+end_values places None (Some text) script answers =
+    record { of_script = refl; of_answers = refl; of_success = refl; of_steps = refl }
+end_values places (Some true) (Some text) script answers =
+    record { of_script = refl; of_answers = refl; of_success = refl; of_steps = refl }
+end_values places (Some false) (Some text) script answers =
+    record { of_script = refl; of_answers = refl; of_success = refl; of_steps = refl }
 
-pub line-success : (places : Places) (name : Text) (option : Option Bool) (script answers : Text)
-    → is_plain script ≡ true → is_plain answers ≡ true
-    → first_of (codes "print-success") (matches_of (smtcheck_app places) (line_of name option script answers))
-    ≡ Some (success_word (unwrap_or option true))
+pub line-values : (places : Places) (name : Text) (success : Option Bool) (steps : Option Text)
+    (script answers : Text) → IsTaken steps → is_plain script ≡ true → is_plain answers ≡ true
+    → HasValues success steps script answers
+    (matches_of (smtcheck_app places) (line_of name success steps script answers))
 unfolding smtcheck_app
-line-success places name option script answers p q =
-    ap (λ (w : Walk). value_of places (codes "print-success") w.held)
-    (line_walked places option script answers p q) ∙ held option
-  where
-    held : (o : Option Bool)
-        → value_of places (codes "print-success") (both_held places o script answers)
-        ≡ Some (success_word (unwrap_or o true))
-    held None = refl
-    held (Some true) = refl
-    held (Some false) = refl
+line-values places name success steps script answers taken p q = subst
+    (λ (w : Walk). HasValues success steps script answers (finished (top places).rules w.held))
+    (sym (line_walked places success steps script answers taken p q))
+    (end_values places success steps script answers)

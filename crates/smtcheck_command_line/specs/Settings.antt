@@ -1,9 +1,11 @@
 -- The command line of the program, in the words in which clap says what a parse gives.
-use Rattle.std.specs.Prelude.{◌≡◌, ◌==◌, ℕ, Bool, true, false, not, Some, ⊤, codes, is_some, List, [], ◌∷◌}
-use Rattle.std.specs.Prelude.{MatchResult, None, Option, Result, if◌then◌else◌}
+use Rattle.std.specs.Prelude.{◌≡◌, ◌==◌, ◌-◌, ◌^◌, ℕ, Bool, true, false, not, Some, ⊤, codes, is_some, List}
+use Rattle.std.specs.Prelude.{[], ◌∷◌, MatchResult, None, Option, Result, if◌then◌else◌}
 use Rattle.std.specs.Borrow.{Bor}
-use Rattle.clap.specs.Words.{App, IsAmong, IsParsedFrom, Rule, Text, fault_of, first_of, first_value}
-use Rattle.clap.specs.Words.{found_of, kind_of, matches_of, new_app, new_rule, with_rule}
+use Rattle.std.specs.Str.Parse.{digits_value, without_leading_plus}
+use Rattle.clap.specs.Words.{App, IsAmong, IsParsedFrom, IsUnsignedIn, Rule, Text, fault_of, first_of}
+use Rattle.clap.specs.Words.{first_value, found_of, kind_of, matches_of, new_app, new_rule, one_of, one_text}
+use Rattle.clap.specs.Words.{with_rule}
 use Rattle.clap.specs.Simple.{on_top}
 use Rattle.clap.specs.declared.builder.value_parser.ValueParser.TheVariants as parser
 use Rattle.clap.specs.declared.builder.Command.{Command}
@@ -41,15 +43,33 @@ success_rule places = record (new_rule (codes "print-success")) {
   defaults = codes "on" ∷ [];
 }
 
+-- the most steps that the command line may ask for, and how many are meant where it asks for none
+abbrev pub most_steps : ℕ
+most_steps = 2 ^ 64 - 2
+
+abbrev pub default_steps : ℕ
+default_steps = 10000000
+
+-- the option with a number of steps, which is `default_steps` where the option is not given
+abbrev pub steps_rule : Rule
+steps_rule = record (new_rule (codes "steps")) {
+  long = Some (codes "steps");
+  action = Some Set;
+  value_names = 1;
+  parser = Some (parser.Unsigned 0 most_steps);
+  defaults = codes "10000000" ∷ [];
+}
+
 -- a command that tells its version
 abbrev pub with_version : App → App
 with_version = on_top (λ s. record s { has_version = true })
 
--- `smtcheck [--print-success on|off] SCRIPT ANSWERS`, which has `--version` and `--help` besides
+-- `smtcheck [--print-success on|off] [--steps N] SCRIPT ANSWERS`, which has `--version` and `--help` besides
 unfoldable pub smtcheck_app : Places → App
 smtcheck_app places =
-    with_rule (with_rule (with_rule (with_version (new_app (codes "smtcheck"))) (file_rule (codes "SCRIPT")))
-    (file_rule (codes "ANSWERS"))) (success_rule places)
+    with_rule (with_rule (with_rule
+    (with_rule (with_version (new_app (codes "smtcheck"))) (file_rule (codes "SCRIPT")))
+    (file_rule (codes "ANSWERS"))) (success_rule places)) steps_rule
 
 -- of the program's command, whose words lie at some places
 abbrev pub OfCommand : (App → Type 0) → Type 0
@@ -58,6 +78,11 @@ OfCommand P = (places : Places) × P (smtcheck_app places)
 -- the option's word for whether the solver prints `success` before the script sets `:print-success`
 abbrev pub success_word : Bool → Text
 success_word prints = if prints then codes "on" else codes "off"
+
+-- the text writes this number of steps, in decimal, and the number is in the option's range
+abbrev pub WritesSteps : Text → ℕ → Type 0
+WritesSteps text steps =
+    IsUnsignedIn 0 most_steps text × (steps ≡ digits_value 10 (without_leading_plus text))
 
 -- the matches have a value for the argument
 abbrev pub HasValue : ArgMatches → Text → Type 0
@@ -73,12 +98,20 @@ abbrev pub HasSuccessWord : Command → Type 0
 HasSuccessWord c = (m : ArgMatches) → IsParsedFrom c m
     → (prints : Bool) × (first_value (found_of m) (codes "print-success") ≡ Some (success_word prints))
 
--- the settings are the matches that the command has on these words
+-- and a number of steps for the other option
+abbrev pub HasSteps : Command → Type 0
+HasSteps c = (m : ArgMatches) → IsParsedFrom c m
+    → (text : Text) × (steps : ℕ) × (one_text (found_of m) (codes "steps") ≡ Some text)
+    × WritesSteps text steps
+
+-- the settings are the matches that the command has on these words, where a number stands as its text
 pub record AreSettings (words : List Text) (s : Settings) (a : App) : Type 0 where
   pub script : first_of (codes "SCRIPT") (matches_of a words) ≡ Some s.script.now
   pub answers : first_of (codes "ANSWERS") (matches_of a words) ≡ Some s.answers.now
   pub print_success : first_of (codes "print-success") (matches_of a words)
       ≡ Some (success_word s.print_success)
+  pub steps : (text : Text) × (one_of (codes "steps") (matches_of a words) ≡ Some text)
+      × WritesSteps text s.steps
 
 -- what is refused is refused with a kind that the command has on these words
 abbrev pub IsFaultOf : List Text → LineFault → App → Type 0
@@ -91,21 +124,36 @@ is_plain [] = false
 is_plain (x ∷ xs) = not (x == 45)
 
 -- the settings are these, or memory was refused
-abbrev pub Gives : Text → Text → Bool → Result Settings LineFault → Type 0
-Gives script answers prints r = MatchResult r
-    (λ s. (s.script.now ≡ script) × (s.answers.now ≡ answers) × (s.print_success ≡ prints))
+abbrev pub Gives : Text → Text → Bool → ℕ → Result Settings LineFault → Type 0
+Gives script answers prints steps r = MatchResult r
+    (λ s. (s.script.now ≡ script) × (s.answers.now ≡ answers) × (s.print_success ≡ prints)
+    × (s.steps ≡ steps))
     (λ f. f ≡ line.Memory)
 
 -- after the program's name, two plain words name the two files: only memory may be missing
 abbrev pub TakesTwo : List Text → Result Settings LineFault → Type 0
 TakesTwo words r = (name script answers : Text) → words ≡ name ∷ script ∷ answers ∷ []
-    → is_plain script ≡ true → is_plain answers ≡ true → Gives script answers true r
+    → is_plain script ≡ true → is_plain answers ≡ true → Gives script answers true default_steps r
 
 -- and so they do behind the option with one of its words
 abbrev pub TakesOption : List Text → Result Settings LineFault → Type 0
 TakesOption words r = (name script answers : Text) (prints : Bool)
     → words ≡ name ∷ codes "--print-success" ∷ success_word prints ∷ script ∷ answers ∷ []
-    → is_plain script ≡ true → is_plain answers ≡ true → Gives script answers prints r
+    → is_plain script ≡ true → is_plain answers ≡ true → Gives script answers prints default_steps r
+
+-- and behind `--steps` with a number in its range
+abbrev pub TakesSteps : List Text → Result Settings LineFault → Type 0
+TakesSteps words r = (name text script answers : Text) (steps : ℕ)
+    → words ≡ name ∷ codes "--steps" ∷ text ∷ script ∷ answers ∷ [] → WritesSteps text steps
+    → is_plain script ≡ true → is_plain answers ≡ true → Gives script answers true steps r
+
+-- and behind both options
+abbrev pub TakesBoth : List Text → Result Settings LineFault → Type 0
+TakesBoth words r = (name text script answers : Text) (prints : Bool) (steps : ℕ)
+    → words ≡ name ∷ codes "--print-success" ∷ success_word prints ∷ codes "--steps" ∷ text ∷ script
+    ∷ answers ∷ []
+    → WritesSteps text steps → is_plain script ≡ true → is_plain answers ≡ true
+    → Gives script answers prints steps r
 
 -- what a fault says; of the text of its own errors clap promises nothing
 abbrev pub text_of_line_fault : LineFault → Option Text

@@ -13,6 +13,8 @@ pub struct Settings<'a> {
     pub answers: &'a str,
     /// Whether the solver prints `success` before the script sets `:print-success`.
     pub print_success: bool,
+    /// How many steps the evaluation of a model may take, from 0 to 2^64 - 2: what its assertions cost.
+    pub steps: u64,
 }
 
 /// Why a command line can't be taken.

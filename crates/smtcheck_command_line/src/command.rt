@@ -1,20 +1,22 @@
 //! What a command line may say, what the program says of it, and how its words are read. This file opens no
 //! file, and prints nothing.
 
-ghost use Rattle.std.specs.Prelude.{◌≡◌, IfErr, IfOk, None, [], true, false};
+ghost use Rattle.std.specs.Prelude.{◌≡◌, ◌<◌, ◌-◌, ◌^◌, IfErr, IfOk, None, [], true, false};
 ghost use Rattle.clap.specs.Walk.{texts};
 ghost use Rattle.clap.specs.Words.{IsPlainArg, app_of, rule_of, takes};
-ghost use Rattle.smtcheck_command_line.specs.Settings.{AreSettings, HasSuccessWord, IsFaultOf, NeedsFiles};
-ghost use Rattle.smtcheck_command_line.specs.Settings.{OfCommand, Places, TakesOption, TakesTwo, file_rule};
+ghost use Rattle.smtcheck_command_line.specs.Settings.{AreSettings, HasSteps, HasSuccessWord, IsFaultOf};
+ghost use Rattle.smtcheck_command_line.specs.Settings.{NeedsFiles, OfCommand, Places, TakesBoth, TakesOption};
+ghost use Rattle.smtcheck_command_line.specs.Settings.{TakesSteps, TakesTwo, file_rule, steps_rule};
 ghost use Rattle.smtcheck_command_line.specs.Settings.{success_rule};
 
 use crate::arguments::{LineFault, Settings};
+use clap::builder::ValueParser;
 use clap::error::ErrorKind;
 use clap::{Arg, ArgAction, Command};
 use std::alloc::{AllocError, Global};
 
 /// The version of the program and the kit that proves it, which `--version` prints behind the program's name.
-const VERSION: &str = "0.1.0 (rattle-kit-13f logic dac8208d650f15bf)";
+const VERSION: &str = "0.2.0 (rattle-kit-13f logic dac8208d650f15bf)";
 
 const ABOUT: &str = "Checks the models that an SMT solver printed.
 
@@ -30,6 +32,16 @@ on:  for SMTInterpol and others that keep to the default of SMT-LIB, and for a r
 it, such as `z3 smtlib2_compliant=true` or `cvc5 --print-success`
 
 A script's own (set-option :print-success ..) is followed from there on.";
+
+const STEPS: &str =
+    "How many steps the evaluation of a model may take, from 0 to 18446744073709551614. All assertions in \
+force count together, and a model that costs more is told as `too long`, and is not evaluated.
+
+A step is one term that is evaluated. Its parts count as well, the body of a name counts at each use of the \
+name, and each annotation `!` is one step more.
+
+The cost grows with the text, so the models of a large script may need more. About 10,000,000 steps are \
+enough for some 25 to 70 MB of usual script.";
 
 const VERDICTS: &str =
     "The last line of the report is the verdict, and the exit status says the same:
@@ -49,6 +61,7 @@ pub(crate) fn smtcheck_command<'a>(alloc: Global) -> Result<Command<'a>, AllocEr
     ensures app { IfOk result (λ c. OfCommand (λ a. app_of c ≡ a)) }
     ensures needs { IfOk result NeedsFiles }
     ensures success { IfOk result HasSuccessWord }
+    ensures steps { IfOk result HasSteps }
 {
     let script = file(alloc, "SCRIPT", "the script that the solver read");
     let answers = file(alloc, "ANSWERS", "what the solver printed");
@@ -59,7 +72,8 @@ pub(crate) fn smtcheck_command<'a>(alloc: Global) -> Result<Command<'a>, AllocEr
         .after_help(VERDICTS)
         .arg(script)?
         .arg(answers)?
-        .arg(print_success(alloc))
+        .arg(print_success(alloc))?
+        .arg(steps(alloc))
 }
 
 // The argument that names a file.
@@ -95,11 +109,32 @@ fn print_success<'a>(alloc: Global) -> Arg<'a>
         .long_help(PRINT_SUCCESS)
 }
 
+// The option that says how many steps the evaluation of a model may take.
+fn steps<'a>(alloc: Global) -> Arg<'a>
+    ensures rule { rule_of result ≡ steps_rule }
+    ensures plain { IsPlainArg result }
+    ensures local { result.global ≡ false }
+    ensures undivided { result.val_delim ≡ None }
+    ensures unconditional { result.default_vals_ifs.items ≡ [] }
+{
+    Arg::new(alloc, "steps")
+        .long("steps")
+        .action(ArgAction::Set)
+        .value_name("N")
+        .value_parser(ValueParser::unsigned(0, u64::MAX - 1))
+        .default_value("10000000")
+        .help("how many steps the evaluation of a model may take")
+        .long_help(STEPS)
+}
+
 /// Reads the words of a command line, the program's name first.
 pub fn settings<'a>(alloc: Global, words: &'a [&'a str]) -> Result<Settings<'a>, LineFault>
     ensures ok { IfOk result (λ s. OfCommand (AreSettings (texts words.entry.now) s)) }
     ensures two_words { TakesTwo (texts words.entry.now) result }
     ensures option { TakesOption (texts words.entry.now) result }
+    ensures steps { TakesSteps (texts words.entry.now) result }
+    ensures both { TakesBoth (texts words.entry.now) result }
+    ensures limited { IfOk result (λ s. s.steps < 2 ^ 64 - 1) }
     ensures taken { IfOk result (λ _. OfCommand (λ a. takes a (texts words.entry.now) ≡ true)) }
     ensures refused { IfErr result (λ f. OfCommand (IsFaultOf (texts words.entry.now) f)) }
     ensures memory { IfErr result
@@ -117,5 +152,6 @@ pub fn settings<'a>(alloc: Global, words: &'a [&'a str]) -> Result<Settings<'a>,
         script: matches.get_str("SCRIPT").unwrap(),
         answers: matches.get_str("ANSWERS").unwrap(),
         print_success: matches.get_str("print-success").unwrap() == "on",
+        steps: matches.get_one::<u64>("steps").unwrap(),
     })
 }

@@ -2,10 +2,10 @@
 //! knows no dialogue.
 //!
 //! ```text
-//! let words = ["smtcheck", "--print-success", "off", "script.smt2", "answers.txt"];
-//! settings(alloc, &words)?                        // these two files, and `print_success: false`
-//! settings(alloc, &["smtcheck", "a", "b"])?       // the files `a` and `b`, and `print_success: true`
-//! settings(alloc, &["smtcheck"])                  // Err(LineFault::Refused(..)), with the text of `clap`
+//! let words = ["smtcheck", "--print-success", "off", "--steps", "500", "script.smt2", "answers.txt"];
+//! settings(alloc, &words)?                   // these two files, `print_success: false` and `steps: 500`
+//! settings(alloc, &["smtcheck", "a", "b"])?  // the files `a` and `b`, and the default of each option
+//! settings(alloc, &["smtcheck"])             // Err(LineFault::Refused(..)), with the text of `clap`
 //! ```
 #![tactic(auto)]
 

@@ -1,15 +1,17 @@
 //! Terms as the nodes of a library, in which the names of a model are declared.
 
-ghost use Rattle.smt_eval.specs.Interpretation.{Fits};
-ghost use Rattle.smt_terms.specs.Library.{StandsFor};
+ghost use Rattle.std.specs.Prelude.{◌<◌, ◌-◌, ◌^◌};
+ghost use Rattle.smt_trees.specs.Sexp.{Sexp};
+ghost use Rattle.smt_eval.specs.Interpretation.{Fits, KnowsCosts};
+ghost use Rattle.smt_terms.specs.Library.{IsTerm, StandsFor};
 ghost use Rattle.smt_terms.specs.Signature.{Signature};
 
 use crate::trees::flaw_of;
 use anyhow::{Result, bail};
-use smt_eval::{Checked, Closed, Interpretation};
+use smt_eval::{Checked, Closed, Interpretation, cost};
 use smt_faults::TermFlaw;
 use smt_forms::{item_form, params_of};
-use smt_terms::Library;
+use smt_terms::{Library, TermId};
 use smt_trees::{Tree, Trees};
 use smt_values::Value;
 use std::alloc::Global;
@@ -50,27 +52,85 @@ fn sorts_of(alloc: Global, parameters: &[Tree]) -> Result<Vec<Tree>> {
     Ok(sorts)
 }
 
-/// What is known of a term by its node, or what is wrong with the term.
+/// What is known of a term by its node, over a model that is read behind it, or what is wrong with the term.
 pub(crate) fn known_by_node(
     script: &mut Library,
-    interpretation: &Interpretation,
+    model: &Trees,
     tree: &Tree,
 ) -> Result<Result<Option<Value>, TermFlaw>>
-    requires { Fits interpretation.now script.old }
-    ensures { Fits interpretation.now script.new }
+    requires { (s : Signature) × StandsFor script.old s }
+    ensures { (s : Signature) → StandsFor script.old s → StandsFor script.new s }
 {
+    let mut left = u64::MAX - 1;
     match script.check(tree) {
-        Ok((term, _)) => {
-            let closed = Closed {
-                library: script,
-                interpretation,
-                term,
-            };
-            match closed.known() {
-                Ok(known) => Ok(Ok(known)),
-                Err(_) => bail!("out of memory"),
-            }
-        }
+        Ok((term, _)) => match known_over(script, model, term, &mut left)? {
+            Some(known) => Ok(Ok(known)),
+            None => bail!("the term is too long"),
+        },
         Err(fault) => Ok(Err(flaw_of(fault)?)),
+    }
+}
+
+/// How many of so many steps are left when a term was evaluated over a model; nothing where it costs more.
+pub(crate) fn left_of(
+    script: &mut Library,
+    model: &Trees,
+    tree: &Tree,
+    steps: u64,
+) -> Result<Option<u64>>
+    requires stands { (s : Signature) × StandsFor script.old s }
+    requires steps { steps < 2 ^ 64 - 1 }
+    ensures { (s : Signature) → StandsFor script.old s → StandsFor script.new s }
+{
+    let mut left = steps;
+    match script.check(tree) {
+        Ok((term, _)) => match known_over(script, model, term, &mut left)? {
+            Some(_) => Ok(Some(left)),
+            None => Ok(None),
+        },
+        Err(fault) => bail!("{}", flaw_of(fault)?),
+    }
+}
+
+// What is known of a term over a model; nothing of one that costs more than is left.
+fn known_over(
+    script: &Library,
+    model: &Trees,
+    term: TermId,
+    left: &mut u64,
+) -> Result<Option<Option<Value>>>
+    requires stands { (s : Signature) × StandsFor script.now s }
+    requires term { (t : Sexp) × IsTerm script.now term t }
+    requires below { left.old < 2 ^ 64 - 1 }
+{
+    let Ok(interpretation) = Interpretation::read(script, model) else {
+        bail!("the model has a fault");
+    };
+    known_in(script, &interpretation, term, left)
+}
+
+fn known_in(
+    script: &Library,
+    interpretation: &Interpretation,
+    term: TermId,
+    left: &mut u64,
+) -> Result<Option<Option<Value>>>
+    requires fits { Fits interpretation.now script.now }
+    requires counted { KnowsCosts interpretation.now script.now }
+    requires term { (t : Sexp) × IsTerm script.now term t }
+    requires below { left.old < 2 ^ 64 - 1 }
+{
+    let steps = cost(script, interpretation, term);
+    if steps > *left {
+        return Ok(None);
+    }
+    let closed = Closed {
+        library: script,
+        interpretation,
+        term,
+    };
+    match closed.known(left) {
+        Ok(known) => Ok(Some(known)),
+        Err(_) => bail!("out of memory"),
     }
 }

@@ -22,25 +22,28 @@ use Rattle.smt_dialogue.specs.declared.window.PendingCheck.{PendingCheck}
 use Rattle.smt_dialogue.specs.declared.window.Role.{Role}
 use Rattle.smt_dialogue.specs.declared.window.Role.TheVariants as role
 
--- how many checks there were, the one whose window has not ended, and the lines that are decided
+-- how many steps a model may take, how many checks there were, the one whose window has not ended, and the
+-- lines that are decided
 pub record ChecksState : Type 0 where
+  pub limit : ℕ
   pub count : ℕ
   pub pending : Option PendingCheck
   pub lines : List Line
 
 abbrev pub checks_state : Checks → ChecksState
-checks_state c = record { count = c.count; pending = c.pending; lines = c.lines.items }
+checks_state c =
+    record { limit = c.limit.steps; count = c.count; pending = c.pending; lines = c.lines.items }
 
 -- the same with other lines before those that are decided
 abbrev pub behind : List Line → ChecksState → ChecksState
 behind moved s = record s { lines = moved ++ s.lines }
 
 -- the lines of the check whose window has not ended, for the pairs after, which begin with command m
-abbrev pub pending_lines : Bool → Option PendingCheck → Signature → List Claimed → ℕ → List Pair → List Line
-pending_lines closed None names claims m after = []
-pending_lines closed (Some c) names claims m after =
+abbrev pub pending_lines : ℕ → Bool → Option PendingCheck → Signature → List Claimed → ℕ → List Pair → List Line
+pending_lines limit closed None names claims m after = []
+pending_lines limit closed (Some c) names claims m after =
     let models = models_from m (window after) in
-    sat_lines c.check c.command (unconfirmed_line c.check c.command names claims models)
+    sat_lines c.check c.command (unconfirmed_line limit c.check c.command names claims models)
     (c.some_model || not (is_empty models)) (closed || list_any closes after)
 
 -- the line of a check whose window ends
@@ -73,7 +76,7 @@ with_line s c None = record s { pending = Some (record c { some_model = true }) 
 abbrev pub with_models : ChecksState → Option PendingCheck → Signature → List Claimed → ℕ → Bool → Option Sexp
     → ChecksState
 with_models s (Some c) names claims n true (Some (Items parts)) =
-    with_line s c (line_of_judgement c.check c.command n (judgement_of names claims parts))
+    with_line s c (line_of_judgement c.check c.command n (judgement_of s.limit names claims parts))
 with_models s pending names claims n effective answer = s
 
 -- what a command is for the window of a check

@@ -9,7 +9,7 @@ use Rattle.smt_script.specs.CommandView.{command_view}
 use Rattle.smt_script.specs.declared.command.Command as code
 use Rattle.smt_script.specs.Stack.{Numbered, flaw_of_effect}
 use Rattle.smt_script.specs.StackView as stacks
-use Rattle.smt_script.specs.StackView.{last_of}
+use Rattle.smt_script.specs.StackView.{initial_print_success_of, last_of}
 use Rattle.smt_faults.specs.declared.command_flaw.CommandFlaw.{CommandFlaw}
 use Rattle.smt_script.specs.declared.stack.Stack.{Stack}
 use Rattle.smt_dialogue.specs.InForce.{signature_after}
@@ -18,6 +18,7 @@ use Rattle.smt_dialogue.specs.Pairs.{Pair, answers_taken, checks_in, effective_c
 use Rattle.smt_dialogue.specs.Internal.ChecksState.{ChecksState, behind, checks_state, pending_lines}
 use Rattle.smt_dialogue.specs.Window.{closes, window}
 use Rattle.smt_dialogue.specs.declared.dialogue.Dialogue.{Dialogue}
+use Rattle.smt_dialogue.specs.declared.options.Options.{Options}
 use Rattle.smt_report.specs.Verdict.{tally_of}
 use Rattle.smt_report.specs.declared.line.Line.{Line}
 use Rattle.smt_report.specs.declared.verdict.Tally.{Tally}
@@ -43,6 +44,10 @@ state_behind taken d = record {
   answers = d.answers;
 }
 
+-- what a dialogue was begun with
+abbrev pub options_of : Dialogue → Options
+options_of d = record { print_success = initial_print_success_of d.stack; limit = d.checks.limit }
+
 -- the pair of a command and what it took of the answers
 abbrev pub answered : code.Command → Option Tree → Pair
 answered command answer = pair_of (command_view command) (option_map sexp_of answer)
@@ -67,8 +72,8 @@ pub record Stands (early : Bool) (s : State) (pairs : List Pair) : Type 0 where
   pub checks : s.checks.count ≡ checks_in pairs
   pub tally : s.tally ≡ tally_of s.gathered
   pub lines : (closed : Bool) (after : List Pair) → (early ≡ true → Closing closed after)
-      → lines_in closed [] pairs after
-      ≡ s.checks.lines ++ pending_lines closed s.checks.pending (signature_after pairs)
+      → lines_in s.checks.limit closed [] pairs after
+      ≡ s.checks.lines ++ pending_lines s.checks.limit closed s.checks.pending (signature_after pairs)
       (claims_after pairs) (length pairs + 1) after
 
 abbrev pub StandsFor : State → List Pair → Type 0

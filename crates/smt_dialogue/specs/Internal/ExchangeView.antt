@@ -13,9 +13,10 @@ use Rattle.smt_dialogue.specs.Pairs.{Pair}
 use Rattle.smt_dialogue.specs.Lines.{lines_in}
 use Rattle.smt_dialogue.specs.Report.{ArePaired, IsTurn, lines_at_end, lines_of_end}
 use Rattle.smt_dialogue.specs.SoFar.{AreLinesSoFar, IsBeginning, is_verdict_line, lines_at}
-use Rattle.smt_dialogue.specs.Internal.DialogueState.{Stands, state_behind}
+use Rattle.smt_dialogue.specs.Internal.DialogueState.{Stands, options_of, state_behind}
 use Rattle.smt_dialogue.specs.Internal.FrontView.{HasFront}
 use Rattle.smt_dialogue.specs.declared.exchange.Exchange.{Exchange}
+use Rattle.smt_dialogue.specs.declared.options.Options.{Options}
 use Rattle.smt_dialogue.specs.declared.turn.Turn.{Turn}
 use Rattle.smt_dialogue.specs.declared.turn.Turn.TheVariants as turns
 use Rattle.smt_report.specs.Verdict.{verdict_of}
@@ -62,7 +63,7 @@ turn_of x texts pairs later rest = turn_after (initial_print_success_of x.dialog
 abbrev pub IsTurned : Turn → (old new : Exchange) → Texts → List Pair → (later rest : Sexps) → Type 0
 IsTurned turns.GoesOn old new texts pairs later rest =
     (pair : Pair) × (left : Sexps) × (after : Sexps) × IsUnderWay new texts (pairs ++ pair ∷ []) left after
-    × (initial_print_success_of new.dialogue.stack ≡ initial_print_success_of old.dialogue.stack)
+    × (options_of new.dialogue ≡ options_of old.dialogue)
 IsTurned (turns.Waits closed) old new texts pairs later rest =
     IsUnderWay new texts pairs later rest × (turn_of old texts pairs later rest ≡ first_fault.Waits closed)
     × (closed ≡ true → IsClosing new.command texts later)
@@ -82,20 +83,20 @@ waiting x = x.dialogue.decided.lines.items
 
 -- the turns came to rest: the dialogue waits behind pairs, with the lines that are decided, or has ended behind
 -- some, with all lines and this verdict
-abbrev pub HasRested : Option Verdict → (initial : Bool) → Exchange → Texts → Type 0
-HasRested None initial new texts =
+abbrev pub HasRested : Option Verdict → Options → Exchange → Texts → Type 0
+HasRested None options new texts =
     (closed : Bool) × (pairs : List Pair) × (later : Sexps) × (rest : Sexps)
-    × IsUnderWay new texts pairs later rest × (initial_print_success_of new.dialogue.stack ≡ initial)
+    × IsUnderWay new texts pairs later rest × (options_of new.dialogue ≡ options)
     × (turn_of new texts pairs later rest ≡ first_fault.Waits closed)
-    × (texts.taken ++ waiting new ≡ lines_at pairs (first_fault.Waits closed))
-HasRested (Some verdict) initial new texts =
+    × (texts.taken ++ waiting new ≡ lines_at options.limit.steps pairs (first_fault.Waits closed))
+HasRested (Some verdict) options new texts =
     (fault : Option Line) × (pairs : List Pair)
-    × IsTurn initial texts.script texts.answers pairs (first_fault.Ends fault)
-    × (texts.taken ++ waiting new ≡ lines_at_end pairs fault)
-    × (verdict ≡ verdict_of (lines_in true [] pairs [] ++ lines_of_end fault))
+    × IsTurn options.print_success texts.script texts.answers pairs (first_fault.Ends fault)
+    × (texts.taken ++ waiting new ≡ lines_at_end options.limit.steps pairs fault)
+    × (verdict ≡ verdict_of (lines_in options.limit.steps true [] pairs [] ++ lines_of_end fault))
 
 -- what is decided where memory was refused: the first of the lines so far, and not the verdict
-abbrev pub IsCut : (initial : Bool) → List Line → Texts → Type 0
-IsCut initial ls texts =
-    (all : List Line) × AreLinesSoFar initial texts.script texts.answers all × IsBeginning (texts.taken ++ ls) all
+abbrev pub IsCut : Options → List Line → Texts → Type 0
+IsCut options ls texts =
+    (all : List Line) × AreLinesSoFar options texts.script texts.answers all × IsBeginning (texts.taken ++ ls) all
     × (list_any is_verdict_line (texts.taken ++ ls) ≡ false)

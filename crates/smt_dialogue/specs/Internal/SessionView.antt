@@ -1,12 +1,12 @@
 -- How a session goes on from what it was told.
 use Rattle.std.specs.Prelude.{◌≡◌, List, [], ◌++◌, true, Option, Some, None}
 use Rattle.smt_trees.specs.Sexp.{Sexps}
-use Rattle.smt_script.specs.StackView.{initial_print_success_of}
 use Rattle.smt_dialogue.specs.FirstFault.{Ends, TextSoFar}
 use Rattle.smt_dialogue.specs.History.{History}
 use Rattle.smt_dialogue.specs.Lines.{lines_in}
 use Rattle.smt_dialogue.specs.Pairs.{Pair}
 use Rattle.smt_dialogue.specs.Report.{IsRead, IsTurn, lines_at_end, lines_of_end}
+use Rattle.smt_dialogue.specs.Internal.DialogueState.{options_of}
 use Rattle.smt_dialogue.specs.Internal.ExchangeView.{IsUnderWay, Texts, waiting}
 use Rattle.smt_dialogue.specs.declared.exchange.Exchange.{Exchange}
 use Rattle.smt_dialogue.specs.declared.session.Failed.{Failed}
@@ -37,7 +37,7 @@ pub record IsOpen (exchange : Exchange) (h : History) : Type 0 where
   pub later : Sexps
   pub rest : Sexps
   pub way : IsUnderWay exchange (texts_of h script answers) pairs later rest
-  pub start : initial_print_success_of exchange.dialogue.stack ≡ h.options.print_success
+  pub start : options_of exchange.dialogue ≡ h.options
 
 -- it has ended with these lines and this verdict
 pub record HasEnded (verdict : Verdict) (h : History) (ls : List Line) : Type 0 where
@@ -47,8 +47,8 @@ pub record HasEnded (verdict : Verdict) (h : History) (ls : List Line) : Type 0 
   pub pairs : List Pair
   pub fault : Option Line
   pub ends : IsTurn h.options.print_success script answers pairs (Ends fault)
-  pub lines_are : ls ≡ lines_at_end pairs fault
-  pub verdict_is : verdict ≡ verdict_of (lines_in true [] pairs [] ++ lines_of_end fault)
+  pub lines_are : ls ≡ lines_at_end h.options.limit.steps pairs fault
+  pub verdict_is : verdict ≡ verdict_of (lines_in h.options.limit.steps true [] pairs [] ++ lines_of_end fault)
 
 -- it has ended, or is under way; or a call has failed before, and it goes no further
 abbrev pub GoesOn : Option Verdict → Option Failed → Exchange → History → Type 0

@@ -32,9 +32,9 @@ pub fn told_lines_are_the_report()
 
 /// Lines that are decided stay, in their order, whatever trees, ends and faults come.
 pub fn decided_lines_stay()
-    ensures { (initial : Bool) (script answers grown_script grown_answers : TextSoFar) (ls ms : List Line)
-        → IsGrown script grown_script → IsGrown answers grown_answers
-        → AreLinesSoFar initial script answers ls → AreLinesSoFar initial grown_script grown_answers ms
+    ensures { (options : Options) (script answers grown_script grown_answers : TextSoFar)
+        (ls ms : List Line) → IsGrown script grown_script → IsGrown answers grown_answers
+        → AreLinesSoFar options script answers ls → AreLinesSoFar options grown_script grown_answers ms
         → IsBeginning ls ms }
 {}
 

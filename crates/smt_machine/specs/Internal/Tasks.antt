@@ -1,13 +1,13 @@
 -- What a task does to the machine's state, in one step, and what a stack of tasks does.
 use Rattle.std.specs.Prelude.{ℕ, ◌+◌, ◌*◌, ◌<◌, ◌≤◌, ◌≡◌, List, [], ◌∷◌, ◌++◌, Option, Some, None, length}
-use Rattle.std.specs.Prelude.{nat_lt, slice_get, ◌==◌, if◌then◌else◌}
+use Rattle.std.specs.Prelude.{nat_lt, slice_get, ◌==◌, ◌⊎◌, if◌then◌else◌}
 use Rattle.smt_theory.specs.declared.op.CoreOp.TheVariants.{Ite}
 use Rattle.smt_theory.specs.declared.op.Op.{Op}
 use Rattle.smt_theory.specs.declared.op.Op.TheVariants.{Core}
 use Rattle.smt_values.specs.Element.{Element}
 use Rattle.smt_values.specs.KnownOperations.{known_choice, known_step}
 use Rattle.smt_machine.specs.Given.{given}
-use Rattle.smt_machine.specs.Internal.Costs.{cost, last_cost, part_cost}
+use Rattle.smt_machine.specs.Costs.{around_at, cost, last_cost, part_cost}
 use Rattle.smt_machine.specs.Internal.KeptView.{kept_at}
 use Rattle.smt_machine.specs.Internal.States.{State, first_of, frame_of, last_of, state_of, with_frames}
 use Rattle.smt_machine.specs.Internal.States.{with_last, with_value}
@@ -95,12 +95,29 @@ abbrev pub chosen_cost : ℕ → (ℕ → ℕ) → Option Node → ℕ
 chosen_cost i c (Some (Apply op args)) = branches_cost i c (branches_of args)
 chosen_cost i c _ = 0
 
+-- what is counted as a task is done: a node that is visited, and the annotations round it
+abbrev pub charge : List ℕ → Task → ℕ
+charge arounds (Visit i) = 1 + around_at arounds i
+charge arounds _ = 0
+
+-- what is counted at most until a task is done, and all that it plans
+abbrev pub task_cost : List Node → (ℕ → ℕ) → Task → ℕ
+task_cost nodes c (Visit i) = c i
+task_cost nodes c Open = 1
+task_cost nodes c (Finish i) = last_cost i c (slice_get nodes i)
+task_cost nodes c (Choose i) = chosen_cost i c (slice_get nodes i)
+task_cost nodes c _ = 0
+
+abbrev pub tasks_cost : List Node → (ℕ → ℕ) → List Task → ℕ
+tasks_cost nodes c [] = 0
+tasks_cost nodes c (t ∷ ts) = task_cost nodes c t + tasks_cost nodes c ts
+
 -- three for each node that is visited, and up to two for what is done with it besides
 abbrev pub task_work : List Node → Task → ℕ
-task_work nodes (Visit i) = 3 * cost nodes i
+task_work nodes (Visit i) = 3 * cost nodes [] i
 task_work nodes Open = 3
-task_work nodes (Finish i) = 3 * last_cost i (cost nodes) (slice_get nodes i) + 2
-task_work nodes (Choose i) = 3 * chosen_cost i (cost nodes) (slice_get nodes i) + 2
+task_work nodes (Finish i) = 3 * last_cost i (cost nodes []) (slice_get nodes i) + 2
+task_work nodes (Choose i) = 3 * chosen_cost i (cost nodes []) (slice_get nodes i) + 2
 task_work nodes (Return base) = 1
 task_work nodes (Unbind len) = 1
 task_work nodes (Keep i) = 1
@@ -143,12 +160,15 @@ pub record IsKeeping (number : ℕ) (before after : Machine) : Type 0 where
   pub kept : (other : ℕ) → kept_at after.kept other ≡ (if other == number
       then Some (first_of (last_of 1 (state_of before).values)) else kept_at before.kept other)
 
--- a machine has done a task that was taken off already: what is left to do leads to the same, and is less
+-- a machine has done a task that was taken off already: what is left to do leads to the same, is less, and
+-- costs no more with what was counted
 pub record IsDone (nodes : List Node) (task : Task) (before after : Machine) : Type 0 where
   pub answer : run_all nodes after.tasks.items (state_of after)
       ≡ run_all nodes before.tasks.items (run nodes task (state_of before))
   pub based : IsBased (state_of after)
   pub falls : work nodes after.tasks.items < work nodes before.tasks.items + task_work nodes task
+  pub pays : (arounds : List ℕ) → tasks_cost nodes (cost nodes arounds) after.tasks.items + charge arounds task
+      ≤ tasks_cost nodes (cost nodes arounds) before.tasks.items + task_cost nodes (cost nodes arounds) task
   pub remembers : Remembers after nodes
   pub due : AreDue nodes before.tasks.items (run nodes task (state_of before))
       → AreDue nodes after.tasks.items (state_of after)
@@ -164,3 +184,10 @@ pub record IsRunning (nodes : List Node) (v : Option Element) (m : Machine) : Ty
   pub based : IsBased (state_of m)
   pub remembers : Remembers m nodes
   pub due : AreDue nodes m.tasks.items (state_of m)
+
+-- of so many at first so many are left: enough for the tasks, and not more than the cost was taken
+pub record IsPaid (nodes : List Node) (arounds : List ℕ) (root first left : ℕ) (m : Machine) : Type 0 where
+  pub enough : tasks_cost nodes (cost nodes arounds) m.tasks.items ≤ left
+  pub paid : first + tasks_cost nodes (cost nodes arounds) m.tasks.items ≤ left + cost nodes arounds root
+  pub within : left ≤ first
+  pub fewer : (m.tasks.items ≡ Visit root ∷ []) ⊎ (left < first)

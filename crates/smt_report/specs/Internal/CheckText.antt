@@ -4,7 +4,7 @@ use Rattle.std.specs.Fmt.{decimal}
 use Rattle.smt_report.specs.LineText.{text_of_answer, text_of_claim}
 use Rattle.smt_report.specs.declared.line.Line.{Line}
 use Rattle.smt_report.specs.declared.line.Line.TheVariants.{Unchecked, Confirmed, NoModel, ItemFault, Lacks}
-use Rattle.smt_report.specs.declared.line.Line.TheVariants.{Refuted, NotDecided}
+use Rattle.smt_report.specs.declared.line.Line.TheVariants.{TooLong, Refuted, NotDecided}
 use Rattle.smt_faults.specs.FlawText.{text_of_term_flaw}
 
 -- what a line on a model says of it
@@ -13,6 +13,7 @@ text_of_finding (ItemFault check command model item flaw) =
     codes "item " ++ (decimal item ++ (codes " " ++ text_of_term_flaw flaw))
 text_of_finding (Lacks check command model declaration) =
     codes "lacks the symbol of command " ++ decimal declaration
+text_of_finding (TooLong check command model) = codes "too long"
 text_of_finding (Refuted check command model claim) = codes "refuted by the " ++ text_of_claim claim
 text_of_finding (NotDecided check command model claim) = text_of_claim claim ++ codes " not decided"
 text_of_finding _ = []
@@ -30,6 +31,7 @@ text_of_outcome (ItemFault check command model item flaw) =
     model_and model (text_of_finding (ItemFault check command model item flaw))
 text_of_outcome (Lacks check command model declaration) =
     model_and model (text_of_finding (Lacks check command model declaration))
+text_of_outcome (TooLong check command model) = model_and model (text_of_finding (TooLong check command model))
 text_of_outcome (Refuted check command model claim) =
     model_and model (text_of_finding (Refuted check command model claim))
 text_of_outcome (NotDecided check command model claim) =

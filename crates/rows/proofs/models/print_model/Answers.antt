@@ -21,4 +21,5 @@ pub returns : goal.returns
 returns g c =
     let library = c.args.declared.now in
     subst (λ found. MatchOption found (Unit {0}) (λ i. Fits i library)) (sym c.ok.ensures.value)
-    (fits c.read-read.result library c.requires.0 _ _ c.requires.1 (c.read-read.ensures c.requires.0 c.requires.1))
+    (fits c.read-read.result library c.requires.0 _ _ c.requires.1
+    (c.read-read.ensures.model c.requires.0 c.requires.1))

@@ -1,6 +1,7 @@
--- the interpretation is one of a model of the names that the library has
-use Rattle.smt_eval.specs.Interpretation.{Fits}
+-- the library stands for a signature
+use Rattle.smt_terms.specs.Library.{StandsFor}
+use Rattle.smt_terms.specs.Signature.{Signature}
 use Rattle.rows.proofs.values.print_terms.Given as goal
 
 abbrev pub invariant-loop-field : goal.invariant-loop-field
-invariant-loop-field g l = Fits l.interpretation l.script
+invariant-loop-field g l = (s : Signature) × StandsFor l.script s

@@ -11,17 +11,17 @@ returns-in-Ok c = λ commands stands.
     let script = signature_in_force commands in
     let all = assertions_in_force commands in
     let names = c.library-library.ensures.stands commands stands in
-    let read = c.in-Ok.ensures script names in
+    let read = c.in-Ok.ensures.model script names in
     let terms = subst (λ l. AreAssertions (contents_of l) c.assertions.result.now all)
     (sym c.library-library.ensures.view) (c.assertions.ensures commands stands) in
-    IfOk-weaker c.judge_assertions-judgement.result _
-    (λ j. j ≡ judgement_of script (claims_of all) c.args.model.now)
-    (λ j h. h ∙ ap (judged_in script (claims_of all)) (sym read.1))
-    (c.judge_assertions-judgement.ensures script read.0 all names read.2 terms)
+    IfOk-weaker c.judge_within-judgement.result _
+    (λ j. j ≡ judgement_of c.args.limit.steps script (claims_of all) c.args.model.now)
+    (λ j h. h ∙ ap (judged_in c.args.limit.steps script (claims_of all)) (sym read.1))
+    (c.judge_within-judgement.ensures script read.0 all names read.2 terms)
 
-pub judge_assertions-judgement-requires-clause-fits : goal.judge_assertions-judgement-requires-clause-fits
-judge_assertions-judgement-requires-clause-fits c =
+pub judge_within-judgement-requires-clause-fits : goal.judge_within-judgement-requires-clause-fits
+judge_within-judgement-requires-clause-fits c =
     let script = signature_in_force c.requires.0 in
     let names = c.library-library.ensures.stands c.requires.0 c.requires.1 in
-    let read = c.in-Ok.ensures script names in
+    let read = c.in-Ok.ensures.model script names in
     record { script = script; definitions = read.0; names = names; holds = read.2 }

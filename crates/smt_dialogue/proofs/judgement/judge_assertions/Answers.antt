@@ -4,7 +4,7 @@ use Rattle.smt_values.specs.Element.{Truth}
 use Rattle.smt_values.specs.KnownOperations.{is_known}
 use Rattle.smt_terms.specs.Contents.{contents_of}
 use Rattle.smt_eval.specs.Structure.{structure_of}
-use Rattle.smt_dialogue.proofs.JudgementLemmas.{judged_from, left-false, left-none, left-open}
+use Rattle.smt_dialogue.proofs.JudgementLemmas.{cost_first, cost_rest, judged_from, left-false, left-none, left-open}
 use Rattle.smt_dialogue.proofs.JudgementLemmas.{left-opened, left-true, term_left, terms_left}
 use Rattle.smt_dialogue.specs.Judgement.{open_or_confirmed}
 use Rattle.smt_dialogue.proofs.judgement.judge_assertions.Goals as goal
@@ -14,45 +14,65 @@ eval_by-requires-clause-term c = term_left (contents_of c.args.library.now)
     c.loop-assertion.left.now c.in-Some.rest.now c.in-Some.assertion.now c.in-Some.ensures.cases.0
     c.loop-assertion.invariant.terms
 
+pub eval_by-requires-clause-enough : goal.eval_by-requires-clause-enough
+eval_by-requires-clause-enough c = λ script definitions t stands holds term.
+    cost_first (contents_of c.args.library.now) c.loop-assertion.left.now c.in-Some.rest.now
+    c.in-Some.assertion.now (structure_of script definitions) _ t c.in-Some.ensures.cases.0
+    (c.loop-assertion.invariant.enough script definitions stands holds) c.loop-assertion.invariant.terms term
+
 pub returns-in-Some-false : goal.returns-in-Some-false
 returns-in-Some-false c = λ script definitions all stands holds assertions.
     let s = structure_of script definitions in
     left-false (contents_of c.args.library.now)
     c.loop-assertion.left.now c.in-Some.rest.now c.in-Some.assertion.now s c.loop-assertion.first_open
     (judged_from s std.None all) c.in-Some.ensures.cases.0
-    (λ t term. sym (c.in_ok-eval_by.ensures.known script definitions t stands holds term) ∙ c.in-Some-false.ensures
+    (λ t term. sym (c.in_ok-value.ensures.known script definitions t stands holds term) ∙ c.in-Some-false.ensures
     ∙ ap (λ b. Some (Truth b)) c.in-Some-false.field-0-test)
     (c.loop-assertion.invariant.judged script definitions all stands holds assertions)
 
 pub loop-assertion-preserved-in-Some-true : goal.loop-assertion-preserved-in-Some-true
 loop-assertion-preserved-in-Some-true c = record {
-  serves = c.in_ok-eval_by.ensures.serves;
+  serves = c.in_ok-value.ensures.serves;
   terms = terms_left (contents_of c.args.library.now)
       c.loop-assertion.left.now c.in-Some.rest.now c.in-Some.assertion.now c.in-Some.ensures.cases.0
       c.loop-assertion.invariant.terms;
+  enough = λ script definitions stands holds.
+      let term = term_left (contents_of c.args.library.now) c.loop-assertion.left.now c.in-Some.rest.now
+      c.in-Some.assertion.now c.in-Some.ensures.cases.0 c.loop-assertion.invariant.terms in
+      cost_rest (contents_of c.args.library.now) c.loop-assertion.left.now c.in-Some.rest.now
+      c.in-Some.assertion.now (structure_of script definitions) _ _ term.0 c.in-Some.ensures.cases.0
+      (c.loop-assertion.invariant.enough script definitions stands holds) term.1
+      (c.in_ok-value.ensures.paid script definitions term.0 stands holds term.1);
   judged = λ script definitions all stands holds assertions.
       let s = structure_of script definitions in
       left-true (contents_of c.args.library.now)
       c.loop-assertion.left.now c.in-Some.rest.now c.in-Some.assertion.now s c.loop-assertion.first_open
       (judged_from s std.None all) c.in-Some.ensures.cases.0
-      (λ t term. sym (c.in_ok-eval_by.ensures.known script definitions t stands holds term) ∙ c.in-Some-true.ensures
+      (λ t term. sym (c.in_ok-value.ensures.known script definitions t stands holds term) ∙ c.in-Some-true.ensures
       ∙ ap (λ b. Some (Truth b)) c.in-Some-true.field-0-test)
       (c.loop-assertion.invariant.judged script definitions all stands holds assertions);
 }
 
 pub loop-assertion-preserved : goal.loop-assertion-preserved
 loop-assertion-preserved c = record {
-  serves = c.in_ok-eval_by.ensures.serves;
+  serves = c.in_ok-value.ensures.serves;
   terms = terms_left (contents_of c.args.library.now)
       c.loop-assertion.left.now c.in-Some.rest.now c.in-Some.assertion.now c.in-Some.ensures.cases.0
       c.loop-assertion.invariant.terms;
+  enough = λ script definitions stands holds.
+      let term = term_left (contents_of c.args.library.now) c.loop-assertion.left.now c.in-Some.rest.now
+      c.in-Some.assertion.now c.in-Some.ensures.cases.0 c.loop-assertion.invariant.terms in
+      cost_rest (contents_of c.args.library.now) c.loop-assertion.left.now c.in-Some.rest.now
+      c.in-Some.assertion.now (structure_of script definitions) _ _ term.0 c.in-Some.ensures.cases.0
+      (c.loop-assertion.invariant.enough script definitions stands holds) term.1
+      (c.in_ok-value.ensures.paid script definitions term.0 stands holds term.1);
   judged = λ script definitions all stands holds assertions.
       let s = structure_of script definitions in
       left-open (contents_of c.args.library.now)
       c.loop-assertion.left.now c.in-Some.rest.now c.in-Some.assertion.now s c.loop-assertion.first_open
       (judged_from s std.None all) c.in-Some.ensures.cases.0
       (λ t term.
-      let known = c.in_ok-eval_by.ensures.known script definitions t stands holds term in (
+      let known = c.in_ok-value.ensures.known script definitions t stands holds term in (
         ap (is_known std.false) (sym known) ∙ c.in-None.ensures.0,
         ap (is_known std.true) (sym known)
             ∙ c.in-None.ensures.1,
@@ -79,17 +99,24 @@ returns-in-None-first_open c = λ script definitions all stands holds assertions
 
 pub loop-assertion-preserved-then-is_none : goal.loop-assertion-preserved-then-is_none
 loop-assertion-preserved-then-is_none c = record {
-  serves = c.in_ok-eval_by.ensures.serves;
+  serves = c.in_ok-value.ensures.serves;
   terms = terms_left (contents_of c.args.library.now)
       c.loop-assertion.left.now c.in-Some.rest.now c.in-Some.assertion.now c.in-Some.ensures.cases.0
       c.loop-assertion.invariant.terms;
+  enough = λ script definitions stands holds.
+      let term = term_left (contents_of c.args.library.now) c.loop-assertion.left.now c.in-Some.rest.now
+      c.in-Some.assertion.now c.in-Some.ensures.cases.0 c.loop-assertion.invariant.terms in
+      cost_rest (contents_of c.args.library.now) c.loop-assertion.left.now c.in-Some.rest.now
+      c.in-Some.assertion.now (structure_of script definitions) _ _ term.0 c.in-Some.ensures.cases.0
+      (c.loop-assertion.invariant.enough script definitions stands holds) term.1
+      (c.in_ok-value.ensures.paid script definitions term.0 stands holds term.1);
   judged = λ script definitions all stands holds assertions.
       let s = structure_of script definitions in
       left-opened (contents_of c.args.library.now)
       c.loop-assertion.left.now c.in-Some.rest.now c.in-Some.assertion.now s c.loop-assertion.first_open
       (judged_from s std.None all) c.in-Some.ensures.cases.0
       (λ t term.
-      let known = c.in_ok-eval_by.ensures.known script definitions t stands holds term in (
+      let known = c.in_ok-value.ensures.known script definitions t stands holds term in (
         ap (is_known std.false) (sym known) ∙ c.in-None.ensures.0,
         ap (is_known std.true) (sym known)
             ∙ c.in-None.ensures.1,

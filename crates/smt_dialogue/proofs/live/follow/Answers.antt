@@ -1,6 +1,5 @@
 use Rattle.std.proofs.Common.{◌∙◌, Option, Some, ap, subst, sym}
 use Rattle.smt_dialogue.proofs.RunLemmas.{has_run, told_verdict}
-use Rattle.smt_dialogue.specs.Run.{Devices}
 use Rattle.smt_dialogue.specs.Internal.SessionStep.{IsWanted}
 use Rattle.smt_report.specs.declared.line.Side.{Side}
 use Rattle.smt_dialogue.proofs.live.follow.Goals as goal
@@ -26,3 +25,7 @@ returns-clause-ran g c = λ options k.
     (i.answers_end answers) r c.in-Some-verdict.ensures.told
     (λ h on is. c.in-Some-verdict.ensures.valid h on (ap Some is))
     (λ h on is. c.in-Some-verdict.ensures.invalid h on (ap Some is))
+
+pub step-requires-clause-stands : goal.step-requires-clause-stands
+step-requires-clause-stands g c =
+    let r = c.loop-side.invariant.running c.requires.stands.0 c.requires.stands.1 in (_, r.stands)

@@ -1,11 +1,7 @@
-use Rattle.std.proofs.Common.{◌≡◌, ◌∙◌, Bool, List, Option, ℕ, false, take}
-use Rattle.std.specs.Io.KnownBytes.{Appends}
+use Rattle.std.proofs.Common.{◌∙◌}
 use Rattle.smt_dialogue.proofs.RunLemmas.{map_ok, put_stopped, running_put, running_answers, stopped_by}
 use Rattle.smt_dialogue.proofs.RunLemmas.{stopped_pull_answers}
-use Rattle.smt_dialogue.specs.Run.{Devices, HasStopped, text_of_lines}
-use Rattle.smt_dialogue.specs.Session.{failure_of, lines_waiting}
-use Rattle.smt_dialogue.specs.Internal.RunStep.{IsRunning}
-use Rattle.smt_dialogue.specs.declared.options.Options.{Options}
+use Rattle.smt_dialogue.specs.Run.{Devices}
 use Rattle.smt_dialogue.proofs.live.step_answers.Goals as goal
 
 pub returns-in-Ok-clause-goes_on : goal.returns-in-Ok-clause-goes_on

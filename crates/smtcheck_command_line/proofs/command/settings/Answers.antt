@@ -1,19 +1,23 @@
-use Rattle.std.proofs.Common.{◌≡◌, ◌∙◌, ap, subst, sym, Bool, codes, false, true, inl, inr, refl, map}
-use Rattle.std.proofs.Common.{option_map, List, [], Option, None, Some}
-use Rattle.std.specs.Prelude.{unwrap_or}
+use Rattle.std.proofs.Common.{◌≡◌, ◌∙◌, ap, arith, subst, sym, ℕ, Bool, codes, false, true, inl, inr, refl}
+use Rattle.std.proofs.Common.{map, option_map, List, [], Option, None, Some}
+use Rattle.std.specs.Prelude.{Result, unwrap_or}
 use Rattle.std.specs.Borrow.{Bor}
 use Rattle.std.specs.Str.{bytes_eq}
-use Rattle.clap.specs.Words.{App, HasMatchesOf, IsAmong, Text, takes, kind_of, fault_of, first_of}
-use Rattle.clap.specs.Words.{first_value, found_of, is_simple, is_simple_and_free, matches_of}
+use Rattle.std.specs.Str.Parse.{ExplainsUnsignedError, HasUnsignedDigitsIfOk, ParsesUnsigned, digits_value}
+use Rattle.std.specs.Str.Parse.{without_leading_plus}
+use Rattle.std.specs.declared.num.ParseIntError.{ParseIntError}
+use Rattle.clap.specs.Words.{App, HasMatchesOf, IsAmong, IsUnsignedIn, ReadsOne, Row, Text, takes, kind_of}
+use Rattle.clap.specs.Words.{fault_of, first_of, first_value, found_of, is_simple, is_simple_and_free}
+use Rattle.clap.specs.Words.{matches_of, one_of, one_text}
 use Rattle.clap.specs.declared.parser.ArgMatches.{ArgMatches}
 use Rattle.clap.specs.declared.error.kind.ErrorKind.TheVariants.{OutOfMemory}
 use Rattle.clap.proofs.OnLiterals.{clap_on_literals}
-use Rattle.clap.proofs.WalkLemmas.{first_value-rows}
+use Rattle.clap.proofs.WalkLemmas.{first_value-rows, one_text-rows}
 use Rattle.clap.specs.Walk.{texts}
-use Rattle.smtcheck_command_line.proofs.SettingsLemmas.{line-answers, line-script, line-success, line-taken}
-use Rattle.smtcheck_command_line.proofs.SettingsLemmas.{line_of}
+use Rattle.smtcheck_command_line.proofs.SettingsLemmas.{IsTaken, line_of, line-taken, line-values}
 use Rattle.smtcheck_command_line.proofs.ClapLemmas.{takes-without_fault}
-use Rattle.smtcheck_command_line.specs.Settings.{AreSettings, Places, is_plain, smtcheck_app, success_word}
+use Rattle.smtcheck_command_line.specs.Settings.{AreSettings, Places, is_plain, most_steps, smtcheck_app}
+use Rattle.smtcheck_command_line.specs.Settings.{success_word}
 use Rattle.smtcheck_command_line.specs.declared.arguments.Settings.{Settings}
 use Rattle.smtcheck_command_line.proofs.command.settings.Goals as goal
 
@@ -24,6 +28,10 @@ simple places = refl
 free : (places : Places) → is_simple_and_free (smtcheck_app places) ≡ true
 unfolding clap_on_literals smtcheck_app
 free places = refl
+
+-- the number that a text writes, in decimal
+abbrev number_of : Text → ℕ
+number_of text = digits_value 10 (without_leading_plus text)
 
 -- what a getter answers is what the command makes of the words
 read : (places : Places) (a : App) (words : List Text) (m : ArgMatches) (id : Text) (o : Option (Bor Text))
@@ -36,6 +44,24 @@ read places a words m id o s is matches got some =
     let first = sym (ap (first_of id) (rows ∙ ap (λ x. matches_of x words) is)) ∙ sym
     (first_value-rows (found_of m) id) in
     first ∙ sym got ∙ ap (option_map (λ t. t.now)) some
+
+-- the same of what `get_one` reads
+read_one : (places : Places) (a : App) (words : List Text) (m : ArgMatches) (id t : Text)
+    → a ≡ smtcheck_app places → HasMatchesOf a words m → one_text (found_of m) id ≡ Some t
+    → one_of id (matches_of (smtcheck_app places) words) ≡ Some t
+read_one places a words m id t is matches got =
+    let rows = (matches (ap is_simple is ∙ simple places)).0 in
+    sym (ap (one_of id) (rows ∙ ap (λ x. matches_of x words) is)) ∙ sym (one_text-rows (found_of m) id) ∙ got
+
+-- how `u64` reads a text
+abbrev ReadsNumber : Text → Result ℕ ParseIntError → Type 0
+ReadsNumber t r = ParsesUnsigned 64 10 t r × ExplainsUnsignedError 10 t r × HasUnsignedDigitsIfOk t r
+
+-- a text in the option's range is read as the number that it writes
+number_read : (t : Text) (r : Option ℕ) → ReadsOne ReadsNumber t r → IsUnsignedIn 0 most_steps t
+    → r ≡ Some (number_of t)
+number_read t (Some n) read is = ap Some read.0.1
+number_read t None read is = absurd (read.1.0 (is.0, is.1))
 
 -- the option's word is `on` exactly where the settings say so
 said : (t : Text) (prints same : Bool) → t ≡ success_word prints → same ≡ bytes_eq t (codes "on")
@@ -52,12 +78,14 @@ taken places a words is faultless =
     (ap is_simple_and_free is ∙ free places) in
     takes-without_fault (smtcheck_app places) words (simple places) refl refl refl none
 
-same_value : (places : Places) (words others : List Text) (id t u : Text)
-    → first_of id (matches_of (smtcheck_app places) words) ≡ Some t → words ≡ others
-    → first_of id (matches_of (smtcheck_app places) others) ≡ Some u → t ≡ u
-same_value places words others id t u is same other =
+-- one getter of the matches reads one text on the same words
+same_value : (get : Text → List Row → Option Text) (places : Places) (words others : List Text)
+    (id t u : Text)
+    → get id (matches_of (smtcheck_app places) words) ≡ Some t → words ≡ others
+    → get id (matches_of (smtcheck_app places) others) ≡ Some u → t ≡ u
+same_value get places words others id t u is same other =
     ap (λ o. unwrap_or o t) (sym is ∙ ap
-    (λ ws. first_of id (matches_of (smtcheck_app places) ws)) same ∙ other)
+    (λ ws. get id (matches_of (smtcheck_app places) ws)) same ∙ other)
 
 same_word : (x y : Bool) → success_word x ≡ success_word y → x ≡ y
 same_word true true e = refl
@@ -65,17 +93,20 @@ same_word true false e = cc
 same_word false true e = cc
 same_word false false e = refl
 
--- the settings of a line in the two forms that `two_words` and `option` speak of
-of_line : (places : Places) (words : List Text) (s : Settings) (name : Text) (option : Option Bool)
-    (script answers : Text) → AreSettings words s (smtcheck_app places)
-    → words ≡ line_of name option script answers → is_plain script ≡ true → is_plain answers ≡ true
-    → (s.script.now ≡ script) × (s.answers.now ≡ answers) × (s.print_success ≡ unwrap_or option true)
-of_line places words s name option script answers are is p q = (
-  same_value places _ _ _ _ _ are.script is (line-script places name option script answers p q),
-  same_value places _ _ _ _ _ are.answers is (line-answers places name option script answers p q),
-  same_word _ _ (same_value places _ _ _ _ _ are.print_success is
-      (line-success places name option script answers p q)),
-)
+-- the settings of a line with two plain words, behind the options that are given
+of_line : (places : Places) (words : List Text) (s : Settings) (name : Text) (success : Option Bool)
+    (steps : Option Text) (script answers : Text) → AreSettings words s (smtcheck_app places)
+    → words ≡ line_of name success steps script answers → IsTaken steps
+    → is_plain script ≡ true → is_plain answers ≡ true
+    → (s.script.now ≡ script) × (s.answers.now ≡ answers) × (s.print_success ≡ unwrap_or success true)
+    × (s.steps ≡ number_of (unwrap_or steps (codes "10000000")))
+of_line places words s name success steps script answers are is taken p q =
+    let values = line-values places name success steps script answers taken p q in (
+      same_value first_of places _ _ _ _ _ are.script is values.of_script,
+      same_value first_of places _ _ _ _ _ are.answers is values.of_answers,
+      same_word _ _ (same_value first_of places _ _ _ _ _ are.print_success is values.of_success),
+      are.steps.2.1 ∙ ap number_of (same_value one_of places _ _ _ _ _ are.steps.1 is values.of_steps),
+    )
 
 pub returns-clause-ok : goal.returns-clause-ok
 returns-clause-ok c =
@@ -85,25 +116,53 @@ returns-clause-ok c =
     c.in-Ok-try_get_matches_from.ensures.parsed in
     let given = ap (option_map (λ t. t.now)) c.unwrap-3.ensures in
     let word : c.unwrap-3.result.now ≡ success_word success.0 =
-    ap (λ o. unwrap_or o c.unwrap-3.result.now) (sym given ∙ c.get_str-3.ensures ∙ success.1) in (
+    ap (λ o. unwrap_or o c.unwrap-3.result.now) (sym given ∙ c.get_str-3.ensures ∙ success.1) in
+    let steps = c.in-Ok.ensures.steps c.in-Ok-try_get_matches_from.matches
+    c.in-Ok-try_get_matches_from.ensures.parsed in
+    let number = number_read steps.0 c.get_one.result (c.get_one.ensures.value steps.0 steps.2) steps.3.0 in (
       app.0,
       record {
         script = read app.0 _ _ _ _ _ _ app.1 matches c.get_str.ensures c.unwrap.ensures;
         answers = read app.0 _ _ _ _ _ _ app.1 matches c.get_str-2.ensures c.unwrap-2.ensures;
         print_success = read app.0 _ _ _ _ _ _ app.1 matches c.get_str-3.ensures c.unwrap-3.ensures ∙ ap Some
             (said _ success.0 _ word c.eq-2.ensures);
+        steps = (
+          steps.0,
+          read_one app.0 _ _ _ _ _ app.1 matches steps.2,
+          (steps.3.0, ap (λ o. unwrap_or o c.unwrap-4.result) (sym c.unwrap-4.ensures ∙ number)),
+        );
       },
     )
 
 pub returns-clause-two_words : goal.returns-clause-two_words
 returns-clause-two_words c = λ name script answers words p q.
     let ok = returns-clause-ok c in
-    of_line ok.0 _ _ name None script answers ok.1 words p q
+    of_line ok.0 _ _ name None None script answers ok.1 words tt p q
 
 pub returns-clause-option : goal.returns-clause-option
 returns-clause-option c = λ name script answers prints words p q.
     let ok = returns-clause-ok c in
-    of_line ok.0 _ _ name (Some prints) script answers ok.1 words p q
+    of_line ok.0 _ _ name (Some prints) None script answers ok.1 words tt p q
+
+pub returns-clause-steps : goal.returns-clause-steps
+returns-clause-steps c = λ name text script answers steps words writes p q.
+    let ok = returns-clause-ok c in
+    let of = of_line ok.0 _ _ name None (Some text) script answers ok.1 words writes.0 p q in
+    (of.0, of.1, of.2, of.3 ∙ sym writes.1)
+
+pub returns-clause-both : goal.returns-clause-both
+returns-clause-both c = λ name text script answers prints steps words writes p q.
+    let ok = returns-clause-ok c in
+    let of = of_line ok.0 _ _ name (Some prints) (Some text) script answers ok.1 words writes.0 p q in
+    (of.0, of.1, of.2, of.3 ∙ sym writes.1)
+
+pub returns-clause-limited : goal.returns-clause-limited
+returns-clause-limited c =
+    let ok = returns-clause-ok c in
+    let steps = ok.1.steps.2 in
+    let range = steps.0.3 in
+    let is = steps.1 in
+    omega arith
 
 pub returns-clause-taken : goal.returns-clause-taken
 returns-clause-taken c =
@@ -128,13 +187,26 @@ returns-in-Err-2-clause-memory c =
 pub returns-in-Err-2-clause-two_words : goal.returns-in-Err-2-clause-two_words
 returns-in-Err-2-clause-two_words c = λ name script answers words p q.
     let memory = returns-in-Err-2-clause-memory c in
-    memory.1 (ap (takes (smtcheck_app memory.0)) words ∙ line-taken memory.0 name None script answers p q)
+    memory.1 (ap (takes (smtcheck_app memory.0)) words
+    ∙ line-taken memory.0 name None None script answers tt p q)
 
 pub returns-in-Err-2-clause-option : goal.returns-in-Err-2-clause-option
 returns-in-Err-2-clause-option c = λ name script answers prints words p q.
     let memory = returns-in-Err-2-clause-memory c in
-    memory.1 (ap (takes (smtcheck_app memory.0)) words ∙ line-taken memory.0 name
-    (Some prints) script answers p q)
+    memory.1 (ap (takes (smtcheck_app memory.0)) words
+    ∙ line-taken memory.0 name (Some prints) None script answers tt p q)
+
+pub returns-in-Err-2-clause-steps : goal.returns-in-Err-2-clause-steps
+returns-in-Err-2-clause-steps c = λ name text script answers steps words writes p q.
+    let memory = returns-in-Err-2-clause-memory c in
+    memory.1 (ap (takes (smtcheck_app memory.0)) words
+    ∙ line-taken memory.0 name None (Some text) script answers writes.0 p q)
+
+pub returns-in-Err-2-clause-both : goal.returns-in-Err-2-clause-both
+returns-in-Err-2-clause-both c = λ name text script answers prints steps words writes p q.
+    let memory = returns-in-Err-2-clause-memory c in
+    memory.1 (ap (takes (smtcheck_app memory.0)) words
+    ∙ line-taken memory.0 name (Some prints) (Some text) script answers writes.0 p q)
 
 pub returns-in-Err-2-clause-refused : goal.returns-in-Err-2-clause-refused
 returns-in-Err-2-clause-refused c =

@@ -1,64 +1,65 @@
-use Rattle.std.proofs.Common.{◌≡◌, ◌≢◌, ◌<◌, ◌≤◌, ◌∙◌, ◌==◌, ◌||◌, ◌++◌, ℕ, Bool, List, [], ◌∷◌, zero, suc}
-use Rattle.std.proofs.Common.{true, false, ap, ap₂, arith, length, None, Some, codes, if◌then◌else◌, inl, inr}
-use Rattle.std.proofs.Common.{refl, rules, slice_index, subst, sym}
+use Rattle.std.proofs.Common.{◌≡◌, ◌≢◌, ◌<◌, ◌∙◌, ◌==◌, ◌||◌, ℕ, Bool, List, [], ◌∷◌, zero, suc, true, false}
+use Rattle.std.proofs.Common.{ap, ap₂, arith, None, Some, codes, if◌then◌else◌, inl, inr, refl, rules}
+use Rattle.std.proofs.Common.{is_some, slice_index, subst, sym}
 use Rattle.std.specs.List.{All, slice_index_or}
-use Rattle.std.specs.Borrow.{Bor}
 use Rattle.std.specs.Str.{bytes_eq}
-use Rattle.std.proofs.lemmas.List.Elements.{All-nil}
 use Rattle.std.proofs.lemmas.Slice.Eq.{bytes_eq-Decides}
 use Rattle.std.proofs.lemmas.Result.{IfOk-weaker}
-use Rattle.clap.specs.Words.{Accepts, AddsInTurn, AddsArg, IsParsedFrom, IsPlain, IsPlainArg, Rule, SameRules}
-use Rattle.clap.specs.Words.{Text, app_of, args_of, first_value, found_of, groups_of, items_of, new_app}
-use Rattle.clap.specs.Words.{rule_of, with_rule}
+use Rattle.clap.specs.Words.{Accepts, AddsInTurn, AddsArg, IsParsedFrom, IsPlainArg, Rule, Text, app_of}
+use Rattle.clap.specs.Words.{args_of, first_value, found_of, groups_of, new_app, one_text, rule_of, with_rule}
 use Rattle.clap.specs.Built.{FitsChain, HasDistinctIds, TakesValue}
-use Rattle.clap.specs.Facts.{WantsDefault, least_values}
-use Rattle.clap.specs.Walk.{texts}
-use Rattle.clap.specs.declared.builder.ArgAction.TheVariants.{Set}
 use Rattle.clap.specs.declared.builder.command.Command.{Command}
-use Rattle.clap.specs.declared.builder.value_parser.ValueParser.TheVariants.{Names}
+use Rattle.clap.specs.declared.builder.value_parser.ValueParser.{ValueParser}
+use Rattle.clap.specs.declared.builder.value_parser.ValueParser.TheVariants.{Names, Unsigned}
 use Rattle.clap.specs.declared.parser.matches.ArgMatches.{ArgMatches}
 use Rattle.clap.specs.declared.parser.matches.Found.{Found}
 use Rattle.clap.specs.Simple.{app_of_fields}
 use Rattle.clap.specs.declared.builder.Arg.{Arg}
 use Rattle.clap.specs.declared.builder.command.Command.TheViews.{out-Command}
-use Rattle.clap.proofs.CallerLemmas.{added_plain, required_in_chain}
-use Rattle.smtcheck_command_line.specs.Settings.{Places, choices, file_rule, smtcheck_app, success_rule}
-use Rattle.smtcheck_command_line.specs.Settings.{success_word, with_version}
-use Rattle.smtcheck_command_line.proofs.DefaultLemmas.{default_reads}
+use Rattle.clap.proofs.CallerLemmas.{required_in_chain}
+use Rattle.smtcheck_command_line.specs.Settings.{Places, WritesSteps, choices, file_rule, most_steps}
+use Rattle.smtcheck_command_line.specs.Settings.{smtcheck_app, steps_rule, success_rule, success_word}
+use Rattle.smtcheck_command_line.specs.Settings.{with_version}
+use Rattle.smtcheck_command_line.proofs.DefaultLemmas.{HasDefault, Reads, default_in_chain, has_default}
 use Rattle.smtcheck_command_line.proofs.command.smtcheck_command.Goals as goal
+use Rattle.smtcheck_command_line.proofs.command.smtcheck_command.Goals.{After-arg-4}
 
 -- which argument has the id, by its first byte
 abbrev place : List ℕ → ℕ
-place id = if slice_index id 0 == 83 then 0 else (if slice_index id 0 == 65 then 1 else 2)
+place id = if slice_index id 0 == 83 then 0 else (if slice_index id 0 == 65 then 1
+    else (if slice_index id 0 == 112 then 2 else 3))
 
-three_pass : (P : Arg → Type 0) (a b c : Arg) → P a → P b → P c → All P (a ∷ b ∷ c ∷ [])
-three_pass P a b c x y z zero d lt = x
-three_pass P a b c x y z (suc zero) d lt = y
-three_pass P a b c x y z (suc (suc zero)) d lt = z
-three_pass P a b c x y z (suc (suc (suc k))) d lt = absurd (omega arith)
+four_pass : (P : Arg → Type 0) (a b c d : Arg) → P a → P b → P c → P d → All P (a ∷ b ∷ c ∷ d ∷ [])
+four_pass P a b c d x y z w zero e lt = x
+four_pass P a b c d x y z w (suc zero) e lt = y
+four_pass P a b c d x y z w (suc (suc zero)) e lt = z
+four_pass P a b c d x y z w (suc (suc (suc zero))) e lt = w
+four_pass P a b c d x y z w (suc (suc (suc (suc k)))) e lt = absurd (omega arith)
 
 -- the place of an argument by its id
-place_of_id : (a b c : Arg) → a.id.now ≡ codes "SCRIPT" → b.id.now ≡ codes "ANSWERS"
-    → c.id.now ≡ codes "print-success"
-    → (k : ℕ) (d : Arg) → k < 3 → place (slice_index_or (a ∷ b ∷ c ∷ []) k d).id.now ≡ k
-place_of_id a b c x y z zero d lt = ap place x
-place_of_id a b c x y z (suc zero) d lt = ap place y
-place_of_id a b c x y z (suc (suc zero)) d lt = ap place z
-place_of_id a b c x y z (suc (suc (suc k))) d lt = absurd (omega arith)
+place_of_id : (a b c d : Arg) → a.id.now ≡ codes "SCRIPT" → b.id.now ≡ codes "ANSWERS"
+    → c.id.now ≡ codes "print-success" → d.id.now ≡ codes "steps"
+    → (k : ℕ) (e : Arg) → k < 4 → place (slice_index_or (a ∷ b ∷ c ∷ d ∷ []) k e).id.now ≡ k
+place_of_id a b c d x y z w zero e lt = ap place x
+place_of_id a b c d x y z w (suc zero) e lt = ap place y
+place_of_id a b c d x y z w (suc (suc zero)) e lt = ap place z
+place_of_id a b c d x y z w (suc (suc (suc zero))) e lt = ap place w
+place_of_id a b c d x y z w (suc (suc (suc (suc k)))) e lt = absurd (omega arith)
 
-three_ids : (a b c : Arg) → a.id.now ≡ codes "SCRIPT" → b.id.now ≡ codes "ANSWERS"
-    → c.id.now ≡ codes "print-success" → HasDistinctIds (a ∷ b ∷ c ∷ [])
-three_ids a b c x y z j k d e low lt same =
-    let one : (slice_index_or (a ∷ b ∷ c ∷ []) j e).id.now ≡ (slice_index_or (a ∷ b ∷ c ∷ []) k d).id.now =
+four_ids : (a b c d : Arg) → a.id.now ≡ codes "SCRIPT" → b.id.now ≡ codes "ANSWERS"
+    → c.id.now ≡ codes "print-success" → d.id.now ≡ codes "steps" → HasDistinctIds (a ∷ b ∷ c ∷ d ∷ [])
+four_ids a b c d x y z w j k f e low lt same =
+    let all = a ∷ b ∷ c ∷ d ∷ [] in
+    let one : (slice_index_or all j e).id.now ≡ (slice_index_or all k f).id.now =
     (bytes_eq-Decides _ _).0 same in
-    sym (place_of_id a b c x y z j e low) ∙ ap place one ∙ place_of_id a b c x y z k d lt
+    sym (place_of_id a b c d x y z w j e low) ∙ ap place one ∙ place_of_id a b c d x y z w k f lt
 
--- an id whose first byte is none of the first bytes of the flags that clap adds
-fits : (a : Arg) (id : List ℕ) (x : ℕ) → IsPlainArg a → a.global ≡ false → a.id.now ≡ id
-    → slice_index id 0 ≡ x → 0 < x → x ≢ 104 → x ≢ 118 → FitsChain a
-fits a id x plain local is begins some no_help no_version =
+-- an argument whose id has none of the first bytes of the flags that clap adds
+fits : (a : Arg) (r : Rule) (x : ℕ) → IsPlainArg a → a.global ≡ false → rule_of a ≡ r
+    → slice_index r.id 0 ≡ x → 0 < x → x ≢ 104 → x ≢ 118 → FitsChain a
+fits a r x plain local is begins some no_help no_version =
     let first : (t : List ℕ) → a.id.now ≡ t → slice_index t 0 ≡ x = λ t e. ap (λ u. slice_index u 0)
-    (sym e ∙ is) ∙ begins in (
+    (sym e ∙ ap (λ (s : Rule). s.id) is) ∙ begins in (
       plain,
       local,
       (λ e. let bad : 0 ≡ x = first [] e in absurd (omega arith)),
@@ -81,43 +82,98 @@ word_of t e = go (bytes_eq (codes "on") t) (bytes_eq (codes "off") t) refl refl 
     go false true on off e = (false, sym ((bytes_eq-Decides _ _).0 off))
     go false false on off e = cc
 
-worded : (f : Found) (ignore_case : Bool) (places : Places) (id t : Text) → id ≡ codes "print-success"
-    → first_value f id ≡ Some t
-    → ignore_case ≡ false → Accepts ignore_case (Names (choices places)) t
+-- what the two options have
+worded : (f : Found) (a : Arg) (places : Places) → rule_of a ≡ success_rule places
+    → Reads f a.id.now a.ignore_case (Names (choices places))
     → (prints : Bool) × (first_value f (codes "print-success") ≡ Some (success_word prints))
-worded f ignore_case places id t is read exact passed =
-    let word = word_of t (subst (λ i. Accepts i (Names (choices places)) t) exact passed) in
-    (word.0, ap (first_value f) (sym is) ∙ read ∙ ap Some word.1)
+worded f a places is reads =
+    let id : a.id.now ≡ codes "print-success" = ap (λ (r : Rule). r.id) is in
+    let exact : a.ignore_case ≡ false = ap (λ (r : Rule). r.ignore_case) is in
+    let passed = subst (λ i. Accepts i (Names (choices places)) reads.text) exact reads.passed in
+    let word = word_of reads.text passed in
+    (word.0, ap (first_value f) (sym id) ∙ reads.first ∙ ap Some word.1)
 
-some_items : (xs : List (Bor Text)) (t : Text) → texts xs ≡ t ∷ [] → 0 < length xs
-some_items [] t e = cc
-some_items (x ∷ xs) t e = omega arith
+counted : (f : Found) (a : Arg) → rule_of a ≡ steps_rule
+    → Reads f a.id.now a.ignore_case (Unsigned 0 most_steps)
+    → (text : Text) × (steps : ℕ) × (one_text f (codes "steps") ≡ Some text) × WritesSteps text steps
+counted f a is reads =
+    let id : a.id.now ≡ codes "steps" = ap (λ (r : Rule). r.id) is in
+    (reads.text, _, ap (one_text f) (sym id) ∙ reads.one, (reads.passed, refl))
 
--- the option of a command with these three arguments
-success_read : (old : Command) (m : ArgMatches) (a b c d : Arg) (places : Places) → IsParsedFrom old m
-    → IsPlain old
-    → (out-Command old).has_globals ≡ false → args_of old ≡ a ∷ b ∷ c ∷ [] → SameRules d c
-    → a.id.now ≡ codes "SCRIPT" → b.id.now ≡ codes "ANSWERS" → rule_of d ≡ success_rule places
-    → d.val_delim ≡ None → d.default_vals_ifs.items ≡ [] → FitsChain d
-    → (prints : Bool) × (first_value (found_of m) (codes "print-success") ≡ Some (success_word prints))
-success_read old m a b c d places p plain globals list same a_id b_id rule undivided unconditional fit =
-    let id : c.id.now ≡ codes "print-success" = ap (λ s. s.now) same.id ∙ ap (λ (r : Rule). r.id) rule in
-    let own : c.id.now ≡ d.id.now = ap (λ s. s.now) same.id in
-    let some : 0 < length (items_of d.default_vals) = some_items _ _ (ap (λ (r : Rule). r.defaults) rule) in
-    let wants : WantsDefault c = (same.ifs ∙ unconditional, rw (same.defaults some) some) in
-    let set : d.action ≡ Some Set = ap (λ (r : Rule). r.action) rule in
-    let one : 1 ≤ least_values d = rw (ap (λ (r : Rule). r.range) rule) (omega arith) in
-    let there : 2 < length (args_of old) = rw list (omega arith) in
-    let unique : (j : ℕ) (e : Arg) → j < length (args_of old)
-    → bytes_eq (slice_index_or (args_of old) j e).id.now c.id.now ≡ true → j ≡ 2 =
-    λ j e low is. three_ids a b c a_id b_id id j 2 c e (rw list at low) (omega arith) (rw list at is) in
-    let read = default_reads old m p plain globals 2 c there (ap (λ l. slice_index_or l 2 c) list) wants
-    (same.action Set set) (same.val_delim ∙ undivided) (same.least set one)
-    unique (λ e. fit.2 (sym own ∙ e))
-    (λ auto. fit.3 (elim auto [ inl h ↦ inl (sym own ∙ h) | inr h ↦ inr (sym own ∙ h) ]))
-    (Names (choices places)) (same.parser _ (ap (λ (r : Rule). r.parser) rule)) in
-    worded (found_of m) c.ignore_case places _ read.0 id read.1
-    (same.ignore_case ∙ ap (λ (r : Rule). r.ignore_case) rule) read.2
+-- ---- the chain of the four `.arg(..)` calls
+
+abbrev four : After-arg-4 → List Arg
+four c = c.file-script.result ∷ c.file-answers.result ∷ c.print_success.result ∷ c.steps.result ∷ []
+
+four_fit : (c : After-arg-4) → All FitsChain (four c)
+four_fit c =
+    let w = c.file-script.result in
+    let x = c.file-answers.result in
+    let y = c.print_success.result in
+    let z = c.steps.result in
+    let script = c.file-script.ensures in
+    let answers = c.file-answers.ensures in
+    let success = c.print_success.ensures in
+    let steps = c.steps.ensures in
+    four_pass FitsChain w x y z
+    (fits w _ 83 script.plain script.local script.rule refl (omega arith) (omega arith) (omega arith))
+    (fits x _ 65 answers.plain answers.local answers.rule refl (omega arith) (omega arith) (omega arith))
+    (fits y _ 112 success.plain success.local success.rule.1 refl (omega arith) (omega arith) (omega arith))
+    (fits z _ 115 steps.plain steps.local steps.rule refl (omega arith) (omega arith) (omega arith))
+
+four_distinct : (c : After-arg-4) → HasDistinctIds (four c)
+four_distinct c =
+    let id = λ (r : Rule). r.id in
+    four_ids c.file-script.result c.file-answers.result c.print_success.result c.steps.result
+    (ap id c.file-script.ensures.rule) (ap id c.file-answers.ensures.rule)
+    (ap id c.print_success.ensures.rule.1) (ap id c.steps.ensures.rule)
+
+-- the command before them
+record IsBare (d : Command) : Type 0 where
+  no_args : args_of d ≡ []
+  no_groups : groups_of d ≡ []
+  no_globals : (out-Command d).has_globals ≡ false
+  negates : (out-Command d).subcommand_negates_reqs ≡ false
+
+bare : (c : After-arg-4) → IsBare c.after_help.result
+bare c = record {
+  no_args = search rules;
+  no_groups = search rules;
+  no_globals = search rules;
+  negates = search rules;
+}
+
+chain : (c : After-arg-4) (r : Command) → AddsArg c.in_ok-arg-3.field-0 c.steps.result r
+    → AddsInTurn AddsArg c.after_help.result (four c) r
+chain c r added = (
+  c.in_ok-arg.field-0,
+  c.in_ok-arg.ensures,
+  (
+    c.in_ok-arg-2.field-0,
+    c.in_ok-arg-2.ensures,
+    (c.in_ok-arg-3.field-0, c.in_ok-arg-3.ensures, (r, added, refl)),
+  ),
+)
+
+-- after a parse a required argument has a value, and an option with a default a text that its parser takes
+required_has : (c : After-arg-4) (r : Command) (m : ArgMatches) (k : ℕ) (a : Arg)
+    → AddsArg c.in_ok-arg-3.field-0 c.steps.result r → IsParsedFrom r m → k < 4
+    → TakesValue (slice_index_or (four c) k a)
+    → is_some (first_value (found_of m) (slice_index_or (four c) k a).id.now) ≡ true
+required_has c r m k a added parsed lt takes =
+    let b = bare c in
+    required_in_chain c.after_help.result r (four c) k a m (chain c r added) b.no_args b.no_groups
+    b.no_globals b.negates (four_fit c) (four_distinct c) lt takes parsed
+
+option_reads : (c : After-arg-4) (r : Command) (m : ArgMatches) (k : ℕ) (a : Arg) (q : ValueParser)
+    → AddsArg c.in_ok-arg-3.field-0 c.steps.result r → IsParsedFrom r m → k < 4
+    → slice_index_or (four c) k a ≡ a → HasDefault a q → Reads (found_of m) a.id.now a.ignore_case q
+option_reads c r m k a q added parsed lt at default =
+    let b = bare c in
+    default_in_chain c.after_help.result r (four c) k a q m (chain c r added) b.no_args b.no_groups
+    b.no_globals (four_fit c) (four_distinct c) lt at default parsed
+
+-- ---- the clauses
 
 pub returns-clause-app : goal.returns-clause-app
 unfolding smtcheck_app
@@ -130,71 +186,42 @@ returns-clause-app c =
     let second = c.in_ok-arg-2.ensures.shape c.file-answers.ensures.local ∙ ap₂ with_rule first
     c.file-answers.ensures.rule in
     let success = c.print_success.ensures.rule in
-    IfOk-weaker c.arg-3.result _ _
-    (λ r added. (success.0, added.shape c.print_success.ensures.local ∙ ap₂ with_rule second success.1))
-    c.arg-3.ensures
+    let third = c.in_ok-arg-3.ensures.shape c.print_success.ensures.local ∙ ap₂ with_rule second success.1 in
+    IfOk-weaker c.arg-4.result _ _
+    (λ r added. (success.0, added.shape c.steps.ensures.local ∙ ap₂ with_rule third c.steps.ensures.rule))
+    c.arg-4.ensures
 
 pub returns-clause-needs : goal.returns-clause-needs
 returns-clause-needs c =
-    let x = c.file-script.result in
-    let y = c.file-answers.result in
-    let z = c.print_success.result in
-    let x_id : x.id.now ≡ codes "SCRIPT" = ap (λ r. r.id) c.file-script.ensures.rule in
-    let y_id : y.id.now ≡ codes "ANSWERS" = ap (λ r. r.id) c.file-answers.ensures.rule in
-    let z_id : z.id.now ≡ codes "print-success" = ap (λ r. r.id) c.print_success.ensures.rule.1 in
-    let fit = three_pass FitsChain x y z
-    (fits x _ 83 c.file-script.ensures.plain c.file-script.ensures.local x_id refl (omega arith) (omega arith)
-    (omega arith))
-    (fits y _ 65 c.file-answers.ensures.plain c.file-answers.ensures.local y_id refl (omega arith)
-    (omega arith) (omega arith))
-    (fits z _ 112 c.print_success.ensures.plain c.print_success.ensures.local z_id refl (omega arith)
-    (omega arith) (omega arith)) in
-    let x_takes = takes_value x _ c.file-script.ensures.rule c.file-script.ensures.undivided in
-    let y_takes = takes_value y _ c.file-answers.ensures.rule c.file-answers.ensures.undivided in
-    let described = c.after_help.result in
-    let no_args : args_of described ≡ [] = search rules in
-    let no_groups : groups_of described ≡ [] = search rules in
-    let no_globals : (out-Command described).has_globals ≡ false = search rules in
-    let negates : (out-Command described).subcommand_negates_reqs ≡ false = search rules in
-    let ids = three_ids x y z x_id y_id z_id in
-    IfOk-weaker c.arg-3.result _ _ (λ r added m parsed.
-    let chain : AddsInTurn AddsArg described (x ∷ y ∷ z ∷ []) r = (
-      c.in_ok-arg.field-0,
-      c.in_ok-arg.ensures,
-      (c.in_ok-arg-2.field-0, c.in_ok-arg-2.ensures, (r, added, refl)),
-    ) in
-    let has_x = required_in_chain described r (x ∷ y ∷ z ∷ []) 0 x m chain no_args no_groups no_globals
-    negates fit ids (omega arith) x_takes parsed in
-    let has_y = required_in_chain described r (x ∷ y ∷ z ∷ []) 1 x m chain no_args no_groups no_globals
-    negates fit ids (omega arith) y_takes parsed in
-    (rw x_id at has_x, rw y_id at has_y)) c.arg-3.ensures
+    let script = c.file-script.result in
+    let answers = c.file-answers.result in
+    let script_is = c.file-script.ensures.rule in
+    let answers_is = c.file-answers.ensures.rule in
+    let script_id : script.id.now ≡ codes "SCRIPT" = ap (λ (r : Rule). r.id) script_is in
+    let answers_id : answers.id.now ≡ codes "ANSWERS" = ap (λ (r : Rule). r.id) answers_is in
+    IfOk-weaker c.arg-4.result _ _ (λ r added m parsed.
+    let first = required_has c r m 0 script added parsed (omega arith)
+    (takes_value script _ script_is c.file-script.ensures.undivided) in
+    let second = required_has c r m 1 script added parsed (omega arith)
+    (takes_value answers _ answers_is c.file-answers.ensures.undivided) in
+    (rw script_id at first, rw answers_id at second)) c.arg-4.ensures
 
 pub returns-clause-success : goal.returns-clause-success
 returns-clause-success c =
-    let x_id = ap (λ s. s.now) c.in_ok-arg.ensures.rules.id ∙ ap (λ r. r.id) c.file-script.ensures.rule in
-    let y_id = ap (λ s. s.now) c.in_ok-arg-2.ensures.rules.id ∙ ap (λ r. r.id) c.file-answers.ensures.rule in
     let success = c.print_success.ensures in
-    let fit = fits c.print_success.result _ 112 success.plain success.local
-    (ap (λ r. r.id) success.rule.1) refl (omega arith) (omega arith) (omega arith) in
-    let described = c.after_help.result in
-    let no_args : args_of described ≡ [] = search rules in
-    let no_groups : groups_of described ≡ [] = search rules in
-    let no_globals : (out-Command described).has_globals ≡ false = search rules in
-    let none_plain : IsPlain described =
-    (subst (All IsPlainArg) (sym no_args) (All-nil IsPlainArg), no_groups) in
-    let one_plain = added_plain described c.in_ok-arg.field-0 _ c.in_ok-arg.ensures none_plain
-    c.file-script.ensures.plain in
-    let two_plain = added_plain c.in_ok-arg.field-0 c.in_ok-arg-2.field-0 _ c.in_ok-arg-2.ensures one_plain
-    c.file-answers.ensures.plain in
-    let none_global : (g b : Bool) → g ≡ false → b ≡ false → (g || b) ≡ false = λ g b p q. rw (p, q) refl in
-    let one_global = c.in_ok-arg.ensures.globals ∙ none_global _ _ no_globals c.file-script.ensures.local in
-    let two_global = c.in_ok-arg-2.ensures.globals ∙ none_global _ _ one_global c.file-answers.ensures.local
-    in
-    let one_list = c.in_ok-arg.ensures.args ∙ ap (λ l. l ++ c.in_ok-arg.ensures.arg ∷ []) no_args in
-    let two_list = c.in_ok-arg-2.ensures.args ∙ ap (λ l. l ++ c.in_ok-arg-2.ensures.arg ∷ []) one_list in
-    IfOk-weaker c.arg-3.result _ _ (λ r added m parsed.
-    success_read r m _ _ added.arg c.print_success.result success.rule.0 parsed
-    (added_plain c.in_ok-arg-2.field-0 r _ added two_plain success.plain)
-    (added.globals ∙ none_global _ _ two_global success.local)
-    (added.args ∙ ap (λ l. l ++ added.arg ∷ []) two_list) added.rules x_id y_id success.rule.1
-    success.undivided success.unconditional fit) c.arg-3.ensures
+    let option = c.print_success.result in
+    let default = has_default option _ (Names (choices success.rule.0)) _ success.rule.1 success.undivided
+    success.unconditional refl refl refl refl in
+    IfOk-weaker c.arg-4.result _ _ (λ r added m parsed.
+    worded (found_of m) option success.rule.0 success.rule.1
+    (option_reads c r m 2 option _ added parsed (omega arith) refl default)) c.arg-4.ensures
+
+pub returns-clause-steps : goal.returns-clause-steps
+returns-clause-steps c =
+    let steps = c.steps.ensures in
+    let option = c.steps.result in
+    let default = has_default option _ (Unsigned 0 most_steps) _ steps.rule steps.undivided
+    steps.unconditional refl refl refl refl in
+    IfOk-weaker c.arg-4.result _ _ (λ r added m parsed.
+    counted (found_of m) option steps.rule
+    (option_reads c r m 3 option _ added parsed (omega arith) refl default)) c.arg-4.ensures

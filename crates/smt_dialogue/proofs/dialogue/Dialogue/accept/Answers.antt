@@ -23,7 +23,7 @@ returns-clause-accepted c = λ taken early pairs stands check.
     c.role_of-role.ensures c.requires.answered check stands
     (c.in_default.ensures.applied (effective_commands pairs) stands.stack)
     c.in_default.ensures.last
-    (λ commands on. ap (behind m) (c.in-Ok.ensures commands on)
+    (λ commands on. ap (behind m) (c.in-Ok.ensures.checks commands on)
     ∙ sym (after_behind m effective (checks_state d.checks) (signature_in_force commands)
     (claims_of (assertions_in_force commands)) (d.commands + 1) role answer))
     refl (ap (λ n. s.answers + n) c.count_of.ensures.count) refl refl

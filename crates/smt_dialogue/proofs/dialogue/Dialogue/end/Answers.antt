@@ -2,11 +2,12 @@ use Rattle.std.proofs.Common.{◌++◌, ◌∙◌, [], ◌∷◌, ◌≡◌, Lis
 use Rattle.std.proofs.lemmas.List.{append-nil}
 use Rattle.smt_dialogue.proofs.DialogueLemmas.{begins_end, begins_trans, closed_lines, lines_faultless, on_err}
 use Rattle.smt_dialogue.proofs.DialogueLemmas.{gathered_silent, lines_silent, part_begins, part_silent}
-use Rattle.smt_dialogue.specs.Internal.DialogueState.{Stands, state_behind}
+use Rattle.smt_dialogue.specs.Internal.DialogueState.{state_behind}
 use Rattle.smt_dialogue.specs.Lines.{lines_in}
-use Rattle.smt_dialogue.specs.Report.{lines_of_end}
+use Rattle.smt_dialogue.specs.Report.{lines_at_end, lines_of_end}
 use Rattle.smt_dialogue.specs.SoFar.{IsBeginning}
 use Rattle.smt_dialogue.specs.declared.decided.Decided.{Decided}
+use Rattle.smt_dialogue.specs.declared.options.Options.{Options}
 use Rattle.std.specs.List.{list_any}
 use Rattle.smt_report.specs.Verdict.{is_fault_line, tally_of, verdict_of, with_verdict}
 use Rattle.smt_report.specs.declared.line.Line.{Line}
@@ -31,8 +32,11 @@ returns-in_err-gather-clause-cut c = on_err c.from_residual-in_err-gather.result
     let f = c.gather.new.self in
     let same = ap (λ (xs : List Line). (taken ++ xs) ++ e.checks.lines.items) (sym c.in_err-gather.ensures.cut) in
     let on = c.in_ok-end_window.ensures.stands taken early pairs stands in (
-      begins_end true (state_behind taken e) pairs c.args.fault (taken ++ f.decided.lines.items) e.checks.lines.items
-          same on,
+      subst (λ (o : Options). IsBeginning (taken ++ f.decided.lines.items)
+          (lines_at_end o.limit.steps pairs c.args.fault))
+          c.end_window.ensures.start
+          (begins_end true (state_behind taken e) pairs c.args.fault (taken ++ f.decided.lines.items)
+          e.checks.lines.items same on),
       part_silent (taken ++ f.decided.lines.items) e.checks.lines.items (state_behind taken e).checks.lines same
           (lines_silent true (state_behind taken e) pairs on),
     ))
@@ -43,11 +47,13 @@ returns-in_err-verdict-clause-cut c = on_err c.from_residual-in_err-verdict.resu
     let gathered = taken ++ f.decided.lines.items in
     let on = c.in_ok-gather.ensures.stands taken true pairs
     (c.in_ok-end_window.ensures.stands taken early pairs stands) in
-    let here : lines_in true [] pairs [] ≡ gathered =
-    closed_lines true (state_behind taken f) pairs
+    let here : lines_in c.args.self.now.checks.limit.steps true [] pairs [] ≡ gathered =
+    sym (ap (λ (o : Options). lines_in o.limit.steps true [] pairs [])
+    (c.gather.ensures.start ∙ c.end_window.ensures.start))
+    ∙ closed_lines true (state_behind taken f) pairs
     (c.in_ok-gather.ensures.pending ∙ c.in_ok-end_window.ensures.ended) on
     ∙ ap (λ xs. gathered ++ xs) c.in_ok-gather.ensures.all ∙ append-nil gathered in
-    let all = lines_in true [] pairs [] ++ lines_of_end c.args.fault in (
+    let all = lines_in c.args.self.now.checks.limit.steps true [] pairs [] ++ lines_of_end c.args.fault in (
       part_begins taken f.decided.lines.items (lines_of_end c.args.fault) c.end.new.self.lines.items all
           (lines.Verdict (verdict_of all) (tally_of all) ∷ []) c.in_err-verdict.ensures.kept
           (ap (λ xs. xs ++ lines_of_end c.args.fault) here),
@@ -65,8 +71,10 @@ returns-clause-ended c = λ taken early pairs stands.
     let on = c.in_ok-gather.ensures.stands taken true pairs
     (c.in_ok-end_window.ensures.stands taken early pairs stands) in
     let kept = ap (λ xs. gathered ++ xs) c.in_ok-gather.ensures.all ∙ append-nil gathered in
-    let here : lines_in true [] pairs [] ≡ gathered =
-    closed_lines true u pairs (c.in_ok-gather.ensures.pending ∙ c.in_ok-end_window.ensures.ended) on ∙ kept in
+    let here : lines_in c.args.self.now.checks.limit.steps true [] pairs [] ≡ gathered =
+    sym (ap (λ (o : Options). lines_in o.limit.steps true [] pairs [])
+    (c.gather.ensures.start ∙ c.end_window.ensures.start))
+    ∙ closed_lines true u pairs (c.in_ok-gather.ensures.pending ∙ c.in_ok-end_window.ensures.ended) on ∙ kept in
     let clean = sym (ap (list_any is_fault_line) kept) ∙ lines_faultless true u pairs on in
     let told = c.in_ok-verdict.ensures.ended taken on.tally clean in
     let same = ap (λ xs. xs ++ lines_of_end c.args.fault) (sym here) in

@@ -1,14 +1,19 @@
-use Rattle.std.proofs.Common.{◌∙◌, ap, arith, refl, subst}
+use Rattle.std.proofs.Common.{◌++◌, ◌∙◌, [], ap, arith, refl, subst, true}
 use Rattle.smt_script.specs.StackView.{initial_print_success_of}
 use Rattle.smt_dialogue.proofs.AdvanceLemmas.{bounded, checks_at_most, commands_at_most, cut_at, cut_ended, ends_at}
 use Rattle.smt_dialogue.proofs.AdvanceLemmas.{gathered, one_more, turned_on, waits_at}
 use Rattle.smt_dialogue.proofs.CheckLineLemmas.{IsFaultTurn, fault_turn}
 use Rattle.smt_dialogue.proofs.DialogueLemmas.{begins_trans, on_err}
 use Rattle.smt_dialogue.proofs.PairLemmas.{checks_in-le}
+use Rattle.smt_dialogue.specs.Lines.{lines_in}
+use Rattle.smt_dialogue.specs.Report.{lines_at_end, lines_of_end}
 use Rattle.smt_dialogue.specs.SoFar.{IsBeginning}
+use Rattle.smt_dialogue.specs.Internal.DialogueState.{options_of}
 use Rattle.smt_dialogue.specs.Internal.ExchangeView.{IsTurned, waiting}
 use Rattle.smt_dialogue.specs.declared.decided.Decided.{Decided}
+use Rattle.smt_dialogue.specs.declared.options.Options.{Options}
 use Rattle.smt_dialogue.specs.declared.turn.Turn.{Turn}
+use Rattle.smt_report.specs.Verdict.{verdict_of}
 use Rattle.smt_dialogue.proofs.exchange.Exchange.advance.Goals as goal
 
 pub take_turn-requires-clause-way : goal.take_turn-requires-clause-way
@@ -21,7 +26,7 @@ pub returns-in_err-take_turn-clause-cut : goal.returns-in_err-take_turn-clause-c
 returns-in_err-take_turn-clause-cut c = on_err c.from_residual.result (λ texts pairs later rest first.
     let h = c.loop-self.invariant.way texts pairs later rest first in
     cut_at c.loop-self.self texts h.0 h.1 h.2 (waiting c.take_turn.new.self)
-    (initial_print_success_of c.args.self.now.dialogue.stack) c.loop-self.invariant.start
+    (options_of c.args.self.now.dialogue) c.loop-self.invariant.start
     (ap (λ (k : Decided). k.lines.items) c.take_turn.ensures.decided) h.3)
 
 pub gather-requires : goal.gather-requires
@@ -88,7 +93,7 @@ returns-in_err-gather-in-GoesOn-clause-cut c =
     on_err c.from_residual-in_err-gather-in-GoesOn.result (λ texts pairs later rest first.
     let h = c.loop-self.invariant.way texts pairs later rest first in
     cut_at c.loop-self.self texts h.0 h.1 h.2 c.gather.new.self.decided.lines.items
-    (initial_print_success_of c.args.self.now.dialogue.stack) c.loop-self.invariant.start
+    (options_of c.args.self.now.dialogue) c.loop-self.invariant.start
     (c.in_err-gather-in-GoesOn.ensures.cut ∙ ap (λ (k : Decided). k.lines.items) c.take_turn.ensures.decided) h.3)
 
 pub settle-requires : goal.settle-requires
@@ -115,7 +120,7 @@ returns-in_err-settle-in-Waits-clause-cut c =
     on_err c.from_residual-in_err-settle-in-Waits.result (λ texts pairs later rest first.
     let h = c.loop-self.invariant.way texts pairs later rest first in
     cut_at c.loop-self.self texts h.0 h.1 h.2 c.settle.new.self.decided.lines.items
-    (initial_print_success_of c.args.self.now.dialogue.stack) c.loop-self.invariant.start
+    (options_of c.args.self.now.dialogue) c.loop-self.invariant.start
     (c.in_err-settle-in-Waits.ensures.cut ∙ ap (λ (k : Decided). k.lines.items) c.take_turn.ensures.decided) h.3)
 
 pub returns-in-Waits-clause-rests : goal.returns-in-Waits-clause-rests
@@ -126,7 +131,7 @@ returns-in-Waits-clause-rests c = λ texts pairs later rest first.
     let h = c.loop-self.invariant.way texts pairs later rest first in
     let t = subst (λ (turn : Turn). IsTurned turn x y texts h.0 h.1 h.2) c.in-Waits.is
     (c.in_ok-take_turn.ensures.turn texts h.0 h.1 h.2 h.3) in
-    waits_at x y z texts h.0 h.1 h.2 (initial_print_success_of c.args.self.now.dialogue.stack) c.in-Waits.closed
+    waits_at x y z texts h.0 h.1 h.2 (options_of c.args.self.now.dialogue) c.in-Waits.closed
     c.loop-self.invariant.start c.in_ok-take_turn.ensures.start refl refl refl c.in_ok-settle-in-Waits.ensures.start
     (λ early stands same. c.in_ok-settle-in-Waits.ensures.settled texts.taken early h.0 stands same) t
 
@@ -165,26 +170,33 @@ returns-in_err-end-in-Ends-clause-cut c =
     on_err c.from_residual-in_err-end-in-Ends.result (λ texts pairs later rest first.
     let x = c.loop-self.self in
     let y = c.take_turn.new.self in
-    let start = initial_print_success_of c.args.self.now.dialogue.stack in
+    let start = options_of c.args.self.now.dialogue in
     let h = c.loop-self.invariant.way texts pairs later rest first in
     let t = subst (λ (turn : Turn). IsTurned turn x y texts h.0 h.1 h.2) c.in-Ends.is
     (c.in_ok-take_turn.ensures.turn texts h.0 h.1 h.2 h.3) in
+    let cut = c.in_err-end-in-Ends.ensures.cut texts.taken t.0 h.0 t.1 in
     cut_ended texts h.0 c.in-Ends.fault c.end.new.self.decided.lines.items start
-    (ends_at x y texts h.0 h.1 h.2 start c.in-Ends.fault c.loop-self.invariant.start h.3 t)
-    (c.in_err-end-in-Ends.ensures.cut texts.taken t.0 h.0 t.1))
+    (ends_at x y texts h.0 h.1 h.2 start c.in-Ends.fault c.loop-self.invariant.start h.3 t) (
+      subst (λ (o : Options). IsBeginning (texts.taken ++ c.end.new.self.decided.lines.items)
+          (lines_at_end o.limit.steps h.0 c.in-Ends.fault))
+          (c.in_ok-take_turn.ensures.start ∙ c.loop-self.invariant.start) cut.0,
+      cut.1,
+    ))
 
 pub returns-in-Ends-clause-rests : goal.returns-in-Ends-clause-rests
 returns-in-Ends-clause-rests c = λ texts pairs later rest first.
     let x = c.loop-self.self in
     let y = c.take_turn.new.self in
-    let start = initial_print_success_of c.args.self.now.dialogue.stack in
+    let start = options_of c.args.self.now.dialogue in
     let h = c.loop-self.invariant.way texts pairs later rest first in
     let t = subst (λ (turn : Turn). IsTurned turn x y texts h.0 h.1 h.2) c.in-Ends.is
     (c.in_ok-take_turn.ensures.turn texts h.0 h.1 h.2 h.3) in
-    let done = c.in_ok-end-in-Ends.ensures.ended texts.taken t.0 h.0 t.1 in (
+    let done = c.in_ok-end-in-Ends.ensures.ended texts.taken t.0 h.0 t.1 in
+    let same = c.in_ok-take_turn.ensures.start ∙ c.loop-self.invariant.start in (
       c.in-Ends.fault,
       h.0,
       ends_at x y texts h.0 h.1 h.2 start c.in-Ends.fault c.loop-self.invariant.start h.3 t,
-      done.0,
-      done.1,
+      done.0 ∙ ap (λ (o : Options). lines_at_end o.limit.steps h.0 c.in-Ends.fault) same,
+      done.1 ∙ ap (λ (o : Options). verdict_of (lines_in o.limit.steps true [] h.0 [] ++ lines_of_end c.in-Ends.fault))
+          same,
     )

@@ -2,9 +2,9 @@
 use Rattle.std.proofs.Common.{◌≡◌, ◌-◌, List}
 use Rattle.smt_text.specs.Reader.{bytes_fed}
 use Rattle.smt_trees.specs.Sexp.{Sexps}
-use Rattle.smt_script.specs.StackView.{initial_print_success_of}
 use Rattle.smt_dialogue.specs.Pairs.{Pair}
 use Rattle.smt_dialogue.specs.SoFar.{IsBeginning}
+use Rattle.smt_dialogue.specs.Internal.DialogueState.{options_of}
 use Rattle.smt_dialogue.specs.Internal.ExchangeView.{IsUnderWay, Texts, waiting}
 use Rattle.smt_dialogue.proofs.exchange.Exchange.advance.Given as goal
 
@@ -12,7 +12,7 @@ abbrev pub invariant-loop-self : goal.invariant-loop-self
 invariant-loop-self l = record {
   script_fed : bytes_fed l.self.script.reader ≡ bytes_fed l.fn.self.script.reader;
   answers_fed : bytes_fed l.self.answers.reader ≡ bytes_fed l.fn.self.answers.reader;
-  start : initial_print_success_of l.self.dialogue.stack ≡ initial_print_success_of l.fn.self.dialogue.stack;
+  start : options_of l.self.dialogue ≡ options_of l.fn.self.dialogue;
   kept : IsBeginning (waiting l.fn.self) (waiting l.self);
   way : (texts : Texts) (pairs : List Pair) (later rest : Sexps) → IsUnderWay l.fn.self texts pairs later rest
       → (ps : List Pair) × (left : Sexps) × (after : Sexps) × IsUnderWay l.self texts ps left after;

@@ -1,10 +1,8 @@
 use Rattle.std.proofs.Common.{refl}
 use Rattle.smt_dialogue.proofs.ExchangeLemmas.{taken_up}
-use Rattle.std.proofs.Common.{arith, true, ◌≡◌, subst}
-use Rattle.smt_script.specs.Command.{is_check}
-use Rattle.smt_script.specs.CommandView.{command_view}
+use Rattle.std.proofs.Common.{arith, subst}
 use Rattle.smt_dialogue.proofs.AdvanceLemmas.{answers_at_most, checks_at_most, room_for_one}
-use Rattle.smt_dialogue.specs.Internal.ExchangeView.{IsClosing, IsInTurn}
+use Rattle.smt_dialogue.specs.Internal.ExchangeView.{IsInTurn}
 use Rattle.smt_dialogue.proofs.exchange.Exchange.take_up_command.Goals as goal
 
 pub returns-in-GoesOn-clause-turn : goal.returns-in-GoesOn-clause-turn

@@ -6,7 +6,7 @@ returns c = λ options script_told answers_told grown_script_told grown_answers_
     script answers grown_script grown_answers ls ms s g x y.
     let grown = grown_text c.one_reading.ensures.one c.read_trees_stay.ensures.stay
     c.read_faults_stay.ensures.stay in
-    c.decided_lines_stay.ensures options.print_success x.script_text x.answers_text y.script_text y.answers_text
+    c.decided_lines_stay.ensures options x.script_text x.answers_text y.script_text y.answers_text
     ls ms (grown script_told script grown_script_told grown_script x.script_text y.script_text s x.script_read
     y.script_read)
     (grown answers_told answers grown_answers_told grown_answers x.answers_text y.answers_text g x.answers_read

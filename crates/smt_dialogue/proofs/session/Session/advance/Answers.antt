@@ -1,8 +1,7 @@
-use Rattle.std.proofs.Common.{Option, None, Some, refl, subst, sym, ◌≡◌}
+use Rattle.std.proofs.Common.{refl, subst}
 use Rattle.smt_dialogue.proofs.SessionLemmas.{cut_stands, rests_stands}
 use Rattle.smt_dialogue.specs.Internal.ExchangeView.{HasRested, IsCut}
 use Rattle.smt_dialogue.specs.Internal.SessionView.{texts_of}
-use Rattle.smt_dialogue.specs.Session.{lines_waiting}
 use Rattle.smt_dialogue.proofs.session.Session.advance.Goals as goal
 
 pub returns-in-Ok-clause-stands : goal.returns-in-Ok-clause-stands

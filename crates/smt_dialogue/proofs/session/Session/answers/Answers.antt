@@ -1,4 +1,4 @@
-use Rattle.std.proofs.Common.{arith, inl, inr, length-append, refl}
+use Rattle.std.proofs.Common.{arith, inr, length-append, refl}
 use Rattle.smt_dialogue.proofs.SessionLemmas.{TextLaws, answers_fed, answers_grows, ended_stands, failed_stands, long_stands}
 use Rattle.smt_dialogue.proofs.SessionLemmas.{some_by}
 use Rattle.smt_dialogue.specs.History.{with_answers}

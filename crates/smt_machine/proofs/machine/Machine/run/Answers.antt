@@ -1,17 +1,29 @@
 use Rattle.std.proofs.Common.{[]}
 use Rattle.smt_machine.specs.Given.{given}
-use Rattle.smt_machine.specs.Tables.{nodes_of}
-use Rattle.smt_machine.proofs.StepLemmas.{turned, turned_less}
+use Rattle.smt_machine.specs.Tables.{arounds_of, nodes_of}
+use Rattle.smt_machine.proofs.StepLemmas.{task_paid, turned, turned_less, turned_paid}
 use Rattle.smt_machine.proofs.machine.Machine.run.Goals as goal
+
+pub act-requires-clause-enough : goal.act-requires-clause-enough
+act-requires-clause-enough c = task_paid (nodes_of c.args.tables.now) (arounds_of c.args.tables.now) c.args.root
+    _ _ c.in-Some.task c.loop-task.self c.take_task.new.self c.loop-task.invariant.paid c.in-Some.ensures.tasks
 
 pub loop-task-smaller : goal.loop-task-smaller
 loop-task-smaller c = turned_less (nodes_of c.args.tables.now)
     (given (nodes_of c.args.tables.now) c.args.root [])
-    c.in-Some.task c.loop-task.self c.take_task.new.self c.act.new.self c.loop-task.invariant
-    c.take_task.ensures.state c.take_task.ensures.kept c.in-Some.ensures.tasks c.in_ok-act.ensures
+    c.in-Some.task c.loop-task.self c.take_task.new.self c.act.new.self c.loop-task.invariant.running
+    c.take_task.ensures.state c.take_task.ensures.kept c.in-Some.ensures.tasks c.in_ok-act.ensures.step
 
 pub loop-task-preserved : goal.loop-task-preserved
-loop-task-preserved c = turned (nodes_of c.args.tables.now)
-    (given (nodes_of c.args.tables.now) c.args.root [])
-    c.in-Some.task c.loop-task.self c.take_task.new.self c.act.new.self c.loop-task.invariant
-    c.take_task.ensures.state c.take_task.ensures.kept c.in-Some.ensures.tasks c.in_ok-act.ensures
+loop-task-preserved c = record {
+  running = turned (nodes_of c.args.tables.now)
+      (given (nodes_of c.args.tables.now) c.args.root [])
+      c.in-Some.task c.loop-task.self c.take_task.new.self c.act.new.self c.loop-task.invariant.running
+      c.take_task.ensures.state c.take_task.ensures.kept c.in-Some.ensures.tasks c.in_ok-act.ensures.step;
+  paid = turned_paid (nodes_of c.args.tables.now) (arounds_of c.args.tables.now) c.args.root _ _ _
+      (given (nodes_of c.args.tables.now) c.args.root [])
+      c.in-Some.task c.loop-task.self c.take_task.new.self c.act.new.self c.loop-task.invariant.running
+      c.loop-task.invariant.paid
+      c.take_task.ensures.state c.take_task.ensures.kept c.in-Some.ensures.tasks c.in_ok-act.ensures.step
+      c.act.ensures.counted;
+}

@@ -4,7 +4,7 @@ use Rattle.smt_machine.proofs.RunLemmas.{visited}
 use Rattle.smt_machine.proofs.StepLemmas.{if_done}
 use Rattle.smt_machine.proofs.machine.Machine.visit.Goals as goal
 
-pub returns-in-None : goal.returns-in-None
-returns-in-None c = if_done c.leave.result c.leave.ensures
+pub returns-in-None-clause-step : goal.returns-in-None-clause-step
+returns-in-None-clause-step c = if_done c.leave.result c.leave.ensures
     (λ is. visited (nodes_of c.args.tables.now) c.args.number None None c.args.self.now c.leave.new.self
-    (c.in-None.ensures ∙ c.place-place.ensures) refl is c.requires)
+    (c.in-None.ensures ∙ c.place-place.ensures.node) refl is c.requires.based)

@@ -8,7 +8,7 @@ use Rattle.smt_report.specs.declared.claim.Claim.{Claim}
 use Rattle.smt_report.specs.declared.line.CheckAnswer.{CheckAnswer}
 use Rattle.smt_report.specs.declared.line.Line.{Line}
 use Rattle.smt_report.specs.declared.line.Line.TheVariants.{Unchecked, Confirmed, NoModel, ItemFault, Lacks}
-use Rattle.smt_report.specs.declared.line.Line.TheVariants.{Refuted, NotDecided}
+use Rattle.smt_report.specs.declared.line.Line.TheVariants.{TooLong, Refuted, NotDecided}
 use Rattle.smt_report.proofs.line.LineDisplay.fmt.Goals as goal
 
 -- the line is one on this check
@@ -18,8 +18,9 @@ IsCheckLine line k n = ((x : CheckAnswer) × (line ≡ Unchecked k n x))
     ⊎ ((line ≡ NoModel k n) ⊎
     (((x : ℕ) × (y : ℕ) × (z : TermFlaw) × (line ≡ ItemFault k n x y z))
     ⊎ (((x : ℕ) × (y : ℕ) × (line ≡ Lacks k n x y))
+    ⊎ (((x : ℕ) × (line ≡ TooLong k n x))
     ⊎ (((x : ℕ) × (y : Claim) × (line ≡ Refuted k n x y))
-    ⊎ ((x : ℕ) × (y : Claim) × (line ≡ NotDecided k n x y)))))))
+    ⊎ ((x : ℕ) × (y : Claim) × (line ≡ NotDecided k n x y))))))))
 
 text_behind_check : (line : Line) (k n : ℕ) → IsCheckLine line k n
     → text_of line ≡ check_line k n (codes ": " ++ text_of_outcome line)
@@ -28,8 +29,9 @@ text_behind_check line k n (inr (inl e)) = rw e refl
 text_behind_check line k n (inr (inr (inl e))) = rw e refl
 text_behind_check line k n (inr (inr (inr (inl (x, y, z, e))))) = rw e refl
 text_behind_check line k n (inr (inr (inr (inr (inl (x, y, e)))))) = rw e refl
-text_behind_check line k n (inr (inr (inr (inr (inr (inl (x, y, e))))))) = rw e refl
-text_behind_check line k n (inr (inr (inr (inr (inr (inr (x, y, e))))))) = rw e refl
+text_behind_check line k n (inr (inr (inr (inr (inr (inl (x, e))))))) = rw e refl
+text_behind_check line k n (inr (inr (inr (inr (inr (inr (inl (x, y, e)))))))) = rw e refl
+text_behind_check line k n (inr (inr (inr (inr (inr (inr (inr (x, y, e)))))))) = rw e refl
 
 pub returns-in-Unchecked-clause-writes : goal.returns-in-Unchecked-clause-writes
 returns-in-Unchecked-clause-writes g c = λ plain ok.

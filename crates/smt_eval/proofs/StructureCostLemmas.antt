@@ -1,0 +1,136 @@
+-- A node of a script costs what its term does over the structure that a model gives to the script.
+use Rattle.std.proofs.Common.{◌≡◌, ℕ, ◌+◌, List, [], length, map, slice_get, Some, ap, sym}
+use Rattle.std.proofs.Common.{◌∙◌, subst, arith}
+use Rattle.std.proofs.Math.Seq.{take-length}
+use Rattle.std.proofs.lemmas.List.{length-map}
+use Rattle.std.specs.Prelude.{unwrap_or}
+use Rattle.smt_trees.specs.Sexp.{Sexp}
+use Rattle.smt_nodes.specs.Node.{Row}
+use Rattle.smt_machine.specs.Costs.{around_at, cost, node_cost}
+use Rattle.smt_machine.specs.Given.{given}
+use Rattle.smt_machine.specs.Nodes as machine
+use Rattle.smt_machine.specs.Nodes.{Frame, node_value}
+use Rattle.smt_machine.specs.Tables.{resolved}
+use Rattle.smt_terms.specs.Denotes.{Denotes, Table}
+use Rattle.smt_terms.specs.Library.{declared_among}
+use Rattle.smt_terms.specs.Signature.{AreDistinct, Entry, Signature}
+use Rattle.smt_terms.specs.TermsOf.{AreTermsOf, first_heads}
+use Rattle.smt_eval.proofs.HeadLemmas.{IsBodyOf, body_at, none_declared}
+use Rattle.smt_eval.proofs.NodeCostLemmas.{HasRowCosts}
+use Rattle.smt_eval.proofs.NodeNameCostLemmas.{IsCostAt, called_costs, calls_cost, closed_costs}
+use Rattle.smt_eval.proofs.NodeNameLemmas.{HasNames}
+use Rattle.smt_eval.proofs.PlaceLemmas.{at_left, at_right}
+use Rattle.smt_eval.proofs.StructureNodeLemmas.{all_seen, at_map, denotes_within, model_names, script_names}
+use Rattle.smt_eval.proofs.StructureNodeLemmas.{seen, within}
+use Rattle.smt_eval.specs.Cost.{cost_of, cost_over, costs_in}
+use Rattle.smt_eval.specs.Internal.DefinitionValues.{AllDefined}
+use Rattle.smt_eval.specs.NodeValues.{GivesBodies, arounds_over, nodes_over}
+use Rattle.smt_eval.specs.Structure.{structure_of}
+
+module _ (has : (nodes : List machine.Node) (i : ℕ) (frame : Frame)
+    → given nodes i frame ≡ node_value i (given nodes) frame (slice_get nodes i))
+    (costs : (nodes : List machine.Node) (arounds : List ℕ) (i : ℕ)
+    → cost nodes arounds i ≡ node_cost i (cost nodes arounds) (around_at arounds i) (slice_get nodes i))
+    (model script : Table) (declared : List ℕ) (names definitions : Signature)
+    (terms : AreTermsOf script names) (bodies : AreTermsOf model definitions)
+    (all : AllDefined definitions.entries) (theories : definitions.theories ≡ names.theories)
+    (distinct : AreDistinct (structure_of names definitions).entries)
+    (gives : GivesBodies declared names definitions model.bodies) where
+  abbrev nodes : List machine.Node
+  nodes = nodes_over model script declared
+
+  abbrev arounds : List ℕ
+  arounds = arounds_over model script
+
+  abbrev c : ℕ → ℕ
+  c = cost nodes arounds
+
+  abbrev count : ℕ
+  count = length model.rows
+
+  abbrev whole : Signature
+  whole = structure_of names definitions
+
+  abbrev of_model : Row → machine.Node
+  of_model row = resolved 0 model.bodies [] row.node
+
+  abbrev of_script : Row → machine.Node
+  of_script row = resolved count script.bodies declared row.node
+
+  abbrev around_of : Row → ℕ
+  around_of row = row.around
+
+  abbrev names_of_model : HasNames (given nodes) 0 [] model definitions.entries whole (λ n. n)
+  names_of_model = model_names has model script declared names definitions terms bodies all theories distinct gives
+
+  abbrev seen_of : ℕ → ℕ
+  seen_of = seen has model script declared names definitions terms bodies all theories distinct gives
+
+  abbrev names_of_script : HasNames (given nodes) count declared script names.entries whole seen_of
+  names_of_script =
+      script_names has model script declared names definitions terms bodies all theories distinct gives
+
+  -- a row that stands at this place
+  row_costs : (i : ℕ) (row : Row) (n : machine.Node) → slice_get nodes i ≡ Some n
+      → slice_get arounds i ≡ Some row.around → c i ≡ node_cost i c row.around (Some n)
+  row_costs i row n at around =
+      costs nodes arounds i
+      ∙ ap (λ o. node_cost i c (unwrap_or o 0) (slice_get nodes i)) around
+      ∙ ap (node_cost i c row.around) at
+
+  model_rows : HasRowCosts c 0 [] model
+  model_rows = λ k row at.
+      let here : slice_get model.rows (0 + k) ≡ Some row = ap (slice_get model.rows) (omega arith) ∙ at in
+      row_costs (0 + k) row (of_model row)
+      (at_left (map of_model model.rows) (map of_script script.rows) (0 + k) (of_model row)
+      (at_map of_model model.rows (0 + k) row here))
+      (at_left (map around_of model.rows) (map around_of script.rows) (0 + k) row.around
+      (at_map around_of model.rows (0 + k) row here))
+
+  script_rows : HasRowCosts c count declared script
+  script_rows = λ k row at.
+      let l = length-map model.rows of_model in
+      let m = length-map model.rows around_of in
+      row_costs (count + k) row (of_script row)
+      (at_right (map of_model model.rows) (map of_script script.rows) (count + k) k (of_script row)
+      (omega (arith, l)) (at_map of_script script.rows k row at))
+      (at_right (map around_of model.rows) (map around_of script.rows) (count + k) k row.around
+      (omega (arith, m)) (at_map around_of script.rows k row at))
+
+  none_given : (k : ℕ) (e : Entry) → slice_get (declared_among definitions.entries) k ≡ Some e
+      → IsCostAt c 0 [] whole (λ n. n) k e
+  none_given k e at = absurd (none_declared definitions.entries k e all at)
+
+  -- the body of the definition that the model gives to a declared name
+  given_costs : (k : ℕ) (e : Entry) → slice_get (declared_among names.entries) k ≡ Some e
+      → IsCostAt c count declared whole seen_of k e
+  given_costs k e at =
+      let m = gives k e at in
+      let b : IsBodyOf model m.place m.definition m.body =
+      subst (λ q. IsBodyOf model q m.definition m.body) (omega arith)
+      (body_at model definitions.entries 0 model.bodies m.place m.definition m.body all bodies.bodies
+      m.defined m.node) in
+      let place = within definitions.entries m.place m.definition m.defined in (
+        m.body,
+        m.listed,
+        denotes_within (first_heads m.place model) _ _ _ m.body b.1 b.3.denotes,
+        λ n. ap c (omega arith)
+            ∙ called_costs (given nodes) 0 [] model definitions.entries whole (λ q. q) names_of_model c
+            model_rows none_given m.body
+            (calls_cost (given nodes) 0 [] model definitions.entries whole (λ q. q) names_of_model c
+            model_rows none_given m.body) (seen_of n)
+            m.place m.body m.definition e.name m.defined (omega (arith, place)) m.name b (omega arith),
+      )
+
+  abbrev all_names : ℕ
+  all_names = length script.heads
+
+  pub node_has_cost : (around i : ℕ) (term : Sexp) → Denotes script [] 0 around i term
+      → c (count + i) ≡ around + cost_over whole term
+  node_has_cost around i term denotes =
+      closed_costs (given nodes) count declared script names.entries whole seen_of names_of_script c
+      script_rows given_costs all_names around i term
+      (subst (λ hs. Denotes (record script { heads = hs }) [] 0 around i term) (sym (take-length script.heads))
+      denotes)
+      ∙ ap (λ d. around + cost_of (costs_in d) [] term)
+      (all_seen has model script declared names definitions terms bodies all theories distinct gives)

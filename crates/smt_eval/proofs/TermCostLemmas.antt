@@ -1,0 +1,64 @@
+-- What a term of a library costs over an interpretation, by its number.
+use Rattle.std.proofs.Common.{◌≡◌, ◌≤◌, ℕ, ◌+◌, List, [], length, Result, OnOk, ap, sym, ◌∙◌, subst, arith}
+use Rattle.smt_trees.specs.Sexp.{Sexp}
+use Rattle.smt_machine.specs.Costs.{cost}
+use Rattle.smt_machine.specs.Tables.{arounds_of, model_count, nodes_of, term_cost}
+use Rattle.smt_machine.specs.declared.tables.Tables.{Tables}
+use Rattle.smt_terms.specs.Denotes.{Denotes, Table}
+use Rattle.smt_terms.specs.Library.{IsTerm, StandsFor, terms_of}
+use Rattle.smt_terms.specs.Signature.{AreDistinct, Signature}
+use Rattle.smt_terms.specs.TermsOf.{AreTermsOf}
+use Rattle.smt_terms.specs.declared.library.Library.{Library}
+use Rattle.smt_eval.specs.Cost.{cost_over}
+use Rattle.smt_eval.specs.Internal.DefinitionValues.{AllDefined}
+use Rattle.smt_eval.specs.Interpretation.{CostsAtMost, Fits, IsInterpretation}
+use Rattle.smt_eval.specs.NodeValues.{GivesBodies, arounds_over, nodes_over}
+use Rattle.smt_eval.specs.Structure.{structure_of}
+use Rattle.smt_eval.specs.declared.interpretation.Interpretation.{Interpretation}
+
+-- the law of `nodes_have_the_costs_of_their_terms`
+abbrev pub NodesHaveCosts : Type 0
+NodesHaveCosts = (model script : Table) (declared : List ℕ) (names definitions : Signature) (around i : ℕ)
+    (term : Sexp) → AreTermsOf script names → AreTermsOf model definitions
+    → AllDefined definitions.entries → definitions.theories ≡ names.theories
+    → AreDistinct (structure_of names definitions).entries
+    → GivesBodies declared names definitions model.bodies
+    → Denotes script [] 0 around i term
+    → cost (nodes_over model script declared) (arounds_over model script) (length model.rows + i)
+    ≡ around + cost_over (structure_of names definitions) term
+
+-- the tables are those of the library and the interpretation
+pub record AreTablesOf (tables : Tables) (library : Library) (interpretation : Interpretation) : Type 0 where
+  pub nodes : nodes_of tables
+      ≡ nodes_over (terms_of interpretation.definitions) (terms_of library) interpretation.declared.items
+  pub arounds : arounds_of tables ≡ arounds_over (terms_of interpretation.definitions) (terms_of library)
+  pub count : model_count tables ≡ length (terms_of interpretation.definitions).rows
+
+pub cost_is : NodesHaveCosts → (tables : Tables) (library : Library) (interpretation : Interpretation) (id : ℕ)
+    (script definitions : Signature) (t : Sexp) → AreTablesOf tables library interpretation
+    → StandsFor library script → IsInterpretation interpretation script definitions → IsTerm library id t
+    → term_cost tables id ≡ cost_over (structure_of script definitions) t
+cost_is law tables library interpretation id script definitions t are names holds term =
+    let model = terms_of interpretation.definitions in
+    let whole = law model (terms_of library) interpretation.declared.items script definitions 0 id t
+    names.terms holds.stands.terms holds.defined holds.theories holds.distinct holds.bodies term in
+    ap (λ n. cost (nodes_of tables) (arounds_of tables) (n + id)) are.count
+    ∙ ap (λ nodes. cost nodes (arounds_of tables) (length model.rows + id)) are.nodes
+    ∙ ap (λ (arounds : List ℕ). cost (nodes_over model (terms_of library) interpretation.declared.items) arounds
+    (length model.rows + id)) are.arounds
+    ∙ omega (arith, whole)
+
+-- there is enough for the node
+pub cost_within : NodesHaveCosts → (tables : Tables) (library : Library) (interpretation : Interpretation)
+    (id left : ℕ) → AreTablesOf tables library interpretation → Fits interpretation library
+    → (t : Sexp) × IsTerm library id t → CostsAtMost left library interpretation id → term_cost tables id ≤ left
+cost_within law tables library interpretation id left are fits term enough =
+    let is = cost_is law tables library interpretation id fits.script fits.definitions term.0 are fits.names
+    fits.holds term.1 in
+    let most = enough fits.script fits.definitions term.0 fits.names fits.holds term.1 in
+    subst (λ n. n ≤ left) (sym is) most
+
+-- what is left where so many were taken at most
+pub paid_is : {T F : Type 0} (r : Result T F) (old new m n : ℕ) → OnOk r (old ≤ new + m) → m ≡ n
+    → OnOk r (old ≤ new + n)
+paid_is r old new m n paid is = subst (λ k. OnOk r (old ≤ new + k)) is paid

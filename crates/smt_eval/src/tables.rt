@@ -1,0 +1,30 @@
+//! The tables of a script and of a model of its names, as a machine takes them. This file evaluates nothing.
+
+ghost use Rattle.std.specs.Prelude.{◌≡◌, length};
+ghost use Rattle.smt_machine.specs.Tables.{arounds_of, model_count, nodes_of};
+ghost use Rattle.smt_terms.specs.Library.{terms_of};
+ghost use Rattle.smt_eval.specs.NodeValues.{arounds_over, nodes_over};
+
+use smt_machine::Tables;
+use smt_nodes::TermId;
+use smt_terms::Library;
+
+/// The tables of a script and of a model's definitions, where the declared names have these bodies.
+pub(crate) fn tables<'a>(
+    script: &'a Library,
+    definitions: &'a Library,
+    declared: &'a [TermId],
+) -> Tables<'a>
+    ensures nodes { nodes_of result
+        ≡ nodes_over (terms_of definitions.now) (terms_of script.now) declared.now }
+    ensures arounds { arounds_of result ≡ arounds_over (terms_of definitions.now) (terms_of script.now) }
+    ensures count { model_count result ≡ length (terms_of definitions.now).rows }
+{
+    Tables {
+        model: definitions.nodes(),
+        model_bodies: definitions.bodies(),
+        script: script.nodes(),
+        script_bodies: script.bodies(),
+        declared,
+    }
+}

@@ -1,0 +1,33 @@
+use Rattle.std.proofs.Common.{◌≡◌, ◌∙◌, ◌++◌, ◌∷◌, [], List, ℕ, ap, subst, sym, arith, length, length-append}
+use Rattle.smt_machine.specs.Costs.{capped, cost, node_cost}
+use Rattle.smt_machine.specs.Internal.Sums.{AreKept}
+use Rattle.smt_machine.specs.Internal.Parts.{found, found_around}
+use Rattle.smt_machine.specs.Tables.{arounds_of, nodes_of}
+use Rattle.smt_machine.proofs.SumLemmas.{kept_next}
+use Rattle.smt_machine.proofs.counting.costs.Goals as goal
+
+pub loop-number-preserved : goal.loop-number-preserved
+loop-number-preserved c =
+    let nodes = nodes_of c.args.tables in
+    let arounds = arounds_of c.args.tables in
+    let kept = c.loop-number.costs.items in
+    let seen = c.as_slice.ensures.value in
+    let all : c.push.new.self.items ≡ kept ++ c.cost_at-cost.result ∷ [] = c.in_ok-push.ensures.items in
+    let is : c.cost_at-cost.result ≡ capped (node_cost (length kept) (cost nodes arounds)
+    (found_around c.place.result) (found c.place.result)) =
+    c.cost_at-cost.ensures (cost nodes arounds)
+    (subst (λ (xs : List ℕ). AreKept (cost nodes arounds) xs) (sym seen) c.loop-number.invariant.costs)
+    ∙ ap (λ (xs : List ℕ). capped (node_cost (length xs) (cost nodes arounds)
+    (found_around c.place.result) (found c.place.result))) seen in
+    let counted = c.loop-number.invariant.count in
+    record {
+      count = omega (
+        arith,
+        ap (λ (xs : List ℕ). length xs) all,
+        length-append kept (c.cost_at-cost.result ∷ []),
+        counted,
+      );
+      costs = kept_next nodes arounds kept c.push.new.self.items c.loop-number.number
+          (found_around c.place.result) c.cost_at-cost.result (found c.place.result)
+          c.loop-number.invariant.costs counted c.place.ensures.around c.place.ensures.node is all;
+    }

@@ -1,0 +1,11 @@
+use Rattle.std.proofs.Common.{◌≡◌, length}
+use Rattle.smt_machine.specs.Costs.{cost}
+use Rattle.smt_machine.specs.Internal.Sums.{AreKept}
+use Rattle.smt_machine.specs.Tables.{arounds_of, nodes_of}
+use Rattle.smt_machine.proofs.counting.costs.Given as goal
+
+abbrev pub invariant-loop-number : goal.invariant-loop-number
+invariant-loop-number l = record {
+  count : length l.costs.items ≡ l.number;
+  costs : AreKept (cost (nodes_of l.tables) (arounds_of l.tables)) l.costs.items;
+}

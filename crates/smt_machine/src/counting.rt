@@ -1,0 +1,120 @@
+//! What nodes cost, by one pass over both tables. This file evaluates nothing.
+
+ghost use Rattle.std.specs.Prelude.{◌≡◌, ◌+◌, ◌<◌, ℕ, IfOk, length, option_map, slice_get, slice_index, Some};
+ghost use Rattle.smt_machine.specs.Costs.{AreCosts, capped, first_cost, last_cost, node_cost, part_cost, parts_cost};
+ghost use Rattle.smt_machine.specs.Internal.Sums.{AreKept};
+ghost use Rattle.smt_machine.specs.Internal.Parts.{found, found_around, meaning, number_of, numbers_of};
+ghost use Rattle.smt_machine.specs.Nodes.{Node as MachineNode};
+ghost use Rattle.smt_machine.specs.Tables.{arounds_of, call, nodes_of, term_cost};
+
+use crate::parts::{Part, Parts};
+use crate::tables::{Place, Tables};
+use smt_faults::Memory;
+use smt_nodes::{Node, TermId};
+use std::alloc::Global;
+
+/// What each node of both tables costs, by its number, the model's first; 2^64 - 1 for that and more.
+pub fn costs(alloc: Global, tables: Tables<'_>) -> Result<Vec<u64>, Memory>
+    ensures { IfOk result (λ costs. AreCosts (nodes_of tables.entry) (arounds_of tables.entry) costs.items) }
+{
+    let Some(count) = tables.shift().checked_add(tables.script.len()) else {
+        // So many nodes have no place in memory.
+        return Err(Memory);
+    };
+    let mut costs = Vec::with_capacity(alloc, count)?;
+    for number in 0..count {
+        let cost = cost_at(costs.as_slice(), &tables.place(number));
+        costs.push(cost)?;
+    }
+    Ok(costs)
+}
+
+/// What a term of the script costs, by what was counted over these tables.
+pub fn cost_of_term(costs: &[u64], tables: Tables<'_>, term: TermId) -> u64
+    requires { AreCosts (nodes_of tables) (arounds_of tables) costs.now }
+    ensures { result ≡ capped (term_cost tables.entry term) }
+{
+    match costs.get(tables.shift().saturating_add(term.number())) {
+        Some(cost) => *cost,
+        // No node has the number.
+        None => 1,
+    }
+}
+
+// What the node at a place costs, by the costs of those below it.
+fn cost_at(kept: &[u64], from: &Place<'_>) -> u64
+    ensures { (c : ℕ → ℕ) → AreKept c kept.now
+        → result ≡ capped (node_cost (length kept.now) c (found_around from.now) (found from.now)) }
+{
+    let parts = match from.node() {
+        Some(node) => parts_of(kept, from, &node),
+        None => 0,
+    };
+    1u64.saturating_add(from.around() as u64)
+        .saturating_add(parts)
+}
+
+// What the parts of a node cost, and the body that it names.
+fn parts_of(kept: &[u64], from: &Place<'_>, node: &Node<'_>) -> u64
+    ensures { (c : ℕ → ℕ) → AreKept c kept.now
+        → result ≡ capped (first_cost (length kept.now) c (Some (meaning from.now node.now))
+        + last_cost (length kept.now) c (Some (meaning from.now node.now))) }
+{
+    match node {
+        Node::Numeral(_) | Node::Hex(_) | Node::Bin(_) | Node::Slot(_) => 0,
+        Node::Apply { args, .. } => sum_of(kept, from.parts(*args)),
+        Node::Declared { place, args } => {
+            cost_of_call(kept, from.declared(*place), from.parts(*args))
+        }
+        Node::Defined { place, args } => {
+            cost_of_call(kept, from.defined(*place), from.parts(*args))
+        }
+        Node::Let { values, body } => {
+            let body = Part {
+                id: *body,
+                shift: from.shift,
+            };
+            sum_of(kept, from.parts(*values)).saturating_add(cost_of(kept, body))
+        }
+    }
+}
+
+// What a body costs with arguments, if there is one.
+fn cost_of_call(kept: &[u64], body: Option<Part>, args: Parts<'_>) -> u64
+    ensures { (c : ℕ → ℕ) → AreKept c kept.now
+        → result ≡ capped (first_cost (length kept.now) c
+        (Some (call (option_map number_of body) (numbers_of args.entry)))
+        + last_cost (length kept.now) c (Some (call (option_map number_of body) (numbers_of args.entry)))) }
+{
+    match body {
+        Some(body) => sum_of(kept, args).saturating_add(cost_of(kept, body)),
+        None => 0,
+    }
+}
+
+// What parts cost.
+fn sum_of(kept: &[u64], parts: Parts<'_>) -> u64
+    ensures { (c : ℕ → ℕ) → AreKept c kept.now
+        → result ≡ capped (parts_cost (length kept.now) c (numbers_of parts.entry)) }
+{
+    let mut sum: u64 = 0;
+    for id in parts.ids {
+        let part = Part {
+            id: *id,
+            shift: parts.shift,
+        };
+        sum = sum.saturating_add(cost_of(kept, part));
+    }
+    sum
+}
+
+// What a part costs: one of no lower number is open, and costs 1.
+fn cost_of(kept: &[u64], part: Part) -> u64
+    ensures { (c : ℕ → ℕ) → AreKept c kept.now
+        → result ≡ capped (part_cost (length kept.now) c (number_of part)) }
+{
+    match kept.get(part.shift.saturating_add(part.id.number())) {
+        Some(cost) => *cost,
+        None => 1,
+    }
+}
