@@ -1,0 +1,128 @@
+"""Printed models: their items, their cost, and what they make of the assertions in force."""
+from script import Assertion, Declaration, Definition, is_define_fun
+from sorts import Faulty
+from terms import Apply, Context, Let, Literal, Note, Use, Variable, check_definition
+from text import begins_with, is_symbol
+from values import OPEN
+
+
+class Structure:
+    """The bodies of all names, over which terms have a cost and a value."""
+
+    def __init__(self, bodies, reached=None):
+        self.bodies = bodies
+        self.costs = {}
+        self.values = {}
+        self.reached = reached
+
+    def cost(self, node):
+        """The cost of a term: 1, the costs of its parts, and that of the body of the name that it uses."""
+        kind = type(node)
+        if kind is Literal or kind is Variable:
+            return 1
+        if kind is Note:
+            return 1 + self.cost(node.term)
+        if kind is Let:
+            return 1 + sum(map(self.cost, node.terms)) + self.cost(node.body)
+        cost = 1 + sum(map(self.cost, node.arguments))
+        if kind is Use:
+            if node.name not in self.costs:
+                self.costs[node.name] = self.cost(self.bodies[node.name].node)
+            cost += self.costs[node.name]
+        return cost
+
+    def value(self, node, variables):
+        """The value of a term, or OPEN; `variables` has the values of the variables by their numbers."""
+        kind = type(node)
+        if kind is Apply:
+            values = [self.value(argument, variables) for argument in node.arguments]
+            if self.reached is not None:
+                self.reached["operator " + node.operator.name] += 1
+            return node.operator.value(values, node.sorts)
+        if kind is Variable:
+            return variables[node.number]
+        if kind is Literal:
+            return node.value
+        if kind is Note:
+            return self.value(node.term, variables)
+        if kind is Let:
+            inner = dict(variables)
+            for number, term in zip(node.numbers, node.terms):
+                inner[number] = self.value(term, variables)
+            return self.value(node.body, inner)
+        # A name has one value for the same arguments.
+        values = tuple([self.value(argument, variables) for argument in node.arguments])
+        use = node.name, values
+        if use not in self.values:
+            body = self.bodies[node.name]
+            self.values[use] = self.value(body.node, dict(zip(body.parameters, values)))
+        return self.values[use]
+
+
+class ItemFault(Exception):
+    """The first item of a model with a fault, by its number, and the letter of the fault."""
+
+    def __init__(self, number, letter):
+        super().__init__(number, letter)
+        self.number = number
+        self.letter = letter
+
+
+def items_of(tree):
+    """The items of a model: a leading symbol `model` is none."""
+    return tree[1:] if tree and is_symbol(tree[0], "model") else tree
+
+
+def define_item(item, force, declared, ranks, bodies):
+    """One item, which is put into the ranks and the bodies of the items before it."""
+    if begins_with(item, "define-fun-rec") or begins_with(item, "define-funs-rec"):
+        raise Faulty("F2")
+    if not begins_with(item, "define-fun") or not is_define_fun(item[1:]):
+        raise Faulty("F1")
+    name = item[1].text
+    if name in ranks:
+        raise Faulty("F6")
+    context = Context(force.theories, force.abbreviations, ranks)
+    if name not in declared and (name in force.ranks or name in context.operators):
+        raise Faulty("F7")
+    ranks[name], bodies[name] = check_definition(context, *item[2:], rank=declared.get(name))
+
+
+def bodies_of(tree, force):
+    """What a model defines, by name; the fault of its first item with one."""
+    declared = {thing.name: thing.rank for thing in force.of_kind(Declaration)}
+    ranks, bodies = {}, {}
+    for index, item in enumerate(items_of(tree)):
+        try:
+            define_item(item, force, declared, ranks, bodies)
+        except Faulty as fault:
+            raise ItemFault(index + 1, fault.letter)
+    return bodies
+
+
+CONFIRMED = "confirmed"
+
+
+def judged(tree, force, steps, reached=None):
+    """What a model makes of the assertions in force: CONFIRMED, or the words that stand behind the model in the report."""
+    try:
+        bodies = bodies_of(tree, force)
+    except ItemFault as fault:
+        return "item %d %s" % (fault.number, fault.letter)
+    for thing in force.of_kind(Declaration):
+        if thing.name not in bodies:
+            return "lacks the symbol of command %d" % thing.command
+    for thing in force.of_kind(Definition):
+        bodies[thing.name] = thing.body
+    structure = Structure(bodies, reached)
+    assertions = force.of_kind(Assertion)
+    if steps is not None and sum(structure.cost(assertion.node) for assertion in assertions) > steps:
+        return "too long"
+    opened = None
+    for assertion in assertions:
+        value = structure.value(assertion.node, {})
+        if value is False:
+            return "refuted by the assertion of command %d" % assertion.command
+        if value is OPEN and opened is None:
+            opened = assertion.command
+    return CONFIRMED if opened is None else "assertion of command %d not decided" % opened

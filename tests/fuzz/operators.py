@@ -1,0 +1,229 @@
+"""The operators of the theories: which arguments each takes, and what it makes of their values."""
+import re
+
+import values as v
+from sorts import BITS, BOOL, CORE, INT, INTS, WIDEST, Faulty, is_bits
+from text import NUMERAL, is_kind
+
+LARGEST_INDEX = 2**64 - 1
+
+
+class Operator:
+    """An operator, with its indexes if it has some.
+
+    `result` takes the sorts of the arguments, and gives that of the application, or None where it does not take them. `meaning` takes
+    their values and their sorts. A constant takes no arguments.
+    """
+
+    def __init__(self, name, result, meaning, takes_open=False):
+        self.name = name
+        self.result = result
+        self.meaning = meaning
+        self.takes_open = takes_open
+
+    def value(self, values, sorts):
+        """The value for these values, which is open where one of them is, but for the few operators that take open arguments."""
+        if not self.takes_open and v.OPEN in values:
+            return v.OPEN
+        return self.meaning(values, sorts)
+
+
+def some(least, most, argument, result):
+    """Takes from `least` to `most` arguments of one sort, `most` None for any number."""
+
+    def result_of(sorts):
+        fits = least <= len(sorts) and (most is None or len(sorts) <= most) and all(sort == argument for sort in sorts)
+        return result if fits else None
+
+    return result_of
+
+
+def constant(sort):
+    """Takes no arguments."""
+    return lambda sorts: None if sorts else sort
+
+
+def alike(sorts):
+    """Takes two arguments or more of one sort, and has a truth value."""
+    return BOOL if len(sorts) >= 2 and len(set(sorts)) == 1 else None
+
+
+def branches(sorts):
+    """Takes a condition and two of one sort."""
+    return sorts[1] if len(sorts) == 3 and sorts[0] == BOOL and sorts[1] == sorts[2] else None
+
+
+def vectors(least, most, result=None):
+    """Takes bit vectors of one width, and has that sort or another; `result` takes the width to a sort or None."""
+
+    def result_of(sorts):
+        fits = least <= len(sorts) and (most is None or len(sorts) <= most) and is_bits(sorts[0]) and len(set(sorts)) == 1
+        return (result(sorts[0]) if result else sorts[0]) if fits else None
+
+    return result_of
+
+
+def within(width):
+    """A sort of bit vectors that is not too wide."""
+    return width if width <= WIDEST else None
+
+
+def sum_of_widths(sorts):
+    """Takes two bit vectors or more, of any widths."""
+    return within(sum(sorts)) if len(sorts) >= 2 and all(map(is_bits, sorts)) else None
+
+
+def plain(meaning):
+    """The meaning of an operator that needs no sorts."""
+    return lambda values, sorts: meaning(values)
+
+
+def with_width(meaning):
+    """The meaning of an operator that needs the width of its arguments."""
+    return lambda values, sorts: meaning(values, sorts[0])
+
+
+def operators():
+    """For each theory, its operators without indexes by name."""
+    core, ints, bits = {}, {}, {}
+
+    def put(table, name, result, meaning, takes_open=False):
+        table[name] = Operator(name, result, meaning, takes_open)
+
+    put(core, "true", constant(BOOL), plain(lambda a: True))
+    put(core, "false", constant(BOOL), plain(lambda a: False))
+    put(core, "not", some(1, 1, BOOL, BOOL), plain(lambda a: not a[0]))
+    put(core, "=>", some(2, None, BOOL, BOOL), plain(v.implication), True)
+    put(core, "and", some(2, None, BOOL, BOOL), plain(v.conjunction), True)
+    put(core, "or", some(2, None, BOOL, BOOL), plain(v.disjunction), True)
+    put(core, "xor", some(2, None, BOOL, BOOL), plain(v.from_left(lambda x, y: x != y)))
+    put(core, "=", alike, plain(v.neighbours(lambda x, y: x == y)))
+    put(core, "distinct", alike, plain(v.distinct))
+    put(core, "ite", branches, plain(v.choice), True)
+
+    def minus(sorts):
+        return INT if sorts and all(sort == INT for sort in sorts) else None
+
+    subtraction = v.from_left(lambda x, y: v.known(x - y))
+    put(ints, "-", minus, plain(lambda a: v.negation(a) if len(a) == 1 else subtraction(a)))
+    put(ints, "+", some(2, None, INT, INT), plain(v.from_left(lambda x, y: v.known(x + y))))
+    put(ints, "*", some(2, None, INT, INT), plain(v.from_left(lambda x, y: v.known(x * y))))
+    put(ints, "div", some(2, None, INT, INT), plain(v.from_left(v.quotient_of)))
+    put(ints, "mod", some(2, 2, INT, INT), plain(v.from_left(v.remainder_of)))
+    put(ints, "abs", some(1, 1, INT, INT), plain(v.absolute))
+    put(ints, "<=", some(2, None, INT, BOOL), plain(v.neighbours(lambda x, y: x <= y)))
+    put(ints, "<", some(2, None, INT, BOOL), plain(v.neighbours(lambda x, y: x < y)))
+    put(ints, ">=", some(2, None, INT, BOOL), plain(v.neighbours(lambda x, y: x >= y)))
+    put(ints, ">", some(2, None, INT, BOOL), plain(v.neighbours(lambda x, y: x > y)))
+
+    put(bits, "concat", sum_of_widths, v.joined)
+    put(bits, "bvnot", vectors(1, 1), with_width(lambda a, m: (1 << m) - 1 - a[0]))
+    put(bits, "bvneg", vectors(1, 1), with_width(lambda a, m: -a[0] % (1 << m)))
+    steps = {
+        "bvand": lambda x, y: x & y,
+        "bvor": lambda x, y: x | y,
+        "bvxor": lambda x, y: x ^ y,
+        "bvadd": lambda x, y: x + y,
+        "bvmul": lambda x, y: x * y,
+        "bvnand": lambda x, y: ~(x & y),
+        "bvnor": lambda x, y: ~(x | y),
+        "bvxnor": lambda x, y: ~(x ^ y),
+        "bvsub": lambda x, y: x - y,
+    }
+    for name, step in steps.items():
+        most = None if name in ("bvand", "bvor", "bvxor", "bvadd", "bvmul") else 2
+        put(bits, name, vectors(2, most), with_width(lambda a, m, step=step: v.folded(m, step)(a)))
+    put(bits, "bvudiv", vectors(2, 2), with_width(v.divide))
+    put(bits, "bvurem", vectors(2, 2), plain(v.remain))
+    put(bits, "bvsdiv", vectors(2, 2), with_width(v.divide_signed))
+    put(bits, "bvsrem", vectors(2, 2), with_width(v.remain_signed))
+    put(bits, "bvsmod", vectors(2, 2), with_width(v.modulo_signed))
+    put(bits, "bvshl", vectors(2, 2), with_width(v.shift_left))
+    put(bits, "bvlshr", vectors(2, 2), with_width(v.shift_right))
+    put(bits, "bvashr", vectors(2, 2), with_width(v.shift_right_signed))
+    relations = {
+        "lt": lambda x, y: x < y,
+        "le": lambda x, y: x <= y,
+        "gt": lambda x, y: x > y,
+        "ge": lambda x, y: x >= y,
+    }
+
+    def to_bool(width):
+        return BOOL
+
+    for name, holds in relations.items():
+        put(bits, "bvu" + name, vectors(2, 2, to_bool), plain(lambda a, holds=holds: holds(a[0], a[1])))
+        put(
+            bits,
+            "bvs" + name,
+            vectors(2, 2, to_bool),
+            with_width(lambda a, m, holds=holds: holds(v.signed(a[0], m), v.signed(a[1], m))),
+        )
+    put(bits, "bvcomp", vectors(2, 2, lambda width: 1), plain(lambda a: int(a[0] == a[1])))
+    return {CORE: core, INTS: ints, BITS: bits}
+
+
+TABLES = operators()
+TABLE_OF = {}
+
+
+def operators_in(theories):
+    """The operators without indexes of these theories, by name."""
+    if theories not in TABLE_OF:
+        table = {}
+        for theory in theories:
+            table.update(TABLES[theory])
+        TABLE_OF[theories] = table
+    return TABLE_OF[theories]
+
+
+NAMED_VECTOR = re.compile("bv(0|[1-9][0-9]*)")
+# The names with indexes: the theory, and how many indexes.
+INDEXED = {
+    "divisible": (INTS, 1),
+    "extract": (BITS, 2),
+    "repeat": (BITS, 1),
+    "zero_extend": (BITS, 1),
+    "sign_extend": (BITS, 1),
+    "rotate_left": (BITS, 1),
+    "rotate_right": (BITS, 1),
+}
+
+
+def indexed_operator(name, indexes, theories):
+    """The operator `(_ name index ..)`, the indexes being numerals and symbols; F3 if there is none of that name, F5 for its indexes."""
+    vector = NAMED_VECTOR.fullmatch(name)
+    theory, count = (BITS, 1) if vector else INDEXED.get(name, (None, 0))
+    if theory not in theories:
+        raise Faulty("F3")
+    if len(indexes) != count or not all(is_kind(index, NUMERAL) for index in indexes):
+        raise Faulty("F5")
+    numbers = [int(index.text) for index in indexes]
+    if max(numbers) > LARGEST_INDEX:
+        raise Faulty("F5")
+    i = numbers[0]
+    if vector:
+        number = int(vector.group(1))
+        if not 1 <= i <= WIDEST or number >= 1 << i:
+            raise Faulty("F5")
+        return Operator("bvX", constant(i), plain(lambda a: number))
+    if name == "divisible":
+        if i == 0:
+            raise Faulty("F5")
+        return Operator(name, some(1, 1, INT, BOOL), plain(lambda a: a[0] % i == 0))
+    if name == "extract":
+        low = numbers[1]
+        if low > i:
+            raise Faulty("F5")
+        result = vectors(1, 1, lambda m: i - low + 1 if i < m else None)
+        return Operator(name, result, plain(lambda a: v.extracted(a, i, low)))
+    if name == "repeat":
+        if i == 0:
+            raise Faulty("F5")
+        return Operator(name, vectors(1, 1, lambda m: within(i * m)), lambda a, sorts: v.joined(a * i, sorts * i))
+    if name == "zero_extend":
+        return Operator(name, vectors(1, 1, lambda m: within(m + i)), plain(lambda a: a[0]))
+    if name == "sign_extend":
+        return Operator(name, vectors(1, 1, lambda m: within(m + i)), with_width(lambda a, m: v.extended_signed(a, m, i)))
+    places = i if name == "rotate_left" else -i
+    return Operator(name, vectors(1, 1), with_width(lambda a, m: v.rotated_left(a, m, places)))

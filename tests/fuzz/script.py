@@ -1,0 +1,218 @@
+"""Commands: their forms, and what is in force behind them."""
+from collections import namedtuple
+
+from sorts import ALL_THEORIES, BOOL, INT, LOGICS, Faulty
+from terms import Body, Context, Rank, check_assertion, check_definition, is_binding
+from text import KEYWORD, NUMERAL, RESERVED, STRING, is_kind, is_symbol
+
+MOST_LEVELS = 10000
+
+# A command in form: its word, and the trees behind it.
+Command = namedtuple("Command", "word parts")
+
+
+class Refused(Exception):
+    """The fault of a command: its letter, and that of its name, sort or term for C7."""
+
+    def __init__(self, letter, inner=None):
+        super().__init__(letter, inner)
+        self.letter = letter
+        self.inner = inner
+
+
+def is_option(tree, value=None):
+    """Whether a tree is the symbol `true` or `false`, or the given one of them."""
+    return is_symbol(tree) and tree.text in (("true", "false") if value is None else (value,))
+
+
+def is_set_option(parts):
+    """The form behind `set-option`."""
+    if not parts or not is_kind(parts[0], KEYWORD):
+        return False
+    if parts[0].text in (":print-success", ":global-declarations"):
+        return len(parts) == 2 and is_option(parts[1])
+    return len(parts) <= 2
+
+
+def is_define_fun(parts):
+    """The form behind `define-fun`, of commands and of items of models."""
+    return len(parts) == 4 and is_symbol(parts[0]) and type(parts[1]) is list and all(map(is_binding, parts[1]))
+
+
+def is_info(parts):
+    """The form behind `set-info`."""
+    return 1 <= len(parts) <= 2 and is_kind(parts[0], KEYWORD)
+
+
+def is_key(parts):
+    """A keyword alone."""
+    return len(parts) == 1 and is_kind(parts[0], KEYWORD)
+
+
+def is_number(parts):
+    """A numeral alone."""
+    return len(parts) == 1 and is_kind(parts[0], NUMERAL)
+
+
+def is_nothing(parts):
+    """No tree."""
+    return not parts
+
+
+FORMS = {
+    "set-logic": lambda p: len(p) == 1 and is_symbol(p[0]),
+    "declare-const": lambda p: len(p) == 2 and is_symbol(p[0]),
+    "declare-fun": lambda p: len(p) == 3 and is_symbol(p[0]) and type(p[1]) is list,
+    "define-fun": is_define_fun,
+    "define-sort": lambda p: len(p) == 3 and is_symbol(p[0]) and p[1] == [],
+    "assert": lambda p: len(p) == 1,
+    "push": is_number,
+    "pop": is_number,
+    "set-option": is_set_option,
+    "set-info": is_info,
+    "echo": lambda p: len(p) == 1 and is_kind(p[0], STRING),
+    "get-value": lambda p: len(p) == 1 and type(p[0]) is list and len(p[0]) > 0,
+    "get-info": is_key,
+    "get-option": is_key,
+}
+for word in (
+    "reset reset-assertions check-sat get-model exit get-assertions get-assignment get-proof get-unsat-core get-unsat-assumptions"
+).split():
+    FORMS[word] = is_nothing
+
+UNSUPPORTED = frozenset("check-sat-assuming declare-datatype declare-datatypes declare-sort define-fun-rec define-funs-rec".split())
+
+
+def command_of(tree):
+    """The command that a tree is; C1 or C2 where it is none."""
+    if type(tree) is not list or not tree or not is_kind(tree[0], RESERVED):
+        raise Refused("C1")
+    word, parts = tree[0].text, tree[1:]
+    if word in UNSUPPORTED:
+        raise Refused("C2")
+    if word == "define-sort" and len(parts) == 3 and is_symbol(parts[0]) and type(parts[1]) is list and parts[1]:
+        raise Refused("C2")
+    if word not in FORMS or not FORMS[word](parts):
+        raise Refused("C1")
+    if word == "set-option" and parts[0].text == ":global-declarations" and is_option(parts[1], "true"):
+        raise Refused("C2")
+    return Command(word, parts)
+
+
+# What a command brought: the number of the command, and the levels that there were behind it.
+Declaration = namedtuple("Declaration", "command level name rank")
+Definition = namedtuple("Definition", "command level name rank body")
+Abbreviation = namedtuple("Abbreviation", "command level name sort")
+Assertion = namedtuple("Assertion", "command level node")
+
+# Commands behind which no logic is set, and commands that end the window of a check.
+SETTLING = frozenset(
+    "set-logic declare-const declare-fun define-fun define-sort assert push pop reset-assertions check-sat".split()
+)
+CHANGING = frozenset("assert declare-const declare-fun define-fun define-sort push pop reset reset-assertions".split())
+
+
+class Force:
+    """What is in force behind some commands. `start` is the value of print-success that the program was given."""
+
+    def __init__(self, start):
+        self.start = start
+        self.restart()
+
+    def restart(self):
+        """The start."""
+        self.print_success = self.start
+        self.theories = ALL_THEORIES
+        self.settled = False
+        self.clear()
+
+    def clear(self):
+        """No levels, and nothing at them."""
+        self.levels = 0
+        self.brought = []
+        self.look()
+
+    def look(self):
+        """Makes the tables of what is in force anew."""
+        self.ranks = {}
+        self.abbreviations = {}
+        for thing in self.brought:
+            self.enter(thing)
+
+    def enter(self, thing):
+        """Puts a thing into the tables."""
+        if type(thing) is Abbreviation:
+            self.abbreviations[thing.name] = thing.sort
+        elif type(thing) is not Assertion:
+            self.ranks[thing.name] = thing.rank
+
+    def bring(self, thing):
+        """A thing is in force."""
+        self.brought.append(thing)
+        self.enter(thing)
+
+    def of_kind(self, kind):
+        """The things of a kind that are in force, in order."""
+        return [thing for thing in self.brought if type(thing) is kind]
+
+    def context(self):
+        """What terms are checked in."""
+        return Context(self.theories, self.abbreviations, self.ranks)
+
+    def take(self, number, command):
+        """A command that took effect; its fault where it has one."""
+        word, parts = command
+        if word == "set-logic":
+            if self.settled or parts[0].text not in LOGICS:
+                raise Refused("C5")
+            self.theories = LOGICS[parts[0].text]
+        elif word == "push":
+            count = int(parts[0].text)
+            if self.levels + count > MOST_LEVELS:
+                raise Refused("C3")
+            self.levels += count
+        elif word == "pop":
+            count = int(parts[0].text)
+            if count > self.levels:
+                raise Refused("C4")
+            self.levels -= count
+            self.brought = [thing for thing in self.brought if thing.level <= self.levels]
+            self.look()
+        elif word == "reset":
+            self.restart()
+        elif word == "reset-assertions":
+            self.clear()
+        elif word == "set-option" and parts[0].text == ":print-success":
+            self.print_success = is_option(parts[1], "true")
+        elif word in ("declare-const", "declare-fun", "define-fun", "define-sort", "assert"):
+            try:
+                self.take_term(number, word, parts)
+            except Faulty as fault:
+                raise Refused("C7", fault.letter)
+        self.settled = self.settled or word in SETTLING
+
+    def take_term(self, number, word, parts):
+        """A declaration, a definition, an abbreviation or an assertion."""
+        context = self.context()
+        place = number, self.levels
+        if word == "assert":
+            node, labels = check_assertion(context, parts[0])
+            for label in labels:
+                self.bring(Definition(*place, label.name, Rank((), label.sort), Body((), label.node)))
+            self.bring(Assertion(*place, node))
+            return
+        name = parts[0].text
+        if word == "define-sort":
+            if name in self.abbreviations or name in (BOOL, INT):
+                raise Faulty("F7")
+            self.bring(Abbreviation(*place, name, context.sort(parts[2])))
+            return
+        if context.is_taken(name):
+            raise Faulty("F7")
+        if word == "define-fun":
+            rank, body = check_definition(context, *parts[1:])
+            self.bring(Definition(*place, name, rank, body))
+            return
+        parameters = parts[1] if word == "declare-fun" else []
+        rank = Rank(tuple(context.sort(tree) for tree in parameters), context.sort(parts[-1]))
+        self.bring(Declaration(*place, name, rank))

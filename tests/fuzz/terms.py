@@ -1,0 +1,241 @@
+"""Terms: the checker, which finds the sort of a tree and makes a node of it, or finds its first fault."""
+from collections import namedtuple
+
+from operators import indexed_operator, operators_in
+from sorts import BITS, BOOL, INT, INTS, WIDEST, Faulty, sort_of
+from text import BINARY, DECIMAL, HEXADECIMAL, KEYWORD, NUMERAL, RESERVED, STRING, SYMBOL, begins_with, is_kind, is_symbol, is_word
+from values import HIGHEST, OPEN
+
+# The nodes that terms are made of. Variables and parameters have numbers, each its own within one command or item.
+Literal = namedtuple("Literal", "value")
+Variable = namedtuple("Variable", "number")
+Use = namedtuple("Use", "name arguments")
+Apply = namedtuple("Apply", "operator arguments sorts")
+Let = namedtuple("Let", "numbers terms body")
+Note = namedtuple("Note", "term")
+
+# The rank of a name: the sorts of its parameters, in a tuple, and of its result.
+Rank = namedtuple("Rank", "parameters result")
+# What a name stands for: the numbers of its parameters, and the node of its body.
+Body = namedtuple("Body", "parameters node")
+# A label of an assertion.
+Label = namedtuple("Label", "name sort node")
+
+
+class Context:
+    """What terms are checked in: the theories, the sorts that names abbreviate, and the ranks of the names in force."""
+
+    def __init__(self, theories, abbreviations, ranks):
+        self.theories = theories
+        self.abbreviations = abbreviations
+        self.ranks = ranks
+        self.operators = operators_in(theories)
+
+    def sort(self, tree):
+        """The sort that a tree names."""
+        return sort_of(tree, self.abbreviations, self.theories)
+
+    def is_taken(self, name):
+        """Whether a name is in force or an operator's."""
+        return name in self.ranks or name in self.operators
+
+
+class Checker:
+    """Checks the terms of one command or item. `labels` are those of the assertion so far, or None where labels are out of place."""
+
+    def __init__(self, context, labels=None):
+        self.context = context
+        self.labels = labels
+        self.bound = 0
+        self.used = []
+
+    def bind(self):
+        """The number of a new variable."""
+        self.bound += 1
+        return self.bound
+
+    def check(self, tree, scope):
+        """The sort and the node of a term. The scope has the number and the sort of each variable by its name."""
+        if type(tree) is not list:
+            return self.check_atom(tree, scope)
+        if not tree:
+            raise Faulty("F1")
+        head = tree[0]
+        if is_word(head, "_"):
+            operator = self.indexed(tree)
+            return self.constant(operator)
+        if is_word(head, "let"):
+            return self.check_let(tree, scope)
+        if is_word(head, "!"):
+            return self.check_annotation(tree, scope)
+        if is_kind(head, RESERVED) and head.text in ("forall", "exists", "match", "as") or begins_with(head, "as"):
+            raise Faulty("F2")
+        if len(tree) >= 2 and (is_symbol(head) or begins_with(head, "_")):
+            return self.check_application(tree, scope)
+        raise Faulty("F1")
+
+    def check_atom(self, atom, scope):
+        """A literal or a symbol."""
+        if atom.kind is SYMBOL:
+            return self.check_symbol(atom.text, scope)
+        if atom.kind is NUMERAL:
+            if INTS not in self.context.theories:
+                raise Faulty("F3")
+            number = int(atom.text)
+            return INT, Literal(number if number <= HIGHEST else OPEN)
+        if atom.kind is HEXADECIMAL or atom.kind is BINARY:
+            if BITS not in self.context.theories:
+                raise Faulty("F3")
+            width = len(atom.text) * (4 if atom.kind is HEXADECIMAL else 1)
+            if width > WIDEST:
+                raise Faulty("F5")
+            return width, Literal(int(atom.text, 16 if atom.kind is HEXADECIMAL else 2))
+        raise Faulty("F2" if atom.kind in (DECIMAL, STRING) else "F1")
+
+    def check_symbol(self, name, scope):
+        """A variable, a name in force or an operator, as a constant."""
+        if name in scope:
+            number, sort = scope[name]
+            self.used.append(number)
+            return sort, Variable(number)
+        if name in self.context.ranks:
+            rank = self.context.ranks[name]
+            if rank.parameters:
+                raise Faulty("F4")
+            return rank.result, Use(name, ())
+        if name in self.context.operators:
+            return self.constant(self.context.operators[name])
+        raise Faulty("F3")
+
+    def constant(self, operator):
+        """An operator without arguments."""
+        sort = operator.result([])
+        if sort is None:
+            raise Faulty("F4")
+        return sort, Apply(operator, (), ())
+
+    def indexed(self, tree):
+        """The operator that a list beginning with `_` names."""
+        indexed_form(tree)
+        return indexed_operator(tree[1].text, tree[2:], self.context.theories)
+
+    def check_let(self, tree, scope):
+        """Variables, which stand for the values that terms have outside."""
+        if len(tree) != 3 or type(tree[1]) is not list or not tree[1] or not all(is_binding(binding) for binding in tree[1]):
+            raise Faulty("F1")
+        inner = dict(scope)
+        names, numbers, terms = set(), [], []
+        for name, term in tree[1]:
+            if name.text in names:
+                raise Faulty("F6")
+            names.add(name.text)
+            sort, node = self.check(term, scope)
+            terms.append(node)
+            numbers.append(self.bind())
+            inner[name.text] = numbers[-1], sort
+        sort, node = self.check(tree[2], inner)
+        return sort, Let(tuple(numbers), tuple(terms), node)
+
+    def check_annotation(self, tree, scope):
+        """A term with attributes, its labels among them."""
+        labels = labels_of(tree)
+        bound, used = self.bound, len(self.used)
+        sort, node = self.check(tree[1], scope)
+        for name in labels:
+            # A variable that is bound outside the term has a number from before it.
+            if self.labels is None or any(number <= bound for number in self.used[used:]):
+                raise Faulty("F8")
+            if self.context.is_taken(name) or any(label.name == name for label in self.labels):
+                raise Faulty("F7")
+            self.labels.append(Label(name, sort, node))
+        return sort, Note(node)
+
+    def check_application(self, tree, scope):
+        """A head with arguments."""
+        head = tree[0]
+        if not is_symbol(head):
+            indexed_form(head)
+        checked = [self.check(argument, scope) for argument in tree[1:]]
+        sorts = tuple(sort for sort, node in checked)
+        nodes = tuple(node for sort, node in checked)
+        if not is_symbol(head):
+            operator = self.indexed(head)
+        elif head.text in scope:
+            raise Faulty("F4")
+        elif head.text in self.context.ranks:
+            rank = self.context.ranks[head.text]
+            if rank.parameters != sorts:
+                raise Faulty("F4")
+            return rank.result, Use(head.text, nodes)
+        elif head.text in self.context.operators:
+            operator = self.context.operators[head.text]
+        else:
+            raise Faulty("F3")
+        result = operator.result(sorts)
+        if result is None:
+            raise Faulty("F4")
+        return result, Apply(operator, nodes, sorts)
+
+
+def indexed_form(tree):
+    """The form of a list that begins with `_`."""
+    if len(tree) < 3 or not is_symbol(tree[1]) or not all(is_kind(i, NUMERAL) or is_kind(i, SYMBOL) for i in tree[2:]):
+        raise Faulty("F1")
+
+
+def is_binding(tree):
+    """Whether a tree is a list of a symbol and a tree."""
+    return type(tree) is list and len(tree) == 2 and is_symbol(tree[0])
+
+
+def labels_of(tree):
+    """The labels of an annotation `(! t a ..)`, or F1 for its form."""
+    if len(tree) < 3 or not is_kind(tree[2], KEYWORD):
+        raise Faulty("F1")
+    labels = []
+    place = 2
+    while place < len(tree):
+        if not is_kind(tree[place], KEYWORD):
+            raise Faulty("F1")
+        value = tree[place + 1] if place + 1 < len(tree) and not is_kind(tree[place + 1], KEYWORD) else None
+        if tree[place].text == ":named":
+            if not is_symbol(value):
+                raise Faulty("F1")
+            labels.append(value.text)
+        place += 1 if value is None else 2
+    return labels
+
+
+def check_assertion(context, tree):
+    """The node and the labels of an assertion."""
+    checker = Checker(context, [])
+    sort, node = checker.check(tree, {})
+    if sort != BOOL:
+        raise Faulty("F4")
+    return node, checker.labels
+
+
+def check_parameters(context, checker, trees):
+    """The scope of the parameters `(s o)` of a definition, their numbers and their sorts."""
+    scope, numbers, sorts = {}, [], []
+    for name, tree in trees:
+        sort = context.sort(tree)
+        if name.text in scope:
+            raise Faulty("F6")
+        numbers.append(checker.bind())
+        sorts.append(sort)
+        scope[name.text] = numbers[-1], sort
+    return scope, tuple(numbers), tuple(sorts)
+
+
+def check_definition(context, parameters, result, body, rank=None):
+    """The rank and the body of a definition; with a rank given, F4 for another one, before the faults of the body."""
+    checker = Checker(context)
+    scope, numbers, sorts = check_parameters(context, checker, parameters)
+    found = Rank(sorts, context.sort(result))
+    if rank is not None and found != rank:
+        raise Faulty("F4")
+    sort, node = checker.check(body, scope)
+    if sort != found.result:
+        raise Faulty("F4")
+    return found, Body(numbers, node)

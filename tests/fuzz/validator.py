@@ -1,0 +1,294 @@
+"""A second validator of dialogues, which was written from docs/LANGUAGE.md alone: plain, and slow.
+
+`report` gives the lines that the program should print on a script and its answers. Everything below it recurs as deep as terms nest and
+names use one another: `with_deep_stack` runs what calls it.
+"""
+import sys
+import threading
+
+from models import CONFIRMED, judged
+from script import CHANGING, Force, Refused, command_of, is_option
+from text import STRING, is_kind, is_symbol, read
+
+STEPS = 10000000
+STATUS = {"valid": 0, "invalid": 1, "not decided": 2, "refused": 3}
+QUESTIONS = frozenset(
+    "get-value get-info get-option get-assertions get-assignment get-proof get-unsat-core get-unsat-assumptions".split()
+)
+
+
+class Waits(Exception):
+    """What comes next isn't decided by what has come of the texts."""
+
+
+class Fault(Exception):
+    """The first fault of a dialogue, in the words of its line."""
+
+
+class Trees:
+    """The trees of a text, which are taken one by one."""
+
+    def __init__(self, reading):
+        self.reading = reading
+        self.taken = 0
+
+    def next(self):
+        """The next tree, which is not taken, or None where the text ends, whole or with a fault."""
+        if self.taken < len(self.reading.trees):
+            return self.reading.trees[self.taken]
+        if self.reading.flaw is None and not self.reading.ended:
+            raise Waits()
+        return None
+
+    def take(self):
+        """Takes the next tree, and gives its number."""
+        self.taken += 1
+        return self.taken
+
+    def fault(self, where):
+        """The line of the text's fault."""
+        return Fault("fault %s in the %s at byte %d" % (self.reading.flaw.letter, where, self.reading.flaw.place))
+
+
+def is_error(answer):
+    """A list of just the symbol `error` and a string."""
+    return type(answer) is list and len(answer) == 2 and is_symbol(answer[0], "error") and is_kind(answer[1], STRING)
+
+
+def is_one_of(answer, *words):
+    """Whether an answer is one of these words."""
+    return is_symbol(answer) and answer.text in words
+
+
+def is_no_effect(answer):
+    """An answer by which its command took no effect."""
+    return is_one_of(answer, "unsupported") or is_error(answer)
+
+
+def is_general(answer):
+    """`success`, `unsupported` or an error."""
+    return is_one_of(answer, "success") or is_no_effect(answer)
+
+
+NEEDED, IF_FITS, NONE = "a needed answer", "the next answer if it fits", "no answer"
+
+
+def takes(command, print_success):
+    """What answer a command takes: one of the three above, and which trees fit."""
+    word, parts = command
+    if word == "check-sat":
+        return NEEDED, lambda answer: is_one_of(answer, "sat", "unsat", "unknown") or is_no_effect(answer)
+    if word == "get-model":
+        return NEEDED, lambda answer: type(answer) is list or is_one_of(answer, "unsupported")
+    if word == "echo":
+        return NEEDED, lambda answer: is_kind(answer, STRING) or is_no_effect(answer)
+    if word in QUESTIONS:
+        return NEEDED, lambda answer: not is_one_of(answer, "success")
+    if word == "exit":
+        return IF_FITS, lambda answer: is_one_of(answer, "success")
+    if word == "set-option" and parts[0].text == ":print-success":
+        return NEEDED if is_option(parts[1], "true") else IF_FITS, is_general
+    if print_success:
+        return NEEDED, is_general
+    if word in ("set-option", "set-info"):
+        return IF_FITS, lambda answer: is_one_of(answer, "unsupported")
+    return NONE, None
+
+
+class Window:
+    """The window of a check that was answered `sat`."""
+
+    def __init__(self, begin):
+        self.begin = begin
+        self.models = 0
+
+
+class Dialogue:
+    """A script and its answers, and the lines told so far."""
+
+    def __init__(self, script, answers, print_success, steps, reached):
+        self.script = Trees(script)
+        self.answers = Trees(answers)
+        self.force = Force(print_success)
+        self.steps = steps
+        self.reached = reached
+        self.lines = []
+        self.exited = False
+        self.checks = 0
+        self.window = None
+        self.counts = dict.fromkeys(("confirmed", "refuted", "undecided", "unchecked"), 0)
+
+    def count(self, name):
+        """Counts something that is reached."""
+        if self.reached is not None:
+            self.reached[name] += 1
+
+    def tell(self, line, counts):
+        """A line of a check."""
+        self.lines.append(line)
+        self.counts[counts] += 1
+
+    def close_window(self):
+        """The window of a check ends."""
+        if self.window is not None:
+            if self.window.models:
+                self.tell(self.window.begin + "sat, confirmed", "confirmed")
+            else:
+                self.tell(self.window.begin + "sat, no model", "undecided")
+            if self.window.models > 1:
+                self.count("window of several models, confirmed")
+        self.window = None
+
+    def run(self):
+        """Tells all lines, and gives the verdict."""
+        try:
+            self.take_commands()
+            self.close_window()
+            if self.answers.next() is not None:
+                raise Fault("fault P3 at answer %d" % self.answers.take())
+            if self.answers.reading.flaw:
+                raise self.answers.fault("answers")
+            verdict = "invalid" if self.counts["refuted"] else "not decided" if self.counts["undecided"] else "valid"
+        except Fault as fault:
+            self.close_window()
+            self.lines.append(str(fault))
+            verdict = "refused"
+        counts = ", ".join("%s %d" % item for item in self.counts.items())
+        self.lines.append("verdict: %s, %s" % (verdict, counts))
+        return verdict
+
+    def take_commands(self):
+        """Takes all commands and their answers."""
+        while self.script.next() is not None:
+            tree = self.script.next()
+            number = self.script.take()
+            try:
+                self.take_command(number, tree)
+            except Refused as refused:
+                inner = " " + refused.inner if refused.inner else ""
+                raise Fault("fault %s%s at command %d" % (refused.letter, inner, number))
+        if self.script.reading.flaw:
+            raise self.script.fault("script")
+
+    def take_command(self, number, tree):
+        """Takes one command, with its answer."""
+        if self.exited:
+            raise Refused("C6")
+        command = command_of(tree)
+        if command.word == "check-sat":
+            self.close_window()
+        answer = self.answer_of(number, command)
+        if answer is not None and is_no_effect(answer):
+            if command.word == "check-sat":
+                self.take_check(number, "error" if type(answer) is list else answer.text)
+            return
+        if command.word in CHANGING:
+            self.close_window()
+        self.force.take(number, command)
+        if command.word == "check-sat":
+            self.take_check(number, answer.text)
+        elif command.word == "get-model":
+            self.take_model(number, answer)
+        elif command.word == "exit":
+            self.exited = True
+
+    def answer_of(self, number, command):
+        """The answer that a command takes, or None where it takes none."""
+        need, fits = takes(command, self.force.print_success)
+        if need is NONE:
+            return None
+        answer = self.answers.next()
+        if answer is not None and fits(answer):
+            self.answers.take()
+            return answer
+        if need is IF_FITS:
+            return None
+        if answer is not None:
+            raise Fault("fault P2 at command %d, answer %d" % (number, self.answers.take()))
+        if self.answers.reading.flaw:
+            raise self.answers.fault("answers")
+        raise Fault("fault P1 at command %d" % number)
+
+    def take_check(self, number, answer):
+        """A check and its answer."""
+        self.checks += 1
+        begin = "check %d at command %d: " % (self.checks, number)
+        if answer == "sat":
+            self.window = Window(begin)
+        else:
+            self.tell(begin + answer, "unchecked")
+
+    def take_model(self, number, model):
+        """A model, which is looked at if it is in a window."""
+        if self.window is None:
+            self.count("model outside windows")
+            return
+        outcome = judged(model, self.force, self.steps, self.reached)
+        self.window.models += 1
+        if outcome != CONFIRMED:
+            if self.window.models > 1:
+                self.count("window of several models, one not confirmed")
+            kind = "refuted" if outcome.startswith("refuted") else "undecided"
+            self.tell("%ssat, model of command %d: %s" % (self.window.begin, number, outcome), kind)
+            self.window = None
+
+
+def report(script, answers, print_success=True, steps=STEPS, script_ended=True, answers_ended=True, reached=None):
+    """The lines of the report on two texts, and the verdict; steps may be None for no limit.
+
+    Of texts that have not ended, these are the lines that are decided by what has come, and the verdict is None where it isn't. What is
+    reached is counted in `reached`, if that is given.
+    """
+    dialogue = Dialogue(read(script, script_ended), read(answers, answers_ended), print_success, steps, reached)
+    try:
+        verdict = dialogue.run()
+    except Waits:
+        verdict = None
+    return dialogue.lines, verdict
+
+
+def with_deep_stack(work, *arguments):
+    """Runs a function in a thread with room for terms that nest deep, and gives what it returns."""
+    result = []
+
+    def run():
+        try:
+            result.append((True, work(*arguments)))
+        except BaseException as raised:  # pylint: disable=broad-except
+            result.append((False, raised))
+
+    before = threading.stack_size(512 << 20)
+    limit = sys.getrecursionlimit()
+    sys.setrecursionlimit(1000000)
+    thread = threading.Thread(target=run)
+    thread.start()
+    thread.join()
+    threading.stack_size(before)
+    sys.setrecursionlimit(limit)
+    fine, value = result[0]
+    if not fine:
+        raise value
+    return value
+
+
+def main():
+    """validator.py [--print-success on|off] [--steps N] SCRIPT ANSWERS: prints the report, and ends with its status."""
+    arguments = sys.argv[1:]
+    print_success, steps = True, STEPS
+    while len(arguments) > 2:
+        option, value = arguments[:2]
+        if option == "--print-success":
+            print_success = value == "on"
+        elif option == "--steps":
+            steps = int(value)
+        else:
+            sys.exit(main.__doc__)
+        arguments = arguments[2:]
+    with open(arguments[0], "rb") as script, open(arguments[1], "rb") as answers:
+        lines, verdict = with_deep_stack(report, script.read(), answers.read(), print_success, steps)
+    print("\n".join(lines))
+    return STATUS[verdict]
+
+
+if __name__ == "__main__":
+    sys.exit(main())

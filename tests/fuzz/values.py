@@ -1,0 +1,179 @@
+"""Values and what operators make of them.
+
+A truth value is a bool, an integer an int, a bit vector the number that it is. What is not known is OPEN. Each function takes the list of
+the values of its arguments, all of them known but where it is said, and what else it needs by name.
+"""
+
+
+class Open:
+    """The value of a term that is not known."""
+
+    def __repr__(self):
+        return "open"
+
+
+OPEN = Open()
+LOWEST, HIGHEST = -(2**127), 2**127 - 1
+
+
+def known(number):
+    """An integer, if it is in the range where integers are known."""
+    return number if LOWEST <= number <= HIGHEST else OPEN
+
+
+def from_left(step):
+    """An operator that takes its arguments from the left; an open step leaves all open."""
+
+    def operate(values):
+        result = values[0]
+        for value in values[1:]:
+            result = step(result, value)
+            if result is OPEN:
+                return OPEN
+        return result
+
+    return operate
+
+
+def neighbours(holds):
+    """A relation between each value and the next."""
+    return lambda values: all(holds(x, y) for x, y in zip(values, values[1:]))
+
+
+# Truth values. These four take open arguments.
+
+
+def conjunction(values):
+    """False where one is known to be false."""
+    return False if False in values else OPEN if OPEN in values else True
+
+
+def disjunction(values):
+    """True where one is known to be true."""
+    return True if True in values else OPEN if OPEN in values else False
+
+
+def implication(values):
+    """True where the last is known to be true, or one before it to be false."""
+    if values[-1] is True or False in values[:-1]:
+        return True
+    return OPEN if OPEN in values else False
+
+
+def choice(values):
+    """The branch that a known condition chooses."""
+    return OPEN if values[0] is OPEN else values[1] if values[0] else values[2]
+
+
+def distinct(values):
+    """No two are equal."""
+    return len(set(values)) == len(values)
+
+
+# Integers.
+
+
+def negation(values):
+    """Unary minus."""
+    return known(-values[0])
+
+
+def absolute(values):
+    """The integer without its sign."""
+    return known(abs(values[0]))
+
+
+def remainder_of(dividend, divisor):
+    """The remainder, from 0 to below the divisor without its sign."""
+    return dividend % abs(divisor) if divisor else OPEN
+
+
+def quotient_of(dividend, divisor):
+    """The quotient that goes with that remainder."""
+    return known((dividend - remainder_of(dividend, divisor)) // divisor) if divisor else OPEN
+
+
+# Bit vectors of m bits.
+
+
+def signed(number, m):
+    """The signed reading."""
+    return number - (1 << m) if number >> (m - 1) else number
+
+
+def folded(m, step):
+    """From the left, modulo 2^m."""
+    return from_left(lambda x, y: step(x, y) % (1 << m))
+
+
+def divide(values, m):
+    """bvudiv."""
+    return values[0] // values[1] if values[1] else (1 << m) - 1
+
+
+def remain(values):
+    """bvurem."""
+    return values[0] % values[1] if values[1] else values[0]
+
+
+def divide_signed(values, m):
+    """bvsdiv: rounded towards 0."""
+    s, t = signed(values[0], m), signed(values[1], m)
+    if t == 0:
+        return 1 if s < 0 else (1 << m) - 1
+    quotient = abs(s) // abs(t)
+    return (quotient if (s < 0) == (t < 0) else -quotient) % (1 << m)
+
+
+def remain_signed(values, m):
+    """bvsrem: the remainder with the sign of the dividend."""
+    s, t = signed(values[0], m), signed(values[1], m)
+    if t == 0:
+        return values[0]
+    remainder = abs(s) % abs(t)
+    return (-remainder if s < 0 else remainder) % (1 << m)
+
+
+def modulo_signed(values, m):
+    """bvsmod: the remainder with the sign of the divisor."""
+    s, t = signed(values[0], m), signed(values[1], m)
+    return (s % t if t else s) % (1 << m)
+
+
+def shift_left(values, m):
+    """bvshl."""
+    return (values[0] << values[1]) % (1 << m) if values[1] < m else 0
+
+
+def shift_right(values, m):
+    """bvlshr."""
+    return values[0] >> values[1] if values[1] < m else 0
+
+
+def shift_right_signed(values, m):
+    """bvashr: copies of the first bit come in."""
+    return (signed(values[0], m) >> min(values[1], m)) % (1 << m)
+
+
+def joined(values, widths):
+    """concat: the first is the highest part."""
+    result = 0
+    for value, width in zip(values, widths):
+        result = (result << width) | value
+    return result
+
+
+def extracted(values, high, low):
+    """Bits high down to low."""
+    return (values[0] >> low) % (1 << (high - low + 1))
+
+
+def extended_signed(values, m, more):
+    """Copies of the first bit before the argument."""
+    return signed(values[0], m) % (1 << (m + more))
+
+
+def rotated_left(values, m, places):
+    """The bits go to the left, and come in at the right."""
+    places %= m
+    return ((values[0] << places) | (values[0] >> (m - places))) % (1 << m)
