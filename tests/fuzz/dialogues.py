@@ -10,7 +10,7 @@ from collections import namedtuple
 from flaws import BEFORE_LOGICS, LETTERS, Flaws
 from inventor import ALL_OPERATORS, NAMES, OPERATOR_NAMES, Inventor, width_names
 from models import Structure
-from script import Assertion, Declaration, Definition, Force, Refused, command_of
+from script import Assertion, Declaration, Definition, Force, Refused, command_of, is_define_fun
 from sorts import BITS, BOOL, INT, INTS, LOGICS, Faulty
 from terms import Checker, Context, check_assertion, check_definition
 from text import BINARY, Atom, is_symbol
@@ -52,6 +52,11 @@ KINDS = {
 MOST_STEPS = 2**64 - 2
 KIND_NAMES, KIND_WEIGHTS = list(KINDS), list(KINDS.values())
 LOGIC_NAMES = sorted(LOGICS) + ["ALL", "ALL", "QF_BV", "QF_LIA", "QF_UFBV"]
+
+
+def is_right_form(item):
+    """Whether an item of a model has its form."""
+    return type(item) is list and is_define_fun(item[1:])
 
 
 class Story:
@@ -573,7 +578,7 @@ class Story:
         inventor = Inventor(rng, self.model_context(), self.widths)
         if flaw == "wrong" and items:
             item = rng.choice(items)
-            if type(item) is not list or len(item) != 5:
+            if not is_right_form(item):
                 return
             try:
                 result = inventor.context.sort(item[3])
@@ -600,7 +605,7 @@ class Story:
         """The place of an item that may be spoiled: of one that is there, or of a new helper."""
         rng = self.rng
         place = rng.randrange(len(items)) if items else 0
-        if not items or type(items[place]) is not list or len(items[place]) != 5 or rng.random() < 0.3:
+        if not items or not is_right_form(items[place]) or rng.random() < 0.3:
             sort = inventor.sort()
             item = [word("define-fun"), symbol("extra"), [], inventor.sort_tree(sort), inventor.literal(sort)]
             items.insert(place, item)
@@ -623,7 +628,7 @@ class Story:
         """Puts several faults into one item, mostly."""
         rng = self.rng
         place = self.own_item(inventor, items)
-        names = self.item_names() + [item[1].text for item in items[:place] if type(item) is list and len(item) == 5] * 3
+        names = self.item_names() + [item[1].text for item in items[:place] if is_right_form(item)] * 3
         self.flaws(inventor).definition(items[place], names)
         if rng.random() < 0.1:
             items[place][0] = word("define-fun-rec")
