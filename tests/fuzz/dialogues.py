@@ -11,7 +11,7 @@ from flaws import BEFORE_LOGICS, LETTERS, Flaws
 from inventor import ALL_OPERATORS, NAMES, OPERATOR_NAMES, Inventor, width_names
 from models import Structure
 from script import Assertion, Declaration, Definition, Force, Refused, command_of, is_define_fun
-from sorts import BITS, BOOL, INT, INTS, LOGICS, Faulty
+from sorts import ALL_THEORIES, BITS, BOOL, INT, INTS, LOGICS, Faulty
 from terms import Checker, Context, check_assertion, check_definition
 from text import BINARY, Atom, is_symbol
 from trees import copied, depth_of, keyword, listed, lists_in, numeral, string, symbol, word, written
@@ -297,10 +297,12 @@ class Story:
             sorts = [inventor.sort() for _ in range(rng.choice((0, 1, 1, 2)))]
             self.helpers[name] = self.make_item(name, sorts, inventor.sort())
 
-    def declare(self):
-        """A declaration, with an item for it in the secret model."""
+    def declare(self, any_theory=False):
+        """A declaration, whose sorts may be of theories that are not in force."""
         rng = self.rng
         inventor = self.inventor()
+        if any_theory or self.chance(0.03):
+            inventor = Inventor(rng, Context(ALL_THEORIES, self.force.abbreviations, self.force.ranks), self.widths)
         name = self.free_name()
         result = inventor.sort()
         sorts = [inventor.sort() for _ in range(rng.choice((1, 1, 2, 3)))] if rng.random() < 0.35 else []
@@ -697,8 +699,13 @@ class Story:
         flaws = self.flaws(inventor, self.turn)
         if kind == "operator":
             if INTS in self.force.theories and BITS in self.force.theories:
-                self.assert_tree(self.exact(inventor.aimed(what, rng.choice((3, 5)), {})))
+                tree = inventor.aimed(what, rng.choice((3, 5)), {})
+                self.assert_tree(self.exact(tree))
                 self.right_check()
+                if type(tree) is list and not self.over and rng.random() < 0.5:
+                    # One argument more or less; `=` takes it whatever its sort is.
+                    more = copied(tree) + [copied(tree[-1])] if rng.random() < 0.6 else copied(tree[:-1])
+                    self.assert_tree(listed("=", more, copied(more)))
         elif kind == "term":
             flaw = flaws.term(what, {})
             if rng.random() < 0.75:
@@ -732,7 +739,7 @@ class Story:
             if not self.over and rng.random() < 0.7:
                 self.do(listed("set-logic", rng.choice(LOGIC_NAMES)))
             if not self.over:
-                self.declare()
+                self.declare(True)
         elif kind == "command" and what == "C6":
             self.do(listed("exit"))
             self.do(rng.choice((listed("check-sat"), numeral(3), [], listed("assert"), word("let"))))

@@ -127,7 +127,7 @@ COMMANDS = by_letter(
             (set-option :global-declarations) (set-option :a 1 2) (set-option :print-success (true)) (set-info) (set-info x)
             (set-info :a 1 2) (set-info "a") (get-value ()) (get-value x) (get-value) (get-value (x) (x)) (get-info x) (get-info)
             (get-info :a :b) (get-option) (get-option true) (get-proof x) (get-assertions ()) (get-assignment 1) (get-unsat-core x)
-            (get-unsat-assumptions x) (define-sort s x Int) (define-sort let (x) Int) (define-sort s () Int Int) (define-sort s (x))
+            (get-unsat-assumptions x) (define-sort s x Int) (define-sort let (x) Int) (define-sort 1 (x) Int) (define-sort "s" (x y) Int) (define-sort s () Int Int) (define-sort s (x))
             (define-sort s ()) (define-sort (s) () Int) (define-sort let () Int) (eval 1) (define-const x Int 1) (sat) (|check-sat|)
             (|declare-sort| U 0) (|define-fun-rec|) (par) (_ push 1) (let) (assert . true) (check-sat-using x) (simplify 1)
         """,
