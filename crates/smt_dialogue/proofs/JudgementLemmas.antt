@@ -1,8 +1,8 @@
 -- Judging a model assertion by assertion.
 use Rattle.std.proofs.Common.{◌≡◌, true, false, not, List, [], ◌∷◌, Option, Some, None, is_some, length}
-use Rattle.std.proofs.Common.{ℕ, ◌+◌, ◌-◌, ◌^◌, ◌<◌, ◌≤◌, Bool, cond, min, nat_lt, arith}
+use Rattle.std.proofs.Common.{ℕ, ◌+◌, ◌-◌, ◌<◌, ◌≤◌, Bool, cond, nat_le, nat_lt, arith}
 use Rattle.std.proofs.Common.{refl, ap, sym, subst, ◌∙◌}
-use Rattle.std.proofs.lemmas.Bool.{lt-ltb, ltb-true}
+use Rattle.std.proofs.lemmas.Bool.{le-leb, leb-false, leb-true, lt-leb, lt-ltb, ltb-true}
 use Rattle.smt_trees.specs.Sexp.{Sexp}
 use Rattle.smt_script.specs.Stack as stacks
 use Rattle.smt_script.specs.StackView.{AreAssertions}
@@ -12,7 +12,7 @@ use Rattle.smt_dialogue.specs.Judgement.{claims_of, first_claim, is_false_over, 
 use Rattle.smt_dialogue.specs.Judgement.{Claimed, claims_cost, judged_over, judged_within, open_or_confirmed}
 use Rattle.smt_dialogue.specs.Judgement.{refuted_or}
 use Rattle.smt_values.specs.KnownOperations.{is_known}
-use Rattle.smt_machine.specs.Costs.{capped}
+use Rattle.smt_machine.specs.Costs.{within}
 use Rattle.smt_eval.specs.Cost.{cost_over}
 use Rattle.smt_eval.specs.Known.{known_over}
 use Rattle.smt_terms.specs.Signature.{Signature}
@@ -189,51 +189,84 @@ cost_rest l left as' a d n m t here enough term paid = λ rest are.
     (with_next l left as' a t rest here term are) in
     omega (arith, most, paid)
 
--- with what was counted so far, those that are left cost what all do
-abbrev pub SumsTo : Contents → List code.Assertion → Signature → ℕ → ℕ → Type 0
-SumsTo l left d sum all = (rest : List stacks.Assertion) × AreAssertions l left rest
-    × (capped (sum + claims_cost d (claims_of rest)) ≡ capped all)
+-- ---- costs against the limit
 
-capped_next : (before cost after first rest both all : ℕ) → both ≡ first + rest → cost ≡ capped first
-    → after ≡ min (before + cost) (2 ^ 64 - 1) → capped (before + both) ≡ capped all
-    → capped (after + rest) ≡ capped all
-capped_next before cost after first rest both all split is sum so_far = omega (arith, split, is, sum, so_far)
+some_within : (limit n m : ℕ) → Some m ≡ within limit n → (m ≡ n) × (n ≤ limit)
+some_within limit n m h = by (nat_le n limit) refl h
+  where
+    by : (b : Bool) → nat_le n limit ≡ b → Some m ≡ cond b (Some n) None → (m ≡ n) × (n ≤ limit)
+    by true e h = (cc, leb-true n limit e)
+    by false e h = cc
 
-pub sum_next : (l : Contents) (left as' : List code.Assertion) (a : code.Assertion) (d : Signature)
-    (before cost after all : ℕ) → left ≡ a ∷ as'
-    → ((t : Sexp) → IsTermOf l a.term t → cost ≡ capped (cost_over d t))
-    → after ≡ min (before + cost) (2 ^ 64 - 1) → SumsTo l left d before all → SumsTo l as' d after all
-sum_next l left as' a d before cost after all here is sum h =
-    let next = next_term l a as' h.0 (subst (λ ls. AreAssertions l ls h.0) here h.1) in (
-      next.1,
-      next.5,
-      capped_next before cost after (cost_over d next.0.term) (claims_cost d (claims_of next.1))
-          (claims_cost d (claims_of h.0)) all (ap (λ xs. claims_cost d (claims_of xs)) next.2)
-          (is next.0.term next.4) sum h.2,
-    )
+none_within : (limit n : ℕ) → None ≡ within limit n → limit < n
+none_within limit n h = by (nat_le n limit) refl h
+  where
+    by : (b : Bool) → nat_le n limit ≡ b → None ≡ cond b (Some n) None → limit < n
+    by true e h = cc
+    by false e h = leb-false n limit e
 
-pub sum_end : (l : Contents) (left : List code.Assertion) (d : Signature) (sum all : ℕ) → length left ≡ 0
-    → sum < 2 ^ 64 → SumsTo l left d sum all → sum ≡ capped all
-sum_end l (a ∷ as') d sum all here most h = cc
-sum_end l [] d sum all here most h =
+-- so many steps of the limit are left: what was counted, and what those cost that are left, is what all cost
+abbrev pub LeavesOf : Contents → List code.Assertion → Signature → (limit steps all : ℕ) → Type 0
+LeavesOf l left d limit steps all = (rest : List stacks.Assertion) × AreAssertions l left rest
+    × (limit + claims_cost d (claims_of rest) ≡ steps + all)
+
+pub leaves_next : (l : Contents) (left as' : List code.Assertion) (a : code.Assertion) (d : Signature)
+    (limit steps cost after all : ℕ) → left ≡ a ∷ as'
+    → ((t : Sexp) → IsTermOf l a.term t → Some cost ≡ within steps (cost_over d t))
+    → after + cost ≡ steps → LeavesOf l left d limit steps all → LeavesOf l as' d limit after all
+leaves_next l left as' a d limit steps cost after all here counted fewer h =
+    let next = next_term l a as' h.0 (subst (λ ls. AreAssertions l ls h.0) here h.1) in
+    let split = ap (λ xs. claims_cost d (claims_of xs)) next.2 in
+    let is = (some_within steps (cost_over d next.0.term) cost (counted next.0.term next.4)).0 in
+    let so_far = h.2 in (next.1, next.5, omega (arith, split, is, so_far, fewer))
+
+-- no more was counted than there was
+pub leaves_within : (l : Contents) (left as' : List code.Assertion) (a : code.Assertion) (d : Signature)
+    (steps cost : ℕ) → left ≡ a ∷ as' → (all : List stacks.Assertion) × AreAssertions l left all
+    → ((t : Sexp) → IsTermOf l a.term t → Some cost ≡ within steps (cost_over d t)) → cost ≤ steps
+leaves_within l left as' a d steps cost here terms counted =
+    let term = term_left l left as' a here terms in
+    let is = some_within steps (cost_over d term.0) cost (counted term.0 term.1) in
+    let same = is.0 in let most = is.1 in omega (arith, same, most)
+
+pub leaves_none : (l : Contents) (left as' : List code.Assertion) (a : code.Assertion) (d : Signature)
+    (limit steps all : ℕ) → left ≡ a ∷ as'
+    → ((t : Sexp) → IsTermOf l a.term t → None ≡ within steps (cost_over d t))
+    → LeavesOf l left d limit steps all → None ≡ within limit all
+leaves_none l left as' a d limit steps all here counted h =
+    let next = next_term l a as' h.0 (subst (λ ls. AreAssertions l ls h.0) here h.1) in
+    let split = ap (λ xs. claims_cost d (claims_of xs)) next.2 in
+    let more = none_within steps (cost_over d next.0.term) (counted next.0.term next.4) in
+    let so_far = h.2 in
+    let passed : limit < all = omega (arith, split, more, so_far) in
+    sym (ap (λ b. cond b (Some all) None) (lt-leb all limit passed))
+
+pub leaves_end : (l : Contents) (left : List code.Assertion) (d : Signature) (limit steps all cost : ℕ)
+    → length left ≡ 0 → steps ≤ limit → cost ≡ limit - steps → LeavesOf l left d limit steps all
+    → Some cost ≡ within limit all
+leaves_end l (a ∷ as') d limit steps all cost here most is h = cc
+leaves_end l [] d limit steps all cost here most is h =
     let none = ap (λ xs. claims_cost d (claims_of xs)) (none_left l h.0 h.1) in
-    let is = h.2 in omega (arith, none, is, most)
+    let so_far = h.2 in
+    let same : cost ≡ all = omega (arith, none, so_far, is, most) in
+    let within_limit : all ≤ limit = omega (arith, none, so_far, most) in
+    ap Some same ∙ sym (ap (λ b. cond b (Some all) None) (le-leb all limit within_limit))
 
-pub too_long : (limit sum : ℕ) (claims : List Claimed) (d : Signature) → sum ≡ capped (claims_cost d claims)
-    → limit < sum → TooLong ≡ judged_within limit claims d
-too_long limit sum claims d is more =
-    let passed : limit < claims_cost d claims = omega (arith, is, more) in
-    sym (ap (λ b. cond b TooLong (judged_over claims d)) (lt-ltb limit (claims_cost d claims) passed))
+pub too_long : (limit : ℕ) (claims : List Claimed) (d : Signature) → None ≡ within limit (claims_cost d claims)
+    → TooLong ≡ judged_within limit claims d
+too_long limit claims d none =
+    sym (ap (λ b. cond b TooLong (judged_over claims d))
+    (lt-ltb limit (claims_cost d claims) (none_within limit (claims_cost d claims) none)))
 
-pub enough_steps : (limit sum n : ℕ) → sum ≡ capped n → sum ≤ limit → limit < 2 ^ 64 - 1 → n ≤ sum
-enough_steps limit sum n is most below = omega (arith, is, most, below)
+pub enough_steps : (limit n steps : ℕ) → Some steps ≡ within limit n → n ≤ steps
+enough_steps limit n steps is = let same = (some_within limit n steps is).0 in omega (arith, same)
 
-pub short : (limit sum : ℕ) (claims : List Claimed) (d : Signature) → sum ≡ capped (claims_cost d claims)
-    → sum ≤ limit → limit < 2 ^ 64 - 1 → judged_over claims d ≡ judged_within limit claims d
-short limit sum claims d is most below = by (nat_lt limit (claims_cost d claims)) refl
+pub short : (limit steps : ℕ) (claims : List Claimed) (d : Signature)
+    → Some steps ≡ within limit (claims_cost d claims) → judged_over claims d ≡ judged_within limit claims d
+short limit steps claims d is = by (nat_lt limit (claims_cost d claims)) refl
   where
     by : (b : Bool) → nat_lt limit (claims_cost d claims) ≡ b
         → judged_over claims d ≡ cond b TooLong (judged_over claims d)
     by true passed = absurd (let more = ltb-true limit (claims_cost d claims) passed in
-        let enough = enough_steps limit sum (claims_cost d claims) is most below in omega (arith, more, enough, most))
+        let most = (some_within limit (claims_cost d claims) steps is).1 in omega (arith, more, most))
     by false passed = refl

@@ -3,11 +3,11 @@
 ghost use Rattle.std.specs.Prelude.{◌≡◌, ◌≤◌, List, Some, true, false, IfOk, MatchOption};
 ghost use Rattle.smt_values.specs.Element.{Truth, known_element};
 ghost use Rattle.smt_values.specs.KnownOperations.{is_known};
-ghost use Rattle.smt_machine.specs.Costs.{capped};
+ghost use Rattle.smt_machine.specs.Costs.{within};
 ghost use Rattle.smt_terms.specs.Contents.{contents_of};
 ghost use Rattle.smt_terms.specs.Library as libraries;
 ghost use Rattle.smt_terms.specs.Signature.{Signature};
-ghost use Rattle.smt_eval.specs.Interpretation.{Fits, IsInterpretation, KnowsCosts, Serves};
+ghost use Rattle.smt_eval.specs.Interpretation.{Fits, IsInterpretation, KeepsCosts, Serves};
 ghost use Rattle.smt_eval.specs.Structure.{structure_of};
 ghost use Rattle.smt_script.specs.Stack as stacks;
 ghost use Rattle.smt_script.specs.Stack.{Numbered, assertions_in_force, signature_in_force};
@@ -17,7 +17,7 @@ ghost use Rattle.smt_dialogue.specs.Judgement.{claims_cost, claims_of, judged_ov
 ghost use Rattle.smt_dialogue.specs.Judgement.{judgement_of};
 
 use crate::options::Limit;
-use smt_eval::{Interpretation, Machine, Memory, ModelFlaw, cost, eval_by};
+use smt_eval::{Interpretation, Machine, Memory, ModelFlaw, cost_within, eval_by};
 use smt_faults::TermFlaw;
 use smt_report::Claim;
 use smt_script::{Assertion, Stack};
@@ -51,8 +51,8 @@ pub(crate) fn judge(stack: &Stack, model: &Trees, limit: Limit) -> Result<Judgem
 {
     let library = stack.library();
     match Interpretation::read(library, model) {
-        Ok(interpretation) => {
-            let judgement = judge_within(library, &interpretation, stack.assertions(), limit);
+        Ok(mut interpretation) => {
+            let judgement = judge_read(library, &mut interpretation, stack.assertions(), limit);
             drop(interpretation);
             judgement
         }
@@ -74,6 +74,30 @@ fn judgement_of_flaw(flaw: ModelFlaw) -> Judgement
     }
 }
 
+// The same of a model that was read. All nodes are counted at once where that takes no longer than the limit
+// lets a walk take: else a model of few words could be made to cost a pass over a large script.
+fn judge_read(
+    library: &Library,
+    interpretation: &mut Interpretation,
+    assertions: &[Assertion],
+    limit: Limit,
+) -> Result<Judgement, Memory>
+    requires terms { (all : List stacks.Assertion)
+        × AreAssertions (contents_of library.now) assertions.now all }
+    requires fits { Fits interpretation.old library.now }
+    requires costs { KeepsCosts interpretation.old library.now }
+    ensures { (script definitions : Signature) (all : List stacks.Assertion)
+        → libraries.StandsFor library.now script → IsInterpretation interpretation.old script definitions
+        → AreAssertions (contents_of library.now) assertions.now all
+        → IfOk result (λ j. j
+        ≡ judged_within limit.steps (claims_of all) (structure_of script definitions)) }
+{
+    if library.nodes().len() as u64 <= limit.steps {
+        interpretation.count(library)?;
+    }
+    judge_within(library, interpretation, assertions, limit)
+}
+
 // What is found of assertions over the definitions of a model and the script's own: nothing is evaluated
 // before it is known that the limit is enough for all.
 fn judge_within(
@@ -85,17 +109,16 @@ fn judge_within(
     requires terms { (all : List stacks.Assertion)
         × AreAssertions (contents_of library.now) assertions.now all }
     requires fits { Fits interpretation.now library.now }
-    requires counted { KnowsCosts interpretation.now library.now }
+    requires costs { KeepsCosts interpretation.now library.now }
     ensures { (script definitions : Signature) (all : List stacks.Assertion)
         → libraries.StandsFor library.now script → IsInterpretation interpretation.now script definitions
         → AreAssertions (contents_of library.now) assertions.now all
         → IfOk result (λ j. j
         ≡ judged_within limit.steps (claims_of all) (structure_of script definitions)) }
 {
-    let mut steps = cost_of_all(library, interpretation, assertions);
-    if steps > limit.steps {
+    let Some(mut steps) = cost_of_all(library, interpretation, assertions, limit)? else {
         return Ok(Judgement::TooLong);
-    }
+    };
     let mut machine = Machine::new(library.alloc());
     let judgement = judge_assertions(
         &mut machine,
@@ -108,24 +131,33 @@ fn judge_within(
     judgement
 }
 
-// What the evaluation of all assertions costs; 2^64 - 1 for that and more.
-fn cost_of_all(library: &Library, interpretation: &Interpretation, assertions: &[Assertion]) -> u64
+// What the evaluation of all assertions costs, if it is no more than the limit.
+fn cost_of_all(
+    library: &Library,
+    interpretation: &Interpretation,
+    assertions: &[Assertion],
+    limit: Limit,
+) -> Result<Option<u64>, Memory>
     requires terms { (all : List stacks.Assertion)
         × AreAssertions (contents_of library.now) assertions.now all }
     requires fits { Fits interpretation.now library.now }
-    requires counted { KnowsCosts interpretation.now library.now }
+    requires costs { KeepsCosts interpretation.now library.now }
     ensures { (script definitions : Signature) (all : List stacks.Assertion)
         → libraries.StandsFor library.now script → IsInterpretation interpretation.now script definitions
         → AreAssertions (contents_of library.now) assertions.now all
-        → result ≡ capped (claims_cost (structure_of script definitions) (claims_of all)) }
+        → IfOk result (λ cost. cost
+        ≡ within limit.steps (claims_cost (structure_of script definitions) (claims_of all))) }
 {
-    let mut sum: u64 = 0;
+    let mut steps = limit.steps;
     let mut left = assertions;
     while let Some((assertion, rest)) = left.split_first() {
-        sum = sum.saturating_add(cost(library, interpretation, assertion.term));
+        match cost_within(library, interpretation, assertion.term, steps)? {
+            Some(cost) => steps -= cost,
+            None => return Ok(None),
+        }
         left = rest;
     }
-    sum
+    Ok(Some(limit.steps - steps))
 }
 
 // The first assertion that is false over the definitions of a model and the script's own, else the first that

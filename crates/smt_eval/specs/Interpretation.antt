@@ -1,5 +1,5 @@
 -- What a contract sees of an interpretation: the definitions that it was read from.
-use Rattle.std.specs.Prelude.{◌≡◌, ◌≤◌, ℕ}
+use Rattle.std.specs.Prelude.{◌≡◌, ◌≤◌, ◌⊎◌, ℕ, []}
 use Rattle.smt_trees.specs.Sexp.{Sexp}
 use Rattle.smt_machine.specs.Costs.{AreCosts}
 use Rattle.smt_machine.specs.Memory.{Remembers}
@@ -41,6 +41,10 @@ abbrev pub KnowsCosts : Interpretation → Library → Type 0
 KnowsCosts interpretation library = AreCosts
     (nodes_over (terms_of interpretation.definitions) (terms_of library) interpretation.declared.items)
     (arounds_over (terms_of interpretation.definitions) (terms_of library)) interpretation.costs.items
+
+-- it keeps none, or those
+abbrev pub KeepsCosts : Interpretation → Library → Type 0
+KeepsCosts interpretation library = (interpretation.costs.items ≡ []) ⊎ KnowsCosts interpretation library
 
 -- a term of the library costs so many at most over the interpretation
 abbrev pub CostsAtMost : ℕ → Library → Interpretation → ℕ → Type 0

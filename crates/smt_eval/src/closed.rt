@@ -1,14 +1,15 @@
 //! Terms that a library has checked, as numbered nodes. This file looks into no node.
 
-ghost use Rattle.std.specs.Prelude.{◌≡◌, ◌≤◌, ◌<◌, ◌+◌, length, IfOk, OnOk};
+ghost use Rattle.std.specs.Prelude.{◌≡◌, ◌≤◌, ◌<◌, ◌+◌, ◌-◌, ◌^◌, length, IfOk, OnOk};
 ghost use Rattle.smt_trees.specs.Sexp.{Sexp};
 ghost use Rattle.smt_values.specs.Element.{known_element};
-ghost use Rattle.smt_machine.specs.Costs.{capped};
+ghost use Rattle.smt_machine.specs.Costs.{capped, within};
 ghost use Rattle.smt_machine.specs.Tables.{arounds_of, model_count, nodes_of};
 ghost use Rattle.smt_terms.specs.Library.{IsTerm, StandsFor, terms_of};
 ghost use Rattle.smt_terms.specs.Signature.{Signature};
 ghost use Rattle.smt_eval.specs.Cost.{cost_over};
-ghost use Rattle.smt_eval.specs.Interpretation.{CostsAtMost, Fits, IsInterpretation, KnowsCosts, Serves};
+ghost use Rattle.smt_eval.specs.Interpretation.{CostsAtMost, Fits, IsInterpretation, KeepsCosts, KnowsCosts};
+ghost use Rattle.smt_eval.specs.Interpretation.{Serves};
 ghost use Rattle.smt_eval.specs.Known.{known_over};
 ghost use Rattle.smt_eval.specs.NodeValues.{arounds_over, nodes_over};
 ghost use Rattle.smt_eval.specs.Structure.{structure_of};
@@ -41,8 +42,8 @@ impl Checked for Closed<'_> {
 }
 
 /// What the evaluation of a term of the library costs over the structure that an interpretation gives to its
-/// names; 2^64 - 1 for that and more. The interpretation was read over the library as it is now, and counted
-/// then: here a number is looked up, and no memory is taken.
+/// names; 2^64 - 1 for that and more. The interpretation was read over the library as it is now, and counted:
+/// here a number is looked up, and no memory is taken.
 pub fn cost(library: &Library, interpretation: &Interpretation, term: TermId) -> u64
     requires term { (t : Sexp) × IsTerm library.now term t }
     requires fits { Fits interpretation.now library.now }
@@ -57,6 +58,31 @@ pub fn cost(library: &Library, interpretation: &Interpretation, term: TermId) ->
         tables_of(library, interpretation),
         term,
     )
+}
+
+/// The same, if it is no more than a limit: looked up where the interpretation was counted, and else counted
+/// from the term down, as far as the limit. Refused is want of memory alone.
+pub fn cost_within(
+    library: &Library,
+    interpretation: &Interpretation,
+    term: TermId,
+    limit: u64,
+) -> Result<Option<u64>, Memory>
+    requires term { (t : Sexp) × IsTerm library.now term t }
+    requires fits { Fits interpretation.now library.now }
+    requires costs { KeepsCosts interpretation.now library.now }
+    requires below { limit < 2 ^ 64 - 1 }
+    ensures { (script definitions : Signature) (t : Sexp) → StandsFor library.now script
+        → IsInterpretation interpretation.now script definitions → IsTerm library.now term t
+        → IfOk result (λ cost. cost ≡ within limit (cost_over (structure_of script definitions) t)) }
+{
+    nodes_have_the_costs_of_their_terms();
+    if interpretation.costs.is_empty() {
+        let tables = tables_of(library, interpretation);
+        return smt_machine::cost_within(library.alloc(), tables, term, limit);
+    }
+    let cost = cost(library, interpretation, term);
+    Ok(if cost <= limit { Some(cost) } else { None })
 }
 
 /// What is known of a term of the library over the structure that an interpretation gives to its names;

@@ -1,19 +1,17 @@
 //! Models, as solvers print them. This file looks into no item: a library takes them.
 
 ghost use Rattle.std.specs.Prelude.{◌≡◌, List, [], ◌∷◌, ◌++◌, None, Ok, MatchOption, MatchResult};
-ghost use Rattle.std.specs.Prelude.{IfOk, OnOk, slice_get};
+ghost use Rattle.std.specs.Prelude.{IfOk, OnErr, OnOk, slice_get};
 ghost use Rattle.smt_trees.specs.Tree.{sexps_of};
-ghost use Rattle.smt_machine.specs.Costs.{AreCosts};
 ghost use Rattle.smt_terms.specs.Items.{items_before};
 ghost use Rattle.smt_terms.specs.Library.{StandsFor, terms_of};
 ghost use Rattle.smt_terms.specs.Signature.{Entry, Signature, declared_among, entry_named};
 ghost use Rattle.smt_eval.specs.Internal.DefinitionValues.{AllDefined};
 ghost use Rattle.smt_eval.specs.Internal.GivenBodies.{GiveBodies, GivesBody, TellsLacking};
 ghost use Rattle.smt_eval.specs.Internal.ItemFault.{model_fault_of_item};
-ghost use Rattle.smt_eval.specs.Interpretation.{IsInterpretation, KnowsCosts};
+ghost use Rattle.smt_eval.specs.Interpretation.{Fits, IsInterpretation, KeepsCosts, KnowsCosts};
 ghost use Rattle.smt_eval.specs.Model.{first_lacking, model_in, items_from, items_of};
 ghost use Rattle.smt_eval.specs.ModelFaults.{TellsModel};
-ghost use Rattle.smt_eval.specs.NodeValues.{arounds_over, nodes_over};
 
 use crate::laws::{models_are_complete, structures_are_distinct};
 use crate::model_fault::ModelFault;
@@ -25,8 +23,8 @@ use smt_terms::laws::items_are_well_sorted;
 use smt_terms::{Found, Library, TermFault};
 use smt_trees::{Tree, Trees, split_first};
 
-/// The definitions of a model, for each name that the script declares the body that the model gives to it, and
-/// what each node of both costs.
+/// The definitions of a model, for each name that the script declares the body that the model gives to it, and,
+/// once it is counted, what each node of both costs.
 #[derive(Drop)]
 pub struct Interpretation {
     pub(crate) definitions: Library,
@@ -35,9 +33,8 @@ pub struct Interpretation {
 }
 
 impl Interpretation {
-    /// Reads a model of the names of a library (SMT-LIB 2.6, section 4.2.6), counts what its nodes and the
-    /// library's cost, and evaluates nothing. Refused
-    /// are the first item with a fault, before the first declared name that is lacking, and want of memory.
+    /// Reads a model of the names of a library (SMT-LIB 2.6, section 4.2.6), and evaluates nothing. Refused are
+    /// the first item with a fault, before the first declared name that is lacking, and want of memory.
     /// The library stands for a signature, as every one does that `Library::new` and the calls after it made.
     pub fn read(declared: &Library, model: &Trees) -> Result<Interpretation, ModelFault>
         requires { (s : Signature) × StandsFor declared.now s }
@@ -45,7 +42,7 @@ impl Interpretation {
             → MatchResult result (λ i. (d : Signature) × (model_in s model.now ≡ Ok d)
             × IsInterpretation i s d)
             (TellsModel (model_in s model.now)) }
-        ensures costs { IfOk result (λ i. KnowsCosts i declared.now) }
+        ensures costs { IfOk result (λ i. KeepsCosts i declared.now) }
     {
         // Laws: each item is a definition; no two have one name, nor one of them that of a definition of the
         // script; and each declared name has its rank.
@@ -53,11 +50,11 @@ impl Interpretation {
         models_are_complete();
         structures_are_distinct();
         let definitions = read_items(declared, items(model.as_slice()))?;
-        match bodies_and_costs(declared, &definitions) {
-            Ok((declared, costs)) => Ok(Interpretation {
+        match declared_bodies(declared, &definitions) {
+            Ok(declared) => Ok(Interpretation {
+                costs: Vec::new(definitions.alloc()),
                 definitions,
                 declared,
-                costs,
             }),
             Err(fault) => {
                 // (dropped by name: the prover takes long over a library that is owned on more than one path)
@@ -65,6 +62,21 @@ impl Interpretation {
                 Err(fault)
             }
         }
+    }
+
+    /// Counts what each node of the model and of the library costs, by one pass over both, so that `cost` looks
+    /// it up. The library is the one that the model was read over, as it is now. Refused is want of memory alone.
+    pub fn count(&mut self, declared: &Library) -> Result<(), Memory>
+        ensures costs { OnOk result (KnowsCosts self.new declared.now) }
+        ensures same { (script definitions : Signature) → IsInterpretation self.old script definitions
+            → IsInterpretation self.new script definitions }
+        ensures fits { Fits self.old declared.now → Fits self.new declared.now }
+    {
+        self.costs = costs(
+            declared.alloc(),
+            tables(declared, &self.definitions, self.declared.as_slice()),
+        )?;
+        Ok(())
     }
 }
 
@@ -105,28 +117,6 @@ fn items(trees: &[Tree]) -> &[Tree]
         Some((first, rest)) if first.is_symbol(b"model") => rest,
         _ => trees,
     }
-}
-
-// The bodies of declared names, and with these the costs of all nodes.
-fn bodies_and_costs(
-    declared: &Library,
-    definitions: &Library,
-) -> Result<(Vec<TermId>, Vec<u64>), ModelFault>
-    requires { (s : Signature) × StandsFor declared.now s }
-    ensures bodies { (s d : Signature) → StandsFor declared.now s → StandsFor definitions.now d
-        → AllDefined d.entries → MatchResult result (λ found. (first_lacking s.entries d.entries ≡ None)
-        × GiveBodies d.entries (terms_of definitions.now).bodies (declared_among s.entries) found.0.items)
-        (TellsLacking (first_lacking s.entries d.entries)) }
-    ensures costs { IfOk result (λ found. AreCosts
-        (nodes_over (terms_of definitions.now) (terms_of declared.now) found.0.items)
-        (arounds_over (terms_of definitions.now) (terms_of declared.now)) found.1.items) }
-{
-    let bodies = declared_bodies(declared, definitions)?;
-    let costs = costs(
-        definitions.alloc(),
-        tables(declared, definitions, bodies.as_slice()),
-    )?;
-    Ok((bodies, costs))
 }
 
 // For each declared name, in order, the node that is the body of its definition; or the command of the first

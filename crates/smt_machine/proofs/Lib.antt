@@ -4,3 +4,4 @@ pub mod StateLemmas
 pub mod StepLemmas
 pub mod KeptLemmas
 pub mod SumLemmas
+pub mod WalkLemmas

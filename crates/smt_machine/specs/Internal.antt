@@ -3,3 +3,4 @@ pub mod States
 pub mod KeptView
 pub mod Tasks
 pub mod Sums
+pub mod Walks

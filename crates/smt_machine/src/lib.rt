@@ -11,7 +11,8 @@
 //! [`laws`] that is what each form of node makes of its parts, `node_value` of `specs/Nodes.antt`.
 //!
 //! What a term costs is known before: `costs` counts for every node how many nodes are evaluated for it at
-//! most, each annotation as one more, and `Machine::eval` takes as much of what is left, or less.
+//! most, each annotation as one more, and `Machine::eval` takes as much of what is left, or less. Where a term
+//! may cost no more than a limit that is below the number of nodes, `cost_within` counts as far as the limit.
 //!
 //! A call, for the script's `(+ x 1)` as node `sum`, where the model has 2 for `x`:
 //!
@@ -34,8 +35,10 @@ mod tables;
 mod task;
 #[cfg(test)]
 mod tests;
+mod walk;
 
 pub use counting::{cost_of_term, costs};
 pub use machine::Machine;
 pub use smt_faults::Memory;
 pub use tables::Tables;
+pub use walk::cost_within;

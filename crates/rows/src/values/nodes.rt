@@ -103,9 +103,12 @@ fn known_over(
     requires term { (t : Sexp) × IsTerm script.now term t }
     requires below { left.old < 2 ^ 64 - 1 }
 {
-    let Ok(interpretation) = Interpretation::read(script, model) else {
+    let Ok(mut interpretation) = Interpretation::read(script, model) else {
         bail!("the model has a fault");
     };
+    if interpretation.count(script).is_err() {
+        bail!("out of memory");
+    }
     known_in(script, &interpretation, term, left)
 }
 
