@@ -1,10 +1,10 @@
 //! What a term costs, counted from the term down, as far as a limit. This file keeps no costs.
 
-ghost use Rattle.std.specs.Prelude.{◌≡◌, ◌≤◌, ◌<◌, ◌+◌, ℕ, IfOk, length, Some};
-ghost use Rattle.smt_machine.specs.Costs.{cost, first_cost, last_cost, node_cost, parts_cost, within};
-ghost use Rattle.smt_machine.specs.Internal.Parts.{meaning, numbers_of};
+ghost use Rattle.std.specs.Prelude.{◌≡◌, ◌≤◌, ◌<◌, ◌+◌, ℕ, IfOk, IfSome, Some, option_map};
+ghost use Rattle.smt_machine.specs.Costs.{cost, first_cost, last_cost, part_cost, parts_cost, within};
+ghost use Rattle.smt_machine.specs.Internal.Parts.{meaning, number_of, numbers_of};
 ghost use Rattle.smt_machine.specs.Internal.Walks.{IsPositive, IsTakenUp};
-ghost use Rattle.smt_machine.specs.Tables.{arounds_of, nodes_of, term_cost};
+ghost use Rattle.smt_machine.specs.Tables.{arounds_of, call, nodes_of, term_cost};
 
 use crate::parts::{Part, Parts};
 use crate::tables::{Place, Tables};
@@ -80,10 +80,22 @@ fn wait_for_node(
         Node::Numeral(_) | Node::Hex(_) | Node::Bin(_) | Node::Slot(_) => Ok(Some(left)),
         Node::Apply { args, .. } => wait_for(waiting, number, from.parts(*args), left),
         Node::Declared { place, args } => {
-            wait_for_call(waiting, number, from.declared(*place), from.parts(*args), left)
+            wait_for_call(
+                waiting,
+                number,
+                from.declared(*place),
+                from.parts(*args),
+                left,
+            )
         }
         Node::Defined { place, args } => {
-            wait_for_call(waiting, number, from.defined(*place), from.parts(*args), left)
+            wait_for_call(
+                waiting,
+                number,
+                from.defined(*place),
+                from.parts(*args),
+                left,
+            )
         }
         Node::Let { values, body } => {
             let body = Part {
@@ -161,11 +173,29 @@ fn wait_for(
             id: *id,
             shift: parts.shift,
         };
-        match part.below(number) {
-            Some(part) => waiting.push(part)?,
-            // It is open.
-            None => left -= 1,
-        }
+        left = wait_for_part(waiting, number, part, left)?;
     }
     Ok(Some(left))
+}
+
+// Has a part wait, or counts it if it is open.
+fn wait_for_part(
+    waiting: &mut Vec<usize>,
+    number: usize,
+    part: Part,
+    left: u64,
+) -> Result<u64, Memory>
+    requires { 1 ≤ left }
+    ensures taken { (c : ℕ → ℕ) → IfOk result (λ fewer.
+        IsTakenUp c (part_cost number c (number_of part)) waiting.old.items waiting.new.items left (Some fewer)) }
+    ensures fewer { IfOk result (λ fewer. fewer ≤ left) }
+    ensures one { IfOk result (λ fewer. left ≤ fewer + 1) }
+{
+    match part.below(number) {
+        Some(part) => {
+            waiting.push(part)?;
+            Ok(left)
+        }
+        None => Ok(left - 1),
+    }
 }

@@ -1,5 +1,5 @@
 -- The sum of what nodes cost that wait to be counted, as a walk goes from a term down.
-use Rattle.std.specs.Prelude.{◌≡◌, ℕ, ◌+◌, ◌<◌, ◌≤◌, List, [], ◌∷◌, Option, Some, None, MatchOption}
+use Rattle.std.specs.Prelude.{◌≡◌, ℕ, ◌+◌, ◌<◌, ◌≤◌, List, [], ◌∷◌, Option, Some, None}
 
 abbrev pub sum_of : (ℕ → ℕ) → List ℕ → ℕ
 sum_of c [] = 0
