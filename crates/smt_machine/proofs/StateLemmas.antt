@@ -1,6 +1,7 @@
 -- The machine's stacks, and the lists that a contract sees of them.
 use Rattle.std.proofs.Common.{◌≡◌, ℕ, zero, suc, ◌+◌, ◌-◌, ◌<◌, ◌≤◌, List, [], ◌∷◌, ◌++◌, length, take, drop}
-use Rattle.std.proofs.Common.{get_or, slice_get, Option, None, refl, ap, sym, ◌∙◌, arith, zero-add}
+use Rattle.std.proofs.Common.{get_or, slice_get, Option, None, refl, ap, sym, ◌∙◌, append_assoc, arith}
+use Rattle.std.proofs.Common.{length-take-le, take-take, take_at, zero-add}
 use Rattle.std.proofs.lemmas.List.{length-map, drop-map, map-append, take-map}
 use Rattle.std.proofs.lemmas.Option.{slice_get-map, slice_get_past, slice_get_read}
 use Rattle.std.specs.Prelude.{option_map, unwrap_or}
@@ -57,6 +58,13 @@ pub before_known : (xs : List (Option Value)) (n k : ℕ) → k ≡ length xs - 
 before_known xs n k h =
     let e : length (known_elements xs) - n ≡ k = omega (arith, length-map xs known_element) in
     ap (λ m. take m (known_elements xs)) e ∙ take-map known_element k xs
+
+-- what stands before the last ones stays where these were changed in place
+pub stays_before : {A : Type 0} (k n : ℕ) (xs ys zs : List A) → k ≤ length xs → k ≤ n
+    → take k (take n ((take k xs ++ ys) ++ zs)) ≡ take k xs
+stays_before k n xs ys zs below within =
+    take-take k n _ within ∙ ap (take k) (append_assoc (take k xs) ys zs)
+    ∙ take_at (take k xs) (ys ++ zs) k (length-take-le k xs below)
 
 pub operated : (op : Op) (xs : List (Option Value)) (n k : ℕ) (v : Option Value) → k ≡ length xs - n
     → known_element v ≡ known_step op (known_elements (drop k xs))

@@ -19,7 +19,7 @@ use crate::parts::{Part, Parts};
 use crate::task::{Task, task_of};
 use smt_faults::Memory;
 use smt_theory::Op;
-use smt_values::{Value, apply};
+use smt_values::{Value, apply_in_place};
 use std::alloc::Global;
 
 /// Stacks for the evaluation of nodes, bounded by memory alone, and the values that closed nodes were found to
@@ -112,9 +112,8 @@ impl Machine {
         ensures { let before = state_of self.old in IfOk result (λ _.
             IsAt (with_last count (known_step op (last_of count before.values)) before) self.old self.new) }
     {
-        let values = self.values.as_slice();
-        let start = values.len().saturating_sub(count);
-        let value = apply(op, items_from(values, start));
+        let start = self.values.len().saturating_sub(count);
+        let value = apply_in_place(op, &mut self.values[start..]);
         self.values.truncate(start);
         self.values.push(value)?;
         Ok(())

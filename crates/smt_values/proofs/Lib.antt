@@ -1,5 +1,6 @@
 pub mod DivisionLemmas
 pub mod KnownLoopLemmas
+pub mod DistinctLemmas
 pub mod BitKnownLemmas
 pub mod BitSortLemmas
 pub mod AllKnownLemmas

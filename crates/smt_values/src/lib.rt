@@ -5,9 +5,9 @@
 //! text or a name.
 //!
 //! **The contract for the layer above**: `apply` gives what is known of an operator's result, `known_step` of
-//! `specs/KnownOperations.antt`; and by `known_results_are_true` of [`laws`] what is known is the standard's
-//! value, `operate` of `specs/Operations.antt`, whatever the open arguments are and whatever division by zero
-//! gives.
+//! `specs/KnownOperations.antt`, and so does `apply_in_place`, which may move the arguments; and by
+//! `known_results_are_true` of [`laws`] what is known is the standard's value, `operate` of
+//! `specs/Operations.antt`, whatever the open arguments are and whatever division by zero gives.
 //!
 //! A call, of `(+ 1 2)` where the operator came from `smt_theory::op_of`:
 //!
@@ -26,7 +26,7 @@ mod operations;
 mod value;
 
 pub use literal_values::{bin, hex, numeral};
-pub use operations::apply;
+pub use operations::{apply, apply_in_place};
 pub use smt_bits::Bits;
 pub use smt_theory::Width;
 pub use value::Value;

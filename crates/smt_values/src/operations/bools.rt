@@ -131,7 +131,7 @@ fn are_all_same(args: &[Option<Value>]) -> bool
     true
 }
 
-fn distinctness(args: &[Option<Value>]) -> Option<Value>
+pub(crate) fn distinctness(args: &[Option<Value>]) -> Option<Value>
     ensures { known_element result ≡ known_core Distinct (known_elements args.now) }
 {
     if all_are_known(args) {
@@ -164,7 +164,7 @@ fn is_among(value: &Option<Value>, others: &[Option<Value>]) -> bool
 }
 
 // Whether both are known to be the same, or both open.
-fn are_both(a: &Option<Value>, b: &Option<Value>) -> bool
+pub(crate) fn are_both(a: &Option<Value>, b: &Option<Value>) -> bool
     ensures { result ≡ is_same_known (known_element a.now) (known_element b.now) }
 {
     match (a, b) {
@@ -193,7 +193,7 @@ fn all_are(args: &[Option<Value>], truth: bool) -> bool
     args.iter().all(|arg| is(arg, truth))
 }
 
-fn all_are_known(args: &[Option<Value>]) -> bool
+pub(crate) fn all_are_known(args: &[Option<Value>]) -> bool
     ensures { result ≡ list_all is_some args.now }
 {
     args.iter().all(|arg| arg.is_some())
