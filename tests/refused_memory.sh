@@ -135,6 +135,9 @@ each_copy() {
     OUTCOMES=$work/outcomes LD_PRELOAD=$work/each.so "$3" "$4" >"$work/output" || fail "$what" 'no answer of the program that was copied'
     cmp -s "$work/output" "$work/right" || fail "$what" 'another answer of the program that was copied'
     RIGHT=$(tr '\n' '|' <"$work/right") awk -v least="$least" '
+        function begins(whole, part) {
+            return substr(whole, 1, length(part)) == part
+        }
         # The lines that were handed out.
         function handed(text,    lines, count, i, found) {
             count = split(text, lines, "|")
@@ -160,8 +163,8 @@ each_copy() {
             errors = substr($0, comma + 10)
             if (status == "status 0" && errors == "" && output == right) next
             refused++
-            if (status == "status 1" && index(right, output) == 1 && errors ~ /(out of memory|memory allocation failed)\|$/) next
-            if (status == "status 0" && errors == "" && index(output, "|=> out of memory|") && index(handed(right), handed(output)) == 1 &&
+            if (status == "status 1" && begins(right, output) && errors ~ /(out of memory|memory allocation failed)\|$/) next
+            if (status == "status 0" && errors == "" && index(output, "|=> out of memory|") && begins(handed(right), handed(output)) &&
                 stays(output)) next
             print "wrong: " $0
             exit
