@@ -211,4 +211,5 @@ def main():
         print(f'{took:7.2f} {kind}, {size} bytes: {verdict}')
 
 
-main()
+if __name__ == '__main__':
+    main()

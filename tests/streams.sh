@@ -1,7 +1,7 @@
 #!/bin/sh
 # Runs the program where its words or its streams are at fault: the status, and the line on standard error; and where a solver is at
-# work: each line comes once it is decided. Needs what `rt ci` has built, and z3 for a part of it, which is left out with a word on
-# standard error where there is none. Says nothing else where all is well.
+# work: each line comes once it is decided. Looks which files it opens. Needs what `rt ci` has built, and for a part of it z3 and strace,
+# which is left out with a word on standard error where there are none. Says nothing else where all is well.
 set -e
 cd "$(dirname "$0")/.."
 program=$PWD/crates/smtcheck/out/smtcheck
@@ -61,6 +61,44 @@ status 1 "$script" 'success success sat ((define-fun p () Bool false))'
 status 2 "$script" 'success success sat ()'
 status 3 "$script" 'success'
 status 3 '\177\000\001' '\000'
+
+# Which files are opened: what the loader of programs opens aside, the two that are named, in order. No program is started, and nothing
+# is asked of a network.
+if strace -o "$work/trace" true 2>"$work/errors"; then
+    printf '(declare-const p Bool)(set-option :diagnostic-output-channel "%s")(set-info :source |%s|)(check-sat)(get-model)' \
+        "$work/none" "$work/none" >"$work/script"
+    echo 'sat ((define-fun p () Bool true))' >"$work/answers"
+    strace -f -o "$work/trace" "$program" --print-success off "$work/script" "$work/answers" >"$work/output"
+    sed 's/^[0-9]* *//' "$work/trace" |
+        grep '^\(open\|creat\|exec\|fork\|vfork\|clone\|socket\|connect\|bind\|link\|symlink\|unlink\|rename\|mkdir\)' |
+        grep -v '/ld\.so\.\|\.so\.[0-9]' | sed 's/^execve(.*/execve/; s/(.*\/\([a-z]*\)", O_RDONLY.*/ \1/' >"$work/calls"
+    printf '%s\n' execve 'openat script' 'openat answers' | cmp -s - "$work/calls" || fail "it calls: $(cat "$work/calls")"
+else
+    echo 'streams: no strace, so that it is not looked at which files are opened' >&2
+fi
+
+# An output that is closed, and a pipe whose reader has gone, of which its writers are told by a signal too. Nor does the program need an
+# input.
+output=$work/output
+status=0
+"$program" "$data/script.smt2" "$data/answers.txt" >&- 2>"$work/errors" || status=$?
+[ "$status" = 4 ] && [ "$(cat "$work/errors")" = 'smtcheck: output' ] || fail "a closed output: status $status, $(cat "$work/errors")"
+mkfifo "$work/pipe"
+{
+    exec 5<"$work/pipe"
+    exec 5<&-
+    : >"$work/gone"
+} &
+{
+    while [ ! -e "$work/gone" ]; do sleep 0.05; done
+    status=0
+    "$program" "$data/script.smt2" "$data/answers.txt" 2>"$work/errors" || status=$?
+    echo "$status" >"$work/status"
+} >"$work/pipe"
+[ "$(cat "$work/status")" = 4 ] && [ "$(cat "$work/errors")" = 'smtcheck: output' ] ||
+    fail "a pipe without a reader: status $(cat "$work/status"), $(cat "$work/errors")"
+"$program" "$data/script.smt2" "$data/answers.txt" <&- >"$output" 2>"$work/errors" || fail 'no input: no report'
+cmp -s "$output" "$data/../stdout" || fail 'no input: another report'
 
 # From here on the texts come slowly, through pipes. A writer that finds no reader doesn't end this script.
 trap '' PIPE
@@ -139,6 +177,40 @@ rm "$work/script"
 echo unsat >&4
 ends 'a script that has gone' 0 ''
 cmp -s "$work/output" "$work/wanted" || fail 'another report on a script that has gone'
+
+# lines N LINE: the line, so often.
+lines() {
+    awk -v n="$1" -v line="$2" 'BEGIN { for (i = 0; i < n; i++) print line }'
+}
+
+# A text that shrinks while it is read ends where it ends then.
+#
+# shrinks FILE BYTES PIPE FIRST REST FAULT: the file is cut to so many bytes once its first piece was read and no more, as the line of the
+# check tells. The other text is a pipe, through which come what the check needs, and the rest.
+shrinks() {
+    rm -f "$work/$3"
+    mkfifo "$work/$3"
+    : >"$work/output"
+    timeout 60 "$program" "$work/script" "$work/answers" >"$work/output" 2>"$work/errors" &
+    running=$!
+    exec 4>"$work/$3"
+    echo "$4" >&4
+    until_true "a file that shrinks, $1" test -s "$work/output"
+    truncate -s "$2" "$work/$1"
+    lines 10000 "$5" >&4
+    exec 4>&-
+    ended "a file that shrinks, $1" 3 ''
+    grep -q "^$6" "$work/output" || fail "a file that shrinks, $1: $(cat "$work/output")"
+}
+
+for bytes in 20000 0; do
+    rm -f "$work/script"
+    { echo '(check-sat)' && lines 10000 '(assert true)'; } >"$work/script"
+    shrinks script "$bytes" answers unsat success "fault X3 in the script at byte ${bytes#0}"
+done
+rm -f "$work/script" "$work/answers"
+{ echo unsat && lines 10000 success; } >"$work/answers"
+shrinks answers 20003 script '(check-sat)' '(assert true)' 'fault P2 at command 2501, answer 2501'
 
 # A reader that has closed: the next line is not written.
 rm -f "$work/script" "$work/answers" "$work/pipe"

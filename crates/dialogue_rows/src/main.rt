@@ -12,6 +12,7 @@
 #![tactic(auto)]
 
 mod dialogues;
+mod runs;
 mod sessions;
 
 use anyhow::{Result, bail};
@@ -23,7 +24,7 @@ fn main(rt: HostRuntime) -> Result<()> {
     row_texts::run(&rt, &ByDialogue)
 }
 
-/// What is answered to rows of dialogues and of sessions.
+/// What is answered to rows of dialogues, sessions and runs.
 struct ByDialogue;
 
 impl Answers for ByDialogue {
@@ -37,6 +38,7 @@ impl Answers for ByDialogue {
         match title.key {
             "dialogue" => dialogues::print(alloc, out, title, fields),
             "session" => sessions::print(alloc, out, title, fields),
+            "run" => runs::print(alloc, out, title, fields),
             key => bail!("line {}: `{key}` is no kind of row", title.line),
         }
     }

@@ -5,11 +5,10 @@ ghost use Rattle.std.specs.Prelude.{◌≡◌, false, IfOk};
 ghost use Rattle.smt_dialogue.specs.History.{History};
 ghost use Rattle.smt_dialogue.specs.Session.{StandsFor, is_answers_ended, is_script_ended};
 
-use crate::dialogues::pieces::went;
 use crate::dialogues::usual_limit;
 use anyhow::{Result, bail};
 use row_texts::{Field, is_on, want_key};
-use smt_dialogue::{Line, Options, Session};
+use smt_dialogue::{Failed, Line, Options, Session};
 use std::alloc::Global;
 use std::io;
 use std::io::Write;
@@ -114,7 +113,7 @@ fn tell_script<W: Write>(
 {
     let piece = field.bytes(alloc)?;
     writeln!(out, "script {}", field.text)?;
-    went(session.script(piece.as_slice()))
+    went(out, session.script(piece.as_slice()))
 }
 
 fn tell_answers<W: Write>(
@@ -132,7 +131,7 @@ fn tell_answers<W: Write>(
 {
     let piece = field.bytes(alloc)?;
     writeln!(out, "answers {}", field.text)?;
-    went(session.answers(piece.as_slice()))
+    went(out, session.answers(piece.as_slice()))
 }
 
 // Tells the end of the text that a field names.
@@ -152,14 +151,14 @@ fn tell_end<W: Write>(
     writeln!(out, "end {}", field.text)?;
     match field.text.as_str() {
         "script" if !ended.script => {
-            went(session.end_script())?;
+            went(out, session.end_script())?;
             Ok(Ended {
                 script: true,
                 answers: ended.answers,
             })
         }
         "answers" if !ended.answers => {
-            went(session.end_answers())?;
+            went(out, session.end_answers())?;
             Ok(Ended {
                 script: ended.script,
                 answers: true,
@@ -170,6 +169,16 @@ fn tell_end<W: Write>(
             field.line
         ),
     }
+}
+
+// Prints that a session has failed. Whatever it is told behind that, it answers the same.
+fn went<W: Write>(out: &mut W, told: Result<(), Failed>) -> Result<()> {
+    match told {
+        Ok(()) => {}
+        Err(Failed::Memory) => writeln!(out, "=> out of memory")?,
+        Err(Failed::Long) => writeln!(out, "=> too long")?,
+    }
+    Ok(())
 }
 
 // Prints the lines that are decided and were not taken, or `none`.

@@ -8,7 +8,7 @@ use crate::names::print_counts;
 use crate::trees::tree_of;
 use anyhow::{Result, bail};
 use row_texts::{Field, is_on, want_key};
-use smt_script::{Assertion, CommandFault, Stack, read_command};
+use smt_script::{Assertion, Command, CommandFault, Stack, read_command};
 use smt_trees::Tree;
 use std::alloc::Global;
 use std::io;
@@ -88,9 +88,20 @@ fn take(stack: &mut Stack, number: u64, tree: Tree) -> Result<(), CommandFault>
     ensures { last_of stack.new ≤ number }
 {
     let command = read_command(tree)?;
-    let outcome = stack.apply(number, &command);
+    let outcome = apply(stack, number, &command);
     drop(command);
     outcome
+}
+
+// Applies a command to the stack, and once more where memory was refused: nothing has changed then.
+fn apply(stack: &mut Stack, number: u64, command: &Command) -> Result<(), CommandFault>
+    requires { last_of stack.old < number }
+    ensures { last_of stack.new ≤ number }
+{
+    match stack.apply(number, command) {
+        Err(CommandFault::Memory) => stack.apply(number, command),
+        outcome => outcome,
+    }
 }
 
 // Prints what is in force: names, the numbers of the commands of the assertions, levels, and what the solver

@@ -9,6 +9,7 @@ use crate::trees::{declare, parts_of};
 use anyhow::{Result, bail};
 use row_texts::{Field, refuse};
 use smt_eval::{Interpretation, ModelFault, ModelFlaw};
+use smt_faults::TermFault;
 use smt_terms::Library;
 use smt_trees::Trees;
 use std::alloc::Global;
@@ -102,7 +103,7 @@ fn print_names<W: Write>(out: &mut W, declared: &Library, model: &Trees) -> Resu
 /// The library of what the items of a model without a fault define.
 pub(crate) fn definitions_of(declared: &Library, model: &Trees) -> Result<Library> {
     let Ok(mut definitions) = declared.for_model() else {
-        bail!("memory was refused");
+        bail!("out of memory");
     };
     match define(declared, &mut definitions, model) {
         Ok(()) => Ok(definitions),
@@ -120,8 +121,10 @@ fn define(declared: &Library, definitions: &mut Library, model: &Trees) -> Resul
         if item.is_symbol(b"model") {
             continue;
         }
-        if definitions.define_item(declared, item).is_err() {
-            bail!("an item of a model without a fault is refused");
+        match definitions.define_item(declared, item) {
+            Ok(()) => {}
+            Err(TermFault::Memory) => bail!("out of memory"),
+            Err(_) => bail!("an item of a model without a fault is refused"),
         }
     }
     Ok(())

@@ -6,7 +6,7 @@ ghost use Rattle.smt_terms.specs.Signature.{Signature};
 
 use anyhow::{Result, bail};
 use row_texts::Field;
-use smt_faults::{TermFault, TermFlaw};
+use smt_faults::{TermFault, TermFlaw, TextFault};
 use smt_script::all_theories;
 use smt_terms::Library;
 use smt_text::read_trees;
@@ -20,6 +20,7 @@ pub(crate) fn trees_of(alloc: Global, field: &Field) -> Result<Trees> {
     let bytes = field.bytes(alloc)?;
     match read_trees(alloc, bytes.as_slice()) {
         Ok(trees) => Ok(trees),
+        Err(TextFault::Memory) => bail!("out of memory"),
         Err(_) => bail!("line {}: this is no text of the language", field.line),
     }
 }

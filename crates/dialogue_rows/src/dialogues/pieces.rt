@@ -298,8 +298,8 @@ fn see(session: &mut Session, seen: &mut Seen) -> Result<(), AllocError>
     outcome
 }
 
-/// A session fails where memory is refused; no row has a text of 2^64 bytes.
-pub(crate) fn went(told: Result<(), Failed>) -> Result<()> {
+// A session fails where memory is refused; no row has a text of 2^64 bytes.
+fn went(told: Result<(), Failed>) -> Result<()> {
     match told {
         Ok(()) => Ok(()),
         Err(Failed::Memory) => bail!("out of memory"),

@@ -1,0 +1,1 @@
+(set-logic ALL)(set-option :print-success true)(set-info :a b)(declare-const x Int)(declare-fun f (Int) Int)(define-fun g ((y Int)) Int (+ y 1))(define-sort W () (_ BitVec 8))(push 1)(declare-const v W)(assert (! (= (f x) (g x)) :named a))(assert (let ((t (bvadd v #x01))) (= t #x03)))(check-sat)(get-model)(get-value (x))(echo "e")(pop 1)(reset-assertions)(reset)(exit)
