@@ -1,7 +1,8 @@
 -- What a term of a library costs over an interpretation, by its number.
-use Rattle.std.proofs.Common.{◌≡◌, ◌≤◌, ℕ, ◌+◌, List, [], length, Result, OnOk, ap, sym, ◌∙◌, subst, arith}
+use Rattle.std.proofs.Common.{◌≡◌, ◌≤◌, ℕ, ◌+◌, List, [], length, Option, Result, IfOk, OnOk, ap, sym, ◌∙◌, subst}
+use Rattle.std.proofs.Common.{arith}
 use Rattle.smt_trees.specs.Sexp.{Sexp}
-use Rattle.smt_machine.specs.Costs.{cost}
+use Rattle.smt_machine.specs.Costs.{cost, within}
 use Rattle.smt_machine.specs.Tables.{arounds_of, model_count, nodes_of, term_cost}
 use Rattle.smt_machine.specs.declared.tables.Tables.{Tables}
 use Rattle.smt_terms.specs.Denotes.{Denotes, Table}
@@ -62,3 +63,8 @@ cost_within law tables library interpretation id left are fits term enough =
 pub paid_is : {T F : Type 0} (r : Result T F) (old new m n : ℕ) → OnOk r (old ≤ new + m) → m ≡ n
     → OnOk r (old ≤ new + n)
 paid_is r old new m n paid is = subst (λ k. OnOk r (old ≤ new + k)) is paid
+
+-- the same of the cost of the term
+pub within_same : {F : Type 0} (r : Result (Option ℕ) F) (limit m n : ℕ)
+    → IfOk r (λ cost. cost ≡ within limit m) → m ≡ n → IfOk r (λ cost. cost ≡ within limit n)
+within_same r limit m n h is = subst (λ k. IfOk r (λ cost. cost ≡ within limit k)) is h

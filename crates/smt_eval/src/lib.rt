@@ -15,7 +15,7 @@ pub mod plain;
 mod tables;
 
 pub use checked::Checked;
-pub use closed::{Closed, cost, eval, eval_by};
+pub use closed::{Closed, cost, cost_within, eval, eval_by};
 pub use interpretation::Interpretation;
 pub use model_fault::{ModelFault, ModelFlaw};
 pub use smt_faults::Memory;

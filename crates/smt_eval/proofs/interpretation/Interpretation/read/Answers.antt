@@ -20,7 +20,7 @@ returns-in-Ok-clause-model c = λ s stands.
       free = c.items_are_well_sorted.ensures.free script earlier tree e h;
     } in
     let defined = items_defined law s (sexps_of c.items.result.now) read.0 read.1 in
-    let given = c.in-Ok.ensures.bodies s d stands read.2 defined in
+    let given = c.in-Ok.ensures s d stands read.2 defined in
     let whole =
     model_whole s c.args.model.now (sexps_of c.items.result.now) read.0
     (c.items.ensures ∙ ap items_of c.as_slice.ensures) read.1
@@ -50,4 +50,4 @@ returns-in-Err-clause-model c = λ s stands.
     let defined = items_defined law s (sexps_of c.items.result.now) read.0 read.1 in
     lacking_told s d c.args.model.now _ _
     (model_whole s c.args.model.now (sexps_of c.items.result.now) read.0
-    (c.items.ensures ∙ ap items_of c.as_slice.ensures) read.1) (c.in-Err.ensures.bodies s d stands read.2 defined)
+    (c.items.ensures ∙ ap items_of c.as_slice.ensures) read.1) (c.in-Err.ensures s d stands read.2 defined)
