@@ -92,9 +92,10 @@ fn judge_read(
         → IfOk result (λ j. j
         ≡ judged_within limit.steps (claims_of all) (structure_of script definitions)) }
 {
-    if library.nodes().len() as u64 <= limit.steps {
-        interpretation.count(library)?;
+    if library.nodes().len() as u64 > limit.steps {
+        return judge_within(library, interpretation, assertions, limit);
     }
+    interpretation.count(library)?;
     judge_within(library, interpretation, assertions, limit)
 }
 
@@ -151,10 +152,10 @@ fn cost_of_all(
     let mut steps = limit.steps;
     let mut left = assertions;
     while let Some((assertion, rest)) = left.split_first() {
-        match cost_within(library, interpretation, assertion.term, steps)? {
-            Some(cost) => steps -= cost,
-            None => return Ok(None),
-        }
+        let Some(cost) = cost_within(library, interpretation, assertion.term, steps)? else {
+            return Ok(None);
+        };
+        steps -= cost;
         left = rest;
     }
     Ok(Some(limit.steps - steps))

@@ -14,13 +14,13 @@ returns-in-Ok c = λ commands stands.
     let read = c.in-Ok.ensures.model script names in
     let terms = subst (λ l. AreAssertions (contents_of l) c.assertions.result.now all)
     (sym c.library-library.ensures.view) (c.assertions.ensures commands stands) in
-    IfOk-weaker c.judge_within-judgement.result _
+    IfOk-weaker c.judge_read-judgement.result _
     (λ j. j ≡ judgement_of c.args.limit.steps script (claims_of all) c.args.model.now)
     (λ j h. h ∙ ap (judged_in c.args.limit.steps script (claims_of all)) (sym read.1))
-    (c.judge_within-judgement.ensures script read.0 all names read.2 terms)
+    (c.judge_read-judgement.ensures script read.0 all names read.2 terms)
 
-pub judge_within-judgement-requires-clause-fits : goal.judge_within-judgement-requires-clause-fits
-judge_within-judgement-requires-clause-fits c =
+pub judge_read-judgement-requires-clause-fits : goal.judge_read-judgement-requires-clause-fits
+judge_read-judgement-requires-clause-fits c =
     let script = signature_in_force c.requires.0 in
     let names = c.library-library.ensures.stands c.requires.0 c.requires.1 in
     let read = c.in-Ok.ensures.model script names in
