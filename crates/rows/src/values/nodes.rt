@@ -106,9 +106,9 @@ fn known_over(
     let Ok(mut interpretation) = Interpretation::read(script, model) else {
         bail!("the model has a fault");
     };
-    if interpretation.count(script).is_err() {
+    let Ok(()) = interpretation.count(script) else {
         bail!("out of memory");
-    }
+    };
     known_in(script, &interpretation, term, left)
 }
 
