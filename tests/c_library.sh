@@ -6,7 +6,6 @@ set -e
 cd "$(dirname "$0")/.."
 top=$PWD
 program=$top/crates/smtcheck/out/smtcheck
-library=$top/crates/smtcheck_c/out/libsmtcheck_c.a
 work=$(mktemp -d)
 trap 'rm -rf "$work"' EXIT
 
@@ -19,12 +18,9 @@ if ! command -v "${CC:-cc}" >"$work/found"; then
     echo 'c library: skipped, since there is no C compiler'
     exit 0
 fi
-if [ ! -e "$library" ] || [ -n "$(find crates/smtcheck_c/src -newer "$library")" ]; then
-    (cd crates/smtcheck_c && rt lib) >"$work/log" 2>&1 || fail "$(cat "$work/log")"
-fi
 examples=crates/smtcheck_c/examples
 strict='-std=c99 -O1 -Wall -Wextra -Werror -pedantic'
-scripts/c_library.sh "$work" || fail 'scripts/c_library.sh'
+scripts/c_library.sh "$work" 2>"$work/log" || fail "$(cat "$work/log")"
 
 # the library's version is the program's
 cat >"$work/version.c" <<'END_OF_C'
@@ -48,6 +44,20 @@ if command -v "${CXX:-c++}" >"$work/found"; then
     "$work/embedded" >"$work/printed" || fail 'the example in C++'
     [ "$(wc -l <"$work/printed")" = 4 ] || fail "the example in C++ prints $(cat "$work/printed")"
 fi
+
+# a session, whose lines come as they are decided
+"${CC:-cc}" $strict -g -fsanitize=address -I"$work" -o "$work/session" "$examples/session.c" "$work/libsmtcheck.a"
+"$work/session" >"$work/printed" 2>"$work/errors" || fail "a session in C: $(cat "$work/errors")"
+cat >"$work/shown" <<'END'
+turn 1:
+turn 2:
+check 1 at command 3: sat, confirmed
+turn 3:
+check 2 at command 6: unsat
+end:
+verdict: valid, confirmed 1, refuted 0, undecided 0, unchecked 1
+END
+cmp -s "$work/printed" "$work/shown" || fail "a session in C prints $(cat "$work/printed")"
 
 # 10,000 calls in buffers with no byte to spare: under -fsanitize=address, and fewer under valgrind, which sees the library's own reads too
 "${CC:-cc}" $strict -g -fsanitize=address -I"$work" -o "$work/loop" "$examples/loop.c" "$work/libsmtcheck.a"

@@ -14,8 +14,9 @@
  *    `realloc` and `free` are of one allocator, which aligns a block to each power of two up to 16 that divides
  *    its size.
  *
- * A call keeps no pointer and nothing of its own, so any number of threads may call at a time. It uses the machine's
- * stack for lists that stand in another, which may be 1,000 deep: 1 MB of stack is more than enough.
+ * A call keeps no pointer that it is given, so any number of threads may call at a time; a session stays on the thread
+ * that began it. A call uses the machine's stack for lists that stand in another, which may be 1,000 deep: 1 MB of stack
+ * is enough.
  */
 #ifndef SMTCHECK_H
 #define SMTCHECK_H
@@ -42,7 +43,11 @@ enum smtcheck_outcome {
     /* Memory was refused. This says nothing of the dialogue. */
     SMTCHECK_MEMORY = 4,
     /* `steps` is UINT64_MAX, which is no limit. Nothing was looked at. */
-    SMTCHECK_OPTIONS = 5
+    SMTCHECK_OPTIONS = 5,
+    /* Of a session: no verdict has come yet. */
+    SMTCHECK_OPEN = 6,
+    /* Of a session: a text has more than UINT64_MAX bytes. */
+    SMTCHECK_LONG = 7
 };
 
 /* What is said of a dialogue beside its two texts. */
@@ -82,6 +87,54 @@ struct smtcheck_summary {
 uint32_t smtcheck_validate(const char *script, size_t script_length, const char *answers, size_t answers_length,
                            const struct smtcheck_options *options, struct smtcheck_summary *summary, char *text,
                            size_t room, size_t *wanted);
+
+/*
+ * A session, which is told a dialogue piece by piece: the script as it is sent to the solver, and the answers as they
+ * come. Or none: `struct smtcheck_session session = {0};`. Only the calls below change it, and it is never copied while
+ * it has a session.
+ */
+struct smtcheck_session {
+    void *at;
+};
+
+/*
+ * Begins a session of two texts of which nothing has come, in a `*session` that has none. It answers SMTCHECK_OPEN; or
+ * SMTCHECK_MEMORY or SMTCHECK_OPTIONS, and `*session` has none then.
+ */
+uint32_t smtcheck_session_new(const struct smtcheck_options *options, struct smtcheck_session *session);
+
+/*
+ * The four calls that tell something, to a session that was begun. A piece may end anywhere, also inside a token, and
+ * may be empty. A text is told its end once, and no piece behind it. The texts come in any order: what is told does
+ * not depend on it, nor on how they were cut.
+ *
+ * Each answers the verdict, once it is decided, and SMTCHECK_OPEN before. Once both ends were told there is a verdict.
+ * SMTCHECK_MEMORY and SMTCHECK_LONG say that the session goes no further, and every later one of these calls answers
+ * the same. The lines that were decided before can still be taken.
+ */
+uint32_t smtcheck_session_script(struct smtcheck_session *session, const char *piece, size_t length);
+uint32_t smtcheck_session_answers(struct smtcheck_session *session, const char *piece, size_t length);
+uint32_t smtcheck_session_end_script(struct smtcheck_session *session);
+uint32_t smtcheck_session_end_answers(struct smtcheck_session *session);
+
+/* The verdict of a session that was begun, once it is decided, and SMTCHECK_OPEN before. */
+uint32_t smtcheck_session_verdict(struct smtcheck_session *session);
+
+/*
+ * Takes the text of the next lines that are decided, of a session that was begun. No line is taken back later.
+ *
+ * `*wanted` is the length of that text, 0 where there is no line. If it has at most `room` bytes, the first bytes at
+ * `text` are the text, and those behind it stay as they were: these lines are taken. If it has more, all stay as they
+ * were, and the next call gives the same lines, and no later ones with them. So a caller that wants all lines calls
+ * until `*wanted` is 0. Together the texts are the report's.
+ *
+ * It answers as smtcheck_session_verdict does. Or it answers SMTCHECK_MEMORY: then no line is taken, `*wanted` and the
+ * bytes at `text` stay as they were, and it may be called again.
+ */
+uint32_t smtcheck_session_text(struct smtcheck_session *session, char *text, size_t room, size_t *wanted);
+
+/* Gives back the memory of a session that was begun. `*session` has none then. */
+void smtcheck_session_free(struct smtcheck_session *session);
 
 /*
  * Tells the version of the library, and the toolchain that proved it, as `smtcheck --version` does behind the program's

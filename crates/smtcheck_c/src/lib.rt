@@ -10,8 +10,12 @@
 //! ```
 #![tactic(auto)]
 
+mod feed;
+mod handle;
 pub mod options;
 mod outcome;
+pub mod session;
+pub mod session_handle;
 pub mod summary;
 mod text;
 pub mod validation;

@@ -13,6 +13,12 @@ pub(crate) const MEMORY: u32 = 4;
 /// The options are out of range, and nothing was looked at.
 pub(crate) const OPTIONS: u32 = 5;
 
+/// There is no verdict yet.
+pub(crate) const OPEN: u32 = 6;
+
+/// A text has more than 2^64 - 1 bytes.
+pub(crate) const LONG: u32 = 7;
+
 /// The number of a verdict: 0 for valid, 1 for invalid, 2 for not decided, 3 for refused.
 pub(crate) fn number_of(verdict: Verdict) -> u32
     ensures number { result ≡ status_number (Ok verdict) }
