@@ -32,6 +32,17 @@ is_answers_over f = is_answers_ended f.session
 abbrev pub IsAnswerOf : {T : Type 0} → Result T Failed → Feed → Type 0
 IsAnswerOf r f = MatchResult r (λ _. failure_of f.session ≡ None) (λ failed. failure_of f.session ≡ Some failed)
 
+-- the number that a call answers which told something: 4 or 7 where the session has failed so, and else neither
+abbrev pub IsTellingNumber : ℕ → Option Failed → Type 0
+IsTellingNumber number None = (number < 4) ⊎ (number ≡ 6)
+IsTellingNumber number (Some Memory) = number ≡ 4
+IsTellingNumber number (Some Long) = number ≡ 7
+
+-- a session that has failed has failed for good
+abbrev pub StaysFailed : Feed → Feed → Type 0
+StaysFailed before after =
+    (failed : Failed) → failure_of before.session ≡ Some failed → failure_of after.session ≡ Some failed
+
 -- the number is that of the verdict of the lines that are decided; or 6, where none of them tells one; or 4, where
 -- memory was refused, or 7, where a text has more than 2^64 - 1 bytes
 pub record IsNumberOf (number : ℕ) (f : Feed) (h : History) : Type 0 where

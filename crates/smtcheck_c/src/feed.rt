@@ -1,12 +1,12 @@
 //! A session, with the lines that were taken of it and that C was not given: its buffer had no room for their text,
 //! or memory was refused. This file knows no pointer.
 
-ghost use Rattle.std.specs.Prelude.{◌≡◌, ◌≢◌, [], false, true, IfOk, OnErr};
+ghost use Rattle.std.specs.Prelude.{◌≡◌, ◌≢◌, ◌<◌, ◌⊎◌, [], false, true, IfOk, OnErr};
 ghost use Rattle.smt_dialogue.specs.History.{History, begun, with_answers, with_answers_end, with_script};
 ghost use Rattle.smt_dialogue.specs.History.{with_script_end};
-ghost use Rattle.smt_dialogue.specs.Session.{lines_waiting};
+ghost use Rattle.smt_dialogue.specs.Session.{failure_of, lines_waiting};
 ghost use Rattle.smtcheck_c.specs.Feed.{AreEndsOf, AreGivenLines, Feeds, IsAnswerOf, IsNumberOf};
-ghost use Rattle.smtcheck_c.specs.Feed.{is_answers_over, is_script_over};
+ghost use Rattle.smtcheck_c.specs.Feed.{IsTellingNumber, StaysFailed, is_answers_over, is_script_over};
 
 use crate::outcome::{LONG, MEMORY, OPEN, number_of};
 use crate::text::{put_text, text_of_lines};
@@ -41,6 +41,8 @@ impl Feed {
         ensures script { is_script_over self.new ≡ false }
         ensures answers { is_answers_over self.new ≡ is_answers_over self.old }
         ensures outcome { (h : History) → Feeds self.new h → IsNumberOf result self.new h }
+        ensures failed { IsTellingNumber result (failure_of self.new.session) }
+        ensures stays { StaysFailed self.old self.new }
     {
         let told = self.session.script(piece);
         self.outcome(told)
@@ -54,6 +56,8 @@ impl Feed {
         ensures script { is_script_over self.new ≡ is_script_over self.old }
         ensures answers { is_answers_over self.new ≡ false }
         ensures outcome { (h : History) → Feeds self.new h → IsNumberOf result self.new h }
+        ensures failed { IsTellingNumber result (failure_of self.new.session) }
+        ensures stays { StaysFailed self.old self.new }
     {
         let told = self.session.answers(piece);
         self.outcome(told)
@@ -67,6 +71,8 @@ impl Feed {
         ensures script { is_script_over self.new ≡ true }
         ensures answers { is_answers_over self.new ≡ is_answers_over self.old }
         ensures outcome { (h : History) → Feeds self.new h → IsNumberOf result self.new h }
+        ensures failed { IsTellingNumber result (failure_of self.new.session) }
+        ensures stays { StaysFailed self.old self.new }
     {
         let told = self.session.end_script();
         self.outcome(told)
@@ -80,6 +86,8 @@ impl Feed {
         ensures script { is_script_over self.new ≡ is_script_over self.old }
         ensures answers { is_answers_over self.new ≡ true }
         ensures outcome { (h : History) → Feeds self.new h → IsNumberOf result self.new h }
+        ensures failed { IsTellingNumber result (failure_of self.new.session) }
+        ensures stays { StaysFailed self.old self.new }
     {
         let told = self.session.end_answers();
         self.outcome(told)
@@ -88,7 +96,8 @@ impl Feed {
     // What has come of a call that told something.
     fn outcome(&self, told: Result<(), Failed>) -> u32
         requires { IsAnswerOf told self.now }
-        ensures { (h : History) → Feeds self.now h → IsNumberOf result self.now h }
+        ensures number { (h : History) → Feeds self.now h → IsNumberOf result self.now h }
+        ensures failed { IsTellingNumber result (failure_of self.now.session) }
     {
         match told {
             Ok(()) => self.verdict(),
@@ -100,6 +109,7 @@ impl Feed {
     /// The number of the verdict, or that there is none yet.
     pub(crate) fn verdict(&self) -> u32
         ensures told { result ≢ 4 }
+        ensures range { (result < 4) ⊎ (result ≡ 6) }
         ensures number { (h : History) → Feeds self.now h → IsNumberOf result self.now h }
     {
         match self.session.verdict() {

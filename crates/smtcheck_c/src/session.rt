@@ -1,11 +1,12 @@
 //! Sessions that C tells a dialogue piece by piece, by a handle. This file decides nothing.
 
-ghost use Rattle.std.specs.Prelude.{◌≡◌, ◌≢◌, ◌≤◌, None, Some, false, true};
+ghost use Rattle.std.specs.Prelude.{◌≡◌, ◌≢◌, ◌-◌, ◌^◌, ◌⊎◌, ◌↔◌, None, Some, false, true};
 ghost use Rattle.smt_dialogue.specs.History.{History, begun, with_answers, with_answers_end, with_script};
 ghost use Rattle.smt_dialogue.specs.History.{with_script_end};
+ghost use Rattle.smt_dialogue.specs.Session.{failure_of};
 ghost use Rattle.smt_dialogue.specs.declared.options.Options.{Options as Given};
 ghost use Rattle.smtcheck_c.specs.Feed.{AreEndsOf, AreGivenLines, Feeds, Holds, IfHeld, IsNumberOf};
-ghost use Rattle.smtcheck_c.specs.Feed.{is_answers_over, is_script_over};
+ghost use Rattle.smtcheck_c.specs.Feed.{IsTellingNumber, StaysFailed, is_answers_over, is_script_over};
 ghost use Rattle.smtcheck_c.specs.Given.{AreGiven};
 ghost use Rattle.smtcheck_c.specs.declared.feed.Feed.{Feed as Fed};
 
@@ -29,6 +30,8 @@ pub extern "C" fn smtcheck_session_new(
     ensures script { IfHeld session.new.feed (λ f. is_script_over f ≡ false) }
     ensures answers { IfHeld session.new.feed (λ f. is_answers_over f ≡ false) }
     ensures none { result ≢ 6 → session.new.feed ≡ None }
+    ensures outcome { (result ≡ 4) ⊎ ((result ≡ 5) ⊎ (result ≡ 6)) }
+    ensures options { (result ≡ 5) ↔ (options.now.steps ≡ 2 ^ 64 - 1) }
 {
     let Some(given) = options_of(options) else {
         return OPTIONS;
@@ -55,6 +58,8 @@ pub extern "C" fn smtcheck_session_script(
     requires open { IfHeld session.old.feed (λ f. is_script_over f ≡ false) }
     ensures feeds { (h : History) → Holds session.old.feed h → Holds session.new.feed (with_script h piece.now) }
     ensures outcome { IfHeld session.new.feed (λ f. (h : History) → Feeds f h → IsNumberOf result f h) }
+    ensures failed { IfHeld session.new.feed (λ f. IsTellingNumber result (failure_of f.session)) }
+    ensures stays { IfHeld session.old.feed (λ f. IfHeld session.new.feed (StaysFailed f)) }
     ensures over { IfHeld session.new.feed (λ f. is_script_over f ≡ false) }
     ensures other { IfHeld session.new.feed (λ f.
         IfHeld session.old.feed (λ g. is_answers_over f ≡ is_answers_over g)) }
@@ -76,6 +81,8 @@ pub extern "C" fn smtcheck_session_answers(
     requires open { IfHeld session.old.feed (λ f. is_answers_over f ≡ false) }
     ensures feeds { (h : History) → Holds session.old.feed h → Holds session.new.feed (with_answers h piece.now) }
     ensures outcome { IfHeld session.new.feed (λ f. (h : History) → Feeds f h → IsNumberOf result f h) }
+    ensures failed { IfHeld session.new.feed (λ f. IsTellingNumber result (failure_of f.session)) }
+    ensures stays { IfHeld session.old.feed (λ f. IfHeld session.new.feed (StaysFailed f)) }
     ensures over { IfHeld session.new.feed (λ f. is_answers_over f ≡ false) }
     ensures other { IfHeld session.new.feed (λ f.
         IfHeld session.old.feed (λ g. is_script_over f ≡ is_script_over g)) }
@@ -93,6 +100,8 @@ pub extern "C" fn smtcheck_session_end_script(alloc: Global, session: &mut Smtch
     requires open { IfHeld session.old.feed (λ f. is_script_over f ≡ false) }
     ensures feeds { (h : History) → Holds session.old.feed h → Holds session.new.feed (with_script_end h) }
     ensures outcome { IfHeld session.new.feed (λ f. (h : History) → Feeds f h → IsNumberOf result f h) }
+    ensures failed { IfHeld session.new.feed (λ f. IsTellingNumber result (failure_of f.session)) }
+    ensures stays { IfHeld session.old.feed (λ f. IfHeld session.new.feed (StaysFailed f)) }
     ensures over { IfHeld session.new.feed (λ f. is_script_over f ≡ true) }
     ensures other { IfHeld session.new.feed (λ f.
         IfHeld session.old.feed (λ g. is_answers_over f ≡ is_answers_over g)) }
@@ -110,6 +119,8 @@ pub extern "C" fn smtcheck_session_end_answers(alloc: Global, session: &mut Smtc
     requires open { IfHeld session.old.feed (λ f. is_answers_over f ≡ false) }
     ensures feeds { (h : History) → Holds session.old.feed h → Holds session.new.feed (with_answers_end h) }
     ensures outcome { IfHeld session.new.feed (λ f. (h : History) → Feeds f h → IsNumberOf result f h) }
+    ensures failed { IfHeld session.new.feed (λ f. IsTellingNumber result (failure_of f.session)) }
+    ensures stays { IfHeld session.old.feed (λ f. IfHeld session.new.feed (StaysFailed f)) }
     ensures over { IfHeld session.new.feed (λ f. is_answers_over f ≡ true) }
     ensures other { IfHeld session.new.feed (λ f.
         IfHeld session.old.feed (λ g. is_script_over f ≡ is_script_over g)) }
