@@ -156,6 +156,7 @@ pub extern "C" fn smtcheck_session_text(
     wanted: &mut usize,
 ) -> u32
     requires { (f : Fed) × (session.old.feed ≡ Some f) }
+    ensures held { (f : Fed) × (session.new.feed ≡ Some f) }
     ensures given { result ≢ 4 → IfHeld session.old.feed (λ f.
         IfHeld session.new.feed (λ g. AreGivenLines f g wanted.new text.old text.new)) }
     ensures outcome { result ≢ 4 → IfHeld session.new.feed (λ f. (h : History) → Feeds f h → IsNumberOf result f h) }

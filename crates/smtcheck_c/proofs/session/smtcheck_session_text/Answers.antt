@@ -20,3 +20,9 @@ returns-in-Err-clause-kept c = λ _ h held.
       c.put.ensures,
       c.in-Err.ensures.kept h (subst (λ (f : Feed). Feeds f h) (same ∙ sym c.deref_mut.ensures.value) held.2),
     )
+
+pub returns-in-Ok-clause-held : goal.returns-in-Ok-clause-held
+returns-in-Ok-clause-held c = (c.give-given.new.self, c.put.ensures)
+
+pub returns-in-Err-clause-held : goal.returns-in-Err-clause-held
+returns-in-Err-clause-held c = (c.give-given.new.self, c.put.ensures)
