@@ -1,0 +1,5 @@
+pub mod TextLemmas
+pub mod OutcomeLemmas
+pub mod HandleSteps
+pub mod SessionSteps
+pub mod FeedLemmas

@@ -1,0 +1,149 @@
+//! A session, with the lines that were taken of it and that C was not given: its buffer had no room for their text,
+//! or memory was refused. This file knows no pointer.
+
+ghost use Rattle.std.specs.Prelude.{◌≡◌, ◌≢◌, ◌<◌, ◌⊎◌, [], false, true, IfOk, OnErr};
+ghost use Rattle.smt_dialogue.specs.History.{History, begun, with_answers, with_answers_end, with_script};
+ghost use Rattle.smt_dialogue.specs.History.{with_script_end};
+ghost use Rattle.smt_dialogue.specs.Session.{failure_of, lines_waiting};
+ghost use Rattle.smtcheck_c.specs.Feed.{AreEndsOf, AreGivenLines, Feeds, IsAnswerOf, IsNumberOf};
+ghost use Rattle.smtcheck_c.specs.Feed.{IsTellingNumber, StaysFailed, is_answers_over, is_script_over};
+
+use crate::outcome::{LONG, MEMORY, OPEN, number_of};
+use crate::text::{put_text, text_of_lines};
+use smt_dialogue::{Failed, Line, Memory, Options, Session};
+use std::alloc::Global;
+
+/// A session, with the lines that were taken of it and that C was not given.
+#[derive(Drop)]
+pub struct Feed {
+    pub(crate) session: Session,
+    pub(crate) waiting: Vec<Line>,
+}
+
+impl Feed {
+    /// A session of two texts of which nothing has come.
+    pub(crate) fn new(alloc: Global, options: Options) -> Feed
+        ensures feeds { Feeds result (begun options) }
+        ensures script { is_script_over result ≡ false }
+        ensures answers { is_answers_over result ≡ false }
+    {
+        Feed {
+            session: Session::new(alloc, options),
+            waiting: Vec::new(alloc),
+        }
+    }
+
+    /// Takes the next piece of the script, of which the end was not told, and answers what has come of it.
+    pub(crate) fn script(&mut self, piece: &[u8]) -> u32
+        requires feeds { (h : History) × Feeds self.old h }
+        requires open { is_script_over self.old ≡ false }
+        ensures feeds { (h : History) → Feeds self.old h → Feeds self.new (with_script h piece.now) }
+        ensures script { is_script_over self.new ≡ false }
+        ensures answers { is_answers_over self.new ≡ is_answers_over self.old }
+        ensures outcome { (h : History) → Feeds self.new h → IsNumberOf result self.new h }
+        ensures failed { IsTellingNumber result (failure_of self.new.session) }
+        ensures stays { StaysFailed self.old self.new }
+    {
+        let told = self.session.script(piece);
+        self.outcome(told)
+    }
+
+    /// Takes the next piece of the answers, of which the end was not told.
+    pub(crate) fn answers(&mut self, piece: &[u8]) -> u32
+        requires feeds { (h : History) × Feeds self.old h }
+        requires open { is_answers_over self.old ≡ false }
+        ensures feeds { (h : History) → Feeds self.old h → Feeds self.new (with_answers h piece.now) }
+        ensures script { is_script_over self.new ≡ is_script_over self.old }
+        ensures answers { is_answers_over self.new ≡ false }
+        ensures outcome { (h : History) → Feeds self.new h → IsNumberOf result self.new h }
+        ensures failed { IsTellingNumber result (failure_of self.new.session) }
+        ensures stays { StaysFailed self.old self.new }
+    {
+        let told = self.session.answers(piece);
+        self.outcome(told)
+    }
+
+    /// Takes the end of the script, which was not told before.
+    pub(crate) fn end_script(&mut self) -> u32
+        requires feeds { (h : History) × Feeds self.old h }
+        requires open { is_script_over self.old ≡ false }
+        ensures feeds { (h : History) → Feeds self.old h → Feeds self.new (with_script_end h) }
+        ensures script { is_script_over self.new ≡ true }
+        ensures answers { is_answers_over self.new ≡ is_answers_over self.old }
+        ensures outcome { (h : History) → Feeds self.new h → IsNumberOf result self.new h }
+        ensures failed { IsTellingNumber result (failure_of self.new.session) }
+        ensures stays { StaysFailed self.old self.new }
+    {
+        let told = self.session.end_script();
+        self.outcome(told)
+    }
+
+    /// Takes the end of the answers, which was not told before.
+    pub(crate) fn end_answers(&mut self) -> u32
+        requires feeds { (h : History) × Feeds self.old h }
+        requires open { is_answers_over self.old ≡ false }
+        ensures feeds { (h : History) → Feeds self.old h → Feeds self.new (with_answers_end h) }
+        ensures script { is_script_over self.new ≡ is_script_over self.old }
+        ensures answers { is_answers_over self.new ≡ true }
+        ensures outcome { (h : History) → Feeds self.new h → IsNumberOf result self.new h }
+        ensures failed { IsTellingNumber result (failure_of self.new.session) }
+        ensures stays { StaysFailed self.old self.new }
+    {
+        let told = self.session.end_answers();
+        self.outcome(told)
+    }
+
+    // What has come of a call that told something.
+    fn outcome(&self, told: Result<(), Failed>) -> u32
+        requires { IsAnswerOf told self.now }
+        ensures number { (h : History) → Feeds self.now h → IsNumberOf result self.now h }
+        ensures failed { IsTellingNumber result (failure_of self.now.session) }
+    {
+        match told {
+            Ok(()) => self.verdict(),
+            Err(Failed::Memory) => MEMORY,
+            Err(Failed::Long) => LONG,
+        }
+    }
+
+    /// The number of the verdict, or that there is none yet.
+    pub(crate) fn verdict(&self) -> u32
+        ensures told { result ≢ 4 }
+        ensures range { (result < 4) ⊎ (result ≡ 6) }
+        ensures number { (h : History) → Feeds self.now h → IsNumberOf result self.now h }
+    {
+        match self.session.verdict() {
+            Some(verdict) => number_of(verdict),
+            None => OPEN,
+        }
+    }
+
+    /// Gives the text of the next lines, if there is room for all of it, and answers its length.
+    pub(crate) fn give(&mut self, alloc: Global, room: &mut [u8]) -> Result<usize, Memory>
+        ensures given { IfOk result (λ wanted. AreGivenLines self.old self.new wanted room.old room.new) }
+        ensures kept { OnErr result ((h : History) → Feeds self.old h → Feeds self.new h) }
+        ensures room { OnErr result (room.new ≡ room.old) }
+        ensures over { AreEndsOf self.old self.new }
+    {
+        self.gather();
+        let text = text_of_lines(alloc, self.waiting.as_slice())?;
+        let wanted = put_text(text.as_bytes(), room);
+        drop(text);
+        if wanted <= room.len() {
+            self.waiting = Vec::new(alloc);
+        }
+        Ok(wanted)
+    }
+
+    // Takes the lines of the session, where none waits here.
+    fn gather(&mut self)
+        ensures feeds { (h : History) → Feeds self.old h → Feeds self.new h }
+        ensures first { self.old.waiting.items ≡ [] → self.new.waiting.items ≡ lines_waiting self.old.session }
+        ensures waiting { self.old.waiting.items ≢ [] → self.new.waiting.items ≡ self.old.waiting.items }
+        ensures over { AreEndsOf self.old self.new }
+    {
+        if self.waiting.is_empty() {
+            self.waiting = self.session.take_lines();
+        }
+    }
+}

@@ -1,0 +1,22 @@
+//! The library for programs in C: one export for each function of `include/smtcheck.h`, over `smt_dialogue`.
+//!
+//! This crate decides nothing. Each export hands what C gives it to `smt_dialogue`, and what that answers to C;
+//! its contract states the clauses of the function that it calls again, of what C is given. In C a slice is a
+//! pointer and a length, and a parameter `alloc` is left out.
+//!
+//! ```text
+//! smtcheck_validate("(check-sat)", 11, "unsat", 5, &options, &summary, text, room, &wanted)
+//!                                                 // 0: valid; `summary.unchecked` is 1, `summary.lines` is 2
+//! ```
+#![tactic(auto)]
+
+mod feed;
+mod handle;
+pub mod options;
+mod outcome;
+pub mod session;
+pub mod session_handle;
+pub mod summary;
+mod text;
+pub mod validation;
+pub mod version;

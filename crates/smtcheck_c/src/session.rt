@@ -1,0 +1,188 @@
+//! Sessions that C tells a dialogue piece by piece, by a handle. This file decides nothing.
+
+ghost use Rattle.std.specs.Prelude.{◌≡◌, ◌≢◌, ◌-◌, ◌^◌, ◌⊎◌, ◌↔◌, None, Some, false, true};
+ghost use Rattle.smt_dialogue.specs.History.{History, begun, with_answers, with_answers_end, with_script};
+ghost use Rattle.smt_dialogue.specs.History.{with_script_end};
+ghost use Rattle.smt_dialogue.specs.Session.{failure_of};
+ghost use Rattle.smt_dialogue.specs.declared.options.Options.{Options as Given};
+ghost use Rattle.smtcheck_c.specs.Feed.{AreEndsOf, AreGivenLines, Feeds, Holds, IfHeld, IsNumberOf};
+ghost use Rattle.smtcheck_c.specs.Feed.{IsTellingNumber, StaysFailed, is_answers_over, is_script_over};
+ghost use Rattle.smtcheck_c.specs.Given.{AreGiven};
+ghost use Rattle.smtcheck_c.specs.declared.feed.Feed.{Feed as Fed};
+
+use crate::feed::Feed;
+use crate::options::{SmtcheckOptions, options_of};
+use crate::outcome::{MEMORY, OPEN, OPTIONS};
+use crate::session_handle::{SmtcheckSession, put, take};
+use smt_dialogue::Memory;
+use std::alloc::Global;
+
+/// Begins a session of two texts of which nothing has come, in a handle that has none. Answers 6, and the handle
+/// has it; or 4 where memory was refused and 5 where the limit of the options is 2^64 - 1, and it has none.
+#[unsafe(no_mangle)]
+pub extern "C" fn smtcheck_session_new(
+    alloc: Global,
+    options: &SmtcheckOptions,
+    session: &mut SmtcheckSession,
+) -> u32
+    requires { session.old.feed ≡ None }
+    ensures begun { result ≡ 6 → (given : Given) × AreGiven options.now given × Holds session.new.feed (begun given) }
+    ensures script { IfHeld session.new.feed (λ f. is_script_over f ≡ false) }
+    ensures answers { IfHeld session.new.feed (λ f. is_answers_over f ≡ false) }
+    ensures none { result ≢ 6 → session.new.feed ≡ None }
+    ensures outcome { (result ≡ 4) ⊎ ((result ≡ 5) ⊎ (result ≡ 6)) }
+    ensures options { (result ≡ 5) ↔ (options.now.steps ≡ 2 ^ 64 - 1) }
+{
+    let Some(given) = options_of(options) else {
+        return OPTIONS;
+    };
+    match Box::new(alloc, Feed::new(alloc, given)) {
+        Ok(feed) => {
+            put(session, feed);
+            OPEN
+        }
+        Err(_) => MEMORY,
+    }
+}
+
+/// Takes the next piece of the script, of which the end was not told. Answers the number of the verdict, if it is
+/// decided, and 6 if it is not; or 4 where memory was refused, and 7 where a text has more than 2^64 - 1 bytes: then
+/// every later call that tells something answers the same.
+#[unsafe(no_mangle)]
+pub extern "C" fn smtcheck_session_script(
+    alloc: Global,
+    session: &mut SmtcheckSession,
+    piece: &[u8],
+) -> u32
+    requires feeds { (h : History) × Holds session.old.feed h }
+    requires open { IfHeld session.old.feed (λ f. is_script_over f ≡ false) }
+    ensures feeds { (h : History) → Holds session.old.feed h → Holds session.new.feed (with_script h piece.now) }
+    ensures outcome { IfHeld session.new.feed (λ f. (h : History) → Feeds f h → IsNumberOf result f h) }
+    ensures failed { IfHeld session.new.feed (λ f. IsTellingNumber result (failure_of f.session)) }
+    ensures stays { IfHeld session.old.feed (λ f. IfHeld session.new.feed (StaysFailed f)) }
+    ensures over { IfHeld session.new.feed (λ f. is_script_over f ≡ false) }
+    ensures other { IfHeld session.new.feed (λ f.
+        IfHeld session.old.feed (λ g. is_answers_over f ≡ is_answers_over g)) }
+{
+    let mut feed = take(alloc, session);
+    let outcome = feed.script(piece);
+    put(session, feed);
+    outcome
+}
+
+/// Takes the next piece of the answers, of which the end was not told. Answers as the call above.
+#[unsafe(no_mangle)]
+pub extern "C" fn smtcheck_session_answers(
+    alloc: Global,
+    session: &mut SmtcheckSession,
+    piece: &[u8],
+) -> u32
+    requires feeds { (h : History) × Holds session.old.feed h }
+    requires open { IfHeld session.old.feed (λ f. is_answers_over f ≡ false) }
+    ensures feeds { (h : History) → Holds session.old.feed h → Holds session.new.feed (with_answers h piece.now) }
+    ensures outcome { IfHeld session.new.feed (λ f. (h : History) → Feeds f h → IsNumberOf result f h) }
+    ensures failed { IfHeld session.new.feed (λ f. IsTellingNumber result (failure_of f.session)) }
+    ensures stays { IfHeld session.old.feed (λ f. IfHeld session.new.feed (StaysFailed f)) }
+    ensures over { IfHeld session.new.feed (λ f. is_answers_over f ≡ false) }
+    ensures other { IfHeld session.new.feed (λ f.
+        IfHeld session.old.feed (λ g. is_script_over f ≡ is_script_over g)) }
+{
+    let mut feed = take(alloc, session);
+    let outcome = feed.answers(piece);
+    put(session, feed);
+    outcome
+}
+
+/// Takes the end of the script, which was not told before. Answers as the calls above.
+#[unsafe(no_mangle)]
+pub extern "C" fn smtcheck_session_end_script(alloc: Global, session: &mut SmtcheckSession) -> u32
+    requires feeds { (h : History) × Holds session.old.feed h }
+    requires open { IfHeld session.old.feed (λ f. is_script_over f ≡ false) }
+    ensures feeds { (h : History) → Holds session.old.feed h → Holds session.new.feed (with_script_end h) }
+    ensures outcome { IfHeld session.new.feed (λ f. (h : History) → Feeds f h → IsNumberOf result f h) }
+    ensures failed { IfHeld session.new.feed (λ f. IsTellingNumber result (failure_of f.session)) }
+    ensures stays { IfHeld session.old.feed (λ f. IfHeld session.new.feed (StaysFailed f)) }
+    ensures over { IfHeld session.new.feed (λ f. is_script_over f ≡ true) }
+    ensures other { IfHeld session.new.feed (λ f.
+        IfHeld session.old.feed (λ g. is_answers_over f ≡ is_answers_over g)) }
+{
+    let mut feed = take(alloc, session);
+    let outcome = feed.end_script();
+    put(session, feed);
+    outcome
+}
+
+/// Takes the end of the answers, which was not told before. Answers as the calls above.
+#[unsafe(no_mangle)]
+pub extern "C" fn smtcheck_session_end_answers(alloc: Global, session: &mut SmtcheckSession) -> u32
+    requires feeds { (h : History) × Holds session.old.feed h }
+    requires open { IfHeld session.old.feed (λ f. is_answers_over f ≡ false) }
+    ensures feeds { (h : History) → Holds session.old.feed h → Holds session.new.feed (with_answers_end h) }
+    ensures outcome { IfHeld session.new.feed (λ f. (h : History) → Feeds f h → IsNumberOf result f h) }
+    ensures failed { IfHeld session.new.feed (λ f. IsTellingNumber result (failure_of f.session)) }
+    ensures stays { IfHeld session.old.feed (λ f. IfHeld session.new.feed (StaysFailed f)) }
+    ensures over { IfHeld session.new.feed (λ f. is_answers_over f ≡ true) }
+    ensures other { IfHeld session.new.feed (λ f.
+        IfHeld session.old.feed (λ g. is_script_over f ≡ is_script_over g)) }
+{
+    let mut feed = take(alloc, session);
+    let outcome = feed.end_answers();
+    put(session, feed);
+    outcome
+}
+
+/// The number of the verdict, if it is decided, and 6 if it is not.
+#[unsafe(no_mangle)]
+pub extern "C" fn smtcheck_session_verdict(alloc: Global, session: &mut SmtcheckSession) -> u32
+    requires { (f : Fed) × (session.old.feed ≡ Some f) }
+    ensures outcome { IfHeld session.new.feed (λ f. (h : History) → Feeds f h → IsNumberOf result f h) }
+    ensures same { session.new.feed ≡ session.old.feed }
+{
+    let feed = take(alloc, session);
+    let outcome = feed.verdict();
+    put(session, feed);
+    outcome
+}
+
+/// Gives the text of the next lines that are decided and were not given: `wanted` is its length, and it stands at the
+/// front of `text`, and is given, if there is room for all of it; else `text` stays as it was, and the next call
+/// gives the same lines. Where `wanted` is 0 there is none. Answers as `smtcheck_session_verdict`, or 4 where memory
+/// was refused: then nothing is given, and `text` and `wanted` stay as they were.
+#[unsafe(no_mangle)]
+pub extern "C" fn smtcheck_session_text(
+    alloc: Global,
+    session: &mut SmtcheckSession,
+    text: &mut [u8],
+    wanted: &mut usize,
+) -> u32
+    requires { (f : Fed) × (session.old.feed ≡ Some f) }
+    ensures held { (f : Fed) × (session.new.feed ≡ Some f) }
+    ensures given { result ≢ 4 → IfHeld session.old.feed (λ f.
+        IfHeld session.new.feed (λ g. AreGivenLines f g wanted.new text.old text.new)) }
+    ensures outcome { result ≢ 4 → IfHeld session.new.feed (λ f. (h : History) → Feeds f h → IsNumberOf result f h) }
+    ensures kept { result ≡ 4 → (h : History) → Holds session.old.feed h → Holds session.new.feed h }
+    ensures text { result ≡ 4 → text.new ≡ text.old }
+    ensures wanted { result ≡ 4 → wanted.new ≡ wanted.old }
+    ensures over { IfHeld session.old.feed (λ f. IfHeld session.new.feed (λ g. AreEndsOf f g)) }
+{
+    let mut feed = take(alloc, session);
+    let given = feed.give(alloc, text);
+    let outcome = feed.verdict();
+    put(session, feed);
+    match given {
+        Ok(length) => {
+            *wanted = length;
+            outcome
+        }
+        Err(Memory) => MEMORY,
+    }
+}
+
+/// Gives the memory of a session back. The handle has none then.
+#[unsafe(no_mangle)]
+pub extern "C" fn smtcheck_session_free(alloc: Global, session: &mut SmtcheckSession)
+    requires { (f : Fed) × (session.old.feed ≡ Some f) }
+    ensures { session.new.feed ≡ None }
+{
+    drop(take(alloc, session));
+}

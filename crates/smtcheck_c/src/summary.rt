@@ -1,0 +1,36 @@
+//! What the lines of a report come to, as C is told it.
+
+ghost use Rattle.smtcheck_c.specs.Told.{IsSummaryOf};
+
+use smt_dialogue::{Line, Tally};
+
+/// `struct smtcheck_summary`: how many checks there are of each kind, and how many lines.
+#[repr(C)]
+#[derive(Clone, Copy)]
+pub struct SmtcheckSummary {
+    /// How many `sat` are confirmed by the models printed for them.
+    pub confirmed: u64,
+    /// How many `sat` have a model that makes an assertion false.
+    pub refuted: u64,
+    /// How many `sat` are neither.
+    pub undecided: u64,
+    /// How many checks were answered otherwise than `sat`.
+    pub unchecked: u64,
+    /// How many lines the report has, that of the verdict among them.
+    pub lines: u64,
+}
+
+/// What the lines come to.
+pub(crate) fn summary_of(lines: &[Line]) -> SmtcheckSummary
+    ensures { IsSummaryOf result lines.now }
+{
+    let count = lines.len();
+    let tally = Tally::new().with_lines(lines);
+    SmtcheckSummary {
+        confirmed: tally.confirmed,
+        refuted: tally.refuted,
+        undecided: tally.undecided,
+        unchecked: tally.unchecked,
+        lines: count as u64,
+    }
+}

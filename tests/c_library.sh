@@ -1,0 +1,75 @@
+#!/bin/sh
+# Builds the examples of the C library and runs them: a program in C and one in Python on the dialogues of solvers, whose reports have to be
+# those of the program, one in C++ with an embedded solver, and 10,000 calls that are watched for memory. Needs what `rt ci` has built, and
+# a C compiler; a C++ compiler, Python and valgrind are used where they are installed. Says nothing where all is well.
+set -e
+cd "$(dirname "$0")/.."
+top=$PWD
+program=$top/crates/smtcheck/out/smtcheck
+work=$(mktemp -d)
+trap 'rm -rf "$work"' EXIT
+
+fail() {
+    echo "c library: $1"
+    exit 1
+}
+
+if ! command -v "${CC:-cc}" >"$work/found"; then
+    echo 'c library: skipped, since there is no C compiler'
+    exit 0
+fi
+examples=crates/smtcheck_c/examples
+strict='-std=c99 -O1 -Wall -Wextra -Werror -pedantic'
+scripts/c_library.sh "$work" 2>"$work/log" || fail "$(cat "$work/log")"
+
+# the library's version is the program's
+cat >"$work/version.c" <<'END_OF_C'
+#include "smtcheck.h"
+#include <stdio.h>
+int main(void) {
+    char text[200];
+    size_t length = smtcheck_version(text, sizeof text);
+    return printf("smtcheck %.*s\n", (int)length, text) < 0;
+}
+END_OF_C
+"${CC:-cc}" $strict -I"$work" -o "$work/version" "$work/version.c" "$work/libsmtcheck.a"
+[ "$("$work/version")" = "$("$program" --version)" ] || fail "version $("$work/version")"
+
+"${CC:-cc}" $strict -I"$work" -o "$work/check" "$examples/check.c" "$work/libsmtcheck.a"
+"$work/check" off crates/smtcheck/data/jobs.smt2 crates/smtcheck/data/jobs.txt >"$work/printed" || fail 'the example in C'
+"$program" --print-success off crates/smtcheck/data/jobs.smt2 crates/smtcheck/data/jobs.txt | cmp - "$work/printed"
+
+if command -v "${CXX:-c++}" >"$work/found"; then
+    "${CXX:-c++}" -std=c++11 -O1 -Wall -Wextra -Werror -I"$work" -o "$work/embedded" "$examples/embedded.cpp" "$work/libsmtcheck.a"
+    "$work/embedded" >"$work/printed" || fail 'the example in C++'
+    [ "$(wc -l <"$work/printed")" = 4 ] || fail "the example in C++ prints $(cat "$work/printed")"
+fi
+
+# a session, whose lines come as they are decided
+"${CC:-cc}" $strict -g -fsanitize=address -I"$work" -o "$work/session" "$examples/session.c" "$work/libsmtcheck.a"
+"$work/session" >"$work/printed" 2>"$work/errors" || fail "a session in C: $(cat "$work/errors")"
+cat >"$work/shown" <<'END'
+turn 1:
+turn 2:
+check 1 at command 3: sat, confirmed
+turn 3:
+check 2 at command 6: unsat
+end:
+verdict: valid, confirmed 1, refuted 0, undecided 0, unchecked 1
+END
+cmp -s "$work/printed" "$work/shown" || fail "a session in C prints $(cat "$work/printed")"
+
+# 10,000 calls in buffers with no byte to spare: under -fsanitize=address, and fewer under valgrind, which sees the library's own reads too
+"${CC:-cc}" $strict -g -fsanitize=address -I"$work" -o "$work/loop" "$examples/loop.c" "$work/libsmtcheck.a"
+"$work/loop" 10000 >"$work/printed" 2>&1 || fail "10,000 calls: $(cat "$work/printed")"
+if command -v valgrind >"$work/found"; then
+    "${CC:-cc}" $strict -g -I"$work" -o "$work/loop" "$examples/loop.c" "$work/libsmtcheck.a"
+    valgrind -q --error-exitcode=9 --leak-check=full --errors-for-leak-kinds=all "$work/loop" 1000 >"$work/printed" 2>&1 ||
+        fail "calls under valgrind: $(cat "$work/printed")"
+fi
+
+if command -v python3 >"$work/found"; then
+    export SMTCHECK_LIBRARY="$work/libsmtcheck.so" PYTHONDONTWRITEBYTECODE=1
+    python3 -m doctest bindings/python/smtcheck.py >"$work/printed" || fail "$(cat "$work/printed")"
+    python3 bindings/python/compare.py "$program" "$work/check" crates/dialogue_rows/data/solvers.txt || fail 'the dialogues of solvers'
+fi
