@@ -18,13 +18,9 @@ sys.path.insert(0, 'tests')
 import slow_models as made
 for kind in (made.functions_of_the_model, made.constants_of_the_script, made.deep_lets, made.labels_on_a_term, made.labels_over_labels,
              made.labels_in_lets, made.many_parameters, made.models_with_many_names, made.nested_choices, made.nested_functions,
-             made.chains_of_functions, made.annotations, made.long_names, made.rounds,
-             # (a `distinct` of n takes time as n^2)
-             made.wide_let, made.distinct_integers, made.distinct_vectors):
-    room = int(sys.argv[2])
-    if kind in (made.wide_let, made.distinct_integers, made.distinct_vectors):
-        room = min(room, 200000)
-    script, answers = kind(room)
+             made.chains_of_functions, made.annotations, made.long_names, made.rounds, made.wide_let, made.distinct_integers,
+             made.distinct_vectors):
+    script, answers = kind(int(sys.argv[2]))
     for text, end in ((script, 'smt2'), (answers, 'txt')):
         with open(f'{sys.argv[1]}/{kind.__name__}.{end}', 'w', encoding='ascii') as out:
             out.write(text)
