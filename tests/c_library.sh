@@ -1,7 +1,8 @@
 #!/bin/sh
 # Builds the examples of the C library and runs them: a program in C and one in Python on the dialogues of solvers, whose reports have to be
-# those of the program, one in C++ with an embedded solver, and 10,000 calls that are watched for memory. Needs what `rt ci` has built, and
-# a C compiler; a C++ compiler, Python and valgrind are used where they are installed. Says nothing where all is well.
+# those of the program, one in C++ with an embedded solver, and 10,000 calls that are watched for memory. Needs what `rt ci` has built, or
+# `rt lib` in crates/smtcheck_c, which builds no program to compare with: a word on standard error says so. Needs a C compiler; a C++
+# compiler, Python and valgrind are used where they are installed. Says nothing else where all is well.
 set -e
 cd "$(dirname "$0")/.."
 top=$PWD
@@ -19,6 +20,7 @@ if ! command -v "${CC:-cc}" >"$work/found"; then
     exit 0
 fi
 examples=crates/smtcheck_c/examples
+[ -x "$program" ] || echo 'c library: the program is not built, and its reports are not compared' >&2
 strict='-std=c99 -O1 -Wall -Wextra -Werror -pedantic'
 scripts/c_library.sh "$work" 2>"$work/log" || fail "$(cat "$work/log")"
 
@@ -33,11 +35,17 @@ int main(void) {
 }
 END_OF_C
 "${CC:-cc}" $strict -I"$work" -o "$work/version" "$work/version.c" "$work/libsmtcheck.a"
-[ "$("$work/version")" = "$("$program" --version)" ] || fail "version $("$work/version")"
+"$work/version" >"$work/printed"
+[ ! -x "$program" ] || "$program" --version | cmp -s - "$work/printed" || fail "version $(cat "$work/printed")"
 
 "${CC:-cc}" $strict -I"$work" -o "$work/check" "$examples/check.c" "$work/libsmtcheck.a"
 "$work/check" off crates/smtcheck/data/jobs.smt2 crates/smtcheck/data/jobs.txt >"$work/printed" || fail 'the example in C'
-"$program" --print-success off crates/smtcheck/data/jobs.smt2 crates/smtcheck/data/jobs.txt | cmp - "$work/printed"
+cat >"$work/shown" <<'END'
+check 1 at command 12: sat, confirmed
+check 2 at command 16: unsat
+verdict: valid, confirmed 1, refuted 0, undecided 0, unchecked 1
+END
+cmp "$work/shown" "$work/printed"
 
 if command -v "${CXX:-c++}" >"$work/found"; then
     "${CXX:-c++}" -std=c++11 -O1 -Wall -Wextra -Werror -I"$work" -o "$work/embedded" "$examples/embedded.cpp" "$work/libsmtcheck.a"
@@ -71,5 +79,6 @@ fi
 if command -v python3 >"$work/found"; then
     export SMTCHECK_LIBRARY="$work/libsmtcheck.so" PYTHONDONTWRITEBYTECODE=1
     python3 -m doctest bindings/python/smtcheck.py >"$work/printed" || fail "$(cat "$work/printed")"
-    python3 bindings/python/compare.py "$program" "$work/check" crates/dialogue_rows/data/solvers.txt || fail 'the dialogues of solvers'
+    [ ! -x "$program" ] || python3 bindings/python/compare.py "$program" "$work/check" crates/dialogue_rows/data/solvers.txt ||
+        fail 'the dialogues of solvers'
 fi
