@@ -19,7 +19,7 @@ use Rattle.smt_dialogue.specs.FirstFault.{turn_of_flaw, turn_of_rest, turn_of_ta
 use Rattle.smt_dialogue.specs.InForce.{flaw_of_pair, has_exited_after, need_after, signature_after}
 use Rattle.smt_dialogue.specs.Internal.DecidedView.{IsFaultLine}
 use Rattle.smt_dialogue.specs.Judgement.{Claimed, judgement_of}
-use Rattle.smt_dialogue.specs.Lines.{claims_after, confirmed_line, is_empty, line_of_judgement, lines_in}
+use Rattle.smt_dialogue.specs.Lines.{claims_of_check, confirmed_line, is_empty, line_of_judgement, lines_in}
 use Rattle.smt_dialogue.specs.Lines.{lines_of_answer, lines_of_pair, lines_of_sat, sat_lines, unchecked_answer}
 use Rattle.smt_dialogue.specs.Lines.{unchecked_line_or, unconfirmed_line}
 use Rattle.smt_dialogue.specs.Pairs.{Pair, checks_in, next_of, pair_of}
@@ -97,13 +97,12 @@ unchecked_small : (k n : ℕ) (u : Option CheckAnswer) (ls : List Line) → IsSm
 unchecked_small k n (Some answer) ls h = record { few = omega arith; faultless = refl; silent = refl }
 unchecked_small k n None ls h = h
 
-answer_small : (steps : ℕ) (closed : Bool) (before : List Pair) (k : ℕ) (o : Option Sexp) (after : List Pair)
-    → IsSmall (lines_of_answer steps closed before k o after)
-answer_small steps closed before k None after = none_small
-answer_small steps closed before k (Some answer) after =
+answer_small : (steps : ℕ) (closed : Bool) (before : List Pair) (claims : List Claimed) (k : ℕ) (o : Option Sexp)
+    (after : List Pair) → IsSmall (lines_of_answer steps closed before claims k o after)
+answer_small steps closed before claims k None after = none_small
+answer_small steps closed before claims k (Some answer) after =
     let n = length before + 1 in
     let names = signature_after before in
-    let claims = claims_after before in
     let models = models_from (n + 1) (window after) in
     let ls = lines_of_sat steps closed k n names claims (n + 1) after in
     unchecked_small k n (unchecked_answer answer) (cond (is_symbol (codes "sat") answer) ls [])
@@ -126,16 +125,19 @@ few_lines steps closed before (p ∷ ps) after =
       arith,
       length-append mine others,
       some_small (is_check p.command)
-          (lines_of_answer steps closed before (checks_in before + 1) p.answer (ps ++ after))
-          (answer_small steps closed before (checks_in before + 1) p.answer (ps ++ after)),
+          (lines_of_answer steps closed before (claims_of_check before p.command) (checks_in before + 1) p.answer
+          (ps ++ after))
+          (answer_small steps closed before (claims_of_check before p.command) (checks_in before + 1) p.answer
+          (ps ++ after)),
       few_lines steps closed (before ++ p ∷ []) ps after,
     )
 
 pair_small : (steps : ℕ) (closed : Bool) (before : List Pair) (p : Pair) (after : List Pair)
     → IsSmall (lines_of_pair steps closed before p after)
 pair_small steps closed before p after =
-    if_small (is_check p.command) (lines_of_answer steps closed before (checks_in before + 1) p.answer after)
-    (answer_small steps closed before (checks_in before + 1) p.answer after)
+    let claims = claims_of_check before p.command in
+    if_small (is_check p.command) (lines_of_answer steps closed before claims (checks_in before + 1) p.answer after)
+    (answer_small steps closed before claims (checks_in before + 1) p.answer after)
 
 pub no_faults : (steps : ℕ) (closed : Bool) (before pairs after : List Pair)
     → list_any is_fault_line (lines_in steps closed before pairs after) ≡ false

@@ -10,14 +10,16 @@ use Rattle.smt_script.specs.Command.{Command, asks_check, changes_force, closes_
 use Rattle.smt_script.specs.declared.command.Kind.{Kind}
 use Rattle.smt_script.specs.declared.command.Kind.TheVariants as kinds
 use Rattle.smt_dialogue.proofs.InForceLemmas.{quiet}
-use Rattle.smt_dialogue.proofs.PairLemmas.{IsIdle, quiet_is_idle, refused_is_idle}
+use Rattle.smt_dialogue.proofs.PairLemmas.{IsPassed, claims_of_effective, quiet_is_idle, quiet_is_passed}
+use Rattle.smt_dialogue.proofs.PairLemmas.{refused_is_passed}
 use Rattle.smt_dialogue.specs.Answers.{has_form, is_effective_with, is_error}
 use Rattle.smt_dialogue.specs.InForce.{signature_after}
 use Rattle.smt_dialogue.specs.Internal.ChecksState.{ChecksState, IsAnswered, checks_after, closing_lines}
 use Rattle.smt_dialogue.specs.Internal.ChecksState.{pending_lines, role_of, role_of_kind, with_answer_of, with_check, with_line}
 use Rattle.smt_dialogue.specs.Internal.ChecksState.{with_models, with_window_ended}
-use Rattle.smt_dialogue.specs.Judgement.{Claimed, claims_of, judgement_of}
-use Rattle.smt_dialogue.specs.Lines.{claims_after, confirmed_line, is_empty, line_of_judgement, lines_of_answer, lines_of_pair}
+use Rattle.smt_dialogue.specs.Internal.Claims.{claims_after}
+use Rattle.smt_dialogue.specs.Judgement.{Claimed, judgement_of}
+use Rattle.smt_dialogue.specs.Lines.{claims_of_check, confirmed_line, is_empty, line_of_judgement, lines_of_answer, lines_of_pair}
 use Rattle.smt_dialogue.specs.Lines.{lines_of_sat, sat_lines, unchecked_answer, unchecked_line_or}
 use Rattle.smt_dialogue.specs.Lines.{unconfirmed_line}
 use Rattle.smt_dialogue.specs.Pairs.{Pair, checks_in, is_effective, pair_of}
@@ -92,7 +94,7 @@ ends_window s pairs p ends other = record {
 
 -- the lines of a check whose window goes on behind a pair that changes nothing
 pending-idle : (steps : ℕ) (closed : Bool) (o : Option PendingCheck) (pairs : List Pair) (p : Pair) (after : List Pair)
-    → IsIdle pairs p
+    → IsPassed pairs p
     → pending_lines steps closed o (signature_after pairs) (claims_after pairs) ((length pairs + 1) + 1) after
     ≡ pending_lines steps closed o (signature_after (pairs ++ p ∷ [])) (claims_after (pairs ++ p ∷ []))
     (length (pairs ++ p ∷ []) + 1) after
@@ -104,11 +106,11 @@ pending-idle steps closed o pairs p after idle =
     ∙ ap (λ (es : Signature). pending_lines steps closed o es (claims_after pairs) (length new + 1) after)
     (sym idle.signature)
     ∙ ap (λ (es : List Claimed). pending_lines steps closed o (signature_after new) es (length new + 1) after)
-    (sym (ap claims_of idle.assertions))
+    (sym idle.claims)
 
 -- a pair that neither ends the window nor prints a model, and changes nothing, leaves all as it is
 stays : (s : ChecksState) (pairs : List Pair) (p : Pair) → closes p ≡ false → is_check p.command ≡ false
-    → ((m : ℕ) → models_of m p ≡ []) → IsIdle pairs p → GoesOn s pairs p s
+    → ((m : ℕ) → models_of m p ≡ []) → IsPassed pairs p → GoesOn s pairs p s
 stays s pairs p open' other none idle = record {
   limit = refl;
   count = rw other (omega arith);
@@ -138,7 +140,7 @@ closes_if : (s : ChecksState) (pairs : List Pair) (p : Pair) (b : Bool) → is_e
 closes_if s pairs p true is ends other = rw is (ends_window s pairs p (ends ∙ is) other)
 closes_if s pairs p false is ends other =
     rw is (stays s pairs p (ends ∙ is) other
-    (λ m. no_models (is_effective p) (printed_by m p.command p.answer) is) (refused_is_idle pairs p is))
+    (λ m. no_models (is_effective p) (printed_by m p.command p.answer) is) (refused_is_passed pairs p is))
 
 -- ## Checks
 
@@ -149,7 +151,8 @@ check_closes c o is = ap (λ (k : Kind). asks_check k || changes_force k && is_e
 answered_goes : (s : ChecksState) (pairs : List Pair) (c : Command) (a : Sexp) (line : Line)
     → kind_of c ≡ kinds.Check
     → ((closed : Bool) (after : List Pair)
-    → lines_of_answer s.limit closed pairs (checks_in pairs + 1) (Some a) after ≡ line ∷ [])
+    → lines_of_answer s.limit closed pairs (claims_of_check pairs c) (checks_in pairs + 1) (Some a) after
+    ≡ line ∷ [])
     → GoesOn s pairs (pair_of c (Some a))
     (record (with_window_ended s)
     { count = s.count + 1; lines = (with_window_ended s).lines ++ line ∷ [] })
@@ -163,32 +166,44 @@ answered_goes s pairs c a line is own = record {
 
 -- a check that was answered sat
 begun_goes : (s : ChecksState) (pairs : List Pair) (c : Command) (a : Sexp) (k n : ℕ)
-    → kind_of c ≡ kinds.Check → k ≡ checks_in pairs + 1 → n ≡ length pairs + 1
+    → kind_of c ≡ kinds.Check → is_effective_with (Some a) ≡ true → k ≡ checks_in pairs + 1
+    → n ≡ length pairs + 1
     → ((closed : Bool) (after : List Pair)
-    → lines_of_answer s.limit closed pairs (checks_in pairs + 1) (Some a) after
+    → lines_of_answer s.limit closed pairs (claims_of_check pairs c) (checks_in pairs + 1) (Some a) after
     ≡ lines_of_sat s.limit closed (checks_in pairs + 1) (length pairs + 1) (signature_after pairs)
-    (claims_after pairs) ((length pairs + 1) + 1) after)
+    (claims_of_check pairs c) ((length pairs + 1) + 1) after)
     → GoesOn s pairs (pair_of c (Some a))
     (record (with_window_ended s)
     { count = s.count + 1; pending = Some (record { check = k; command = n; some_model = false }) })
-begun_goes s pairs c a k n is is_k is_n own =
+begun_goes s pairs c a k n is effective is_k is_n own =
     let p = pair_of c (Some a) in
+    let new = pairs ++ p ∷ [] in
     let begun : Option PendingCheck = Some (record { check = k; command = n; some_model = false }) in
+    let calm = quiet c (ap changes_force is) in
+    let len : length new ≡ length pairs + 1 = length-append pairs (p ∷ []) ∙ omega arith in
+    let claims = claims_of_check pairs c in
     record {
       limit = refl;
       count = rw is (omega arith);
       lines = λ closed after.
           closes_with s pairs p closed after _ (check_closes c (Some a) is) (rw is (own closed after))
           ∙ ap (λ (i : ℕ). (with_window_ended s).lines
-          ++ lines_of_sat s.limit closed i (length pairs + 1) (signature_after pairs) (claims_after pairs)
+          ++ lines_of_sat s.limit closed i (length pairs + 1) (signature_after pairs) claims
           ((length pairs + 1) + 1) after) (sym is_k)
           ∙ ap (λ (i : ℕ). (with_window_ended s).lines
-          ++ lines_of_sat s.limit closed k i (signature_after pairs) (claims_after pairs)
+          ++ lines_of_sat s.limit closed k i (signature_after pairs) claims
           ((length pairs + 1) + 1) after) (sym is_n)
           ∙ ap (λ (ls : List Line). (with_window_ended s).lines ++ ls)
-          (pending-idle s.limit closed begun pairs p after
-          (quiet_is_idle pairs p (quiet c (ap changes_force is))));
+          (ap (λ (m : ℕ). pending_lines s.limit closed begun (signature_after pairs) claims (m + 1) after) (sym len)
+          ∙ ap (λ (es : Signature). pending_lines s.limit closed begun es claims (length new + 1) after)
+          (sym (quiet_is_idle pairs p calm).signature)
+          ∙ ap (λ (cs : List Claimed). pending_lines s.limit closed begun (signature_after new) cs
+          (length new + 1) after) (sym (claims_of_effective pairs p calm (ap asks_check is) effective)));
     }
+
+-- what is answered otherwise than by a refusal took effect
+sat_effective : (a : Sexp) → unchecked_answer a ≡ None → is_effective_with (Some a) ≡ true
+sat_effective a is = grind (arith)
 
 -- where a check has an answer that is not one of the others, it is `sat`
 sat_left : (sat unsat unknown unsupported error' : Bool)
@@ -213,18 +228,18 @@ check_by s pairs c a (Some other) is_check' is h count =
     (λ closed after. ap (λ (v : Option CheckAnswer). unchecked_line_or (checks_in pairs + 1)
     (length pairs + 1) v (cond (is_symbol (codes "sat") a)
     (lines_of_sat s.limit closed (checks_in pairs + 1) (length pairs + 1) (signature_after pairs)
-    (claims_after pairs) ((length pairs + 1) + 1) after) [])) is
+    (claims_of_check pairs c) ((length pairs + 1) + 1) after) [])) is
     ∙ ap (λ (i : ℕ). lines.Unchecked i (length pairs + 1) other ∷ []) (sym is_k))
 check_by s pairs c a None is_check' is h count =
     let is_k : s.count + 1 ≡ checks_in pairs + 1 = ap (λ (i : ℕ). i + 1) count in
     let sat : is_symbol (codes "sat") a ≡ true =
     sat_left (is_symbol (codes "sat") a) (is_symbol (codes "unsat") a) (is_symbol (codes "unknown") a)
     (is_symbol (codes "unsupported") a) (is_error a) h is in
-    begun_goes s pairs c a (s.count + 1) (length pairs + 1) is_check' is_k refl
+    begun_goes s pairs c a (s.count + 1) (length pairs + 1) is_check' (sat_effective a is) is_k refl
     (λ closed after. ap (λ (v : Option CheckAnswer). unchecked_line_or (checks_in pairs + 1)
     (length pairs + 1) v (cond (is_symbol (codes "sat") a)
     (lines_of_sat s.limit closed (checks_in pairs + 1) (length pairs + 1) (signature_after pairs)
-    (claims_after pairs) ((length pairs + 1) + 1) after) [])) is ∙ rw sat refl)
+    (claims_of_check pairs c) ((length pairs + 1) + 1) after) [])) is ∙ rw sat refl)
 
 -- ## Models
 
@@ -235,9 +250,10 @@ or_true false = refl
 model_open : (d : Command) (o : Option Sexp) → kind_of d ≡ kinds.Model → closes (pair_of d o) ≡ false
 model_open d o is = ap (λ (k : Kind). asks_check k || changes_force k && is_effective_with o) is
 
-model_idle : (pairs : List Pair) (d : Command) (o : Option Sexp) → kind_of d ≡ kinds.Model
-    → IsIdle pairs (pair_of d o)
-model_idle pairs d o is = quiet_is_idle pairs (pair_of d o) (quiet d (ap changes_force is))
+model_passed : (pairs : List Pair) (d : Command) (o : Option Sexp) → kind_of d ≡ kinds.Model
+    → IsPassed pairs (pair_of d o)
+model_passed pairs d o is = quiet_is_passed pairs (pair_of d o) (quiet d (ap changes_force is))
+    (ap asks_check is) (ap changes_force is)
 
 -- the lines of a pending check at one more model
 pending-model : (steps : ℕ) (closed : Bool) (c : PendingCheck) (names : Signature) (claims : List Claimed) (m : ℕ)
@@ -280,7 +296,8 @@ at_model s pairs c d parts l closed after is_pending is_model h is =
     let here = pending_lines s.limit closed s.pending (signature_after pairs) (claims_after pairs) (length pairs + 1)
     (p ∷ after) in
     ap (λ (k : Kind). s.lines ++ (here
-    ++ cond (asks_check k) (lines_of_answer s.limit closed pairs (checks_in pairs + 1) (Some (Items parts)) after) []))
+    ++ cond (asks_check k) (lines_of_answer s.limit closed pairs (claims_of_check pairs d) (checks_in pairs + 1)
+    (Some (Items parts)) after) []))
     is_model
     ∙ ap (λ (ls : List Line). s.lines ++ ls) (append-nil here)
     ∙ ap (λ (o : Option PendingCheck). s.lines ++ pending_lines s.limit closed o (signature_after pairs)
@@ -313,7 +330,7 @@ model_line s pairs c d parts None is_pending is_model h is =
       count = rw is_model (omega arith);
       lines = λ closed after. at_model s pairs c d parts None closed after is_pending is_model h is
           ∙ ap (λ (ls : List Line). s.lines ++ ls)
-          (pending-idle s.limit closed (Some noted) pairs p after (model_idle pairs d (Some (Items parts)) is_model));
+          (pending-idle s.limit closed (Some noted) pairs p after (model_passed pairs d (Some (Items parts)) is_model));
     }
 
 -- an answer that is no model leaves all as it is
@@ -322,7 +339,7 @@ no_model : (s : ChecksState) (pairs : List Pair) (d : Command) (o : Option Sexp)
 no_model s pairs d o is none =
     stays s pairs (pair_of d o) (model_open d o is) (ap asks_check is)
     (λ m. ap (λ (k : Kind). cond (is_effective_with o) (cond (asks_model k) (printed_in m o) []) []) is
-    ∙ none m) (model_idle pairs d o is)
+    ∙ none m) (model_passed pairs d o is)
 
 model_goes : (s : ChecksState) (pairs : List Pair) (pending : Option PendingCheck) (d : Command) (e : Bool)
     (o : Option Sexp) → kind_of d ≡ kinds.Model → s.pending ≡ pending → is_effective_with o ≡ e
@@ -356,11 +373,11 @@ model_after : (s : ChecksState) (pairs : List Pair) (d : Command) (o : Option Se
     (is_effective_with o) o
 model_after s pairs d o is =
     let new = pairs ++ pair_of d o ∷ [] in
-    let idle = model_idle pairs d o is in
+    let idle = model_passed pairs d o is in
     ap (λ (es : Signature). with_models s s.pending es (claims_after new) (length pairs + 1)
     (is_effective_with o) o) idle.signature
     ∙ ap (λ (es : List Claimed). with_models s s.pending (signature_after pairs) es (length pairs + 1)
-    (is_effective_with o) o) (ap claims_of idle.assertions)
+    (is_effective_with o) o) idle.claims
 
 -- a command that never ends a window, prints no model and brings nothing
 passes : (s : ChecksState) (pairs : List Pair) (c : Command) (o : Option Sexp) → is_check c ≡ false
@@ -368,7 +385,7 @@ passes : (s : ChecksState) (pairs : List Pair) (c : Command) (o : Option Sexp) �
 passes s pairs c o other open' no_model' =
     stays s pairs (pair_of c o) (rw (other, open') refl) other
     (λ m. ap (λ (b : Bool). cond (is_effective_with o) (cond b (printed_in m o) []) []) no_model'
-    ∙ neither (is_effective_with o)) (quiet_is_idle pairs (pair_of c o) (quiet c open'))
+    ∙ neither (is_effective_with o)) (quiet_is_passed pairs (pair_of c o) (quiet c open') other open')
 
 -- a command of a kind that ends a window where it took effect
 changes : (s : ChecksState) (pairs : List Pair) (c : Command) (o : Option Sexp) → is_check c ≡ false

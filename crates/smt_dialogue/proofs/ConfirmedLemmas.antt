@@ -1,7 +1,7 @@
 -- What the lines of a report say of each check: the bridge from known values to the standard's.
 use Rattle.std.proofs.Common.{◌≡◌, ◌+◌, ℕ, Bool, true, false, not, ◌||◌, List, [], ◌∷◌, ◌++◌, length, Option}
 use Rattle.std.proofs.Common.{Some, None, Result, Ok, Err, cond, codes, refl, ap, sym, ◌∙◌, subst, arith}
-use Rattle.std.proofs.Common.{append_assoc, nat_lt}
+use Rattle.std.proofs.Common.{nat_lt}
 use Rattle.std.proofs.lemmas.List.{append-nil}
 use Rattle.std.specs.List.{AllByRecursion, list_any}
 use Rattle.smt_trees.specs.Sexp as sexp
@@ -9,18 +9,17 @@ use Rattle.smt_trees.specs.Sexp.{Sexp, Sexps, Atom}
 use Rattle.smt_dialogue.proofs.FirstFaultLemmas.{none_of}
 use Rattle.smt_dialogue.proofs.StructureLemmas.{ModelsGiveStructures, NamesAreIntroduced, structure_behind}
 use Rattle.smt_dialogue.proofs.PairLemmas.{is_word, lines_in-append}
-use Rattle.smt_dialogue.proofs.AssertedLemmas.{AssertionsAreFound, AssertionsStand, asserted_stands}
-use Rattle.smt_script.specs.Command.{Assert}
-use Rattle.smt_dialogue.specs.Validity.{IsAsserted, IsClaimed, IsConfirmed, IsSatCheck, IsTrueModel}
-use Rattle.smt_dialogue.specs.InForce.{AreFaultless, flaw_of_pair, signature_after}
-use Rattle.smt_dialogue.specs.Pairs.{Pair, checks_in, effective_commands, is_effective}
-use Rattle.smt_script.specs.Stack.{Assertion, flaw_of}
-use Rattle.smt_dialogue.specs.Lines.{claims_after, is_empty, line_of_judgement, lines_in, lines_of_answer}
+use Rattle.smt_dialogue.proofs.AssertedLemmas.{AssertionsAreFound, AssertionsStand}
+use Rattle.smt_dialogue.proofs.ClaimLemmas.{claim_in, claim_sorted}
+use Rattle.smt_dialogue.specs.Validity.{IsConfirmed, IsSatCheck, IsTrueModel}
+use Rattle.smt_dialogue.specs.InForce.{AreFaultless, signature_after}
+use Rattle.smt_dialogue.specs.Pairs.{Pair, checks_in}
+use Rattle.smt_dialogue.specs.Lines.{claims_of_check, is_empty, line_of_judgement, lines_in, lines_of_answer}
 use Rattle.smt_dialogue.specs.Lines.{lines_of_pair, lines_of_sat, sat_lines, unconfirmed_line}
 use Rattle.smt_report.specs.Verdict.{is_refuted_line, is_undecided_line}
 use Rattle.std.specs.Option.{option_or}
 use Rattle.smt_dialogue.specs.Window.{Printed, models_from, structure_at, window}
-use Rattle.smt_dialogue.specs.Judgement.{Claimed, claims_of, first_claim, is_false_over, is_open_over}
+use Rattle.smt_dialogue.specs.Judgement.{Claimed, first_claim, is_false_over, is_open_over}
 use Rattle.smt_dialogue.specs.Judgement.{claims_cost, judged_in, judged_over, judgement_of, refuted_or}
 use Rattle.smt_values.specs.Element.{Agrees, Element, Truth, Integer, Vector}
 use Rattle.smt_values.specs.Operations.{DivisionByZero}
@@ -31,51 +30,13 @@ use Rattle.smt_eval.specs.Known.{known_in, known_of, known_over}
 use Rattle.smt_eval.specs.Meaning.{value_over}
 use Rattle.smt_eval.specs.Model.{model_in}
 use Rattle.smt_eval.specs.Structure.{structure_of}
-use Rattle.smt_terms.specs.Checking.{sort_in}
-use Rattle.smt_terms.specs.Assertions.{label_entries}
-use Rattle.smt_forms.specs.Labels.{labels_in}
-use Rattle.smt_terms.specs.Signature.{Entry, Signature, in_assertion, names_of}
+use Rattle.smt_terms.specs.Signature.{Signature}
 use Rattle.smt_dialogue.specs.declared.judgement.Judgement.{Judgement}
 use Rattle.smt_dialogue.specs.declared.judgement.Judgement.TheVariants as judgements
 use Rattle.smt_eval.specs.declared.model_fault.ModelFlaw.{ModelFlaw}
 use Rattle.smt_eval.specs.declared.model_fault.ModelFlaw.TheVariants as faults
 use Rattle.smt_report.specs.declared.claim.Claim.{Claim}
-use Rattle.smt_report.specs.declared.claim.Claim.TheVariants as claims
 use Rattle.smt_report.specs.declared.line.Line.{Line}
-use Rattle.smt_faults.specs.declared.term_flaw.TermFlaw.{TermFlaw}
-use Rattle.smt_faults.specs.declared.term_flaw.TermFlaw.TheVariants.{IllSorted}
-use Rattle.smt_theory.specs.Sort.{is_same_sort}
-use Rattle.smt_theory.specs.Words.{result_and_then}
-use Rattle.smt_theory.specs.declared.sort.Sort.{Sort}
-use Rattle.smt_theory.specs.declared.sort.Sort.TheVariants.{Bool as BooleanSort, Int as IntSort, Bits}
-
--- ## What stands behind what
-
--- a pair among faultless ones has no fault
-pub faultless_at : (before xs : List Pair) (p : Pair) (ys : List Pair) → AreFaultless before (xs ++ p ∷ ys)
-    → flaw_of_pair (before ++ xs) p ≡ None
-faultless_at before [] p ys h = ap (λ (b : List Pair). flaw_of_pair b p) (append-nil before) ∙ h.1
-faultless_at before (x ∷ xs) p ys h =
-    ap (λ (b : List Pair). flaw_of_pair b p) (sym (append_assoc before (x ∷ []) xs))
-    ∙ faultless_at (before ++ x ∷ []) xs p ys h.2
-
--- what is asserted without a fault is a formula, whatever labels it brings
-formula_sort : (r : Result Sort TermFlaw) (labels : List Entry)
-    → flaw_of (result_and_then {B = List Entry} r
-    (λ sort. cond (is_same_sort sort BooleanSort) (Ok labels) (Err IllSorted))) ≡ None → r ≡ Ok BooleanSort
-formula_sort (Ok BooleanSort) labels h = refl
-formula_sort (Ok IntSort) labels h = absurd (cc)
-formula_sort (Ok (Bits w)) labels h = absurd (cc)
-formula_sort (Err f) labels h = absurd (cc)
-
--- an assertion that took effect, without a fault, is a formula
-pub asserted_formula : (earlier : List Pair) (p : Pair) (term : Sexp) → p.command ≡ Assert term
-    → is_effective p ≡ true → flaw_of_pair earlier p ≡ None
-    → sort_in (in_assertion (names_of (signature_after earlier))) [] term ≡ Ok BooleanSort
-asserted_formula earlier p term is effective h =
-    let names = names_of (signature_after earlier) in
-    formula_sort (sort_in (in_assertion names) [] term) (label_entries names (labels_in term))
-    (rw (effective, is) at h)
 
 -- the lines of a pair are among those of all pairs
 pub lines_at : (steps : ℕ) (before : List Pair) (p : Pair) (after : List Pair)
@@ -91,12 +52,14 @@ lines_at steps before p after =
 pub lines_of_sat_at : (steps : ℕ) (before after : List Pair) (p : Pair) → IsSatCheck p
     → lines_of_pair steps true before p after
     ≡ lines_of_sat steps true (checks_in before + 1) (length before + 1) (signature_after before)
-    (claims_after before) ((length before + 1) + 1) after
+    (claims_of_check before p.command) ((length before + 1) + 1) after
 lines_of_sat_at steps before after p s =
     let w = is_word (codes "sat") s.answer s.sat in
     let e : s.answer ≡ Atom sexp.Symbol (codes "sat") = w.1 ∙ ap (λ (x : List ℕ). Atom sexp.Symbol x) w.2 in
-    ap (λ (b : Bool). cond b (lines_of_answer steps true before (checks_in before + 1) p.answer after) []) s.check
-    ∙ ap (λ (o : Option Sexp). lines_of_answer steps true before (checks_in before + 1) o after)
+    let claims = claims_of_check before p.command in
+    ap (λ (b : Bool). cond b (lines_of_answer steps true before claims (checks_in before + 1) p.answer after) [])
+    s.check
+    ∙ ap (λ (o : Option Sexp). lines_of_answer steps true before claims (checks_in before + 1) o after)
     (s.answered ∙ ap (λ (a : Sexp). Some a) e)
 
 -- ## Judgements
@@ -139,14 +102,12 @@ chosen_none : (b : Bool) (n : Claim) (r : Option Claim) → cond b (Some n) r �
 chosen_none true n r h = absurd (cc)
 chosen_none false n r h = (refl, h)
 
--- where no assertion passes a test, one among them doesn't
-first_none : (test : Sexp → Bool) (xs : List Assertion) (a : Assertion) (ys : List Assertion)
-    → first_claim test (claims_of (xs ++ a ∷ ys)) ≡ None → test a.term ≡ false
-first_none test [] a ys h =
-    (chosen_none (test a.term) (claims.Assertion a.command) (first_claim test (claims_of ys)) h).0
-first_none test (x ∷ xs) a ys h =
-    first_none test xs a ys (chosen_none (test x.term) (claims.Assertion x.command)
-    (first_claim test (claims_of (xs ++ a ∷ ys))) h).1
+-- where no claim passes a test, one among them doesn't
+first_none : (test : Sexp → Bool) (xs : List Claimed) (c : Claimed) (ys : List Claimed)
+    → first_claim test (xs ++ c ∷ ys) ≡ None → test c.term ≡ false
+first_none test [] c ys h = (chosen_none (test c.term) c.claim (first_claim test ys) h).0
+first_none test (x ∷ xs) c ys h =
+    first_none test xs c ys (chosen_none (test x.term) x.claim (first_claim test (xs ++ c ∷ ys)) h).1
 
 refuted_none : (f o : Option Claim) → refuted_or f o ≡ judgements.Confirmed → (f ≡ None) × (o ≡ None)
 refuted_none (Some n) o h = absurd (cc)
@@ -172,45 +133,28 @@ confirmed_over steps script as' (Ok d) h =
 confirmed_over steps script as' (Err (faults.Item n f)) h = absurd (cc)
 confirmed_over steps script as' (Err (faults.Lacks n)) h = absurd (cc)
 
--- what is claimed is asserted
-pub asserted_by : (before : List Pair) (check : Pair) (claim : Claim) (earlier : List Pair) (term : Sexp)
-    → IsClaimed before check claim earlier term → IsAsserted before earlier term
-asserted_by before check (claims.Assertion command) earlier term h = h.0
-
 -- ## Models that are confirmed are true
 
 -- a model that is confirmed under what is in force is a true one
 pub true_model : (steps : ℕ) → Laws → (pairs before after : List Pair) (p : Pair) (parts : Sexps)
-    → pairs ≡ before ++ p ∷ after → AreFaultless [] pairs
-    → judgement_of steps (signature_after before) (claims_after before) parts ≡ judgements.Confirmed
+    → pairs ≡ before ++ p ∷ after → AreFaultless [] pairs → IsSatCheck p
+    → judgement_of steps (signature_after before) (claims_of_check before p.command) parts ≡ judgements.Confirmed
     → IsTrueModel before p parts
-true_model steps laws pairs before after p parts place faultless h =
-    let confirmed = confirmed_over steps (signature_after before) (claims_after before)
-    (model_in (signature_after before) parts) h in
+true_model steps laws pairs before after p parts place faultless sat h =
+    let all = claims_of_check before p.command in
+    let confirmed = confirmed_over steps (signature_after before) all (model_in (signature_after before) parts) h in
     record {
       definitions = confirmed.0;
       model = laws.complete (signature_after before) parts confirmed.0 confirmed.1;
       structure = structure_behind laws.introduced laws.structures before (p ∷ after) parts confirmed.0
           (subst (AreFaultless []) place faultless) confirmed.1;
-      sorted = λ claim earlier term claimed.
-          let asserted = asserted_by before p claim earlier term claimed in
-          let q = asserted.pair in
-          let far : pairs ≡ earlier ++ q ∷ (asserted.between ++ p ∷ after) =
-          place ∙ ap (λ (b : List Pair). b ++ p ∷ after) asserted.place
-          ∙ append_assoc earlier (q ∷ asserted.between) (p ∷ after) in
-          asserted_formula earlier q term asserted.command asserted.effective
-          (faultless_at [] earlier q (asserted.between ++ p ∷ after)
-          (subst (AreFaultless []) far faultless));
+      sorted = claim_sorted pairs before after p place faultless sat;
       true_in = λ z claim earlier term claimed.
-          let asserted = asserted_by before p claim earlier term claimed in
-          let here : Assertion = record { command = length earlier + 1; term = term } in
-          let among = laws.stand (effective_commands before) (effective_commands earlier)
-          (record { number = length earlier + 1; command = Assert term }) term
-          (asserted_stands before earlier term asserted) refl in
+          let here : Claimed = record { claim = claim; term = term } in
+          let among = claim_in laws.stand before p claim earlier term claimed in
           let structure = structure_at confirmed.0 before in
           let not_open = first_none (is_open_over structure) among.0 here among.1
-          (ap (λ (xs : List Assertion). first_claim (is_open_over structure) (claims_of xs)) (sym among.2)
-          ∙ confirmed.3) in
+          (ap (first_claim (is_open_over structure)) (sym among.2) ∙ confirmed.3) in
           closed_value laws z structure term (Truth true)
           (is_true_value (known_over structure term) not_open);
     }
@@ -305,7 +249,7 @@ confirmed_at steps laws pairs before after p place faultless refuted undecided s
     let k = checks_in before + 1 in
     let n = length before + 1 in
     let names = signature_after before in
-    let claimed = claims_after before in
+    let claimed = claims_of_check before p.command in
     let ms = models_from (n + 1) (window after) in
     let parts : lines_in steps true [] pairs []
     ≡ lines_in steps true [] before ((p ∷ after) ++ [])
@@ -330,5 +274,5 @@ confirmed_at steps laws pairs before after p place faultless refuted undecided s
       models = ap (λ (i : ℕ). models_from i (window after)) (omega arith) ∙ found.2;
       true_models = all_weaker (λ (m : Printed). judgement_of steps names claimed m.parts ≡ judgements.Confirmed)
           (λ (m : Printed). IsTrueModel before p m.parts) (found.0 ∷ found.1)
-          (λ m h. true_model steps laws pairs before after p m.parts place faultless h) all;
+          (λ m h. true_model steps laws pairs before after p m.parts place faultless sat h) all;
     }

@@ -7,7 +7,7 @@ use Rattle.std.proofs.Common.{Option, None, Some, ap, sym, ◌∙◌, subst, ari
 use Rattle.std.proofs.lemmas.List.{append-nil}
 use Rattle.smt_trees.specs.Sexp.{Sexp}
 use Rattle.smt_script.specs.Command.{Command, closes_window, is_check}
-use Rattle.smt_script.specs.Stack.{Numbered, assertions_in_force, signature_in_force}
+use Rattle.smt_script.specs.Stack.{Numbered, signature_in_force}
 use Rattle.smt_script.specs.StackView as stacks
 use Rattle.smt_faults.specs.declared.command_fault.CommandFault.{CommandFault}
 use Rattle.smt_faults.specs.Faults.{flaw_of_command_fault}
@@ -21,11 +21,12 @@ use Rattle.smt_dialogue.proofs.PairLemmas.{lines_in-append}
 use Rattle.smt_dialogue.specs.Answers.{is_effective_with}
 use Rattle.smt_dialogue.specs.InForce.{flaw_of_pair, signature_after}
 use Rattle.smt_terms.specs.Signature.{Signature}
-use Rattle.smt_dialogue.specs.Judgement.{Claimed, claims_of}
+use Rattle.smt_dialogue.specs.Internal.Claims.{claims_after, claims_in_force}
+use Rattle.smt_dialogue.specs.Judgement.{Claimed}
 use Rattle.smt_dialogue.specs.Internal.ChecksState.{ChecksState, IsAnswered, checks_after, pending_lines}
 use Rattle.smt_dialogue.specs.Internal.ChecksState.{closing_lines, role_of, with_window_ended}
 use Rattle.smt_dialogue.specs.Internal.DialogueState.{Closing, Stands, State, StandsFor, flaw_if}
-use Rattle.smt_dialogue.specs.Lines.{claims_after, confirmed_line, is_empty, lines_in, lines_of_pair, sat_lines}
+use Rattle.smt_dialogue.specs.Lines.{confirmed_line, is_empty, lines_in, lines_of_pair, sat_lines}
 use Rattle.smt_dialogue.specs.Lines.{unconfirmed_line}
 use Rattle.smt_dialogue.specs.Pairs.{Pair, answer_count, effective_commands, is_effective, numbered_if}
 use Rattle.smt_dialogue.specs.Pairs.{pair_of}
@@ -72,7 +73,7 @@ checks_push : (early : Bool) (s t : State) (pairs : List Pair) (c : Command) (o 
     → stacks.StandsFor t.stack (effective_commands (pairs ++ pair_of c o ∷ []))
     → ((cs : List Numbered) → stacks.StandsFor t.stack cs
     → t.checks ≡ checks_after (is_effective_with o) s.checks (signature_in_force cs)
-    (claims_of (assertions_in_force cs)) (s.commands + 1) (role_of c) o)
+    (claims_in_force cs) (s.commands + 1) (role_of c) o)
     → GoesOn s.checks pairs (pair_of c o) t.checks
 checks_push early s t pairs c o h before stack is =
     let new = pairs ++ pair_of c o ∷ [] in
@@ -100,7 +101,7 @@ pub accepted_stands : (early : Bool) (s t : State) (pairs : List Pair) (c : Comm
     → last_of t.stack ≤ s.commands + 1
     → ((cs : List Numbered) → stacks.StandsFor t.stack cs
     → t.checks ≡ checks_after (is_effective_with o) s.checks (signature_in_force cs)
-    (claims_of (assertions_in_force cs)) (s.commands + 1) (role_of c) o)
+    (claims_in_force cs) (s.commands + 1) (role_of c) o)
     → t.commands ≡ s.commands + 1 → t.answers ≡ s.answers + answer_count o → t.tally ≡ s.tally
     → t.gathered ≡ s.gathered → StandsFor t (pairs ++ pair_of c o ∷ [])
 accepted_stands early s t pairs c o h check before applied last checks commands answers tally gathered =
@@ -173,7 +174,7 @@ pub accepted : (early : Bool) (s t : State) (pairs : List Pair) (c : Command) (o
     × stacks.StandsFor t.stack (effective_commands pairs ++ numbered_if e (s.commands + 1) c)
     → last_of t.stack ≤ s.commands + 1
     → ((cs : List Numbered) → stacks.StandsFor t.stack cs
-    → t.checks ≡ checks_after e s.checks (signature_in_force cs) (claims_of (assertions_in_force cs))
+    → t.checks ≡ checks_after e s.checks (signature_in_force cs) (claims_in_force cs)
     (s.commands + 1) r o)
     → t.commands ≡ s.commands + 1 → t.answers ≡ s.answers + answer_count o → t.tally ≡ s.tally
     → t.gathered ≡ s.gathered → (flaw_of_pair pairs (pair_of c o) ≡ None) × StandsFor t (pairs ++ pair_of c o ∷ [])

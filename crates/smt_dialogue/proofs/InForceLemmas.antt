@@ -1,6 +1,6 @@
 -- What is in force behind a command that brings nothing.
 use Rattle.std.proofs.Common.{◌≡◌, ◌≤◌, ℕ, Bool, true, false, cond, not, ◌&&◌, List, [], ◌∷◌, ◌++◌}
-use Rattle.std.proofs.Common.{refl, ap, sym, ◌∙◌, subst, arith, append_assoc}
+use Rattle.std.proofs.Common.{refl, ap, sym, ◌∙◌, subst, arith, append_assoc, inl, inr, ◌⊎◌, ⊎_elim}
 use Rattle.std.specs.Prelude.{nat_le}
 use Rattle.std.specs.List.{flat_map, list_all}
 use Rattle.std.proofs.lemmas.List.{append-nil}
@@ -9,7 +9,12 @@ use Rattle.std.proofs.lemmas.List.Sums.{fold-append}
 use Rattle.smt_theory.specs.declared.sort.Sort.{Sort}
 use Rattle.smt_theory.specs.declared.theories.Theories.{Theories}
 use Rattle.smt_terms.specs.Signature.{Entry, Signature}
-use Rattle.smt_script.specs.Command.{Command, Effect, Nothing, Removing, closes_window, effect_of}
+use Rattle.smt_trees.specs.Sexp.{Sexp, Sexps}
+use Rattle.smt_script.specs.Command.{Command, Effect, Assumes, Nothing, Removing, closes_window, effect_of, is_check}
+use Rattle.smt_script.specs.Command.{SetLogic, SetPrintSuccess, SetGlobalDeclarations, SetOption, SetInfo}
+use Rattle.smt_script.specs.Command.{DeclareConst, DeclareFun, DefineFun, DefineSort, Assert, Push, Pop, Reset}
+use Rattle.smt_script.specs.Command.{ResetAssertions, Exit, CheckSat, CheckSatAssuming, GetModel, Echo, Get}
+use Rattle.smt_script.specs.Stack.{assumptions_after, assumptions_in_force, literals_of}
 use Rattle.smt_script.specs.Stack.{Brought, Numbered, abbreviations_by, abbreviations_of, all_theories}
 use Rattle.smt_script.specs.Stack.{abbreviations_of_effect, assertions_by, assertions_in_force, assertions_of}
 use Rattle.smt_script.specs.Stack.{assertions_of_effect, brought_by, brought_from}
@@ -27,11 +32,31 @@ pub record IsQuiet (c : Command) : Type 0 where
   pub abbreviations : (s : Signature) → abbreviations_by s c ≡ []
   pub assertions : (n : ℕ) → assertions_by n c ≡ []
 
--- a command that changes nothing that is in force is one of this effect
-removes_nothing : (c : Command) → closes_window c ≡ false → effect_of c ≡ Removing Nothing
-removes_nothing c h = grind (arith)
+-- a command that changes nothing that is in force has one of these effects
+leaves_force : (c : Command) → closes_window c ≡ false
+    → (effect_of c ≡ Removing Nothing) ⊎ ((literals : Sexps) × (effect_of c ≡ Assumes literals))
+leaves_force (SetLogic name) h = cc
+leaves_force (SetPrintSuccess on) h = inl refl
+leaves_force (SetGlobalDeclarations on) h = inl refl
+leaves_force (SetOption keyword value) h = inl refl
+leaves_force (SetInfo keyword value) h = inl refl
+leaves_force (DeclareConst x sort) h = cc
+leaves_force (DeclareFun x parameters sort) h = cc
+leaves_force (DefineFun x parameters sort body) h = cc
+leaves_force (DefineSort x sort) h = cc
+leaves_force (Assert term) h = cc
+leaves_force (Push levels) h = cc
+leaves_force (Pop levels) h = cc
+leaves_force Reset h = cc
+leaves_force ResetAssertions h = cc
+leaves_force Exit h = inl refl
+leaves_force CheckSat h = inl refl
+leaves_force (CheckSatAssuming literals) h = inr (literals, refl)
+leaves_force GetModel h = inl refl
+leaves_force (Echo text) h = inl refl
+leaves_force (Get query) h = inl refl
 
--- and each of this effect is quiet
+-- and each of these is quiet
 quiet_by : (c : Command) → effect_of c ≡ Removing Nothing → IsQuiet c
 quiet_by c is = record {
   level = λ d. ap (depth_by d) is;
@@ -42,9 +67,35 @@ quiet_by c is = record {
   assertions = λ n. ap (assertions_of_effect n) is;
 }
 
+assumes_quiet : (c : Command) (literals : Sexps) → effect_of c ≡ Assumes literals → IsQuiet c
+assumes_quiet c literals is = record {
+  level = λ d. ap (depth_by d) is;
+  resets = ap (λ (e : Effect). resets (removed_of_effect e)) is;
+  theories = λ t. ap (theories_by t) is;
+  entries = λ s n. ap (entries_of_effect s n) is;
+  abbreviations = λ s. ap (abbreviations_of_effect s) is;
+  assertions = λ n. ap (assertions_of_effect n) is;
+}
+
 -- so a command is quiet that changes nothing that is in force
 pub quiet : (c : Command) → closes_window c ≡ false → IsQuiet c
-quiet c h = quiet_by c (removes_nothing c h)
+quiet c h = ⊎_elim (quiet_by c) (λ it. assumes_quiet c it.0 it.1) (leaves_force c h)
+
+-- ## Assumptions
+
+assumptions-push : (cs : List Numbered) (c : Numbered)
+    → assumptions_in_force (cs ++ c ∷ []) ≡ assumptions_after (assumptions_in_force cs) c.command
+assumptions-push cs c =
+    fold-append (λ (before : List Sexp) (x : Numbered). assumptions_after before x.command) [] cs (c ∷ [])
+
+-- those of a check stay where no other check comes, and nothing that is in force changes
+pub assumptions-passed : (cs : List Numbered) (c : Numbered) → is_check c.command ≡ false
+    → closes_window c.command ≡ false → assumptions_in_force (cs ++ c ∷ []) ≡ assumptions_in_force cs
+assumptions-passed cs c check closes = assumptions-push cs c ∙ rw (check, closes) refl
+
+pub assumptions-check : (cs : List Numbered) (c : Numbered) → is_check c.command ≡ true
+    → assumptions_in_force (cs ++ c ∷ []) ≡ literals_of c.command
+assumptions-check cs c check = assumptions-push cs c ∙ rw check refl
 
 -- ## What stands at the end is within the last level
 

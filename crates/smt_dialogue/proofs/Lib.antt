@@ -32,3 +32,5 @@ pub mod FeedLemmas
 pub mod SessionLemmas
 pub mod SessionVerdictLemmas
 pub mod RunLemmas
+pub mod ClaimLemmas
+pub mod TakenClaimLemmas

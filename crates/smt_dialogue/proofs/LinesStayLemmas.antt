@@ -15,7 +15,7 @@ use Rattle.smt_dialogue.specs.FirstFault.{Ends, GoesOn, IsRest, Turn, Waits}
 use Rattle.smt_dialogue.specs.InForce.{signature_after}
 use Rattle.smt_dialogue.specs.Judgement.{Claimed, judgement_of}
 use Rattle.smt_dialogue.specs.Internal.DialogueState.{Closing}
-use Rattle.smt_dialogue.specs.Lines.{claims_after, is_empty, line_of_judgement, lines_in, lines_of_answer}
+use Rattle.smt_dialogue.specs.Lines.{claims_of_check, is_empty, line_of_judgement, lines_in, lines_of_answer}
 use Rattle.smt_dialogue.specs.Lines.{lines_of_pair, lines_of_sat, sat_lines, unchecked_answer}
 use Rattle.smt_dialogue.specs.Lines.{unchecked_line_or, unconfirmed_line}
 use Rattle.smt_dialogue.specs.Pairs.{Pair, checks_in, is_effective}
@@ -80,7 +80,8 @@ no_lines steps c before (x ∷ xs) after h =
     let open' : closes x ≡ false = left_false (closes x) (list_any closes xs) h in
     let none : is_check x.command ≡ false =
     left_false (is_check x.command) (closes_window x.command && is_effective x) open' in
-    ap (λ b. cond b (lines_of_answer steps c before (checks_in before + 1) x.answer (xs ++ after)) []
+    ap (λ b. cond b (lines_of_answer steps c before (claims_of_check before x.command) (checks_in before + 1) x.answer
+    (xs ++ after)) []
     ++ lines_in steps c (before ++ x ∷ []) xs after) none
     ∙ no_lines steps c (before ++ x ∷ []) xs after (right_false (closes x) (list_any closes xs) h)
 
@@ -185,12 +186,16 @@ pair_same steps c d before p after after' h =
     k : ℕ
     k = checks_in before + 1
 
-    by : (o : Option Sexp) → lines_of_answer steps c before k o after ≡ lines_of_answer steps d before k o after'
+    claims : List Claimed
+    claims = claims_of_check before p.command
+
+    by : (o : Option Sexp) → lines_of_answer steps c before claims k o after
+        ≡ lines_of_answer steps d before claims k o after'
     by None = refl
     by (Some answer) =
         ap (λ ls. unchecked_line_or k n (unchecked_answer answer)
         (cond (is_symbol (codes "sat") answer) ls []))
-        (h k n (signature_after before) (claims_after before) (n + 1))
+        (h k n (signature_after before) claims (n + 1))
 
 pair_open : (steps : ℕ) (c : Bool) (before : List Pair) (p : Pair) (after xs : List Pair)
     → list_any closes after ≡ false
@@ -208,7 +213,7 @@ pair_open steps c before p after xs h = by_check (is_check p.command)
     names = signature_after before
 
     claims : List Claimed
-    claims = claims_after before
+    claims = claims_of_check before p.command
 
     by_sat : (b : Bool) (u : Option CheckAnswer)
         → (unchecked_line_or k n u (cond b (lines_of_sat steps false k n names claims (n + 1) after) [])
@@ -219,15 +224,15 @@ pair_open steps c before p after xs h = by_check (is_check p.command)
     by_sat true None = sat_open steps c k n names claims (n + 1) after xs h
 
     by_answer : (o : Option Sexp)
-        → (lines_of_answer steps false before k o after ≡ lines_of_answer steps c before k o (after ++ xs))
-        ⊎ (lines_of_answer steps false before k o after ≡ [])
+        → (lines_of_answer steps false before claims k o after ≡ lines_of_answer steps c before claims k o (after ++ xs))
+        ⊎ (lines_of_answer steps false before claims k o after ≡ [])
     by_answer None = inl refl
     by_answer (Some answer) = by_sat (is_symbol (codes "sat") answer) (unchecked_answer answer)
 
     by_check : (b : Bool)
-        → (cond b (lines_of_answer steps false before k p.answer after) []
-        ≡ cond b (lines_of_answer steps c before k p.answer (after ++ xs)) [])
-        ⊎ (cond b (lines_of_answer steps false before k p.answer after) [] ≡ [])
+        → (cond b (lines_of_answer steps false before claims k p.answer after) []
+        ≡ cond b (lines_of_answer steps c before claims k p.answer (after ++ xs)) [])
+        ⊎ (cond b (lines_of_answer steps false before claims k p.answer after) [] ≡ [])
     by_check true = by_answer p.answer
     by_check false = inl refl
 

@@ -5,13 +5,18 @@ use Rattle.std.proofs.lemmas.List.{append-nil}
 use Rattle.smt_trees.specs.Sexp.{Sexp, Sexps, Atom, Reserved, Items, is_symbol}
 use Rattle.smt_trees.specs.Sexp as sexp
 use Rattle.std.specs.Cmp.Lexicographic.{same_text}
-use Rattle.smt_script.specs.Command.{Command, is_check, kind_of}
+use Rattle.smt_script.specs.Command.{Command, is_check, kind_of, closes_window}
 use Rattle.smt_script.specs.declared.command.Kind.{Kind}
 use Rattle.smt_script.specs.declared.command.Kind.TheVariants as kinds
-use Rattle.smt_script.specs.Stack.{Numbered, assertions_in_force, signature_in_force}
-use Rattle.smt_dialogue.proofs.InForceLemmas.{IsQuiet, assertions-quiet, signature-quiet}
+use Rattle.smt_script.specs.Stack.{Assertion, Numbered, assertions_in_force, assumptions_in_force}
+use Rattle.smt_script.specs.Stack.{literals_of, signature_in_force}
+use Rattle.smt_dialogue.proofs.InForceLemmas.{IsQuiet, assertions-quiet, signature-quiet, assumptions-check, assumptions-passed}
 use Rattle.smt_dialogue.specs.Answers.{Takes, Unexpected, has_form, need_of, need_of_kind, taken}
-use Rattle.smt_dialogue.specs.InForce.{AreFaultless, assertions_after, flaw_of_pair, has_exited_after}
+use Rattle.smt_dialogue.specs.InForce.{AreFaultless, assertions_after, assumptions_after, flaw_of_pair}
+use Rattle.smt_dialogue.specs.InForce.{has_exited_after}
+use Rattle.smt_dialogue.specs.Internal.Claims.{claims_after}
+use Rattle.smt_dialogue.specs.Judgement.{all_claims}
+use Rattle.smt_dialogue.specs.Lines.{claims_of_check}
 use Rattle.smt_dialogue.specs.InForce.{need_after, signature_after}
 use Rattle.smt_dialogue.specs.Internal.ChecksState.{IsAnswered, role_of, role_of_kind}
 use Rattle.smt_dialogue.specs.Lines.{lines_in, lines_of_pair}
@@ -127,6 +132,61 @@ refused_is_idle pairs p h =
       assertions = ap assertions_in_force (effective_commands-push pairs p)
           ∙ none_if assertions_in_force (is_effective p) n p.command cs h;
     }
+
+-- a pair behind which a check claims the same as before it
+pub record IsPassed (pairs : List Pair) (p : Pair) : Type 0 where
+  pub signature : signature_after (pairs ++ p ∷ []) ≡ signature_after pairs
+  pub claims : claims_after (pairs ++ p ∷ []) ≡ claims_after pairs
+
+passed_by : (pairs : List Pair) (p : Pair) → IsIdle pairs p
+    → assumptions_after (pairs ++ p ∷ []) ≡ assumptions_after pairs → IsPassed pairs p
+passed_by pairs p idle same = record {
+  signature = idle.signature;
+  claims = ap (λ (as' : List Assertion). all_claims as' (assumptions_after (pairs ++ p ∷ []))) idle.assertions
+      ∙ ap (all_claims (assertions_after pairs)) same;
+}
+
+-- the assumptions behind a pair that is no check and changes nothing that is in force, behind one that took no
+-- effect, and behind a check that did
+pub kept_assumptions : (pairs : List Pair) (p : Pair) → is_check p.command ≡ false
+    → closes_window p.command ≡ false → assumptions_after (pairs ++ p ∷ []) ≡ assumptions_after pairs
+kept_assumptions pairs p check closes =
+    let cs = effective_commands pairs in
+    let n = length pairs + 1 in
+    ap assumptions_in_force (effective_commands-push pairs p)
+    ∙ quiet_if assumptions_in_force (is_effective p) n p.command cs
+    (assumptions-passed cs (record { number = n; command = p.command }) check closes)
+
+pub refused_assumptions : (pairs : List Pair) (p : Pair) → is_effective p ≡ false
+    → assumptions_after (pairs ++ p ∷ []) ≡ assumptions_after pairs
+refused_assumptions pairs p h =
+    ap assumptions_in_force (effective_commands-push pairs p)
+    ∙ none_if assumptions_in_force (is_effective p) (length pairs + 1) p.command (effective_commands pairs) h
+
+pub check_assumptions : (pairs : List Pair) (p : Pair) → is_check p.command ≡ true → is_effective p ≡ true
+    → assumptions_after (pairs ++ p ∷ []) ≡ literals_of p.command
+check_assumptions pairs p check effective =
+    let cs = effective_commands pairs in
+    let n = length pairs + 1 in
+    ap assumptions_in_force (effective_commands-push pairs p)
+    ∙ ap (λ (b : Bool). assumptions_in_force (cs ++ numbered_if b n p.command)) effective
+    ∙ assumptions-check cs (record { number = n; command = p.command }) check
+
+pub quiet_is_passed : (pairs : List Pair) (p : Pair) → IsQuiet p.command → is_check p.command ≡ false
+    → closes_window p.command ≡ false → IsPassed pairs p
+quiet_is_passed pairs p quiet check closes =
+    passed_by pairs p (quiet_is_idle pairs p quiet) (kept_assumptions pairs p check closes)
+
+pub refused_is_passed : (pairs : List Pair) (p : Pair) → is_effective p ≡ false → IsPassed pairs p
+refused_is_passed pairs p h = passed_by pairs p (refused_is_idle pairs p h) (refused_assumptions pairs p h)
+
+-- behind a check that took effect stand its own claims
+pub claims_of_effective : (pairs : List Pair) (p : Pair) → IsQuiet p.command → is_check p.command ≡ true
+    → is_effective p ≡ true → claims_after (pairs ++ p ∷ []) ≡ claims_of_check pairs p.command
+claims_of_effective pairs p quiet check effective =
+    ap (λ (as' : List Assertion). all_claims as' (assumptions_after (pairs ++ p ∷ [])))
+    (quiet_is_idle pairs p quiet).assertions
+    ∙ ap (all_claims (assertions_after pairs)) (check_assumptions pairs p check effective)
 
 pub checks_in-append : (xs ys : List Pair) → checks_in (xs ++ ys) ≡ checks_in xs + checks_in ys
 checks_in-append [] ys = omega arith

@@ -9,29 +9,28 @@ use Rattle.smt_text.specs.Reading.{Reads}
 use Rattle.smt_trees.specs.Sexp.{Sexp, Sexps, Nil, is_symbol}
 use Rattle.smt_faults.specs.declared.text_flaw.TextFlaw.{TextFlaw}
 use Rattle.smt_dialogue.proofs.FirstFaultLemmas.{any-append, ends_clean, invalid_lines, none_of, valid_lines}
-use Rattle.smt_dialogue.proofs.AssertedLemmas.{comes_from}
+use Rattle.smt_dialogue.proofs.ClaimLemmas.{claim_sorted, claimed_from}
 use Rattle.smt_dialogue.proofs.StructureLemmas.{structure_behind}
 use Rattle.smt_dialogue.proofs.PairingUnique.{all_commands, one_pairing}
-use Rattle.smt_dialogue.proofs.ConfirmedLemmas.{Laws, asserted_formula, closed_value, confirmed_at}
-use Rattle.smt_dialogue.proofs.ConfirmedLemmas.{faultless_at, is_false_value, lines_at, lines_of_sat_at}
+use Rattle.smt_dialogue.proofs.ConfirmedLemmas.{Laws, closed_value, confirmed_at}
+use Rattle.smt_dialogue.proofs.ConfirmedLemmas.{is_false_value, lines_at, lines_of_sat_at}
 use Rattle.smt_script.specs.Command.{is_check}
 use Rattle.smt_dialogue.specs.FirstFault.{TextSoFar, is_over}
 use Rattle.smt_dialogue.specs.Report.{AreLinesOf, IsRead, lines_of_end}
 use Rattle.smt_dialogue.specs.declared.options.Options.{Options}
 use Rattle.smt_dialogue.specs.Validity.{IsFullyPaired, IsInvalid, IsSatCheck}
 use Rattle.smt_dialogue.specs.Validity.{IsValid}
-use Rattle.smt_dialogue.specs.InForce.{AreFaultless, assertions_after, signature_after}
+use Rattle.smt_dialogue.specs.InForce.{AreFaultless, signature_after}
 use Rattle.smt_dialogue.specs.Pairing.{IsPairing, IsPairingSoFar}
-use Rattle.smt_dialogue.specs.Pairs.{Pair, checks_in, effective_commands}
-use Rattle.smt_script.specs.Stack.{Assertion}
-use Rattle.smt_dialogue.specs.Lines.{claims_after, is_empty, line_of_judgement, lines_in}
+use Rattle.smt_dialogue.specs.Pairs.{Pair, checks_in}
+use Rattle.smt_dialogue.specs.Lines.{claims_of_check, is_empty, line_of_judgement, lines_in}
 use Rattle.smt_dialogue.specs.Lines.{lines_of_answer, lines_of_pair, lines_of_sat, sat_lines, unchecked_answer, unchecked_line_or}
 use Rattle.smt_dialogue.specs.Lines.{unconfirmed_line}
 use Rattle.smt_report.specs.Verdict.{IsVerdictOf, is_fault_line, is_refuted_line, is_undecided_line, tally_of}
 use Rattle.smt_report.specs.Verdict.{verdict_of, with_verdict}
 use Rattle.std.specs.Option.{option_or}
 use Rattle.smt_dialogue.specs.Window.{Printed, models_from, structure_at, window}
-use Rattle.smt_dialogue.specs.Judgement.{Claimed, claims_of, first_claim, is_false_over, is_open_over}
+use Rattle.smt_dialogue.specs.Judgement.{Claimed, first_claim, is_false_over, is_open_over}
 use Rattle.smt_dialogue.specs.Judgement.{claims_cost, judged_in, judged_over, judgement_of, open_or_confirmed}
 use Rattle.smt_dialogue.specs.Judgement.{refuted_or}
 use Rattle.smt_values.specs.Element.{Truth}
@@ -44,7 +43,6 @@ use Rattle.smt_dialogue.specs.declared.judgement.Judgement.TheVariants as judgem
 use Rattle.smt_eval.specs.declared.model_fault.ModelFlaw.{ModelFlaw}
 use Rattle.smt_eval.specs.declared.model_fault.ModelFlaw.TheVariants as faults
 use Rattle.smt_report.specs.declared.claim.Claim.{Claim}
-use Rattle.smt_report.specs.declared.claim.Claim.TheVariants as claims
 use Rattle.smt_report.specs.declared.line.CheckAnswer.{CheckAnswer}
 use Rattle.smt_report.specs.declared.line.Line.{Line}
 use Rattle.smt_report.specs.declared.line.Line.TheVariants as lines
@@ -201,14 +199,15 @@ pub record IsRefutedCheck (steps : ℕ) (before : List Pair) (p : Pair) (after :
   pub sat : IsSatCheck p
   pub line : list_any is_refuted_line
       (lines_of_sat steps true (checks_in before + 1) (length before + 1) (signature_after before)
-      (claims_after before) ((length before + 1) + 1) after) ≡ true
+      (claims_of_check before p.command) ((length before + 1) + 1) after) ≡ true
 
 refuted_check : (steps : ℕ) (before : List Pair) (p : Pair) (after : List Pair)
     → list_any is_refuted_line (lines_of_pair steps true before p after) ≡ true → IsRefutedCheck steps before p after
 refuted_check steps before p after h = by (is_check p.command) p.answer refl refl h
   where
     by : (b : Bool) (o : Option Sexp) → is_check p.command ≡ b → p.answer ≡ o
-        → list_any is_refuted_line (cond b (lines_of_answer steps true before (checks_in before + 1) o after) [])
+        → list_any is_refuted_line (cond b (lines_of_answer steps true before (claims_of_check before p.command)
+        (checks_in before + 1) o after) [])
         ≡ true
         → IsRefutedCheck steps before p after
     by false o is has refuted = absurd (cc)
@@ -216,7 +215,7 @@ refuted_check steps before p after h = by (is_check p.command) p.answer refl ref
     by true (Some a) is has refuted =
         let cases = answer_cases (unchecked_answer a) (is_symbol (codes "sat") a) (checks_in before + 1)
         (length before + 1) (lines_of_sat steps true (checks_in before + 1) (length before + 1)
-        (signature_after before) (claims_after before) ((length before + 1) + 1) after) refuted in
+        (signature_after before) (claims_of_check before p.command) ((length before + 1) + 1) after) refuted in
         record {
           sat = record { check = is; answer = a; answered = has; sat = cases.0 };
           line = cases.1;
@@ -306,35 +305,35 @@ sat_refuted steps k n names as' ms some (Some line) is h = record {
 sat_refuted steps k n names as' ms true None is h = absurd (cc)
 sat_refuted steps k n names as' ms false None is h = absurd (cc)
 
--- ## What makes an assertion false
+-- ## What makes a claim false
 
-pub record HasFirst (test : Sexp → Bool) (as' : List Assertion) (claim : Claim) : Type 0 where
-  pub first : List Assertion
-  pub assertion : Assertion
-  pub last : List Assertion
-  pub place : as' ≡ first ++ assertion ∷ last
-  pub claim_is : claims.Assertion assertion.command ≡ claim
-  pub passes : test assertion.term ≡ true
+pub record HasFirst (test : Sexp → Bool) (cs : List Claimed) (claim : Claim) : Type 0 where
+  pub first : List Claimed
+  pub claimed : Claimed
+  pub last : List Claimed
+  pub place : cs ≡ first ++ claimed ∷ last
+  pub claim_is : claimed.claim ≡ claim
+  pub passes : test claimed.term ≡ true
 
-pick : (test : Sexp → Bool) (a : Assertion) (as' : List Assertion) (claim : Claim) (b : Bool)
-    → test a.term ≡ b → (first_claim test (claims_of as') ≡ Some claim → HasFirst test as' claim)
-    → cond b (Some (claims.Assertion a.command)) (first_claim test (claims_of as')) ≡ Some claim
-    → HasFirst test (a ∷ as') claim
-pick test a as' claim true is later h =
-    record { first = []; assertion = a; last = as'; place = refl; claim_is = cc; passes = is }
-pick test a as' claim false is later h = let g = later h in record {
-  first = a ∷ g.first;
-  assertion = g.assertion;
+pick : (test : Sexp → Bool) (c : Claimed) (cs : List Claimed) (claim : Claim) (b : Bool)
+    → test c.term ≡ b → (first_claim test cs ≡ Some claim → HasFirst test cs claim)
+    → cond b (Some c.claim) (first_claim test cs) ≡ Some claim
+    → HasFirst test (c ∷ cs) claim
+pick test c cs claim true is later h =
+    record { first = []; claimed = c; last = cs; place = refl; claim_is = cc; passes = is }
+pick test c cs claim false is later h = let g = later h in record {
+  first = c ∷ g.first;
+  claimed = g.claimed;
   last = g.last;
-  place = ap (λ (xs : List Assertion). a ∷ xs) g.place;
+  place = ap (λ (xs : List Claimed). c ∷ xs) g.place;
   claim_is = g.claim_is;
   passes = g.passes;
 }
 
-first_some : (test : Sexp → Bool) (as' : List Assertion) (claim : Claim)
-    → first_claim test (claims_of as') ≡ Some claim → HasFirst test as' claim
+first_some : (test : Sexp → Bool) (cs : List Claimed) (claim : Claim)
+    → first_claim test cs ≡ Some claim → HasFirst test cs claim
 first_some test [] claim h = absurd (cc)
-first_some test (a ∷ as') claim h = pick test a as' claim (test a.term) refl (first_some test as' claim) h
+first_some test (c ∷ cs) claim h = pick test c cs claim (test c.term) refl (first_some test cs claim) h
 
 open_not_refuted : {P : Type 0} (o : Option Claim) (claim : Claim)
     → open_or_confirmed o ≡ judgements.Refuted claim → P
@@ -352,18 +351,18 @@ short_refuted : (b : Bool) (j : Judgement) (claim : Claim) → cond b judgements
 short_refuted true j claim h = absurd (cc)
 short_refuted false j claim h = h
 
--- a model that is refuted has definitions over which the assertion is false
-refuted_over : (steps : ℕ) (script : Signature) (as' : List Assertion) (r : Result Signature ModelFlaw) (claim : Claim)
-    → judged_in steps script (claims_of as') r ≡ judgements.Refuted claim
+-- a model that is refuted has definitions over which the claim is false
+refuted_over : (steps : ℕ) (script : Signature) (as' : List Claimed) (r : Result Signature ModelFlaw) (claim : Claim)
+    → judged_in steps script as' r ≡ judgements.Refuted claim
     → (d : Signature) × (r ≡ Ok d) × HasFirst (is_false_over (structure_of script d)) as' claim
 refuted_over steps script as' (Ok d) claim h =
     let s = structure_of script d in (
       d,
       refl,
       first_some (is_false_over s) as' claim
-          (refuted_first (first_claim (is_false_over s) (claims_of as'))
-          (first_claim (is_open_over s) (claims_of as')) claim
-          (short_refuted (nat_lt steps (claims_cost s (claims_of as'))) (judged_over (claims_of as') s) claim h)),
+          (refuted_first (first_claim (is_false_over s) as')
+          (first_claim (is_open_over s) as') claim
+          (short_refuted (nat_lt steps (claims_cost s as')) (judged_over as' s) claim h)),
     )
 refuted_over steps script as' (Err (faults.Item i f)) claim h = absurd (cc)
 refuted_over steps script as' (Err (faults.Lacks m)) claim h = absurd (cc)
@@ -395,27 +394,19 @@ invalid_means laws options script answers st at' ls v rs ra j verdict h =
     let k = checks_in before + 1 in
     let n = length before + 1 in
     let names = signature_after before in
-    let assertions = assertions_after before in
-    let claimed = claims_after before in
+    let claimed = claims_of_check before p.command in
     let ms = models_from (n + 1) (window at_pair.last) in
     let found = sat_refuted options.limit.steps k n names claimed ms (not (is_empty ms))
     (unconfirmed_line options.limit.steps k n names claimed ms)
     refl check.line in
-    let over = refuted_over options.limit.steps names assertions (model_in names found.model.model.parts)
+    let over = refuted_over options.limit.steps names claimed (model_in names found.model.model.parts)
     found.model.refuted.claim found.model.refuted.found in
-    let standing = laws.found (effective_commands before)
-    over.2.first over.2.last over.2.assertion over.2.place in
-    let source = comes_from before standing.0 standing.1 over.2.assertion standing.2 standing.3 standing.4 in
-    let asserted = source.asserted in
-    let q = asserted.pair in
+    let source = claimed_from laws.found before p over.2.first over.2.last over.2.claimed over.2.place in
     let l1 = lines_in options.limit.steps true [] before ((p ∷ at_pair.last) ++ []) in
     let l2 = lines_in options.limit.steps true (before ++ p ∷ []) at_pair.last [] in
-    let claim = claims.Assertion (length source.earlier + 1) in
+    let claim = over.2.claimed.claim in
     let line = lines.Refuted k n found.model.model.command claim in
-    let same : found.model.refuted.claim ≡ claim = sym over.2.claim_is ∙ ap claims.Assertion source.number in
-    let far : j.pairs ≡ source.earlier ++ q ∷ (asserted.between ++ p ∷ at_pair.last) =
-    at_pair.place ∙ ap (λ (b : List Pair). b ++ p ∷ at_pair.last) asserted.place
-    ∙ append_assoc source.earlier (q ∷ asserted.between) (p ∷ at_pair.last) in
+    let same : found.model.refuted.claim ≡ claim = sym over.2.claim_is in
     let here : lines_of_pair options.limit.steps true before p at_pair.last ≡ line ∷ [] =
     lines_of_sat_at options.limit.steps before at_pair.last p check.sat ∙ found.lines_are
     ∙ ap (λ (l : Line). l ∷ []) found.model.refuted.line_is
@@ -440,14 +431,13 @@ invalid_means laws options script answers st at' ls v rs ra j verdict h =
           found.model.model.parts over.0 (subst (AreFaultless []) at_pair.place j.ends.paired.faultless)
           over.1;
       claim = claim;
-      earlier = source.earlier;
-      term = over.2.assertion.term;
-      claimed = (asserted, refl);
-      sorted = asserted_formula source.earlier q over.2.assertion.term asserted.command asserted.effective
-          (faultless_at [] source.earlier q (asserted.between ++ p ∷ at_pair.last)
-          (subst (AreFaultless []) far j.ends.paired.faultless));
-      false_in = λ z. closed_value laws z (structure_at over.0 before) over.2.assertion.term (Truth false)
-          (is_false_value (known_over (structure_at over.0 before) over.2.assertion.term) over.2.passes);
+      earlier = source.0;
+      term = over.2.claimed.term;
+      claimed = source.1;
+      sorted = claim_sorted j.pairs before at_pair.last p at_pair.place j.ends.paired.faultless check.sat claim
+          source.0 over.2.claimed.term source.1;
+      false_in = λ z. closed_value laws z (structure_at over.0 before) over.2.claimed.term (Truth false)
+          (is_false_value (known_over (structure_at over.0 before) over.2.claimed.term) over.2.passes);
       lines_before = l1;
       lines_after = l2 ++ end;
       line = j.lines_are

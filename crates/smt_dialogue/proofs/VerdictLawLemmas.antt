@@ -13,16 +13,15 @@ use Rattle.smt_eval.specs.Meaning.{value_over}
 use Rattle.smt_eval.specs.Model.{model_in}
 use Rattle.smt_eval.specs.Structure.{IsStructure}
 use Rattle.smt_eval.specs.declared.model_fault.ModelFlaw.{ModelFlaw}
-use Rattle.smt_dialogue.proofs.ConfirmedLemmas.{asserted_by}
 use Rattle.smt_dialogue.specs.InForce.{signature_after}
 use Rattle.smt_dialogue.specs.Pairs.{Pair, checks_in}
-use Rattle.smt_dialogue.specs.Validity.{IsAsserted, IsClaimed, IsConfirmed, IsFullyPaired, IsInvalid}
-use Rattle.smt_dialogue.specs.Validity.{IsTrueModel, IsValid}
+use Rattle.smt_dialogue.specs.Validity.{IsAsserted, IsAssumed, IsClaimed, IsConfirmed, IsFullyPaired, IsInvalid}
+use Rattle.smt_dialogue.specs.Validity.{IsTrueModel, IsValid, names_of_claim}
 use Rattle.smt_dialogue.specs.VerdictLaws.{IsModelIn, IsSatOf}
 use Rattle.smt_dialogue.specs.Window.{Printed, models_from, structure_at, window}
 use Rattle.smt_dialogue.specs.declared.options.Options.{Options}
 use Rattle.smt_report.specs.declared.claim.Claim.{Claim}
-use Rattle.smt_report.specs.declared.claim.Claim.TheVariants.{Assertion}
+use Rattle.smt_report.specs.declared.claim.Claim.TheVariants.{Assertion, Assumption}
 use Rattle.smt_report.specs.declared.line.Line.{Line}
 use Rattle.smt_report.specs.declared.line.Line.TheVariants.{Refuted}
 
@@ -80,15 +79,32 @@ claimed : (before earlier : List Pair) (check : Pair) (term : Sexp) → IsAssert
     → IsClaimed before check (Assertion (length earlier + 1)) earlier term
 claimed before earlier check term asserted = (asserted, refl)
 
+with_ill_sorted_claim : (options : Options) (script answers : List ℕ) (before : List Pair) (check : Pair)
+    (after earlier : List Pair) (claim : Claim) (term : Sexp) → IsSatOf options script answers before check after
+    → IsClaimed before check claim earlier term
+    → (sort_in (names_of_claim claim (names_of (signature_after earlier))) [] term ≡ Ok Boolean → ⊥)
+    → IsValid options script answers → ⊥
+with_ill_sorted_claim options script answers before check after earlier claim term c is ill v =
+    let g = confirmed options script answers before check after c v in
+    ill (g.true_models.0.sorted claim earlier term is)
+
 pub with_ill_sorted : (options : Options) (script answers : List ℕ) (before : List Pair) (check : Pair)
     (after earlier : List Pair) (term : Sexp) → IsSatOf options script answers before check after
     → IsAsserted before earlier term
     → (sort_in (in_assertion (names_of (signature_after earlier))) [] term ≡ Ok Boolean → ⊥)
     → IsValid options script answers → ⊥
 with_ill_sorted options script answers before check after earlier term c asserted ill v =
-    let g = confirmed options script answers before check after c v in
-    ill (g.true_models.0.sorted (Assertion (length earlier + 1)) earlier term
-    (claimed before earlier check term asserted))
+    with_ill_sorted_claim options script answers before check after earlier (Assertion (length earlier + 1)) term c
+    (claimed before earlier check term asserted) ill v
+
+pub with_ill_sorted_assumption : (options : Options) (script answers : List ℕ) (before : List Pair) (check : Pair)
+    (after : List Pair) (place : ℕ) (term : Sexp) → IsSatOf options script answers before check after
+    → IsAssumed check place term
+    → (sort_in (names_of (signature_after before)) [] term ≡ Ok Boolean → ⊥)
+    → IsValid options script answers → ⊥
+with_ill_sorted_assumption options script answers before check after place term c assumed ill v =
+    with_ill_sorted_claim options script answers before check after before (Assumption place) term c
+    (refl, assumed) ill v
 
 -- the definitions of a model are those that it has
 same_definitions : (script : Signature) (parts : Sexps) (d e : Signature) → model_in script parts ≡ Ok d
@@ -110,6 +126,20 @@ structures_of options script answers before check after m definitions c i read v
       subst (λ (d : Signature). IsStructure (structure_at d before)) same one.structure,
     )
 
+with_untrue_claim : (options : Options) (script answers : List ℕ) (before : List Pair) (check : Pair)
+    (after : List Pair) (m : Printed) (definitions : Signature) (claim : Claim) (earlier : List Pair) (term : Sexp)
+    (z : DivisionByZero) → IsSatOf options script answers before check after → IsModelIn before after m
+    → model_in (signature_after before) m.parts ≡ Ok definitions → IsClaimed before check claim earlier term
+    → (value_over z (structure_at definitions before) [] term ≡ Truth true → ⊥)
+    → IsValid options script answers → ⊥
+with_untrue_claim options script answers before check after m definitions claim earlier term z c i read is untrue v
+    =
+    let one = true_model options script answers before check after m c i v in
+    let same = same_definitions (signature_after before)
+    m.parts one.definitions definitions one.model.read read in
+    untrue (ap (λ (d : Signature). value_over z (structure_at d before) [] term) (sym same)
+    ∙ one.true_in z claim earlier term is)
+
 pub with_untrue : (options : Options) (script answers : List ℕ) (before : List Pair) (check : Pair)
     (after : List Pair) (m : Printed) (definitions : Signature) (earlier : List Pair) (term : Sexp)
     (z : DivisionByZero) → IsSatOf options script answers before check after → IsModelIn before after m
@@ -117,13 +147,18 @@ pub with_untrue : (options : Options) (script answers : List ℕ) (before : List
     → (value_over z (structure_at definitions before) [] term ≡ Truth true → ⊥)
     → IsValid options script answers → ⊥
 with_untrue options script answers before check after m definitions earlier term z c i read asserted untrue v
-    =
-    let one = true_model options script answers before check after m c i v in
-    let same = same_definitions (signature_after before)
-    m.parts one.definitions definitions one.model.read read in
-    untrue (ap (λ (d : Signature). value_over z (structure_at d before) [] term) (sym same)
-    ∙ one.true_in z (Assertion (length earlier + 1)) earlier term
-    (claimed before earlier check term asserted))
+    = with_untrue_claim options script answers before check after m definitions (Assertion (length earlier + 1))
+    earlier term z c i read (claimed before earlier check term asserted) untrue v
+
+pub with_untrue_assumption : (options : Options) (script answers : List ℕ) (before : List Pair) (check : Pair)
+    (after : List Pair) (m : Printed) (definitions : Signature) (place : ℕ) (term : Sexp)
+    (z : DivisionByZero) → IsSatOf options script answers before check after → IsModelIn before after m
+    → model_in (signature_after before) m.parts ≡ Ok definitions → IsAssumed check place term
+    → (value_over z (structure_at definitions before) [] term ≡ Truth true → ⊥)
+    → IsValid options script answers → ⊥
+with_untrue_assumption options script answers before check after m definitions place term z c i read assumed untrue v
+    = with_untrue_claim options script answers before check after m definitions (Assumption place) before term z c i
+    read (refl, assumed) untrue v
 
 -- ## Invalid
 
@@ -145,46 +180,39 @@ pub not_both : (options : Options) (script answers : List ℕ) (ls : List Line) 
     → IsInvalid options script answers ls → ⊥
 not_both options script answers ls v i =
     let z : DivisionByZero = record { quotients = []; remainders = [] } in
-    with_untrue options script answers i.before i.check i.after i.model i.definitions i.earlier i.term z
-    (refuted_sat options script answers ls i) (refuted_model options script answers ls i)
-    i.model_of.read (asserted_by i.before i.check i.claim i.earlier i.term i.claimed)
+    with_untrue_claim options script answers i.before i.check i.after i.model i.definitions i.claim i.earlier
+    i.term z (refuted_sat options script answers ls i) (refuted_model options script answers ls i)
+    i.model_of.read i.claimed
     (not_true (value_over z (structure_at i.definitions i.before) [] i.term) (i.false_in z)) v
-
--- the claim of an assertion is that of its command
-claim_is : (before : List Pair) (check : Pair) (claim : Claim) (earlier : List Pair) (term : Sexp)
-    → IsClaimed before check claim earlier term → claim ≡ Assertion (length earlier + 1)
-claim_is before check (Assertion command) earlier term h = ap Assertion h.1
 
 pub what_is_false : (options : Options) (script answers : List ℕ) (ls : List Line)
     → IsInvalid options script answers ls
     → (before : List Pair) × (check : Pair) × (after : List Pair) × (model : Printed)
-    × (definitions : Signature) × (earlier : List Pair) × (term : Sexp)
+    × (definitions : Signature) × (claim : Claim) × (earlier : List Pair) × (term : Sexp)
     × IsSatOf options script answers before check after × IsModelIn before after model
     × IsModelOf (signature_after before) model.parts definitions
-    × IsStructure (structure_at definitions before) × IsAsserted before earlier term
-    × (sort_in (in_assertion (names_of (signature_after earlier))) [] term ≡ Ok Boolean)
+    × IsStructure (structure_at definitions before) × IsClaimed before check claim earlier term
+    × (sort_in (names_of_claim claim (names_of (signature_after earlier))) [] term ≡ Ok Boolean)
     × ((z : DivisionByZero) → value_over z (structure_at definitions before) [] term ≡ Truth false)
     × (first : List Line) × (last : List Line)
-    × (ls ≡ first ++ Refuted (checks_in before + 1) (length before + 1) model.command
-    (Assertion (length earlier + 1)) ∷ last)
+    × (ls ≡ first ++ Refuted (checks_in before + 1) (length before + 1) model.command claim ∷ last)
 what_is_false options script answers ls i = (
   i.before,
   i.check,
   i.after,
   i.model,
   i.definitions,
+  i.claim,
   i.earlier,
   i.term,
   refuted_sat options script answers ls i,
   refuted_model options script answers ls i,
   i.model_of,
   i.structure,
-  asserted_by i.before i.check i.claim i.earlier i.term i.claimed,
+  i.claimed,
   i.sorted,
   i.false_in,
   i.lines_before,
   i.lines_after,
-  i.line ∙ ap (λ (c : Claim). i.lines_before
-      ++ Refuted (checks_in i.before + 1) (length i.before + 1) i.model.command c ∷ i.lines_after)
-      (claim_is i.before i.check i.claim i.earlier i.term i.claimed),
+  i.line,
 )

@@ -6,8 +6,10 @@ use Rattle.std.specs.List.{AllByRecursion}
 use Rattle.smt_script.specs.Command.{asks_check, changes_force, closes_window, is_check, kind_of}
 use Rattle.smt_script.specs.declared.command.Kind.{Kind}
 use Rattle.smt_dialogue.proofs.InForceLemmas.{quiet}
-use Rattle.smt_dialogue.proofs.PairLemmas.{IsIdle, quiet_is_idle, refused_is_idle}
-use Rattle.smt_dialogue.specs.InForce.{assertions_after, signature_after}
+use Rattle.smt_script.specs.Stack.{literals_of}
+use Rattle.smt_dialogue.proofs.PairLemmas.{IsIdle, check_assumptions, kept_assumptions, quiet_is_idle}
+use Rattle.smt_dialogue.proofs.PairLemmas.{refused_assumptions, refused_is_idle}
+use Rattle.smt_dialogue.specs.InForce.{assertions_after, assumptions_after, signature_after}
 use Rattle.smt_dialogue.specs.Pairs.{Pair, is_effective}
 use Rattle.smt_dialogue.specs.Window.{closes, window}
 
@@ -71,6 +73,34 @@ nothing_changes before after first last check is parts =
       ap signature_after (sym (append_assoc before (check ∷ []) first)) ∙ there.0 ∙ here.signature,
       ap assertions_after (sym (append_assoc before (check ∷ []) first)) ∙ there.1 ∙ here.assertions,
     )
+
+-- pairs none of which ends a window leave the assumptions as they are
+open_keeps : (pairs : List Pair) (p : Pair) → closes p ≡ false
+    → assumptions_after (pairs ++ p ∷ []) ≡ assumptions_after pairs
+open_keeps pairs p h = by (is_check p.command) (closes_window p.command) refl refl h
+  where
+    by : (check changes : Bool) → is_check p.command ≡ check → closes_window p.command ≡ changes
+        → check || changes && is_effective p ≡ false
+        → assumptions_after (pairs ++ p ∷ []) ≡ assumptions_after pairs
+    by true changes is is' open' = absurd (cc)
+    by false true is is' open' = refused_assumptions pairs p open'
+    by false false is is' open' = kept_assumptions pairs p is is'
+
+all_keep : (before xs : List Pair) → AllByRecursion (λ (p : Pair). closes p ≡ false) xs
+    → assumptions_after (before ++ xs) ≡ assumptions_after before
+all_keep before [] h = ap assumptions_after (append-nil before)
+all_keep before (p ∷ ps) h =
+    ap assumptions_after (sym (append_assoc before (p ∷ []) ps))
+    ∙ all_keep (before ++ p ∷ []) ps h.1 ∙ open_keeps before p h.0
+
+pub assumed_in_window : (before after first last : List Pair) (check : Pair) → is_check check.command ≡ true
+    → is_effective check ≡ true → window after ≡ first ++ last
+    → assumptions_after (before ++ check ∷ first) ≡ literals_of check.command
+assumed_in_window before after first last check is effective parts =
+    let some = first_of (λ (p : Pair). closes p ≡ false) first last
+    (subst (AllByRecursion (λ (p : Pair). closes p ≡ false)) parts (all_open after)) in
+    ap assumptions_after (sym (append_assoc before (check ∷ []) first))
+    ∙ all_keep (before ++ check ∷ []) first some ∙ check_assumptions before check is effective
 
 -- behind a window stands nothing, or what ends it
 abbrev EndsSo : List Pair → List Pair → Type 0

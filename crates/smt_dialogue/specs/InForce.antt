@@ -4,7 +4,9 @@ use Rattle.std.specs.Prelude.{◌≡◌, ℕ, ◌+◌, List, [], ◌∷◌, ◌+
 use Rattle.std.specs.Prelude.{if◌then◌else◌}
 use Rattle.smt_terms.specs.Signature.{Signature}
 use Rattle.smt_script.specs.Command.{Command}
-use Rattle.smt_script.specs.Stack.{Assertion, assertions_in_force, depth_in_force, flaw_of_effect}
+use Rattle.smt_trees.specs.Sexp.{Sexp}
+use Rattle.smt_script.specs.Stack.{Assertion, assertions_in_force, assumptions_in_force, depth_in_force}
+use Rattle.smt_script.specs.Stack.{flaw_of_effect}
 use Rattle.smt_script.specs.Stack.{has_exited, print_success_in_force, signature_in_force}
 use Rattle.smt_faults.specs.declared.command_flaw.CommandFlaw.{CommandFlaw}
 use Rattle.smt_dialogue.specs.Answers.{need_of}
@@ -18,6 +20,10 @@ signature_after pairs = signature_in_force (effective_commands pairs)
 -- the assertions in force after pairs
 abbrev pub assertions_after : List Pair → List Assertion
 assertions_after pairs = assertions_in_force (effective_commands pairs)
+
+-- the assumptions after pairs: those of the last check, if nothing in force has changed since
+abbrev pub assumptions_after : List Pair → List Sexp
+assumptions_after pairs = assumptions_in_force (effective_commands pairs)
 
 -- whether `success` is printed after pairs, and what a command then needs of the answers. `initial` says
 -- whether it is at the start

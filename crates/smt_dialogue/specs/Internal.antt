@@ -8,3 +8,4 @@ pub mod ExchangeView
 pub mod SessionStep
 pub mod SessionView
 pub mod RunStep
+pub mod Claims

@@ -1,5 +1,5 @@
 -- What is found of a model. These are this project's rules.
-use Rattle.std.specs.Prelude.{ℕ, ◌+◌, List, [], ◌∷◌, Bool, true, false, not, Option, Some, None, Result, Ok, Err}
+use Rattle.std.specs.Prelude.{ℕ, ◌+◌, List, [], ◌∷◌, ◌++◌, Bool, true, false, not, Option, Some, None, Result, Ok, Err}
 use Rattle.std.specs.Prelude.{map, nat_lt, if◌then◌else◌}
 use Rattle.smt_trees.specs.Sexp.{Sexp, Sexps}
 use Rattle.smt_values.specs.KnownOperations.{is_known}
@@ -25,6 +25,15 @@ pub record Claimed : Type 0 where
 -- the claims that assertions are
 abbrev pub claims_of : List Assertion → List Claimed
 claims_of assertions = map (λ a. record { claim = claiming.Assertion a.command; term = a.term }) assertions
+
+-- the claims that assumptions are, the first of which has this place
+abbrev pub assumed_from : ℕ → List Sexp → List Claimed
+assumed_from place [] = []
+assumed_from place (t ∷ ts) = record { claim = claiming.Assumption place; term = t } ∷ assumed_from (place + 1) ts
+
+-- all that a check claims: the assertions in force, and behind them its assumptions
+abbrev pub all_claims : List Assertion → List Sexp → List Claimed
+all_claims assertions assumptions = claims_of assertions ++ assumed_from 1 assumptions
 
 -- the first claim whose term passes the test
 abbrev pub first_claim : (Sexp → Bool) → List Claimed → Option Claim

@@ -4,12 +4,13 @@ use Rattle.std.specs.Prelude.{None, codes, if◌then◌else◌}
 use Rattle.std.specs.List.{list_any}
 use Rattle.std.specs.Option.{option_or}
 use Rattle.smt_trees.specs.Sexp.{Sexp, is_symbol}
-use Rattle.smt_script.specs.Command.{is_check}
+use Rattle.smt_script.specs.Command.{Command, is_check}
+use Rattle.smt_script.specs.Stack.{literals_of}
 use Rattle.smt_dialogue.specs.InForce.{signature_after, assertions_after}
 use Rattle.smt_dialogue.specs.Answers.{is_error}
 use Rattle.smt_dialogue.specs.Pairs.{Pair, checks_in}
 use Rattle.smt_dialogue.specs.Window.{Printed, closes, models_from, window}
-use Rattle.smt_dialogue.specs.Judgement.{Claimed, claims_of, judgement_of}
+use Rattle.smt_dialogue.specs.Judgement.{Claimed, all_claims, judgement_of}
 use Rattle.smt_terms.specs.Signature.{Signature}
 use Rattle.smt_dialogue.specs.declared.judgement.Judgement.{Judgement}
 use Rattle.smt_dialogue.specs.declared.judgement.Judgement.TheVariants as judgements
@@ -70,23 +71,25 @@ abbrev pub unchecked_line_or : ℕ → ℕ → Option CheckAnswer → List Line 
 unchecked_line_or k n (Some answer) others = lines.Unchecked k n answer ∷ []
 unchecked_line_or k n None others = others
 
--- what a check behind pairs claims of its models: the assertions in force
-abbrev pub claims_after : List Pair → List Claimed
-claims_after pairs = claims_of (assertions_after pairs)
+-- what a check behind pairs claims of its models
+abbrev pub claims_of_check : List Pair → Command → List Claimed
+claims_of_check before check = all_claims (assertions_after before) (literals_of check)
 
--- the lines of a check with its answer
-abbrev pub lines_of_answer : ℕ → Bool → List Pair → ℕ → Option Sexp → List Pair → List Line
-lines_of_answer limit closed before k None after = []
-lines_of_answer limit closed before k (Some answer) after =
+-- the lines of a check with these claims and its answer
+abbrev pub lines_of_answer : ℕ → Bool → List Pair → List Claimed → ℕ → Option Sexp → List Pair → List Line
+lines_of_answer limit closed before claims k None after = []
+lines_of_answer limit closed before claims k (Some answer) after =
     let n = length before + 1 in
     unchecked_line_or k n (unchecked_answer answer)
     (if is_symbol (codes "sat") answer
-    then lines_of_sat limit closed k n (signature_after before) (claims_after before) (n + 1) after else [])
+    then lines_of_sat limit closed k n (signature_after before) claims (n + 1) after else [])
 
 -- the lines that a pair has, for what stands before and after it: a check has one, once it is decided
 abbrev pub lines_of_pair : ℕ → Bool → List Pair → Pair → List Pair → List Line
 lines_of_pair limit closed before pair after =
-    if is_check pair.command then lines_of_answer limit closed before (checks_in before + 1) pair.answer after
+    if is_check pair.command
+    then lines_of_answer limit closed before (claims_of_check before pair.command) (checks_in before + 1)
+    pair.answer after
     else []
 
 -- the lines that pairs have, for what stands before and after them; `closed` says that every window is closed

@@ -1,5 +1,5 @@
 -- What a valid and an invalid verdict mean, in the words of the standard and beside the report.
-use Rattle.std.specs.Prelude.{◌≡◌, ℕ, ◌+◌, List, [], ◌∷◌, ◌++◌, length, true, false, Some, Ok, codes}
+use Rattle.std.specs.Prelude.{◌≡◌, ℕ, ◌+◌, List, [], ◌∷◌, ◌++◌, length, true, false, Some, Ok, codes, slice_get}
 use Rattle.std.specs.List.{AllByRecursion}
 use Rattle.smt_text.specs.Grammar.{Forest, limit}
 use Rattle.smt_trees.specs.Sexp.{Sexp, Sexps, Nil, is_symbol}
@@ -7,12 +7,12 @@ use Rattle.smt_theory.specs.declared.sort.Sort.TheVariants.{Bool as Boolean}
 use Rattle.smt_values.specs.Element.{Truth}
 use Rattle.smt_values.specs.Operations.{DivisionByZero}
 use Rattle.smt_terms.specs.Checking.{sort_in}
-use Rattle.smt_terms.specs.Signature.{Signature, in_assertion, names_of}
+use Rattle.smt_terms.specs.Signature.{Names, Signature, in_assertion, names_of}
 use Rattle.smt_eval.specs.CompleteModel.{IsModelOf}
 use Rattle.smt_eval.specs.Meaning.{value_over}
 use Rattle.smt_eval.specs.Structure.{IsStructure}
 use Rattle.smt_script.specs.Command.{Assert}
-use Rattle.smt_script.specs.Stack.{Stands}
+use Rattle.smt_script.specs.Stack.{Stands, literals_of}
 use Rattle.smt_dialogue.specs.InForce.{signature_after}
 use Rattle.smt_script.specs.Command.{is_check}
 use Rattle.smt_dialogue.specs.Pairing.{IsPairing}
@@ -20,7 +20,7 @@ use Rattle.smt_dialogue.specs.Pairs.{Pair, checks_in, effective_commands, is_eff
 use Rattle.smt_dialogue.specs.declared.options.Options.{Options}
 use Rattle.smt_dialogue.specs.Window.{Printed, models_from, structure_at, window}
 use Rattle.smt_report.specs.declared.claim.Claim.{Claim}
-use Rattle.smt_report.specs.declared.claim.Claim.TheVariants.{Assertion}
+use Rattle.smt_report.specs.declared.claim.Claim.TheVariants.{Assertion, Assumption}
 use Rattle.smt_report.specs.declared.line.Line.{Line}
 use Rattle.smt_report.specs.declared.line.Line.TheVariants.{Refuted}
 
@@ -50,22 +50,34 @@ pub record IsAsserted (before : List Pair) (earlier : List Pair) (term : Sexp) :
   pub stands : Stands (effective_commands before) (effective_commands earlier)
       (record { number = length earlier + 1; command = pair.command })
 
+-- the term is the assumption of the check at this place, which counts from 1
+abbrev pub IsAssumed : (check : Pair) → (place : ℕ) → (term : Sexp) → Type 0
+IsAssumed check place term =
+    (k : ℕ) × (place ≡ k + 1) × (slice_get (literals_of check.command) k ≡ Some term)
+
 -- a check behind pairs claims the term of each of its models, the term having been read behind the earlier
--- pairs: it is an assertion in force
+-- pairs: it is an assertion in force, or an assumption of the check itself
 abbrev pub IsClaimed : (before : List Pair) (check : Pair) → Claim → (earlier : List Pair) (term : Sexp)
     → Type 0
 IsClaimed before check (Assertion command) earlier term =
     IsAsserted before earlier term × (command ≡ length earlier + 1)
+IsClaimed before check (Assumption place) earlier term = (earlier ≡ before) × IsAssumed check place term
+
+-- the names under which a claim is read: an assertion may have labels
+abbrev pub names_of_claim : Claim → Names → Names
+names_of_claim (Assertion command) names = in_assertion names
+names_of_claim (Assumption place) names = names
 
 -- the parts are those of a model of the names in force, whose definitions and the script's behind them give a
--- structure. And all that the check claims, every assertion in force, is well sorted under the names in force
--- before its command, and true in that structure, whatever division by zero gives
+-- structure. And all that the check claims, every assertion in force and every assumption of the check, is well
+-- sorted under the names in force before its command, and true in that structure, whatever division by zero
+-- gives
 pub record IsTrueModel (before : List Pair) (check : Pair) (parts : Sexps) : Type 0 where
   pub definitions : Signature
   pub model : IsModelOf (signature_after before) parts definitions
   pub structure : IsStructure (structure_at definitions before)
   pub sorted : (claim : Claim) (earlier : List Pair) (term : Sexp) → IsClaimed before check claim earlier term
-      → sort_in (in_assertion (names_of (signature_after earlier))) [] term ≡ Ok Boolean
+      → sort_in (names_of_claim claim (names_of (signature_after earlier))) [] term ≡ Ok Boolean
   pub true_in : (z : DivisionByZero) (claim : Claim) (earlier : List Pair) (term : Sexp)
       → IsClaimed before check claim earlier term
       → value_over z (structure_at definitions before) [] term ≡ Truth true
@@ -92,7 +104,7 @@ pub record IsValid (options : Options) (script answers : List ℕ) : Type 0 wher
 
 -- what an invalid verdict means: in the window of a check that was answered `sat` stands a model of the names
 -- in force, which with the script's definitions gives a structure that makes a claim of the check, a
--- well-sorted assertion in force, false, whatever division by zero gives, and the report has the line that
+-- well-sorted assertion in force or assumption, false, whatever division by zero gives, and the report has the line that
 -- says so
 pub record IsInvalid (options : Options) (script answers : List ℕ) (ls : List Line) : Type 0 where
   pub pairs : List Pair
@@ -113,7 +125,7 @@ pub record IsInvalid (options : Options) (script answers : List ℕ) (ls : List 
   pub earlier : List Pair
   pub term : Sexp
   pub claimed : IsClaimed before check claim earlier term
-  pub sorted : sort_in (in_assertion (names_of (signature_after earlier))) [] term ≡ Ok Boolean
+  pub sorted : sort_in (names_of_claim claim (names_of (signature_after earlier))) [] term ≡ Ok Boolean
   pub false_in : (z : DivisionByZero) → value_over z (structure_at definitions before) [] term ≡ Truth false
   pub lines_before : List Line
   pub lines_after : List Line

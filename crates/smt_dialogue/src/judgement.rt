@@ -9,18 +9,19 @@ ghost use Rattle.smt_terms.specs.Library as libraries;
 ghost use Rattle.smt_terms.specs.Signature.{Signature};
 ghost use Rattle.smt_eval.specs.Interpretation.{Fits, IsInterpretation, KeepsCosts, Serves};
 ghost use Rattle.smt_eval.specs.Structure.{structure_of};
-ghost use Rattle.smt_script.specs.Stack as stacks;
-ghost use Rattle.smt_script.specs.Stack.{Numbered, assertions_in_force, signature_in_force};
-ghost use Rattle.smt_script.specs.StackView.{AreAssertions, StandsFor};
+ghost use Rattle.smt_script.specs.Stack.{Numbered, signature_in_force};
+ghost use Rattle.smt_script.specs.StackView.{StandsFor};
+ghost use Rattle.smt_dialogue.specs.Internal.Claims.{AreClaimed, claims_in_force, claims_left};
 ghost use Rattle.smt_dialogue.specs.Judgement as spec;
-ghost use Rattle.smt_dialogue.specs.Judgement.{claims_cost, claims_of, judged_over, judged_within};
+ghost use Rattle.smt_dialogue.specs.Judgement.{Claimed, claims_cost, judged_over, judged_within};
 ghost use Rattle.smt_dialogue.specs.Judgement.{judgement_of};
 
+use crate::claims::Claims;
 use crate::options::Limit;
 use smt_eval::{Interpretation, Machine, Memory, ModelFlaw, cost_within, eval_by};
 use smt_faults::TermFlaw;
 use smt_report::Claim;
-use smt_script::{Assertion, Stack};
+use smt_script::Stack;
 use smt_terms::Library;
 use smt_trees::Trees;
 use smt_values::Value;
@@ -47,12 +48,12 @@ pub(crate) fn judge(stack: &Stack, model: &Trees, limit: Limit) -> Result<Judgem
     requires { (commands : List Numbered) × StandsFor stack.now commands }
     ensures { (commands : List Numbered) → StandsFor stack.now commands
         → IfOk result (λ j. j ≡ judgement_of limit.steps (signature_in_force commands)
-        (claims_of (assertions_in_force commands)) model.now) }
+        (claims_in_force commands) model.now) }
 {
     let library = stack.library();
     match Interpretation::read(library, model) {
         Ok(mut interpretation) => {
-            let judgement = judge_read(library, &mut interpretation, stack.assertions(), limit);
+            let judgement = judge_read(library, &mut interpretation, Claims::new(stack), limit);
             drop(interpretation);
             judgement
         }
@@ -79,127 +80,112 @@ fn judgement_of_flaw(flaw: ModelFlaw) -> Judgement
 fn judge_read(
     library: &Library,
     interpretation: &mut Interpretation,
-    assertions: &[Assertion],
+    claims: Claims<'_>,
     limit: Limit,
 ) -> Result<Judgement, Memory>
-    requires terms { (all : List stacks.Assertion)
-        × AreAssertions (contents_of library.now) assertions.now all }
+    requires terms { (all : List Claimed) × AreClaimed (contents_of library.now) (claims_left claims) all }
     requires fits { Fits interpretation.old library.now }
     requires costs { KeepsCosts interpretation.old library.now }
-    ensures { (script definitions : Signature) (all : List stacks.Assertion)
+    ensures { (script definitions : Signature) (all : List Claimed)
         → libraries.StandsFor library.now script → IsInterpretation interpretation.old script definitions
-        → AreAssertions (contents_of library.now) assertions.now all
+        → AreClaimed (contents_of library.now) (claims_left claims.entry) all
         → IfOk result (λ j. j
-        ≡ judged_within limit.steps (claims_of all) (structure_of script definitions)) }
+        ≡ judged_within limit.steps all (structure_of script definitions)) }
 {
     if library.nodes().len() as u64 > limit.steps {
-        return judge_within(library, interpretation, assertions, limit);
+        return judge_within(library, interpretation, claims, limit);
     }
     interpretation.count(library)?;
-    judge_within(library, interpretation, assertions, limit)
+    judge_within(library, interpretation, claims, limit)
 }
 
-// What is found of assertions over the definitions of a model and the script's own: nothing is evaluated
+// What is found of claims over the definitions of a model and the script's own: nothing is evaluated
 // before it is known that the limit is enough for all.
 fn judge_within(
     library: &Library,
     interpretation: &Interpretation,
-    assertions: &[Assertion],
+    claims: Claims<'_>,
     limit: Limit,
 ) -> Result<Judgement, Memory>
-    requires terms { (all : List stacks.Assertion)
-        × AreAssertions (contents_of library.now) assertions.now all }
+    requires terms { (all : List Claimed) × AreClaimed (contents_of library.now) (claims_left claims) all }
     requires fits { Fits interpretation.now library.now }
     requires costs { KeepsCosts interpretation.now library.now }
-    ensures { (script definitions : Signature) (all : List stacks.Assertion)
+    ensures { (script definitions : Signature) (all : List Claimed)
         → libraries.StandsFor library.now script → IsInterpretation interpretation.now script definitions
-        → AreAssertions (contents_of library.now) assertions.now all
+        → AreClaimed (contents_of library.now) (claims_left claims.entry) all
         → IfOk result (λ j. j
-        ≡ judged_within limit.steps (claims_of all) (structure_of script definitions)) }
+        ≡ judged_within limit.steps all (structure_of script definitions)) }
 {
-    let Some(mut steps) = cost_of_all(library, interpretation, assertions, limit)? else {
+    let Some(mut steps) = cost_of_all(library, interpretation, claims, limit)? else {
         return Ok(Judgement::TooLong);
     };
     let mut machine = Machine::new(library.alloc());
-    let judgement = judge_assertions(
-        &mut machine,
-        library,
-        interpretation,
-        assertions,
-        &mut steps,
-    );
+    let judgement = judge_claims(&mut machine, library, interpretation, claims, &mut steps);
     drop(machine);
     judgement
 }
 
-// What the evaluation of all assertions costs, if it is no more than the limit.
+// What the evaluation of all claims costs, if it is no more than the limit.
 fn cost_of_all(
     library: &Library,
     interpretation: &Interpretation,
-    assertions: &[Assertion],
+    claims: Claims<'_>,
     limit: Limit,
 ) -> Result<Option<u64>, Memory>
-    requires terms { (all : List stacks.Assertion)
-        × AreAssertions (contents_of library.now) assertions.now all }
+    requires terms { (all : List Claimed) × AreClaimed (contents_of library.now) (claims_left claims) all }
     requires fits { Fits interpretation.now library.now }
     requires costs { KeepsCosts interpretation.now library.now }
-    ensures { (script definitions : Signature) (all : List stacks.Assertion)
+    ensures { (script definitions : Signature) (all : List Claimed)
         → libraries.StandsFor library.now script → IsInterpretation interpretation.now script definitions
-        → AreAssertions (contents_of library.now) assertions.now all
+        → AreClaimed (contents_of library.now) (claims_left claims.entry) all
         → IfOk result (λ cost. cost
-        ≡ within limit.steps (claims_cost (structure_of script definitions) (claims_of all))) }
+        ≡ within limit.steps (claims_cost (structure_of script definitions) all)) }
 {
     let mut steps = limit.steps;
-    let mut left = assertions;
-    while let Some((assertion, rest)) = left.split_first() {
-        let Some(cost) = cost_within(library, interpretation, assertion.term, steps)? else {
+    let mut left = claims;
+    while let Some(next) = left.next() {
+        let Some(cost) = cost_within(library, interpretation, next.term, steps)? else {
             return Ok(None);
         };
         steps -= cost;
-        left = rest;
     }
     Ok(Some(limit.steps - steps))
 }
 
-// The first assertion that is false over the definitions of a model and the script's own, else the first that
-// is open, as a claim. There are steps enough for all.
-fn judge_assertions(
+// The first claim that is false over the definitions of a model and the script's own, else the first that is
+// open. There are steps enough for all.
+fn judge_claims(
     machine: &mut Machine,
     library: &Library,
     interpretation: &Interpretation,
-    assertions: &[Assertion],
+    claims: Claims<'_>,
     steps: &mut u64,
 ) -> Result<Judgement, Memory>
-    requires terms { (all : List stacks.Assertion)
-        × AreAssertions (contents_of library.now) assertions.now all }
+    requires terms { (all : List Claimed) × AreClaimed (contents_of library.now) (claims_left claims) all }
     requires fits { Fits interpretation.now library.now }
-    requires enough { (script definitions : Signature) (all : List stacks.Assertion)
+    requires enough { (script definitions : Signature) (all : List Claimed)
         → libraries.StandsFor library.now script → IsInterpretation interpretation.now script definitions
-        → AreAssertions (contents_of library.now) assertions.now all
-        → claims_cost (structure_of script definitions) (claims_of all) ≤ steps.old }
+        → AreClaimed (contents_of library.now) (claims_left claims) all
+        → claims_cost (structure_of script definitions) all ≤ steps.old }
     requires serves { Serves machine.old interpretation.now library.now }
-    ensures { (script definitions : Signature) (all : List stacks.Assertion)
+    ensures { (script definitions : Signature) (all : List Claimed)
         → libraries.StandsFor library.now script → IsInterpretation interpretation.now script definitions
-        → AreAssertions (contents_of library.now) assertions.now all
-        → IfOk result (λ j. j ≡ judged_over (claims_of all) (structure_of script definitions)) }
+        → AreClaimed (contents_of library.now) (claims_left claims.entry) all
+        → IfOk result (λ j. j ≡ judged_over all (structure_of script definitions)) }
 {
     let mut first_open = None;
-    let mut left = assertions;
-    while let Some((assertion, rest)) = left.split_first() {
-        let claim = Claim::Assertion {
-            command: assertion.command,
-        };
-        let value = eval_by(machine, library, interpretation, assertion.term, steps)?;
+    let mut left = claims;
+    while let Some(next) = left.next() {
+        let value = eval_by(machine, library, interpretation, next.term, steps)?;
         match truth_of(value) {
             Some(true) => {}
-            Some(false) => return Ok(Judgement::Refuted { claim }),
+            Some(false) => return Ok(Judgement::Refuted { claim: next.claim }),
             None => {
                 if first_open.is_none() {
-                    first_open = Some(claim);
+                    first_open = Some(next.claim);
                 }
             }
         }
-        left = rest;
     }
     Ok(match first_open {
         Some(claim) => Judgement::NotDecided { claim },

@@ -18,20 +18,21 @@ ghost use Rattle.smt_eval.specs.Model.{model_in};
 ghost use Rattle.smt_eval.specs.Structure.{IsStructure, structure_of};
 ghost use Rattle.smt_eval.specs.declared.model_fault.ModelFlaw.{ModelFlaw};
 ghost use Rattle.smt_script.specs.Command.{Assert};
-ghost use Rattle.smt_script.specs.Stack.{Assertion as Asserted, is_reset};
-ghost use Rattle.smt_dialogue.specs.InForce.{assertions_after, levels_after, signature_after};
+ghost use Rattle.smt_script.specs.Stack.{Assertion as Asserted, is_reset, literals_of};
+ghost use Rattle.smt_dialogue.specs.InForce.{assertions_after, assumptions_after, levels_after, signature_after};
 ghost use Rattle.smt_script.specs.Command.{is_check};
 ghost use Rattle.smt_dialogue.specs.Judgement.{Claimed, claims_cost, judgement_of};
 ghost use Rattle.smt_dialogue.specs.Pairing.{IsPairing};
 ghost use Rattle.smt_dialogue.specs.Pairs.{Pair, checks_in, is_effective};
 ghost use Rattle.smt_dialogue.specs.FirstFault.{Ends, IsRest, TextSoFar, Turn};
 ghost use Rattle.smt_dialogue.specs.Report.{IsReport, IsTurn};
-ghost use Rattle.smt_dialogue.specs.Validity.{IsAsserted, IsFullyPaired, IsInvalid, IsValid};
+ghost use Rattle.smt_dialogue.specs.Validity.{IsAsserted, IsAssumed, IsClaimed, IsFullyPaired, IsInvalid, IsValid};
+ghost use Rattle.smt_dialogue.specs.Validity.{names_of_claim};
 ghost use Rattle.smt_dialogue.specs.VerdictLaws.{IsModelIn, IsSatOf};
 ghost use Rattle.smt_dialogue.specs.Window.{Printed, closes, models_from, structure_at, window};
 ghost use Rattle.smt_dialogue.specs.declared.judgement.Judgement.TheVariants.{TooLong};
 ghost use Rattle.smt_dialogue.specs.declared.options.Options.{Options};
-ghost use Rattle.smt_report.specs.declared.claim.Claim.TheVariants.{Assertion};
+ghost use Rattle.smt_report.specs.declared.claim.Claim.{Claim};
 ghost use Rattle.smt_report.specs.declared.line.Line.{Line};
 ghost use Rattle.smt_report.specs.declared.line.Line.TheVariants.{Refuted};
 
@@ -126,6 +127,15 @@ pub fn ill_sorted_assertion_is_not_valid()
         → IsValid options script answers → ⊥ }
 {}
 
+/// A dialogue with a check that was answered `sat`, of which an assumption is no formula, is not valid.
+pub fn ill_sorted_assumption_is_not_valid()
+    ensures { (options : Options) (script answers : List ℕ) (before after : List Pair) (check : Pair)
+        (place : ℕ) (term : Sexp)
+        → IsSatOf options script answers before check after → IsAssumed check place term
+        → (sort_in (names_of (signature_after before)) [] term ≡ Ok Boolean → ⊥)
+        → IsValid options script answers → ⊥ }
+{}
+
 /// In a valid dialogue the definitions of a model of a `sat` are those of a model of the names in force, and
 /// with the script's own behind them they are a structure: each well sorted over the earlier ones, and none
 /// twice.
@@ -150,24 +160,35 @@ pub fn untrue_assertion_is_not_valid()
         → IsValid options script answers → ⊥ }
 {}
 
+/// A dialogue in which a model of a check that was answered `sat` makes an assumption of the check other than
+/// true, for one choice at least of what division by zero gives, is not valid.
+pub fn untrue_assumption_is_not_valid()
+    ensures { (options : Options) (script answers : List ℕ) (before after : List Pair) (check : Pair)
+        (model : Printed)
+        (definitions : Signature) (place : ℕ) (term : Sexp) (z : DivisionByZero)
+        → IsSatOf options script answers before check after → IsModelIn before after model
+        → model_in (signature_after before) model.parts ≡ Ok definitions → IsAssumed check place term
+        → (value_over z (structure_at definitions before) [] term ≡ Truth true → ⊥)
+        → IsValid options script answers → ⊥ }
+{}
+
 /// An invalid dialogue has a check that was answered `sat`, with a complete model in its window that makes an
-/// assertion in force, which is a formula, false in the structure that it gives, whatever division by zero
-/// gives; and the line that names the three.
+/// assertion in force or an assumption of the check, which is a formula, false in the structure that it gives,
+/// whatever division by zero gives; and the line that names the three.
 pub fn invalid_names_what_is_false()
     ensures { (options : Options) (script answers : List ℕ) (ls : List Line)
         → IsInvalid options script answers ls
         → (before : List Pair) × (check : Pair) × (after : List Pair) × (model : Printed)
-        × (definitions : Signature)
+        × (definitions : Signature) × (claim : Claim)
         × (earlier : List Pair) × (term : Sexp) × IsSatOf options script answers before check after
         × IsModelIn before after model
         × IsModelOf (signature_after before) model.parts definitions
         × IsStructure (structure_at definitions before)
-        × IsAsserted before earlier term
-        × (sort_in (in_assertion (names_of (signature_after earlier))) [] term ≡ Ok Boolean)
+        × IsClaimed before check claim earlier term
+        × (sort_in (names_of_claim claim (names_of (signature_after earlier))) [] term ≡ Ok Boolean)
         × ((z : DivisionByZero) → value_over z (structure_at definitions before) [] term ≡ Truth false)
         × (first : List Line) × (last : List Line)
-        × (ls ≡ first ++ Refuted (checks_in before + 1) (length before + 1) model.command
-        (Assertion (length earlier + 1)) ∷ last) }
+        × (ls ≡ first ++ Refuted (checks_in before + 1) (length before + 1) model.command claim ∷ last) }
 {}
 
 /// A model is too long exactly where it is one of the names in force, and what is claimed of it costs more than
@@ -183,13 +204,16 @@ pub fn too_long_models_cost_more_than_the_limit()
         → judgement_of steps names claims parts ≡ TooLong }
 {}
 
-/// In the window of a check nothing that is in force changes, and it goes on to the first command that ends
-/// it.
+/// In the window of a check nothing that is in force changes, nor do its assumptions, where it took effect, and
+/// it goes on to the first command that ends it.
 pub fn nothing_changes_in_a_window()
     ensures unchanged { (before after first last : List Pair) (check : Pair) → is_check check.command ≡ true
         → window after ≡ first ++ last
         → (signature_after (before ++ check ∷ first) ≡ signature_after before)
         × (assertions_after (before ++ check ∷ first) ≡ assertions_after before) }
+    ensures assumed { (before after first last : List Pair) (check : Pair) → is_check check.command ≡ true
+        → is_effective check ≡ true → window after ≡ first ++ last
+        → assumptions_after (before ++ check ∷ first) ≡ literals_of check.command }
     ensures ends { (pairs : List Pair) → (rest : List Pair) × (pairs ≡ window pairs ++ rest)
         × ((next : Pair) (later : List Pair) → rest ≡ next ∷ later → closes next ≡ true) }
 {}

@@ -8,6 +8,7 @@
 
 mod answer;
 mod answering;
+mod claims;
 mod decided;
 mod dialogue;
 mod exchange;

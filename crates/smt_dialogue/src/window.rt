@@ -5,13 +5,14 @@ ghost use Rattle.std.specs.Prelude.{◌≡◌, ◌<◌, ◌+◌, ◌^◌, ◌++�
 ghost use Rattle.std.specs.Prelude.{option_map};
 ghost use Rattle.smt_trees.specs.Tree.{sexp_of};
 ghost use Rattle.smt_script.specs.CommandView.{command_view};
-ghost use Rattle.smt_script.specs.Stack.{Numbered, assertions_in_force, signature_in_force};
+ghost use Rattle.smt_script.specs.Stack.{Numbered, signature_in_force};
 ghost use Rattle.smt_script.specs.StackView.{StandsFor};
 ghost use Rattle.smt_dialogue.specs.Lines as check_lines;
 ghost use Rattle.smt_dialogue.specs.Internal.ChecksState as state;
 ghost use Rattle.smt_dialogue.specs.Internal.ChecksState.{IsAnswered, checks_after, checks_state, with_check};
 ghost use Rattle.smt_dialogue.specs.Internal.ChecksState.{with_line, with_models, with_window_ended};
-ghost use Rattle.smt_dialogue.specs.Judgement.{claims_of, judgement_of};
+ghost use Rattle.smt_dialogue.specs.Internal.Claims.{claims_in_force};
+ghost use Rattle.smt_dialogue.specs.Judgement.{judgement_of};
 
 use crate::answer::is_error;
 use crate::judgement::{Judgement, judge};
@@ -88,7 +89,7 @@ impl Checks {
         ensures checks { OnOk result ((commands : List Numbered) → StandsFor stack.now commands
             → checks_state self.new
             ≡ checks_after effective (checks_state self.old) (signature_in_force commands)
-            (claims_of (assertions_in_force commands)) number role (option_map sexp_of answer.now)) }
+            (claims_in_force commands) number role (option_map sexp_of answer.now)) }
     {
         match role {
             Role::Check => match answer {
@@ -138,7 +139,7 @@ impl Checks {
         ensures limit { self.new.limit ≡ self.old.limit }
         ensures checks { OnOk result ((commands : List Numbered) → StandsFor stack.now commands
             → checks_state self.new ≡ with_models (checks_state self.old) self.old.pending
-            (signature_in_force commands) (claims_of (assertions_in_force commands)) number effective
+            (signature_in_force commands) (claims_in_force commands) number effective
             (option_map sexp_of answer.now)) }
     {
         match (self.pending, answer) {
@@ -163,7 +164,7 @@ impl Checks {
             → checks_state self.new
             ≡ with_line (checks_state self.old) pending
             (check_lines.line_of_judgement pending.check pending.command number
-            (judgement_of self.old.limit.steps (signature_in_force commands) (claims_of (assertions_in_force commands))
+            (judgement_of self.old.limit.steps (signature_in_force commands) (claims_in_force commands)
             model.now))) }
     {
         let judgement = judge(stack, model, self.limit)?;

@@ -2,7 +2,7 @@
 use Rattle.std.specs.Prelude.{ℕ, List, ◌++◌, codes}
 use Rattle.std.specs.Fmt.{decimal}
 use Rattle.smt_report.specs.declared.claim.Claim.{Claim}
-use Rattle.smt_report.specs.declared.claim.Claim.TheVariants.{Assertion}
+use Rattle.smt_report.specs.declared.claim.Claim.TheVariants.{Assertion, Assumption}
 use Rattle.smt_report.specs.declared.line.CheckAnswer.{CheckAnswer}
 use Rattle.smt_report.specs.declared.line.CheckAnswer.TheVariants.{Unsat, Unknown, Unsupported, Error}
 use Rattle.smt_report.specs.declared.line.Line.{Line}
@@ -26,6 +26,12 @@ text_of_answer Error = codes "error"
 
 abbrev pub text_of_claim : Claim → List ℕ
 text_of_claim (Assertion command) = codes "assertion of command " ++ decimal command
+text_of_claim (Assumption place) = codes "assumption " ++ decimal place
+
+-- that it refutes a model
+abbrev pub text_of_refuted : Claim → List ℕ
+text_of_refuted (Assertion command) = codes "refuted by the " ++ text_of_claim (Assertion command)
+text_of_refuted (Assumption place) = codes "refuted by " ++ text_of_claim (Assumption place)
 
 abbrev pub text_of_side : Side → List ℕ
 text_of_side Script = codes "script"
@@ -64,7 +70,7 @@ text_of (Lacks check command model declaration) =
     model_line check command model (codes ": lacks the symbol of command " ++ decimal declaration)
 text_of (TooLong check command model) = model_line check command model (codes ": too long")
 text_of (Refuted check command model claim) =
-    model_line check command model (codes ": refuted by the " ++ text_of_claim claim)
+    model_line check command model (codes ": " ++ text_of_refuted claim)
 text_of (NotDecided check command model claim) =
     model_line check command model (codes ": " ++ (text_of_claim claim ++ codes " not decided"))
 text_of (TextFault side flaw) =

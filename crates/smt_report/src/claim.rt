@@ -2,11 +2,14 @@
 
 use std::fmt;
 
-/// A formula that a model of a check has to make true. Commands count from 1.
+/// A formula that a model of a check has to make true. Commands count from 1, and so do the assumptions of the
+/// check.
 #[derive(Clone, Copy)]
 pub enum Claim {
     /// The assertion of a command.
     Assertion { command: u64 },
+    /// The assumption at a place among those of the check.
+    Assumption { place: u64 },
 }
 
 impl fmt::Display for Claim {
@@ -18,6 +21,7 @@ impl fmt::Display for Claim {
     fn fmt<W: fmt::Write>(&self, f: &mut fmt::Formatter<W>) -> fmt::Result {
         match self {
             Claim::Assertion { command } => write!(f, "assertion of command {command}"),
+            Claim::Assumption { place } => write!(f, "assumption {place}"),
         }
     }
 }

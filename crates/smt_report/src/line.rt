@@ -272,7 +272,10 @@ impl fmt::Display for Finding<'_> {
                 "lacks the symbol of command {declaration}"
             ),
             Line::TooLong { .. } => f.write_str("too long"),
-            Line::Refuted { claim, .. } => write!(f, "refuted by the {claim}"),
+            Line::Refuted { claim, .. } => match claim {
+                Claim::Assertion { .. } => write!(f, "refuted by the {claim}"),
+                Claim::Assumption { .. } => write!(f, "refuted by {claim}"),
+            },
             Line::NotDecided { claim, .. } => write!(f, "{claim} not decided"),
             _ => Ok(()),
         }

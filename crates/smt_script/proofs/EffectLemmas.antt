@@ -1,10 +1,13 @@
 -- What each command does to a stack.
 use Rattle.std.proofs.Common.{◌≡◌, ◌≤◌, ℕ, ◌+◌, zero, suc, List, [], ◌∷◌, ◌++◌, inl, inr, Bool, false}
 use Rattle.std.proofs.Common.{◌||◌, Option, None, Some, Result, Ok, length, slice_get, take, refl, ap}
-use Rattle.std.proofs.Common.{sym, subst, ◌∙◌, arith}
+use Rattle.std.proofs.Common.{append_assoc, sym, subst, ◌∙◌, arith}
 use Rattle.std.proofs.lemmas.List.{append-nil, length-append}
+use Rattle.std.proofs.lemmas.List.Sums.{fold-append}
 use Rattle.std.specs.Global.{Vec}
-use Rattle.smt_trees.specs.Sexp.{Sexp, Sexps, Nil}
+use Rattle.std.specs.Option.{option_or}
+use Rattle.smt_trees.specs.Sexp.{Sexp, Sexps, Nil, Cons}
+use Rattle.smt_terms.specs.Checking.{sort_in}
 use Rattle.smt_theory.specs.Theories.{theories_named}
 use Rattle.smt_theory.specs.declared.sort.Sort.{Sort}
 use Rattle.smt_theory.specs.declared.theories.Theories.{Theories}
@@ -14,13 +17,15 @@ use Rattle.smt_terms.specs.Definitions.{defined_in}
 use Rattle.smt_terms.specs.Library as library
 use Rattle.smt_terms.specs.Library.{Holds, IsTermOf}
 use Rattle.smt_terms.specs.Declarations.{abbreviated_in, declared_in}
-use Rattle.smt_terms.specs.Signature.{Entry, Signature, names_of, no_names, sort_names_of, with_abbreviation}
+use Rattle.smt_terms.specs.Signature.{Entry, Names, Signature, names_of, no_names, sort_names_of, with_abbreviation}
 use Rattle.smt_terms.specs.Signature.{with_entries, with_entry}
 use Rattle.smt_faults.specs.Faults.{fault_by_term}
 use Rattle.smt_faults.specs.declared.term_flaw.TermFlaw.{TermFlaw}
 use Rattle.smt_terms.specs.declared.library.Library.{Library}
 use Rattle.smt_script.specs.Command.{Command, Effect, Addition, SetLogic, DeclareConst, DeclareFun, DefineFun}
 use Rattle.smt_script.specs.Command.{DefineSort, Assert, Brings, Removing, Nothing, effect_of}
+use Rattle.smt_script.specs.Command.{SetPrintSuccess, SetGlobalDeclarations, SetOption, SetInfo, Push, Pop, Reset}
+use Rattle.smt_script.specs.Command.{ResetAssertions, Exit, CheckSat, CheckSatAssuming, GetModel, Echo, Get}
 use Rattle.smt_script.specs.Stack as spec
 use Rattle.smt_script.specs.Stack.{Brought, Numbered, abbreviations_by, abbreviations_of_effect}
 use Rattle.smt_script.specs.Stack.{assertions_of_effect, depth_by, entries_of_effect, flaw_by}
@@ -30,9 +35,11 @@ use Rattle.smt_script.specs.Stack.{depth_in_force, entries_by, entries_of, flaw_
 use Rattle.smt_script.specs.Stack.{has_exited, history, in_force, names_stand, is_exit, is_reset, one_or_none}
 use Rattle.smt_script.specs.Stack.{print_success_after, print_success_in_force, signature_in_force}
 use Rattle.smt_script.specs.Stack.{signature_of, theories_after, theories_in_force, theories_or}
-use Rattle.smt_script.specs.Stack.{assertions_stand, is_logic_set, is_too_late}
-use Rattle.smt_script.specs.StackView.{AreAssertions, IsLevel, StandsFor, to_level}
-use Rattle.smt_script.specs.Internal.Effect.{ContentsAreKept, HasEffect, IsUnchanged, with_notes, logic_after}
+use Rattle.smt_script.specs.Stack.{assertions_stand, is_logic_set, is_too_late, assumptions_after}
+use Rattle.smt_script.specs.Stack.{assumptions_in_force, flaw_of_formula, flaw_of_literals, trees_of}
+use Rattle.smt_script.specs.StackView.{AreAssertions, AreTerms, IsLevel, HasInForce, StandsFor, to_level}
+use Rattle.smt_script.specs.Internal.Effect.{ContentsAreKept, HasAssumed, HasEffect, IsEnded, IsUnchanged}
+use Rattle.smt_script.specs.Internal.Effect.{assumptions_left, logic_after, with_notes}
 use Rattle.smt_faults.specs.declared.command_fault.CommandFault.{CommandFault}
 use Rattle.smt_faults.specs.declared.command_flaw.CommandFlaw.{CommandFlaw}
 use Rattle.smt_faults.specs.declared.command_flaw.CommandFlaw.TheVariants.{Term}
@@ -163,7 +170,7 @@ level_stays law c d as' more l t b grown h = record {
 -- a stack after a command that adds to what is in force
 pub added : ContentsAreKept
     → (old new : Stack) (more : List Assertion) (cs : List Numbered) (n : ℕ) (command : Command)
-    → StandsFor old cs → Adds command
+    → HasInForce old cs → Adds command
     → new.levels.items ≡ old.levels.items → new.logic ≡ old.logic → new.print_success ≡ old.print_success
     → new.exited ≡ old.exited → new.initial_print_success ≡ old.initial_print_success
     → Extends (contents_of old.library) (contents_of new.library)
@@ -171,7 +178,7 @@ pub added : ContentsAreKept
     → library.StandsFor new.library (with_brought (signature_in_force cs) n command)
     → AreAssertions (contents_of new.library) new.assertions.items
     (assertions_in_force cs ++ assertions_by n command)
-    → StandsFor (with_notes command new) (cs ++ record { number = n; command = command } ∷ [])
+    → HasInForce (with_notes command new) (cs ++ record { number = n; command = command } ∷ [])
 added law old new more cs n command h adds levels logic print exited start grown asserted names assertions =
     let c : Numbered = record { number = n; command = command } in
     let b = brought_by cs (history cs) c in
@@ -502,6 +509,15 @@ assert_effect law old l as' a term asserts stored grown pushed = record {
   start = refl;
 }
 
+-- terms are the same in longer contents
+pub terms_stay : ContentsAreKept → (c d : Contents) → Extends c d → (ids : List ℕ) (ts : List Sexp)
+    → AreTerms c ids ts → AreTerms d ids ts
+terms_stay law c d grown [] [] h = tt
+terms_stay law c d grown [] (t ∷ ts) h = absurd h
+terms_stay law c d grown (i ∷ ids) [] h = absurd h
+terms_stay law c d grown (i ∷ ids) (t ∷ ts) h =
+    (law.terms c d i t grown h.0, terms_stay law c d grown ids ts h.1)
+
 -- a library that stands for the same and has more terms changes nothing
 pub unchanged_by : ContentsAreKept → (old : Stack) (l : Library) (as' : Vec Assertion)
     → ((s : Signature) → library.StandsFor old.library s → library.StandsFor l s)
@@ -530,11 +546,12 @@ unchanged_by law old l as' names grown same = record {
   };
   last = refl;
   start = refl;
+  assumptions = terms_stay law (contents_of old.library) (contents_of l) grown old.assumptions.items;
 }
 
 -- ---- logics
 
-no_levels : (old : Stack) (cs : List Numbered) → StandsFor old cs → depth_in_force cs ≡ 0
+no_levels : (old : Stack) (cs : List Numbered) → HasInForce old cs → depth_in_force cs ≡ 0
     → (k : ℕ) (level : Level) → slice_get old.levels.items k ≡ Some level → ⊥
 no_levels old cs h zero_deep k level at = let m = within old.levels.items k level at in let e =
     h.depth in absurd (omega arith)
@@ -543,7 +560,7 @@ pub none_of_any : (c d : Contents) (as' : List Assertion) → AreAssertions c as
 none_of_any c d [] h = tt
 none_of_any c d (a ∷ as') h = h
 
-not_fixed : (old : Stack) (cs : List Numbered) → StandsFor old cs → (old.logic.set || old.logic.late) ≡ false
+not_fixed : (old : Stack) (cs : List Numbered) → HasInForce old cs → (old.logic.set || old.logic.late) ≡ false
     → (is_logic_set cs || is_too_late cs) ≡ false
 not_fixed old cs h free = sym (ap (λ (l : LogicState). l.set || l.late) h.logic) ∙ free
 
@@ -597,7 +614,7 @@ logic_effect old l theories name free named fresh n = record {
 -- ---- numbers
 
 -- the number of the last command is no part of what is in force
-with_last : (s : Stack) (n : ℕ) (cs : List Numbered) → StandsFor s cs → StandsFor (record s { last = n }) cs
+with_last : (s : Stack) (n : ℕ) (cs : List Numbered) → HasInForce s cs → HasInForce (record s { last = n }) cs
 with_last s n cs h = record {
   library = h.library;
   assertions = h.assertions;
@@ -611,11 +628,141 @@ with_last s n cs h = record {
 
 -- so a command that took effect and was noted stands under its number
 pub numbered_stands : (old new made : Stack) (n : ℕ) (command : Command) → HasEffect old new n command
-    → made ≡ with_notes command new → (cs : List Numbered) → StandsFor old cs
-    → StandsFor (record made { last = n }) (cs ++ record { number = n; command = command } ∷ [])
+    → made ≡ with_notes command new → (cs : List Numbered) → HasInForce old cs
+    → HasInForce (record made { last = n }) (cs ++ record { number = n; command = command } ∷ [])
 numbered_stands old new made n command effect is cs h =
     let all = cs ++ record { number = n; command = command } ∷ [] in
-    with_last made n all (subst (λ (s : Stack). StandsFor s all) (sym is) (effect.stands cs h))
+    with_last made n all (subst (λ (s : Stack). HasInForce s all) (sym is) (effect.stands cs h))
+
+-- ---- assumptions
+
+-- the assumptions behind a command are those that it leaves or assumes
+left_assumptions : (old new : Stack) (command : Command) (s : Signature) (ts : List Sexp) (items : List ℕ)
+    → library.StandsFor old.library s → HasAssumed old new (effect_of command) → AreTerms (contents_of old.library) old.assumptions.items ts
+    → items ≡ assumptions_left command new.assumptions.items
+    → AreTerms (contents_of new.library) items (assumptions_after ts command)
+left_assumptions old new command s ts items names h are is = by command h is
+  where
+    none : items ≡ [] → AreTerms (contents_of new.library) items []
+    none e = subst (λ xs. AreTerms (contents_of new.library) xs []) (sym e) tt
+
+    same : (us : List Sexp) → items ≡ new.assumptions.items
+        → AreTerms (contents_of new.library) new.assumptions.items us → AreTerms (contents_of new.library) items us
+    same us e them = subst (λ xs. AreTerms (contents_of new.library) xs us) (sym e) them
+
+    by : (d : Command) → HasAssumed old new (effect_of d) → items ≡ assumptions_left d new.assumptions.items
+        → AreTerms (contents_of new.library) items (assumptions_after ts d)
+    by (SetLogic name) h is = none is
+    by (SetPrintSuccess on) h is = same ts is (h ts are)
+    by (SetGlobalDeclarations on) h is = same ts is (h ts are)
+    by (SetOption keyword value) h is = same ts is (h ts are)
+    by (SetInfo keyword value) h is = same ts is (h ts are)
+    by (DeclareConst x sort) h is = none is
+    by (DeclareFun x parameters sort) h is = none is
+    by (DefineFun x parameters sort body) h is = none is
+    by (DefineSort x sort) h is = none is
+    by (Assert term) h is = none is
+    by (Push levels) h is = none is
+    by (Pop levels) h is = none is
+    by Reset h is = none is
+    by ResetAssertions h is = none is
+    by Exit h is = same ts is (h ts are)
+    by CheckSat h is = none is
+    by (CheckSatAssuming literals) h is = same (trees_of literals) is (h s names)
+    by GetModel h is = same ts is (h ts are)
+    by (Echo text) h is = same ts is (h ts are)
+    by (Get query) h is = same ts is (h ts are)
+
+longer : {A : Type 0} (xs ys zs : List A) → (more : List A) × (ys ≡ xs ++ more)
+    → (more : List A) × (zs ≡ ys ++ more) → (more : List A) × (zs ≡ xs ++ more)
+longer {A} xs ys zs a b = (a.0 ++ b.0, b.1 ∙ ap (λ (l : List A). l ++ b.0) a.1 ∙ append_assoc xs a.0 b.0)
+
+-- contents that are longer than longer ones
+pub extends_more : (c d e : Contents) → Extends c d → Extends d e → Extends c e
+extends_more c d e f g = record {
+  theories = g.theories ∙ f.theories;
+  abbreviations = longer c.abbreviations d.abbreviations e.abbreviations f.abbreviations g.abbreviations;
+  ranks = longer c.ranks d.ranks e.ranks f.ranks g.ranks;
+  heads = longer c.heads d.heads e.heads f.heads g.heads;
+  declared = longer c.declared d.declared e.declared f.declared g.declared;
+  definitions = longer c.definitions d.definitions e.definitions f.definitions g.definitions;
+  bodies = longer c.bodies d.bodies e.bodies f.bodies g.bodies;
+  rows = longer c.rows d.rows e.rows f.rows g.rows;
+}
+
+pub more_terms : (c : Contents) (ids : List ℕ) (ts : List Sexp) (i : ℕ) (t : Sexp) → AreTerms c ids ts
+    → IsTermOf c i t → AreTerms c (ids ++ i ∷ []) (ts ++ t ∷ [])
+more_terms c [] [] i t h one = (one, tt)
+more_terms c [] (u ∷ ts) i t h one = absurd h
+more_terms c (j ∷ ids) [] i t h one = absurd h
+more_terms c (j ∷ ids) (u ∷ ts) i t h one = (h.0, more_terms c ids ts i t h.1 one)
+
+-- a literal that is a formula has no fault
+pub literal_next : (names : Names) (l : Sexp) (ls all : Sexps) → all ≡ Cons l ls
+    → flaw_of_formula (sort_in names [] l) ≡ None → flaw_of_literals names all ≡ flaw_of_literals names ls
+literal_next names l ls all e none =
+    ap (flaw_of_literals names) e
+    ∙ ap (λ (o : Option CommandFlaw). option_or o (flaw_of_literals names ls)) none
+
+assumes_adds : (literals : Sexps) → Adds (CheckSatAssuming literals)
+assumes_adds literals = record { no_reset = refl; level = λ d. refl; theories = λ t. refl }
+
+-- literals that are formulas are assumed, and nothing else changes
+pub assume_effect : ContentsAreKept → (old : Stack) (l : Library) (v : Vec ℕ) (n : ℕ) (literals : Sexps)
+    → ((s : Signature) → library.StandsFor old.library s → library.StandsFor l s)
+    → Extends (contents_of old.library) (contents_of l)
+    → ((s : Signature) → library.StandsFor old.library s → flaw_of_literals (names_of s) literals ≡ None)
+    → HasEffect old (record old { library = l; assumptions = v }) n (CheckSatAssuming literals)
+assume_effect law old l v n literals names grown none = record {
+  faultless = λ cs h. none (signature_in_force cs) h.library;
+  stands = λ cs h.
+      added law old (record old { library = l; assumptions = v }) [] cs n (CheckSatAssuming literals) h
+      (assumes_adds literals) refl refl refl refl refl grown (sym (append-nil old.assertions.items))
+      (nothing_brought l (signature_in_force cs) n (CheckSatAssuming literals) refl refl
+      (names (signature_in_force cs) h.library))
+      (subst (λ (bs : List spec.Assertion). AreAssertions (contents_of l) old.assertions.items bs)
+      (sym (append-nil (assertions_in_force cs)))
+      (assertions_stay law (contents_of old.library) (contents_of l) grown old.assertions.items
+      (assertions_in_force cs) h.assertions));
+  start = refl;
+}
+
+-- what is in force stays where the assumptions end
+ended_force : (command : Command) (old new : Stack) (cs : List Numbered) → IsEnded command old new
+    → HasInForce old cs → HasInForce new cs
+ended_force command old new cs ended h =
+    record {
+      library = subst (λ (l : Library). library.StandsFor l (signature_in_force cs)) (sym ended.library) h.library;
+      assertions = rw (ended.library, ended.assertions) h.assertions;
+      depth = rw ended.levels h.depth;
+      levels = rw (ended.library, ended.assertions, ended.levels) h.levels;
+      ordered = rw ended.levels h.ordered;
+      logic = ended.notes.logic ∙ h.logic;
+      print_success = ended.notes.print_success ∙ h.print_success
+          ∙ ap (λ (b : Bool). print_success_in_force b cs) (sym ended.notes.start);
+      exited = ended.notes.exited ∙ h.exited;
+    }
+
+-- so a command that took effect, was noted, and ended what it ends stands under its number
+pub applied_stands : (old taken noted ended : Stack) (n : ℕ) (command : Command) → HasEffect old taken n command
+    → HasAssumed old taken (effect_of command) → noted ≡ with_notes command taken → IsEnded command noted ended
+    → (cs : List Numbered) → StandsFor old cs
+    → StandsFor (record ended { last = n }) (cs ++ record { number = n; command = command } ∷ [])
+applied_stands old taken noted ended n command effect assumed is gone cs h =
+    let all = cs ++ record { number = n; command = command } ∷ [] in
+    let force : HasInForce noted all = subst (λ (s : Stack). HasInForce s all) (sym is) (effect.stands cs h.force) in
+    let items : ended.assumptions.items ≡ assumptions_left command taken.assumptions.items =
+    gone.assumptions ∙ ap (λ (s : Stack). assumptions_left command s.assumptions.items) is in
+    let same_library : ended.library ≡ taken.library = gone.library ∙ ap (λ (s : Stack). s.library) is in
+    let pushed : assumptions_in_force all ≡ assumptions_after (assumptions_in_force cs) command =
+    fold-append (λ (before : List Sexp) (x : Numbered). assumptions_after before x.command) [] cs
+    (record { number = n; command = command } ∷ []) in
+    record {
+      force = with_last ended n all (ended_force command noted ended all gone force);
+      assumptions = rw (same_library, pushed)
+          (left_assumptions old taken command (signature_in_force cs) (assumptions_in_force cs)
+          ended.assumptions.items h.force.library assumed h.assumptions items);
+    }
 
 -- ---- faults
 

@@ -12,7 +12,8 @@ use Rattle.std.proofs.lemmas.Grind.{flat_map-append}
 use Rattle.smt_theory.specs.declared.sort.Sort.{Sort}
 use Rattle.smt_theory.specs.declared.theories.Theories.{Theories}
 use Rattle.smt_terms.specs.Signature.{Entry, Signature}
-use Rattle.smt_script.specs.Command.{Command, Effect, Removing, Everything, changes_force, effect_of, kind_of}
+use Rattle.smt_script.specs.Command.{Command, Effect, Removing, Everything, asks_check, changes_force, effect_of}
+use Rattle.smt_script.specs.Command.{kind_of}
 use Rattle.smt_script.specs.Command as removals
 use Rattle.smt_script.specs.declared.command.Kind.{Kind}
 use Rattle.smt_script.specs.declared.command.Kind.TheVariants as kinds
@@ -282,10 +283,10 @@ late_there false false h = absurd (cc)
 reset_effect : (command : Command) → kind_of command ≡ kinds.Reset → effect_of command ≡ Removing Everything
 reset_effect command h = grind (arith)
 
--- a command of a kind that changes nothing in force has no effect
+-- a command of a kind that changes nothing in force, and is no check, has no effect
 pub no_effect : (command : Command) → changes_force (kind_of command) ≡ false
-    → effect_of command ≡ Removing removals.Nothing
-no_effect command h = grind (arith)
+    → asks_check (kind_of command) ≡ false → effect_of command ≡ Removing removals.Nothing
+no_effect command h check = grind (arith)
 
 idles : (fixed : Bool) (command : Command) → fixed ≡ false → effect_of command ≡ Removing removals.Nothing
     → Unfixing fixed command
@@ -302,17 +303,17 @@ unfixing set late command kinds.Logic is h = absurd (cc)
 unfixing set late command kinds.Change is h = absurd (late_there set late h)
 unfixing set late command kinds.Check is h = absurd (late_there set late h)
 unfixing set late command (kinds.PrintSuccess on) is h =
-    idles (set || late) command (free set late h) (no_effect command (ap changes_force is))
+    idles (set || late) command (free set late h) (no_effect command (ap changes_force is) (ap asks_check is))
 unfixing set late command kinds.Setting is h =
-    idles (set || late) command (free set late h) (no_effect command (ap changes_force is))
+    idles (set || late) command (free set late h) (no_effect command (ap changes_force is) (ap asks_check is))
 unfixing set late command kinds.Exit is h =
-    idles (set || late) command (free set late h) (no_effect command (ap changes_force is))
+    idles (set || late) command (free set late h) (no_effect command (ap changes_force is) (ap asks_check is))
 unfixing set late command kinds.Model is h =
-    idles (set || late) command (free set late h) (no_effect command (ap changes_force is))
+    idles (set || late) command (free set late h) (no_effect command (ap changes_force is) (ap asks_check is))
 unfixing set late command kinds.Echo is h =
-    idles (set || late) command (free set late h) (no_effect command (ap changes_force is))
+    idles (set || late) command (free set late h) (no_effect command (ap changes_force is) (ap asks_check is))
 unfixing set late command kinds.Query is h =
-    idles (set || late) command (free set late h) (no_effect command (ap changes_force is))
+    idles (set || late) command (free set late h) (no_effect command (ap changes_force is) (ap asks_check is))
 
 abbrev AfterStep : List Numbered → List Brought → Numbered → Type 0
 AfterStep before brought c =

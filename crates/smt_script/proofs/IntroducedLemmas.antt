@@ -22,7 +22,7 @@ use Rattle.smt_terms.specs.WellSorted.{IsWellSortedFrom}
 use Rattle.smt_faults.specs.declared.term_flaw.TermFlaw.{TermFlaw}
 use Rattle.smt_faults.specs.declared.term_flaw.TermFlaw.TheVariants as terms
 use Rattle.smt_script.specs.Command.{Command, Effect, Addition, SetLogic, Pop, Declaration, Definition}
-use Rattle.smt_script.specs.Command.{Abbreviation, Assertion, SetsLogic, Brings, Pushes, Pops, Removing}
+use Rattle.smt_script.specs.Command.{Abbreviation, Assertion, SetsLogic, Brings, Assumes, Pushes, Pops, Removing}
 use Rattle.smt_script.specs.Command.{Nothing, AllButOptions, Everything, effect_of}
 use Rattle.smt_script.specs.Stack.{Brought, HaveNoFlaw, Numbered, all_or_none, brought_by, depth_by}
 use Rattle.smt_script.specs.Stack.{entries_by, entries_of_effect, entries_of_addition, flaw_by, flaw_of_addition}
@@ -345,6 +345,12 @@ module _ (law : NamesAreIntroduced) where
       }) (ap (entries_of_effect (signature_in_force cs) n) is) all
   step cs n command (Pops m) is all h =
       subst (IsWellBehind cs n) (sym (pop_alone command m is)) (pops cs n m all)
+  step cs n command (Assumes literals) is all h =
+      adds_none cs n command (record {
+        no_reset = ap (λ (e : Effect). resets (removed_of_effect e)) is;
+        level = λ d. (let e = ap (depth_by d) is in omega arith);
+        theories = λ t. ap (theories_by t) is;
+      }) (ap (entries_of_effect (signature_in_force cs) n) is) all
   step cs n command (Removing Nothing) is all h =
       adds_none cs n command (adds_keeps command (no_effect_is_idle command is).adds)
       (ap (entries_of_effect (signature_in_force cs) n) is) all

@@ -19,7 +19,7 @@ use Rattle.smt_script.specs.Stack.{depth_in_force, entries_by, entries_of, flaw_
 use Rattle.smt_script.specs.Stack.{history, in_force, names_stand, is_exit, is_reset, limit}
 use Rattle.smt_script.specs.Stack.{print_success_after, print_success_in_force, signature_in_force}
 use Rattle.smt_script.specs.Stack.{signature_of, theories_after, theories_in_force, assertions_stand}
-use Rattle.smt_script.specs.StackView.{AreAssertions, IsLevel, IsOuter, StandsFor, to_level}
+use Rattle.smt_script.specs.StackView.{AreAssertions, IsLevel, IsOuter, HasInForce, to_level}
 use Rattle.smt_script.specs.Internal.Effect.{HasEffect, IsCut, IsEmpty, IsUnchanged, NotesAll, copies, with_notes}
 use Rattle.smt_script.specs.Internal.Effect.{logic_after}
 use Rattle.smt_faults.specs.declared.command_flaw.CommandFlaw.TheVariants.{TooDeep, NoLevel}
@@ -88,7 +88,7 @@ one_behind (y ∷ xs) n l (suc k) x h = further (one_behind xs n l k x h)
 push_keeps : (m : ℕ) → Keeps (Push m)
 push_keeps m = record { no_reset = refl; level = λ d. omega arith; theories = λ t. refl }
 
-note_is_level : (s : Stack) (l : Level) (cs : List Numbered) (k : ℕ) → StandsFor s cs → NotesAll s l
+note_is_level : (s : Stack) (l : Level) (cs : List Numbered) (k : ℕ) → HasInForce s cs → NotesAll s l
     → depth_in_force cs ≤ k
     → IsLevel (contents_of s.library) s.assertions.items l (theories_in_force cs)
     (to_level k ((in_force names_stand) (history cs)))
@@ -109,7 +109,7 @@ note_is_level s l cs k h notes le =
           h.assertions);
     })
 
-push_level : (s : Stack) (l : Level) (cs : List Numbered) (k : ℕ) (x : Level) → StandsFor s cs → NotesAll s l
+push_level : (s : Stack) (l : Level) (cs : List Numbered) (k : ℕ) (x : Level) → HasInForce s cs → NotesAll s l
     → Behind s.levels.items l k x
     → IsLevel (contents_of s.library) s.assertions.items x (theories_in_force cs)
     (to_level k ((in_force names_stand) (history cs)))
@@ -121,7 +121,7 @@ push_level s l cs k x h notes (Copy is le) =
     (to_level k ((in_force assertions_stand) (history cs)))) (sym is)
     (note_is_level s l cs k h notes (let e = h.depth in omega arith))
 
-push_ordered : (s : Stack) (l : Level) (cs : List Numbered) (j k : ℕ) (x y : Level) → StandsFor s cs
+push_ordered : (s : Stack) (l : Level) (cs : List Numbered) (j k : ℕ) (x y : Level) → HasInForce s cs
     → NotesAll s l → j ≤ k → Behind s.levels.items l j x → Behind s.levels.items l k y → IsOuter x y
 push_ordered s l cs j k x y h notes le (Before at) (Before there) = h.ordered j k x y le at there
 push_ordered s l cs j k x y h notes le (Before at) (Copy is far) =
@@ -188,7 +188,7 @@ push_effect old v l m notes pushed fits n = record {
 }
 
 pub push_refused : (s : Stack) (m : ℕ) → (length s.levels.items + m ≤ limit → ⊥) → (cs : List Numbered)
-    → StandsFor s cs → (n : ℕ) → flaw_of_effect cs n (Push m) ≡ Some TooDeep
+    → HasInForce s cs → (n : ℕ) → flaw_of_effect cs n (Push m) ≡ Some TooDeep
 push_refused s m over cs h n =
     rw (too_many (depth_in_force cs + m) (λ le. over (let e = h.depth in omega arith))) refl
   where
@@ -214,7 +214,7 @@ pub record CutsAreKept : Type 0 where
   pub within : (mark later : Mark) (c : Contents) → IsBelow mark later → IsWithin later c
       → IsWithin mark (first_of later c)
 
-cut_level : CutsAreKept → (old new : Stack) (d : ℕ) (cs : List Numbered) → StandsFor old cs
+cut_level : CutsAreKept → (old new : Stack) (d : ℕ) (cs : List Numbered) → HasInForce old cs
     → (cut : IsCut old new d) → (k : ℕ) (x : Level) → slice_get new.levels.items k ≡ Some x
     → IsLevel (contents_of new.library) new.assertions.items x (theories_in_force cs)
     (to_level k ((in_force names_stand) (history cs)))
@@ -319,7 +319,7 @@ pop_effect law old new m d cut sum logic print exited start n = record {
   start = start;
 }
   where
-    enough : (cs : List Numbered) → StandsFor old cs → nat_lt (depth_in_force cs) m ≡ false
+    enough : (cs : List Numbered) → HasInForce old cs → nat_lt (depth_in_force cs) m ≡ false
     enough cs h = let e = h.depth in grind (arith)
 
 pop_keeps : Keeps (Pop 0)
@@ -365,7 +365,7 @@ pop_none s n = record {
     none_over d = grind (arith)
 
 pub pop_refused : (s : Stack) (m : ℕ) → (m ≤ length s.levels.items → ⊥) → (cs : List Numbered)
-    → StandsFor s cs → (n : ℕ) → flaw_of_effect cs n (Pop m) ≡ Some NoLevel
+    → HasInForce s cs → (n : ℕ) → flaw_of_effect cs n (Pop m) ≡ Some NoLevel
 pop_refused s m over cs h n =
     rw (too_many (depth_in_force cs) (λ le. over (let e = h.depth in omega arith))) refl
   where
@@ -379,10 +379,10 @@ ResetsAll command = (is_reset command ≡ true) × ((d : ℕ) → depth_after d 
     × ((s : Signature) (n : ℕ) → entries_by s n command ≡ [])
     × ((s : Signature) → abbreviations_by s command ≡ []) × ((n : ℕ) → assertions_by n command ≡ [])
 
-pub emptied : (old new : Stack) (cs : List Numbered) (n : ℕ) (command : Command) → StandsFor old cs
+pub emptied : (old new : Stack) (cs : List Numbered) (n : ℕ) (command : Command) → HasInForce old cs
     → ResetsAll command → IsEmpty new (theories_after (theories_in_force cs) command)
     → new.logic ≡ old.logic → new.print_success ≡ old.print_success → new.exited ≡ old.exited
-    → new.initial_print_success ≡ old.initial_print_success → StandsFor (with_notes command new)
+    → new.initial_print_success ≡ old.initial_print_success → HasInForce (with_notes command new)
     (cs ++ record { number = n; command = command } ∷ [])
 emptied old new cs n command h removes empty logic print exited start =
     let c : Numbered = record { number = n; command = command } in
@@ -433,7 +433,7 @@ reset_effect old new empty logic print exited start n = record {
 }
 
 pub reset_assertions_effect : (old new : Stack)
-    → ((cs : List Numbered) → StandsFor old cs → IsEmpty new (theories_in_force cs)) → new.logic ≡ old.logic
+    → ((cs : List Numbered) → HasInForce old cs → IsEmpty new (theories_in_force cs)) → new.logic ≡ old.logic
     → new.print_success ≡ old.print_success → new.exited ≡ old.exited → new.initial_print_success ≡ old.initial_print_success
     → (n : ℕ) → HasEffect old new n ResetAssertions
 reset_assertions_effect old new empty logic print exited start n = record {
@@ -471,7 +471,8 @@ levels_unchanged old v same = record {
   };
   last = refl;
   start = refl;
+  assumptions = λ ts are. are;
 }
 
 pub same_unchanged : (s : Stack) → IsUnchanged s s
-same_unchanged s = record { stands = λ cs h. h; last = refl; start = refl }
+same_unchanged s = record { stands = λ cs h. h; last = refl; start = refl; assumptions = λ ts are. are }

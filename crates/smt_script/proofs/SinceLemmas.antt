@@ -10,7 +10,7 @@ use Rattle.smt_theory.specs.Theories.{theories_named}
 use Rattle.smt_theory.specs.declared.theories.Theories.{Theories}
 use Rattle.smt_faults.specs.declared.command_flaw.CommandFlaw.TheVariants.{NoLevel}
 use Rattle.smt_script.specs.Command.{Command, Effect, SetLogic, SetPrintSuccess, Exit, SetsLogic, Brings}
-use Rattle.smt_script.specs.Command.{Pushes, Pops, Removing, Nothing, AllButOptions, Everything, effect_of}
+use Rattle.smt_script.specs.Command.{Assumes, Pushes, Pops, Removing, Nothing, AllButOptions, Everything, effect_of}
 use Rattle.smt_script.specs.Stack.{HaveNoFlaw, Numbered, all_theories, depth_after, depth_by, depth_in_force}
 use Rattle.smt_script.specs.Stack.{flaw_by, has_exited, is_exit, is_late_after, is_logic_set, is_reset}
 use Rattle.smt_script.specs.Stack.{is_set_after, is_too_late, makes_late, print_success_after}
@@ -189,6 +189,7 @@ levels_by before n (Pops m) h k = popped_all (depth_in_force before) (nat_lt (de
 levels_by before n (Pushes m) h k = omega arith
 levels_by before n (SetsLogic x) h k = refl
 levels_by before n (Brings item) h k = refl
+levels_by before n (Assumes literals) h k = refl
 levels_by before n (Removing Nothing) h k = refl
 levels_by before n (Removing AllButOptions) h k = absurd (cc)
 levels_by before n (Removing Everything) h k = absurd (cc)

@@ -7,7 +7,7 @@ use Rattle.std.proofs.lemmas.List.{append-nil}
 use Rattle.std.proofs.lemmas.List.Sums.{fold-append}
 use Rattle.smt_trees.specs.Sexp.{Sexp}
 use Rattle.smt_script.specs.Command.{Command, Effect, Assert, SetsLogic, Brings, Pushes, Pops, Removing}
-use Rattle.smt_script.specs.Command.{effect_of}
+use Rattle.smt_script.specs.Command.{Assumes, effect_of}
 use Rattle.smt_script.specs.Command as items
 use Rattle.smt_script.specs.Stack.{Brought, KeepLevels, Numbered, assertions_by, assertions_of_effect}
 use Rattle.smt_script.specs.Stack.{brought_by, brought_from, depth_after, depth_in_force, is_reset}
@@ -131,6 +131,7 @@ brings_or_not n command (SetsLogic x) is = No (ap (assertions_of_effect n) is)
 brings_or_not n command (Pushes m) is = No (ap (assertions_of_effect n) is)
 brings_or_not n command (Pops m) is = No (ap (assertions_of_effect n) is)
 brings_or_not n command (Removing what) is = No (ap (assertions_of_effect n) is)
+brings_or_not n command (Assumes literals) is = No (ap (assertions_of_effect n) is)
 
 pub assertion_or_not : (n : ℕ) (command : Command) → IsAssertion n command
 assertion_or_not n command = brings_or_not n command (effect_of command) refl

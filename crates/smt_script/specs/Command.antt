@@ -9,6 +9,7 @@ use Rattle.smt_script.specs.declared.command.Kind.{Kind}
 use Rattle.smt_script.specs.declared.command.Kind.TheVariants as kinds
 use Rattle.smt_script.specs.Parts.{is_none, keyword_and_value, list_and_tree, name_and_abbreviated}
 use Rattle.smt_script.specs.Parts.{name_and_definition, name_and_rank, name_and_sort, one_keyword, one_list}
+use Rattle.smt_script.specs.Parts.{one_list_of_literals}
 use Rattle.smt_script.specs.Parts.{one_numeral, one_symbol, one_text, one_tree, truth_of_value}
 use Rattle.smt_faults.specs.declared.command_flaw.CommandFlaw.{CommandFlaw}
 use Rattle.smt_faults.specs.declared.command_flaw.CommandFlaw.TheVariants.{Form, Unsupported}
@@ -41,6 +42,7 @@ pub data Command : Type 0 where
   ResetAssertions : Command
   Exit : Command
   CheckSat : Command
+  CheckSatAssuming : (literals : Sexps) → Command
   GetModel : Command
   Echo : (text : List ℕ) → Command
   Get : (query : Query) → Command
@@ -89,6 +91,7 @@ command_with words.Reset parts = alone Reset parts
 command_with words.ResetAssertions parts = alone ResetAssertions parts
 command_with words.Exit parts = alone Exit parts
 command_with words.CheckSat parts = alone CheckSat parts
+command_with words.CheckSatAssuming parts = option_map CheckSatAssuming (one_list_of_literals parts)
 command_with words.GetModel parts = alone GetModel parts
 command_with words.Echo parts = option_map Echo (one_text parts)
 command_with words.GetValue parts = option_map (λ terms. Get (Values terms)) (one_list parts)
@@ -118,7 +121,6 @@ makes_global (Some p) = is_global_declarations p.0 && is_true (truth_of_value p.
 -- what is wrong with a list that begins with this word, and is no command: some commands of the standard are
 -- not supported, whatever follows their word; others with some parts
 abbrev pub refusal : Word → Sexps → CommandFlaw
-refusal words.CheckSatAssuming parts = Unsupported
 refusal words.DeclareDatatype parts = Unsupported
 refusal words.DeclareDatatypes parts = Unsupported
 refusal words.DeclareSort parts = Unsupported
@@ -154,6 +156,7 @@ kind_of Reset = kinds.Reset
 kind_of ResetAssertions = kinds.Change
 kind_of Exit = kinds.Exit
 kind_of CheckSat = kinds.Check
+kind_of (CheckSatAssuming literals) = kinds.Check
 kind_of GetModel = kinds.Model
 kind_of (Echo text) = kinds.Echo
 kind_of (Get query) = kinds.Query
@@ -207,6 +210,7 @@ pub data Effect : Type 0 where
   Pushes : (levels : ℕ) → Effect
   Pops : (levels : ℕ) → Effect
   Removing : (what : Removes) → Effect
+  Assumes : (literals : Sexps) → Effect
 
 abbrev pub effect_of : Command → Effect
 effect_of (SetLogic name) = SetsLogic name
@@ -225,6 +229,7 @@ effect_of Reset = Removing Everything
 effect_of ResetAssertions = Removing AllButOptions
 effect_of Exit = Removing Nothing
 effect_of CheckSat = Removing Nothing
+effect_of (CheckSatAssuming literals) = Assumes literals
 effect_of GetModel = Removing Nothing
 effect_of (Echo text) = Removing Nothing
 effect_of (Get query) = Removing Nothing

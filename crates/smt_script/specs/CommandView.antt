@@ -10,6 +10,7 @@ use Rattle.smt_script.specs.declared.command.Command.TheVariants.{SetGlobalDecla
 use Rattle.smt_script.specs.declared.command.Command.TheVariants.{DeclareConst, DeclareFun, DefineFun}
 use Rattle.smt_script.specs.declared.command.Command.TheVariants.{DefineSort, Assert, Push, Pop, Reset}
 use Rattle.smt_script.specs.declared.command.Command.TheVariants.{ResetAssertions, Exit, CheckSat, GetModel}
+use Rattle.smt_script.specs.declared.command.Command.TheVariants.{CheckSatAssuming}
 use Rattle.smt_script.specs.declared.command.Command.TheVariants.{Echo, Get}
 use Rattle.smt_script.specs.declared.command.Query.{Query}
 use Rattle.smt_script.specs.declared.command.Query.TheVariants.{Values, Info, Setting, Assertions, Assignment}
@@ -44,6 +45,7 @@ command_view Reset = spec.Reset
 command_view ResetAssertions = spec.ResetAssertions
 command_view Exit = spec.Exit
 command_view CheckSat = spec.CheckSat
+command_view (CheckSatAssuming literals) = spec.CheckSatAssuming literals
 command_view GetModel = spec.GetModel
 command_view (Echo text) = spec.Echo text
 command_view (Get query) = spec.Get (query_view query)

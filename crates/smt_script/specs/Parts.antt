@@ -1,5 +1,5 @@
 -- What stands behind the word of a command, in the shapes that commands have.
-use Rattle.std.specs.Prelude.{ℕ, List, Bool, true, false, Option, Some, None, codes, if◌then◌else◌}
+use Rattle.std.specs.Prelude.{ℕ, List, Bool, true, false, ◌&&◌, Option, Some, None, codes, if◌then◌else◌}
 use Rattle.std.specs.Str.Parse.{digits_value}
 use Rattle.smt_trees.specs.Sexp.{Sexp, Sexps, Atom, Items, Nil, Cons, Keyword, Numeral, Symbol, Text}
 use Rattle.smt_trees.specs.Sexp.{is_symbol}
@@ -39,6 +39,25 @@ some_trees Nil = None
 abbrev pub one_list : Sexps → Option Sexps
 one_list (Cons (Items trees) Nil) = some_trees trees
 one_list _ = None
+
+abbrev pub is_negation : Sexps → Bool
+is_negation (Cons head (Cons (Atom Symbol x) Nil)) = is_symbol (codes "not") head
+is_negation _ = false
+
+-- a literal: a symbol, or a list of the symbol `not` and a symbol
+abbrev pub is_literal : Sexp → Bool
+is_literal (Atom Symbol x) = true
+is_literal (Items parts) = is_negation parts
+is_literal _ = false
+
+abbrev pub are_literals : Sexps → Bool
+are_literals Nil = true
+are_literals (Cons tree rest) = is_literal tree && are_literals rest
+
+-- the literals of one list, which may have none
+abbrev pub one_list_of_literals : Sexps → Option Sexps
+one_list_of_literals (Cons (Items trees) Nil) = if are_literals trees then Some trees else None
+one_list_of_literals _ = None
 
 -- a tree, or none
 abbrev pub tree_or_none : Sexps → Option (Option Sexp)

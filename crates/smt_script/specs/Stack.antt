@@ -6,17 +6,23 @@ use Rattle.std.specs.Prelude.{◌≡◌, ◌≤◌, ℕ, ◌+◌, ◌-◌, List,
 use Rattle.std.specs.Prelude.{Option, Some, None, is_some, Result, Ok, Err, fold, nat_le, nat_lt}
 use Rattle.std.specs.Prelude.{if◌then◌else◌}
 use Rattle.std.specs.List.{flat_map, list_all, list_any}
-use Rattle.smt_trees.specs.Sexp.{Sexp}
+use Rattle.std.specs.Option.{option_or}
+use Rattle.smt_trees.specs.Sexp.{Sexp, Sexps, Nil, Cons}
+use Rattle.smt_theory.specs.Sort.{is_same_sort}
+use Rattle.smt_theory.specs.declared.sort.Sort.TheVariants.{Bool as Boolean}
+use Rattle.smt_terms.specs.Checking.{sort_in}
 use Rattle.smt_theory.specs.Theories.{theories_named}
 use Rattle.smt_theory.specs.declared.sort.Sort.{Sort}
 use Rattle.smt_theory.specs.declared.theories.Theories.{Theories}
 use Rattle.smt_terms.specs.Assertions.{asserted_in}
 use Rattle.smt_terms.specs.Definitions.{defined_in}
 use Rattle.smt_terms.specs.Declarations.{abbreviated_in, declared_in}
-use Rattle.smt_terms.specs.Signature.{Entry, Signature, names_of, sort_names_of}
+use Rattle.smt_terms.specs.Signature.{Entry, Names, Signature, names_of, sort_names_of}
 use Rattle.smt_faults.specs.declared.term_flaw.TermFlaw.{TermFlaw}
+use Rattle.smt_faults.specs.declared.term_flaw.TermFlaw.TheVariants.{IllSorted}
 use Rattle.smt_script.specs.Command.{Command, Effect, Addition, Removes, SetsLogic, Brings, Pushes, Pops}
-use Rattle.smt_script.specs.Command.{Removing, Nothing, AllButOptions, Everything, effect_of, kind_of}
+use Rattle.smt_script.specs.Command.{Assumes, Removing, Nothing, AllButOptions, Everything, closes_window}
+use Rattle.smt_script.specs.Command.{effect_of, is_check, kind_of}
 use Rattle.smt_script.specs.Command as items
 use Rattle.smt_script.specs.declared.command.Kind.{Kind}
 use Rattle.smt_script.specs.declared.command.Kind.TheVariants as kinds
@@ -62,6 +68,7 @@ theories_by theories (Brings item) = theories
 theories_by theories (Pushes levels) = theories
 theories_by theories (Pops levels) = theories
 theories_by theories (Removing what) = theories_left theories what
+theories_by theories (Assumes literals) = theories
 
 -- the theories after a command, from those before it
 abbrev pub theories_after : Theories → Command → Theories
@@ -77,6 +84,7 @@ depth_by depth (Brings item) = depth
 depth_by depth (Pushes levels) = depth + levels
 depth_by depth (Pops levels) = depth - levels
 depth_by depth (Removing what) = if resets what then 0 else depth
+depth_by depth (Assumes literals) = depth
 
 -- how many levels there are after a command
 abbrev pub depth_after : ℕ → Command → ℕ
@@ -182,6 +190,7 @@ entries_of_effect s n (Brings item) = entries_of_addition s n item
 entries_of_effect s n (Pushes levels) = []
 entries_of_effect s n (Pops levels) = []
 entries_of_effect s n (Removing what) = []
+entries_of_effect s n (Assumes literals) = []
 
 -- the names that command n brings to a signature
 abbrev pub entries_by : Signature → ℕ → Command → List Entry
@@ -200,6 +209,7 @@ abbreviations_of_effect s (Brings item) = abbreviations_of_addition s item
 abbreviations_of_effect s (Pushes levels) = []
 abbreviations_of_effect s (Pops levels) = []
 abbreviations_of_effect s (Removing what) = []
+abbreviations_of_effect s (Assumes literals) = []
 
 -- the abbreviations that a command brings
 abbrev pub abbreviations_by : Signature → Command → List (List ℕ × Sort)
@@ -217,6 +227,7 @@ assertions_of_effect n (Brings item) = assertions_of_addition n item
 assertions_of_effect n (Pushes levels) = []
 assertions_of_effect n (Pops levels) = []
 assertions_of_effect n (Removing what) = []
+assertions_of_effect n (Assumes literals) = []
 
 -- the assertion that command n brings
 abbrev pub assertions_by : ℕ → Command → List Assertion
@@ -228,6 +239,7 @@ removed_of_effect (Brings item) = Nothing
 removed_of_effect (Pushes levels) = Nothing
 removed_of_effect (Pops levels) = Nothing
 removed_of_effect (Removing what) = what
+removed_of_effect (Assumes literals) = Nothing
 
 -- what a command removes at whatever level it came: a reset does. What `pop` takes is no matter of this, but
 -- of how many levels it leaves (`stands_after`)
@@ -270,6 +282,27 @@ signature_in_force commands =
 -- the assertions in force after commands that took effect, in their order
 abbrev pub assertions_in_force : List Numbered → List Assertion
 assertions_in_force commands = assertions_of (in_force assertions_stand (history commands))
+
+abbrev pub trees_of : Sexps → List Sexp
+trees_of Nil = []
+trees_of (Cons tree rest) = tree ∷ trees_of rest
+
+abbrev pub literals_of_effect : Effect → List Sexp
+literals_of_effect (Assumes literals) = trees_of literals
+literals_of_effect _ = []
+
+-- the literals that a command assumes
+abbrev pub literals_of : Command → List Sexp
+literals_of command = literals_of_effect (effect_of command)
+
+-- the assumptions after a command: those of a check are its own, and what changes what is in force ends them
+abbrev pub assumptions_after : List Sexp → Command → List Sexp
+assumptions_after before command =
+    if is_check command || closes_window command then literals_of command else before
+
+-- the assumptions after commands: those of the last check, if nothing in force has changed since
+abbrev pub assumptions_in_force : List Numbered → List Sexp
+assumptions_in_force commands = fold (λ before c. assumptions_after before c.command) [] commands
 
 -- commands behind others leave so many levels, each of them
 abbrev pub KeepLevels : ℕ → List Numbered → List Numbered → Type 0
@@ -349,6 +382,17 @@ flaw_of_addition s n (items.Definition x parameters sort body) = flaw_of (define
 flaw_of_addition s n (items.Abbreviation x sort) = flaw_of (abbreviated_in (sort_names_of s) x sort)
 flaw_of_addition s n (items.Assertion term) = flaw_of (asserted_in (names_of s) term)
 
+-- the fault of a literal, which has to be a formula
+abbrev pub flaw_of_formula : Result Sort TermFlaw → Option CommandFlaw
+flaw_of_formula (Ok sort) = if is_same_sort sort Boolean then None else Some (Term IllSorted)
+flaw_of_formula (Err fault) = Some (Term fault)
+
+-- the first fault of literals, one after another
+abbrev pub flaw_of_literals : Names → Sexps → Option CommandFlaw
+flaw_of_literals names Nil = None
+flaw_of_literals names (Cons literal rest) =
+    option_or (flaw_of_formula (sort_in names [] literal)) (flaw_of_literals names rest)
+
 abbrev pub flaw_by : List Numbered → ℕ → Effect → Option CommandFlaw
 flaw_by before n (SetsLogic name) =
     flaw_of_logic (is_logic_set before) (is_too_late before) (theories_named name)
@@ -357,6 +401,7 @@ flaw_by before n (Pushes levels) =
     if nat_lt limit (depth_in_force before + levels) then Some TooDeep else None
 flaw_by before n (Pops levels) = if nat_lt (depth_in_force before) levels then Some NoLevel else None
 flaw_by before n (Removing what) = None
+flaw_by before n (Assumes literals) = flaw_of_literals (names_of (signature_in_force before)) literals
 
 -- the fault of the effect of command n after the commands that took effect before it
 abbrev pub flaw_of_effect : List Numbered → ℕ → Command → Option CommandFlaw

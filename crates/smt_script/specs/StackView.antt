@@ -1,13 +1,15 @@
 -- What a contract sees of a stack, and the commands that it stands for.
 use Rattle.std.specs.Prelude.{◌≡◌, ◌≤◌, ℕ, List, [], ◌∷◌, Bool, Some, length, nat_le, slice_get, take}
 use Rattle.std.specs.List.{filter}
+use Rattle.smt_trees.specs.Sexp.{Sexp}
 use Rattle.smt_theory.specs.declared.theories.Theories.{Theories}
 use Rattle.smt_terms.specs.Contents.{Contents, IsBelow, IsWithin, contents_of, first_of}
 use Rattle.smt_terms.specs.Library as library
 use Rattle.smt_terms.specs.Library.{Holds, IsTermOf}
 use Rattle.smt_terms.specs.declared.library.Library.{Library}
 use Rattle.smt_script.specs.Stack as spec
-use Rattle.smt_script.specs.Stack.{Brought, Numbered, assertions_in_force, assertions_of, depth_in_force}
+use Rattle.smt_script.specs.Stack.{Brought, Numbered, assertions_in_force, assertions_of, assumptions_in_force}
+use Rattle.smt_script.specs.Stack.{depth_in_force}
 use Rattle.smt_script.specs.Stack.{has_exited, history, in_force, is_logic_set, is_too_late, names_stand}
 use Rattle.smt_script.specs.Stack.{assertions_stand, print_success_in_force, signature_in_force, signature_of}
 use Rattle.smt_script.specs.Stack.{theories_in_force}
@@ -58,9 +60,15 @@ pub record IsOuter (level inner : Level) : Type 0 where
 abbrev pub logic_state : List Numbered → LogicState
 logic_state commands = record { set = is_logic_set commands; late = is_too_late commands }
 
+-- one by one the terms stand under these numbers
+abbrev pub AreTerms : Contents → List ℕ → List Sexp → Type 0
+AreTerms terms [] [] = Unit {0}
+AreTerms terms (i ∷ is) (t ∷ ts) = IsTermOf terms i t × AreTerms terms is ts
+AreTerms terms _ _ = ⊥
+
 -- the stack holds exactly what is in force after these commands; and each of its levels notes what of it came
 -- outside that level
-pub record StandsFor (stack : Stack) (commands : List Numbered) : Type 0 where
+pub record HasInForce (stack : Stack) (commands : List Numbered) : Type 0 where
   pub library : library.StandsFor (library_of stack) (signature_in_force commands)
   pub assertions : AreAssertions (contents_of (library_of stack)) stack.assertions.items
       (assertions_in_force commands)
@@ -74,3 +82,9 @@ pub record StandsFor (stack : Stack) (commands : List Numbered) : Type 0 where
   pub logic : stack.logic ≡ logic_state commands
   pub print_success : stack.print_success ≡ print_success_in_force stack.initial_print_success commands
   pub exited : stack.exited ≡ has_exited commands
+
+-- so it does, and it holds the assumptions of the last check, if nothing in force has changed since
+pub record StandsFor (stack : Stack) (commands : List Numbered) : Type 0 where
+  pub force : HasInForce stack commands
+  pub assumptions : AreTerms (contents_of (library_of stack)) stack.assumptions.items
+      (assumptions_in_force commands)

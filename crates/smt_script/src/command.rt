@@ -77,6 +77,11 @@ pub enum Command {
     Exit,
     /// `(check-sat)` (section 4.2.5).
     CheckSat,
+    /// `(check-sat-assuming (literal ..))` (section 4.2.5): each literal is a symbol, or a list of the symbol
+    /// `not` and a symbol.
+    CheckSatAssuming {
+        literals: Trees,
+    },
     /// `(get-model)` (section 4.2.6).
     GetModel,
     /// `(echo "text")` (section 4.2.8).
@@ -105,7 +110,7 @@ impl Command {
             Command::Push { .. } | Command::Pop { .. } => Kind::Change,
             Command::Reset => Kind::Reset,
             Command::Exit => Kind::Exit,
-            Command::CheckSat => Kind::Check,
+            Command::CheckSat | Command::CheckSatAssuming { .. } => Kind::Check,
             Command::GetModel => Kind::Model,
             Command::Echo { .. } => Kind::Echo,
             Command::Get { .. } => Kind::Query,

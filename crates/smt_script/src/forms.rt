@@ -14,8 +14,8 @@ use crate::command::{Command, Query};
 use crate::forms::parts::Parts;
 use crate::forms::shapes::{
     is_abbreviation, is_global_declarations, keyword_and_value, makes_global, name_and_abbreviated,
-    name_and_definition, name_and_rank, name_and_sort, one_keyword, one_list, one_numeral,
-    one_symbol, one_text, one_tree, truth_of_value,
+    name_and_definition, name_and_rank, name_and_sort, one_keyword, one_list, one_list_of_literals,
+    one_numeral, one_symbol, one_text, one_tree, truth_of_value,
 };
 use smt_faults::CommandFlaw;
 use smt_trees::{Bytes, Tree, Word, split_first};
@@ -71,6 +71,7 @@ fn command_with(word: Word, parts: Parts) -> Option<Command>
         Word::ResetAssertions => alone(Command::ResetAssertions, parts),
         Word::Exit => alone(Command::Exit, parts),
         Word::CheckSat => alone(Command::CheckSat, parts),
+        Word::CheckSatAssuming => assuming(parts),
         Word::GetModel => alone(Command::GetModel, parts),
         Word::GetValue => asked_values(parts),
         Word::GetInfo => asked_info(parts),
@@ -82,7 +83,7 @@ fn command_with(word: Word, parts: Parts) -> Option<Command>
         Word::GetUnsatAssumptions => query(Query::UnsatAssumptions, parts),
         Word::Bang | Word::Underscore | Word::As | Word::Binary | Word::Decimal => None,
         Word::Exists | Word::Hexadecimal | Word::Forall | Word::Let | Word::Match => None,
-        Word::Numeral | Word::Par | Word::String | Word::CheckSatAssuming => None,
+        Word::Numeral | Word::Par | Word::String => None,
         Word::DeclareDatatype | Word::DeclareDatatypes | Word::DeclareSort => None,
         Word::DefineFunRec | Word::DefineFunsRec => None,
     }
@@ -176,6 +177,14 @@ fn query(query: Query, parts: Parts) -> Option<Command>
     alone(Command::Get { query }, parts)
 }
 
+fn assuming(parts: Parts) -> Option<Command>
+    ensures { option_map command_view result
+        ≡ commands.command_with Word.CheckSatAssuming (parts_view parts) }
+{
+    let literals = one_list_of_literals(parts)?;
+    Some(Command::CheckSatAssuming { literals })
+}
+
 fn asked_values(parts: Parts) -> Option<Command>
     ensures { option_map command_view result ≡ commands.command_with Word.GetValue (parts_view parts) }
 {
@@ -205,8 +214,7 @@ fn refusal(word: Word, parts: &[Tree]) -> CommandFlaw
     ensures { result ≡ commands.refusal word (sexps_of parts.now) }
 {
     match word {
-        Word::CheckSatAssuming | Word::DeclareDatatype | Word::DeclareDatatypes =>
-            CommandFlaw::Unsupported,
+        Word::DeclareDatatype | Word::DeclareDatatypes => CommandFlaw::Unsupported,
         Word::DeclareSort | Word::DefineFunRec | Word::DefineFunsRec => CommandFlaw::Unsupported,
         Word::DefineSort => unsupported_if(is_abbreviation(parts)),
         Word::SetOption => unsupported_if(makes_global(parts)),
@@ -214,8 +222,8 @@ fn refusal(word: Word, parts: &[Tree]) -> CommandFlaw
             CommandFlaw::Form,
         Word::Exists | Word::Hexadecimal | Word::Forall | Word::Let | Word::Match =>
             CommandFlaw::Form,
-        Word::Numeral | Word::Par | Word::String | Word::Assert | Word::CheckSat =>
-            CommandFlaw::Form,
+        Word::Numeral | Word::Par | Word::String | Word::Assert => CommandFlaw::Form,
+        Word::CheckSat | Word::CheckSatAssuming => CommandFlaw::Form,
         Word::DeclareConst | Word::DeclareFun | Word::DefineFun | Word::Echo => CommandFlaw::Form,
         Word::Exit | Word::GetAssertions | Word::GetAssignment => CommandFlaw::Form,
         Word::GetInfo | Word::GetModel | Word::GetOption | Word::GetProof => CommandFlaw::Form,

@@ -6,10 +6,11 @@ ghost use Rattle.std.specs.Prelude.{OnErr};
 ghost use Rattle.smt_terms.specs.Contents.{contents_of};
 ghost use Rattle.smt_terms.specs.Library as terms;
 ghost use Rattle.smt_script.specs.CommandView.{command_view};
-ghost use Rattle.smt_script.specs.Stack.{Numbered, assertions_in_force, depth_in_force, flaw_of_effect};
+ghost use Rattle.smt_script.specs.Stack.{Numbered, assertions_in_force, assumptions_in_force, depth_in_force};
+ghost use Rattle.smt_script.specs.Stack.{flaw_of_effect};
 ghost use Rattle.smt_script.specs.Stack.{has_exited, print_success_in_force, signature_in_force};
 ghost use Rattle.smt_script.specs.Stack as stack;
-ghost use Rattle.smt_script.specs.StackView.{AreAssertions, StandsFor, last_of, library_of};
+ghost use Rattle.smt_script.specs.StackView.{AreAssertions, AreTerms, StandsFor, last_of, library_of};
 ghost use Rattle.smt_script.specs.StackView.{initial_print_success_of};
 ghost use Rattle.smt_faults.specs.Outcome.{TellsCommand};
 
@@ -56,6 +57,8 @@ pub struct Stack {
     alloc: Global,
     library: Library,
     assertions: Vec<Assertion>,
+    /// The literals of the last check, if nothing in force has changed since.
+    assumptions: Vec<TermId>,
     /// For each level, what came outside it.
     levels: Vec<Level>,
     logic: LogicState,
@@ -89,6 +92,7 @@ impl Stack {
             alloc,
             library: Library::new(alloc, all_theories()),
             assertions: Vec::new(alloc),
+            assumptions: Vec::new(alloc),
             levels: Vec::new(alloc),
             logic: LogicState {
                 set: false,
@@ -116,6 +120,15 @@ impl Stack {
             → AreAssertions (contents_of (library_of self.now)) result.now (assertions_in_force commands) }
     {
         self.assertions.as_slice()
+    }
+
+    /// The literals that the last check assumed, in order, if nothing in force has changed since (SMT-LIB 2.6,
+    /// section 4.2.5). Their terms are those of `library`.
+    pub fn assumptions(&self) -> &[TermId]
+        ensures { (commands : List Numbered) → StandsFor self.now commands
+            → AreTerms (contents_of (library_of self.now)) result.now (assumptions_in_force commands) }
+    {
+        self.assumptions.as_slice()
     }
 
     /// How many assertion levels there are beside the first, from 0 to 10,000 (SMT-LIB 2.6, section 4.1.4).
@@ -160,6 +173,8 @@ impl Stack {
     ///   with the fault of a tree that names no sort (section 4.2.3).
     /// - `Assert`: `Term` with the first fault of its term, that of a label among them, and then with
     ///   `IllSorted` for a term that is no formula (sections 3.6.5 and 4.2.4).
+    /// - `CheckSatAssuming`: `Term` with the fault of the first literal that has one, and with `IllSorted` for
+    ///   one that is no formula (section 4.2.5).
     /// - `Push`: `TooDeep` where there would be more than 10,000 levels. `Pop`: `NoLevel` where it removes
     ///   more than there are (section 4.2.2).
     ///
@@ -183,6 +198,7 @@ impl Stack {
     {
         self.take_effect(number, command)?;
         self.note(command);
+        self.end_assumptions(command);
         self.last = number;
         Ok(())
     }

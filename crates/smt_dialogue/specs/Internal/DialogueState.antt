@@ -13,7 +13,8 @@ use Rattle.smt_script.specs.StackView.{initial_print_success_of, last_of}
 use Rattle.smt_faults.specs.declared.command_flaw.CommandFlaw.{CommandFlaw}
 use Rattle.smt_script.specs.declared.stack.Stack.{Stack}
 use Rattle.smt_dialogue.specs.InForce.{signature_after}
-use Rattle.smt_dialogue.specs.Lines.{claims_after, lines_in}
+use Rattle.smt_dialogue.specs.Internal.Claims.{claims_after}
+use Rattle.smt_dialogue.specs.Lines.{lines_in}
 use Rattle.smt_dialogue.specs.Pairs.{Pair, answers_taken, checks_in, effective_commands, pair_of}
 use Rattle.smt_dialogue.specs.Internal.ChecksState.{ChecksState, behind, checks_state, pending_lines}
 use Rattle.smt_dialogue.specs.Window.{closes, window}

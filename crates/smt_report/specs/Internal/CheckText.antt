@@ -1,7 +1,7 @@
 -- The two parts in which the end of a line on a check is written.
 use Rattle.std.specs.Prelude.{ℕ, List, [], ◌++◌, codes}
 use Rattle.std.specs.Fmt.{decimal}
-use Rattle.smt_report.specs.LineText.{text_of_answer, text_of_claim}
+use Rattle.smt_report.specs.LineText.{text_of_answer, text_of_claim, text_of_refuted}
 use Rattle.smt_report.specs.declared.line.Line.{Line}
 use Rattle.smt_report.specs.declared.line.Line.TheVariants.{Unchecked, Confirmed, NoModel, ItemFault, Lacks}
 use Rattle.smt_report.specs.declared.line.Line.TheVariants.{TooLong, Refuted, NotDecided}
@@ -14,7 +14,7 @@ text_of_finding (ItemFault check command model item flaw) =
 text_of_finding (Lacks check command model declaration) =
     codes "lacks the symbol of command " ++ decimal declaration
 text_of_finding (TooLong check command model) = codes "too long"
-text_of_finding (Refuted check command model claim) = codes "refuted by the " ++ text_of_claim claim
+text_of_finding (Refuted check command model claim) = text_of_refuted claim
 text_of_finding (NotDecided check command model claim) = text_of_claim claim ++ codes " not decided"
 text_of_finding _ = []
 

@@ -1,18 +1,20 @@
 -- What a command did to a stack, before it was noted whether a logic may be set, whether `success` is
 -- printed, and that it was applied.
-use Rattle.std.specs.Prelude.{◌≡◌, ℕ, zero, suc, List, [], ◌∷◌, ◌++◌, ◌||◌, None, Some, length}
+use Rattle.std.specs.Prelude.{◌≡◌, ℕ, zero, suc, List, [], ◌∷◌, ◌++◌, Bool, false, ◌||◌, None, Some, length}
+use Rattle.std.specs.Prelude.{if◌then◌else◌}
 use Rattle.std.specs.Prelude.{slice_get, take}
 use Rattle.smt_trees.specs.Sexp.{Sexp}
 use Rattle.smt_theory.specs.declared.theories.Theories.{Theories}
 use Rattle.smt_terms.specs.Contents.{Contents, Extends, IsBelow, IsWithin, contents_of, first_of}
 use Rattle.smt_terms.specs.Library as library
 use Rattle.smt_terms.specs.Library.{IsTermOf}
-use Rattle.smt_terms.specs.Signature.{no_names}
+use Rattle.smt_terms.specs.Signature.{Signature, no_names}
 use Rattle.smt_terms.specs.declared.library.marks.Mark.{Mark}
-use Rattle.smt_script.specs.Command.{Command}
-use Rattle.smt_script.specs.Stack.{Numbered, flaw_of_effect, is_exit, is_late_after, is_set_after}
+use Rattle.smt_script.specs.Command.{Assumes, CheckSatAssuming, Command, Effect, Nothing, Removing}
+use Rattle.smt_script.specs.Command.{closes_window, is_check}
+use Rattle.smt_script.specs.Stack.{Numbered, flaw_of_effect, is_exit, is_late_after, is_set_after, trees_of}
 use Rattle.smt_script.specs.Stack.{print_success_after}
-use Rattle.smt_script.specs.StackView.{StandsFor, last_of, initial_print_success_of}
+use Rattle.smt_script.specs.StackView.{AreTerms, HasInForce, last_of, initial_print_success_of}
 use Rattle.smt_faults.specs.declared.command_fault.CommandFault.{CommandFault}
 use Rattle.smt_faults.specs.Outcome.{TellsCommand}
 use Rattle.smt_script.specs.declared.stack.LogicState.{LogicState}
@@ -41,23 +43,60 @@ with_notes command stack = record stack {
 
 -- command n took effect, but for that note
 pub record HasEffect (old new : Stack) (n : ℕ) (command : Command) : Type 0 where
-  pub faultless : (commands : List Numbered) → StandsFor old commands
+  pub faultless : (commands : List Numbered) → HasInForce old commands
       → flaw_of_effect commands n command ≡ None
-  pub stands : (commands : List Numbered) → StandsFor old commands
-      → StandsFor (with_notes command new) (commands ++ record { number = n; command = command } ∷ [])
+  pub stands : (commands : List Numbered) → HasInForce old commands
+      → HasInForce (with_notes command new) (commands ++ record { number = n; command = command } ∷ [])
   pub start : initial_print_success_of new ≡ initial_print_success_of old
 
 -- it was refused
 abbrev pub IsRefused : Stack → ℕ → Command → CommandFault → Type 0
 IsRefused old n command fault =
-    (commands : List Numbered) → StandsFor old commands
+    (commands : List Numbered) → HasInForce old commands
     → TellsCommand (flaw_of_effect commands n command) fault
 
 -- nothing that was in force changed
 pub record IsUnchanged (old new : Stack) : Type 0 where
-  pub stands : (commands : List Numbered) → StandsFor old commands → StandsFor new commands
+  pub stands : (commands : List Numbered) → HasInForce old commands → HasInForce new commands
   pub last : last_of new ≡ last_of old
   pub start : initial_print_success_of new ≡ initial_print_success_of old
+  pub assumptions : (ts : List Sexp) → AreTerms (contents_of old.library) old.assumptions.items ts
+      → AreTerms (contents_of new.library) new.assumptions.items ts
+
+-- the assumptions of the stack after an effect, where it ends none: the literals that it assumes, or those
+-- of before
+abbrev pub HasAssumed : (old new : Stack) → Effect → Type 0
+HasAssumed old new (Assumes literals) =
+    (s : Signature) → library.StandsFor old.library s
+    → AreTerms (contents_of new.library) new.assumptions.items (trees_of literals)
+HasAssumed old new (Removing Nothing) =
+    (ts : List Sexp) → AreTerms (contents_of old.library) old.assumptions.items ts
+    → AreTerms (contents_of new.library) new.assumptions.items ts
+HasAssumed old new _ = Unit {0}
+
+-- what is noted of the commands is the same
+pub record HasNotesOf (old new : Stack) : Type 0 where
+  pub logic : new.logic ≡ old.logic
+  pub print_success : new.print_success ≡ old.print_success
+  pub start : new.initial_print_success ≡ old.initial_print_success
+  pub exited : new.exited ≡ old.exited
+  pub last : new.last ≡ old.last
+
+-- whether a command ends the assumptions of the check before it, and assumes nothing itself
+abbrev pub ends_assumptions : Command → Bool
+ends_assumptions (CheckSatAssuming literals) = false
+ends_assumptions command = is_check command || closes_window command
+
+abbrev pub assumptions_left : Command → List ℕ → List ℕ
+assumptions_left command assumptions = if ends_assumptions command then [] else assumptions
+
+-- the stack keeps its assumptions, unless the command ends them, and all else
+pub record IsEnded (command : Command) (old new : Stack) : Type 0 where
+  pub assumptions : new.assumptions.items ≡ assumptions_left command old.assumptions.items
+  pub library : new.library ≡ old.library
+  pub assertions : new.assertions ≡ old.assertions
+  pub levels : new.levels ≡ old.levels
+  pub notes : HasNotesOf old new
 
 -- so many of one level
 abbrev pub copies : ℕ → Level → List Level
@@ -78,14 +117,6 @@ pub record IsCut (old new : Stack) (depth : ℕ) : Type 0 where
   pub library : contents_of new.library ≡ first_of level.mark (contents_of old.library)
   pub assertions : new.assertions.items ≡ take level.assertions old.assertions.items
   pub levels : new.levels.items ≡ take depth old.levels.items
-
--- what is noted of the commands is the same
-pub record HasNotesOf (old new : Stack) : Type 0 where
-  pub logic : new.logic ≡ old.logic
-  pub print_success : new.print_success ≡ old.print_success
-  pub start : new.initial_print_success ≡ old.initial_print_success
-  pub exited : new.exited ≡ old.exited
-  pub last : new.last ≡ old.last
 
 -- nothing is in force, in these theories
 pub record IsEmpty (new : Stack) (theories : Theories) : Type 0 where

@@ -77,6 +77,55 @@ pub(crate) fn one_list(mut parts: Parts) -> Option<Trees>
     Some(trees)
 }
 
+/// The literals of one list, which may have none: each a symbol, or a list of the symbol `not` and a symbol.
+pub(crate) fn one_list_of_literals(mut parts: Parts) -> Option<Trees>
+    ensures { result ≡ shapes.one_list_of_literals (parts_view parts) }
+{
+    let Some(Tree::List(trees)) = parts.next() else {
+        return None;
+    };
+    if !parts.is_empty() || !are_literals(trees.as_slice()) {
+        return None;
+    }
+    Some(trees)
+}
+
+fn are_literals(trees: &[Tree]) -> bool
+    ensures { result ≡ shapes.are_literals (sexps_of trees.now) }
+{
+    let mut left = trees;
+    while let Some((first, rest)) = split_first(left) {
+        if !is_literal(first) {
+            return false;
+        }
+        left = rest;
+    }
+    true
+}
+
+fn is_literal(tree: &Tree) -> bool
+    ensures { result ≡ shapes.is_literal (sexp_of tree.now) }
+{
+    match tree {
+        Tree::Symbol(_) => true,
+        Tree::List(parts) => is_negation(parts.as_slice()),
+        _ => false,
+    }
+}
+
+// Whether these are the symbol `not` and a symbol.
+fn is_negation(parts: &[Tree]) -> bool
+    ensures { result ≡ shapes.is_negation (sexps_of parts.now) }
+{
+    let Some((head, rest)) = split_first(parts) else {
+        return false;
+    };
+    match split_first(rest) {
+        Some((Tree::Symbol(_), rest)) => head.is_symbol(b"not") && split_first(rest).is_none(),
+        _ => false,
+    }
+}
+
 /// A tree, or none; `None` where there are more.
 fn tree_or_none(mut parts: Parts) -> Option<Option<Tree>>
     ensures { option_map (option_map sexp_of) result ≡ shapes.tree_or_none (parts_view parts) }

@@ -1,27 +1,35 @@
 //! What each command does to what is in force, and the fault of its effect. What levels do stands in
 //! `levels`; this file knows no trees of commands.
 
-ghost use Rattle.std.specs.Prelude.{◌≡◌, ◌∷◌, ℕ, List, [], IfErr, OnOk, OnErr};
+ghost use Rattle.std.specs.Prelude.{◌≡◌, ◌∷◌, ◌||◌, ℕ, List, [], None, IfErr, MatchResult, OnOk, OnErr};
 ghost use Rattle.std.specs.Str.Parse.{digits_value};
 ghost use Rattle.smt_trees.specs.Tree.{sexp_of, sexps_of};
 ghost use Rattle.smt_forms.specs.Bindings.{named_trees};
 ghost use Rattle.smt_script.specs.Command as commands;
 ghost use Rattle.smt_script.specs.Command.{SetLogic, DeclareConst, DeclareFun, DefineFun, DefineSort, Assert};
-ghost use Rattle.smt_script.specs.Command.{Push, Pop};
+ghost use Rattle.smt_script.specs.Command.{CheckSatAssuming, Push, Pop, effect_of};
 ghost use Rattle.smt_script.specs.CommandView.{command_view};
+ghost use Rattle.smt_faults.specs.Outcome.{TellsCommand};
+ghost use Rattle.smt_terms.specs.Contents.{Extends, contents_of};
+ghost use Rattle.smt_terms.specs.Library as libraries;
+ghost use Rattle.smt_terms.specs.Signature.{Signature, names_of};
 ghost use Rattle.smt_script.specs.Stack as stack;
-ghost use Rattle.smt_script.specs.StackView.{last_of, initial_print_success_of};
-ghost use Rattle.smt_script.specs.Internal.Effect.{ContentsAreKept, HasEffect, IsRefused, IsUnchanged};
-ghost use Rattle.smt_script.specs.Internal.Effect.{with_notes};
+ghost use Rattle.smt_script.specs.Stack.{flaw_of_formula, flaw_of_literals, trees_of};
+ghost use Rattle.smt_terms.specs.Checking.{sort_in};
+ghost use Rattle.smt_terms.specs.Library.{IsTermOf};
+ghost use Rattle.smt_script.specs.StackView.{AreTerms, last_of, initial_print_success_of};
+ghost use Rattle.smt_script.specs.Internal.Effect.{ContentsAreKept, HasAssumed, HasEffect, IsEnded, IsRefused};
+ghost use Rattle.smt_script.specs.Internal.Effect.{IsUnchanged, with_notes};
 
 use crate::command::{Command, Kind};
 use crate::stack::{Assertion, LogicState, Stack, all_theories};
-use smt_faults::CommandFault;
+use smt_faults::{CommandFault, TermFault};
 use smt_forms::params_of;
-use smt_terms::Library;
 use smt_terms::laws::{marks_are_kept, terms_are_kept};
-use smt_theory::theories_of;
-use smt_trees::Tree;
+use smt_terms::{Library, TermId};
+use smt_theory::{Sort, theories_of};
+use smt_trees::{Tree, split_first};
+use std::alloc::Global;
 
 // What a mark counts, and each term, is the same in longer contents.
 fn contents_are_kept()
@@ -37,6 +45,8 @@ impl Stack {
         ensures effect { OnOk result (HasEffect self.old self.new number (command_view command.now)) }
         ensures refused { IfErr result (λ fault. IsRefused self.old number (command_view command.now) fault) }
         ensures unchanged { OnErr result (IsUnchanged self.old self.new) }
+        ensures assumed { OnOk result
+            (HasAssumed self.old self.new (effect_of (command_view command.now))) }
     {
         contents_are_kept();
         match command {
@@ -67,6 +77,7 @@ impl Stack {
             Command::SetInfo { .. } => Ok(()),
             Command::Exit => Ok(()),
             Command::CheckSat => Ok(()),
+            Command::CheckSatAssuming { literals } => self.assume(literals.as_slice()),
             Command::GetModel => Ok(()),
             Command::Echo { .. } => Ok(()),
             Command::Get { .. } => Ok(()),
@@ -89,6 +100,19 @@ impl Stack {
             kind,
         );
         self.exited |= matches!(kind, Kind::Exit);
+    }
+
+    // What changes what is in force ends the assumptions, and so does a check that assumes nothing.
+    pub(super) fn end_assumptions(&mut self, command: &Command)
+        ensures { IsEnded (command_view command.now) self.old self.new }
+    {
+        let ends = match command {
+            Command::CheckSatAssuming { .. } => false,
+            _ => is_ended_by(command.kind()),
+        };
+        if ends {
+            self.assumptions.truncate(0);
+        }
     }
 
     // A logic is set while nothing is in force and there are no levels.
@@ -170,6 +194,27 @@ impl Stack {
         Ok(self.library.abbreviate(name, sort)?)
     }
 
+    // Takes literals as the assumptions, in place of those that there are.
+    fn assume(&mut self, literals: &[Tree]) -> Result<(), CommandFault>
+        ensures effect { OnOk result ((number : ℕ) → HasEffect self.old self.new number
+            (CheckSatAssuming (sexps_of literals.now))) }
+        ensures refused { IfErr result (λ fault. (number : ℕ)
+            → IsRefused self.old number (CheckSatAssuming (sexps_of literals.now)) fault) }
+        ensures unchanged { OnErr result (IsUnchanged self.old self.new) }
+        ensures assumed { OnOk result ((s : Signature) → libraries.StandsFor self.old.library s
+            → AreTerms (contents_of self.new.library) self.new.assumptions.items
+            (trees_of (sexps_of literals.now))) }
+    {
+        contents_are_kept();
+        match check_literals(self.alloc, &mut self.library, literals) {
+            Ok(terms) => {
+                self.assumptions = terms;
+                Ok(())
+            }
+            Err(fault) => Err(fault),
+        }
+    }
+
     fn assert(&mut self, number: u64, term: &Tree) -> Result<(), CommandFault>
         ensures effect { OnOk result (HasEffect self.old self.new number (Assert (sexp_of term.now))) }
         ensures refused { IfErr result (λ fault. IsRefused self.old number (Assert (sexp_of term.now)) fault) }
@@ -186,6 +231,59 @@ impl Stack {
                 Err(CommandFault::Memory)
             }
         }
+    }
+}
+
+// The terms of literals, each of which is a formula, or the first fault.
+fn check_literals(
+    alloc: Global,
+    library: &mut Library,
+    literals: &[Tree],
+) -> Result<Vec<TermId>, CommandFault>
+    ensures terms { (s : Signature) → libraries.StandsFor library.old s
+        → MatchResult result (λ terms. (flaw_of_literals (names_of s) (sexps_of literals.now) ≡ None)
+        × AreTerms (contents_of library.new) terms.items (trees_of (sexps_of literals.now)))
+        (λ fault. TellsCommand (flaw_of_literals (names_of s) (sexps_of literals.now)) fault) }
+    ensures kept { libraries.IsUnchanged library.old library.new }
+    ensures grown { Extends (contents_of library.old) (contents_of library.new) }
+{
+    contents_are_kept();
+    let mut terms = Vec::new(alloc);
+    let mut left = literals;
+    while let Some((literal, rest)) = split_first(left) {
+        let term = check_literal(library, literal)?;
+        terms.push(term)?;
+        left = rest;
+    }
+    Ok(terms)
+}
+
+// The term of a literal, which is a formula.
+fn check_literal(library: &mut Library, literal: &Tree) -> Result<TermId, CommandFault>
+    ensures term { (s : Signature) → libraries.StandsFor library.old s
+        → MatchResult result (λ term. (flaw_of_formula (sort_in (names_of s) [] (sexp_of literal.now)) ≡ None)
+        × IsTermOf (contents_of library.new) term (sexp_of literal.now))
+        (λ fault. TellsCommand (flaw_of_formula (sort_in (names_of s) [] (sexp_of literal.now))) fault) }
+    ensures kept { libraries.IsUnchanged library.old library.new }
+    ensures grown { Extends (contents_of library.old) (contents_of library.new) }
+{
+    let (term, sort) = library.check(literal)?;
+    match sort {
+        Sort::Bool => Ok(term),
+        Sort::Int | Sort::Bits(_) => Err(CommandFault::Term {
+            fault: TermFault::IllSorted,
+        }),
+    }
+}
+
+// Whether a command of a kind ends the assumptions of the check before it.
+fn is_ended_by(kind: Kind) -> bool
+    ensures { result ≡ (commands.asks_check kind || commands.changes_force kind) }
+{
+    match kind {
+        Kind::Check | Kind::Logic | Kind::Change | Kind::Reset => true,
+        Kind::PrintSuccess { .. } | Kind::Setting | Kind::Exit => false,
+        Kind::Model | Kind::Echo | Kind::Query => false,
     }
 }
 

@@ -1,22 +1,22 @@
 use Rattle.std.proofs.Common.{◌≡◌, ap, sym, ◌∙◌, subst}
 use Rattle.std.proofs.lemmas.Result.{IfOk-weaker}
 use Rattle.smt_terms.specs.Contents.{contents_of}
-use Rattle.smt_script.specs.Stack.{assertions_in_force, signature_in_force}
-use Rattle.smt_script.specs.StackView.{AreAssertions}
-use Rattle.smt_dialogue.specs.Judgement.{claims_of, judged_in, judgement_of}
+use Rattle.smt_script.specs.Stack.{signature_in_force}
+use Rattle.smt_dialogue.specs.Internal.Claims.{AreClaimed, claims_in_force, claims_left}
+use Rattle.smt_dialogue.specs.Judgement.{judged_in, judgement_of}
 use Rattle.smt_dialogue.proofs.judgement.judge.Goals as goal
 
 pub returns-in-Ok : goal.returns-in-Ok
 returns-in-Ok c = λ commands stands.
     let script = signature_in_force commands in
-    let all = assertions_in_force commands in
+    let all = claims_in_force commands in
     let names = c.library-library.ensures.stands commands stands in
     let read = c.in-Ok.ensures.model script names in
-    let terms = subst (λ l. AreAssertions (contents_of l) c.assertions.result.now all)
-    (sym c.library-library.ensures.view) (c.assertions.ensures commands stands) in
+    let terms = subst (λ l. AreClaimed (contents_of l) (claims_left c.new.result) all)
+    (sym c.library-library.ensures.view) (c.new.ensures commands stands) in
     IfOk-weaker c.judge_read-judgement.result _
-    (λ j. j ≡ judgement_of c.args.limit.steps script (claims_of all) c.args.model.now)
-    (λ j h. h ∙ ap (judged_in c.args.limit.steps script (claims_of all)) (sym read.1))
+    (λ j. j ≡ judgement_of c.args.limit.steps script all c.args.model.now)
+    (λ j h. h ∙ ap (judged_in c.args.limit.steps script all) (sym read.1))
     (c.judge_read-judgement.ensures script read.0 all names read.2 terms)
 
 pub judge_read-judgement-requires-clause-fits : goal.judge_read-judgement-requires-clause-fits

@@ -2,12 +2,12 @@
 use Rattle.std.proofs.Common.{◌+◌, ◌++◌, ◌∙◌, ap, option_map, refl, sym}
 use Rattle.smt_trees.specs.Tree.{sexp_of}
 use Rattle.smt_script.specs.CommandView.{command_view}
-use Rattle.smt_script.specs.Stack.{assertions_in_force, signature_in_force}
+use Rattle.smt_script.specs.Stack.{signature_in_force}
 use Rattle.smt_dialogue.proofs.DialogueLemmas.{accepted, refused_fault, refused_stands}
 use Rattle.smt_dialogue.proofs.GatheredLemmas.{after_behind}
 use Rattle.smt_dialogue.specs.Internal.ChecksState.{behind, checks_state}
 use Rattle.smt_dialogue.specs.Internal.DialogueState.{state_behind}
-use Rattle.smt_dialogue.specs.Judgement.{claims_of}
+use Rattle.smt_dialogue.specs.Internal.Claims.{claims_in_force}
 use Rattle.smt_dialogue.specs.Pairs.{effective_commands}
 use Rattle.smt_dialogue.proofs.dialogue.Dialogue.accept.Goals as goal
 
@@ -25,7 +25,7 @@ returns-clause-accepted c = λ taken early pairs stands check.
     c.in_default.ensures.last
     (λ commands on. ap (behind m) (c.in-Ok.ensures.checks commands on)
     ∙ sym (after_behind m effective (checks_state d.checks) (signature_in_force commands)
-    (claims_of (assertions_in_force commands)) (d.commands + 1) role answer))
+    (claims_in_force commands) (d.commands + 1) role answer))
     refl (ap (λ n. s.answers + n) c.count_of.ensures.count) refl refl
 
 pub returns-in-Err-clause-refused : goal.returns-in-Err-clause-refused

@@ -2,7 +2,7 @@ use Rattle.std.proofs.Common.{◌≡◌, ℕ, List, Result, Ok, Err, IfErr, OnOk
 use Rattle.std.specs.Str.Parse.{digits_value}
 use Rattle.smt_trees.specs.Tree.{sexp_of, sexps_of}
 use Rattle.smt_forms.specs.Bindings.{named_trees}
-use Rattle.smt_script.specs.Command.{Command, DefineFun, DefineSort, Pop, Push, Reset, ResetAssertions}
+use Rattle.smt_script.specs.Command.{CheckSatAssuming, Command, DefineFun, DefineSort, Pop, Push, Reset, ResetAssertions}
 use Rattle.smt_script.specs.Command.{SetLogic, effect_of}
 use Rattle.smt_script.specs.CommandView.{command_view}
 use Rattle.smt_script.specs.Internal.Effect.{HasEffect, IsRefused}
@@ -185,3 +185,19 @@ pub returns-in-Get-clause-effect : goal.returns-in-Get-clause-effect
 returns-in-Get-clause-effect c =
     idle_effect c.contents_are_kept.ensures c.args.self.now c.args.number (command_view c.args.command.now)
     (no_effect_is_idle (command_view c.args.command.now) (ap (λ d. effect_of (command_view d)) c.in-Get.is))
+
+pub returns-in-CheckSatAssuming-clause-effect : goal.returns-in-CheckSatAssuming-clause-effect
+returns-in-CheckSatAssuming-clause-effect c =
+    effect_at c.assume.result c.args.self.now c.assume.new.self
+    (CheckSatAssuming (sexps_of c.as_slice-in-CheckSatAssuming.result.now)) (command_view c.args.command.now)
+    c.args.number
+    (ap command_view c.in-CheckSatAssuming.is ∙ ap CheckSatAssuming (sym c.as_slice-in-CheckSatAssuming.ensures))
+    c.assume.ensures.effect
+
+pub returns-in-CheckSatAssuming-clause-refused : goal.returns-in-CheckSatAssuming-clause-refused
+returns-in-CheckSatAssuming-clause-refused c =
+    refused_at c.assume.result c.args.self.now
+    (CheckSatAssuming (sexps_of c.as_slice-in-CheckSatAssuming.result.now)) (command_view c.args.command.now)
+    c.args.number
+    (ap command_view c.in-CheckSatAssuming.is ∙ ap CheckSatAssuming (sym c.as_slice-in-CheckSatAssuming.ensures))
+    c.assume.ensures.refused

@@ -1,0 +1,38 @@
+-- The claims of the check whose window is open, as they are taken one after another.
+use Rattle.std.specs.Prelude.{◌≡◌, ℕ, ◌+◌, List, [], ◌∷◌, ◌++◌, drop, map}
+use Rattle.smt_script.specs.Stack.{Numbered, assertions_in_force, assumptions_in_force}
+use Rattle.smt_script.specs.declared.stack.Assertion.{Assertion}
+use Rattle.smt_report.specs.declared.claim.Claim.TheVariants as claiming
+use Rattle.smt_terms.specs.Contents.{Contents}
+use Rattle.smt_terms.specs.Library.{IsTermOf}
+use Rattle.smt_dialogue.specs.InForce.{assertions_after, assumptions_after}
+use Rattle.smt_dialogue.specs.Judgement.{Claimed, all_claims}
+use Rattle.smt_dialogue.specs.Pairs.{Pair}
+use Rattle.smt_dialogue.specs.declared.claims.Claims.{Claims}
+use Rattle.smt_dialogue.specs.declared.claims.ReadClaim.{ReadClaim}
+
+-- what the last check claims behind commands or pairs
+abbrev pub claims_in_force : List Numbered → List Claimed
+claims_in_force commands = all_claims (assertions_in_force commands) (assumptions_in_force commands)
+
+abbrev pub claims_after : List Pair → List Claimed
+claims_after pairs = all_claims (assertions_after pairs) (assumptions_after pairs)
+
+abbrev pub of_assertions : List Assertion → List ReadClaim
+of_assertions assertions = map (λ (a : Assertion). record { claim = claiming.Assertion a.command; term = a.term }) assertions
+
+abbrev pub of_assumptions : ℕ → List ℕ → List ReadClaim
+of_assumptions place [] = []
+of_assumptions place (id ∷ ids) =
+    record { claim = claiming.Assumption place; term = id } ∷ of_assumptions (place + 1) ids
+
+-- the claims that are left, each with the number of its term
+abbrev pub claims_left : Claims → List ReadClaim
+claims_left c =
+    of_assertions c.assertions.now ++ of_assumptions (c.taken + 1) (drop c.taken c.assumptions.now)
+
+-- one by one they are of the same claim, and the second's term stands under the first's number
+abbrev pub AreClaimed : Contents → List ReadClaim → List Claimed → Type 0
+AreClaimed terms [] [] = Unit {0}
+AreClaimed terms (a ∷ as') (b ∷ bs) = (a.claim ≡ b.claim) × IsTermOf terms a.term b.term × AreClaimed terms as' bs
+AreClaimed terms _ _ = ⊥

@@ -1,0 +1,74 @@
+//! What the last check claims of each of its models, one claim after another. This file evaluates nothing.
+
+ghost use Rattle.std.specs.Prelude.{◌≡◌, ◌∷◌, ℕ, List, [], MatchOption};
+ghost use Rattle.smt_terms.specs.Contents.{contents_of};
+ghost use Rattle.smt_script.specs.Stack.{Numbered};
+ghost use Rattle.smt_script.specs.StackView.{StandsFor, library_of};
+ghost use Rattle.smt_dialogue.specs.Internal.Claims.{AreClaimed, claims_in_force, claims_left};
+
+use smt_report::Claim;
+use smt_script::{Assertion, Stack};
+use smt_terms::TermId;
+
+/// A claim, and its term in the library of a stack.
+#[derive(Clone, Copy)]
+pub struct ReadClaim {
+    pub claim: Claim,
+    pub term: TermId,
+}
+
+/// The claims that are left: assertions in force, and behind them the assumptions of the last check.
+#[derive(Clone, Copy)]
+pub(crate) struct Claims<'a> {
+    pub(crate) assertions: &'a [Assertion],
+    pub(crate) assumptions: &'a [TermId],
+    /// How many assumptions were taken.
+    pub(crate) taken: usize,
+}
+
+impl<'a> Claims<'a> {
+    /// All of them.
+    pub(crate) fn new(stack: &'a Stack) -> Claims<'a>
+        ensures { (commands : List Numbered) → StandsFor stack.now commands
+            → AreClaimed (contents_of (library_of stack.now)) (claims_left result) (claims_in_force commands) }
+    {
+        Claims {
+            assertions: stack.assertions(),
+            assumptions: stack.assumptions(),
+            taken: 0,
+        }
+    }
+
+    /// Takes the next.
+    pub(crate) fn next(&mut self) -> Option<ReadClaim>
+        ensures { MatchOption result (claims_left self.old ≡ [])
+            (λ next. claims_left self.old ≡ next ∷ claims_left self.new) }
+    {
+        match self.assertions.split_first() {
+            Some((assertion, rest)) => {
+                self.assertions = rest;
+                let claim = Claim::Assertion {
+                    command: assertion.command,
+                };
+                Some(ReadClaim {
+                    claim,
+                    term: assertion.term,
+                })
+            }
+            None => self.next_assumption(),
+        }
+    }
+
+    fn next_assumption(&mut self) -> Option<ReadClaim>
+        requires { self.old.assertions.now ≡ [] }
+        ensures { MatchOption result (claims_left self.old ≡ [])
+            (λ next. claims_left self.old ≡ next ∷ claims_left self.new) }
+    {
+        let term = *self.assumptions.get(self.taken)?;
+        self.taken += 1;
+        let claim = Claim::Assumption {
+            place: self.taken as u64,
+        };
+        Some(ReadClaim { claim, term })
+    }
+}
