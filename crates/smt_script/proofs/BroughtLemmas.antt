@@ -1,16 +1,16 @@
 -- What is in force is what the commands brought that stand, in their order.
-use Rattle.std.proofs.Common.{◌≡◌, ℕ, Bool, true, false, cond, List, [], ◌∷◌, ◌++◌, ◌⊎◌, inl, inr, refl, ap}
+use Rattle.std.proofs.Common.{◌≡◌, ℕ, Bool, true, false, cond, not, List, [], ◌∷◌, ◌++◌, ◌⊎◌, inl, inr, refl, ap}
 use Rattle.std.proofs.Common.{sym, ◌∙◌, subst, append_assoc}
 use Rattle.std.specs.List.{flat_map, list_all, list_any}
 use Rattle.std.proofs.lemmas.List.{append-nil, append_cancel_left}
 use Rattle.smt_script.specs.Command.{Command, Assert}
-use Rattle.smt_script.specs.Stack.{Assertion, Brought, KeepLevels, Numbered, Stands, assertions_by}
-use Rattle.smt_script.specs.Stack.{brought_by, depth_in_force, history, in_force, is_reset, names_stand}
-use Rattle.smt_script.specs.Stack.{stands_after}
-use Rattle.smt_script.specs.Standing.{AreAmong, AreBrought, Brings, IsAmong, IsBrought}
-use Rattle.smt_script.proofs.HistoryLemmas.{history-push}
-use Rattle.smt_script.proofs.StandingLemmas.{IsAssertion, Yes, No, all_stand, depth-push, keeps, steps}
-use Rattle.smt_script.proofs.StandingLemmas.{steps-from}
+use Rattle.smt_script.specs.Stack.{Assertion, Brought, KeepLevels, LeaveNames, NamesStand, Numbered, Stands}
+use Rattle.smt_script.specs.Stack.{assertions_by, brought_by, depth_in_force, global_in_force, history, in_force}
+use Rattle.smt_script.specs.Stack.{is_everything, is_reset, name_stands_after, stands_after}
+use Rattle.smt_script.specs.Standing.{AreAmong, AreBrought, Brings, IsAmong, IsBrought, Standing}
+use Rattle.smt_script.proofs.HistoryLemmas.{assertion_stands_after, history-push, standing}
+use Rattle.smt_script.proofs.StandingLemmas.{IsAssertion, Keeps, Yes, No, all_leave, all_stand, depth-push}
+use Rattle.smt_script.proofs.StandingLemmas.{keeps, leaves, steps, steps-from}
 
 -- ---- in order
 
@@ -22,86 +22,146 @@ part_by part earlier c = part (brought_by earlier (history earlier) c)
 abbrev behind : List Numbered → Numbered → List Numbered → List Brought
 behind before c cs = steps (before ++ c ∷ []) (history before ++ brought_by before (history before) c ∷ []) cs
 
-stands_there : (commands before : List Numbered) (c : Numbered) (cs : List Numbered)
-    → commands ≡ before ++ c ∷ cs
+-- a rule by which what was brought stands, in the words of commands
+pub record InWords (after : Brought → Brought → Bool) (S : Standing) : Type 0 where
+  pub there : (commands before : List Numbered) (c : Numbered) (cs : List Numbered)
+      → commands ≡ before ++ c ∷ cs
+      → list_all (after (brought_by before (history before) c)) (behind before c cs) ≡ true
+      → S commands before c
+  pub not_there : (commands before : List Numbered) (c : Numbered) (cs : List Numbered)
+      → commands ≡ before ++ c ∷ cs
+      → list_all (after (brought_by before (history before) c)) (behind before c cs) ≡ false
+      → S commands before c → ⊥
+
+same_later : (commands before : List Numbered) (c : Numbered) (later cs : List Numbered)
+    → commands ≡ before ++ c ∷ later → commands ≡ before ++ c ∷ cs → later ≡ cs
+same_later commands before c later cs place is =
+    let whole : c ∷ later ≡ c ∷ cs = append_cancel_left before (c ∷ later) (c ∷ cs) (sym place ∙ is) in cc
+
+-- ---- assertions, level by level
+
+at_its_level : (before : List Numbered) (c : Numbered) (cs : List Numbered)
+    → list_all (stands_after (brought_by before (history before) c).level) (behind before c cs)
+    ≡ list_all (stands_after (depth_in_force (before ++ c ∷ []))) (behind before c cs)
+at_its_level before c cs =
+    ap (λ (l : ℕ). list_all (stands_after l) (behind before c cs)) (sym (depth-push before c))
+
+kept_behind : (before : List Numbered) (c : Numbered) (cs : List Numbered)
     → list_all (stands_after (brought_by before (history before) c).level) (behind before c cs) ≡ true
-    → Stands commands before c
-stands_there commands before c cs is e =
-    let b = brought_by before (history before) c in
-    let kept = keeps (depth_in_force (before ++ c ∷ [])) (before ++ c ∷ []) (history before ++ b ∷ []) cs
-    (ap (λ (l : ℕ). list_all (stands_after l) (behind before c cs)) (depth-push before c) ∙ e) in
-    record { later = cs; place = is; no_reset = kept.no_reset; levels = kept.levels }
+    → Keeps (depth_in_force (before ++ c ∷ [])) (before ++ c ∷ []) cs
+kept_behind before c cs e =
+    keeps (depth_in_force (before ++ c ∷ [])) (before ++ c ∷ [])
+    (history before ++ brought_by before (history before) c ∷ []) cs (sym (at_its_level before c cs) ∙ e)
 
-stands_not : (commands before : List Numbered) (c : Numbered) (cs : List Numbered)
-    → commands ≡ before ++ c ∷ cs
-    → list_all (stands_after (brought_by before (history before) c).level) (behind before c cs) ≡ false
-    → Stands commands before c → ⊥
-stands_not commands before c cs is e s =
-    let b = brought_by before (history before) c in
-    let whole : c ∷ s.later ≡ c ∷ cs = append_cancel_left before (c ∷ s.later) (c ∷ cs) (sym s.place ∙ is) in
-    let same : s.later ≡ cs = cc in
-    let none = subst (λ (l : List Numbered). list_any (λ d. is_reset d.command) l ≡ false) same s.no_reset in
-    let levels = subst (λ (l : List Numbered). KeepLevels (depth_in_force (before ++ c ∷ []))
-    (before ++ c ∷ []) l) same s.levels in
-    let all = all_stand (depth_in_force (before ++ c ∷ [])) (before ++ c ∷ []) (history before ++ b ∷ [])
-    cs none levels in
-    let here : true ≡ false =
-    sym all ∙ ap (λ (l : ℕ). list_all (stands_after l) (behind before c cs)) (depth-push before c) ∙ e in
-    absurd (cc)
+all_behind : (before : List Numbered) (c : Numbered) (cs : List Numbered)
+    → list_any (λ d. is_reset d.command) cs ≡ false
+    → KeepLevels (depth_in_force (before ++ c ∷ [])) (before ++ c ∷ []) cs
+    → list_all (stands_after (brought_by before (history before) c).level) (behind before c cs) ≡ true
+all_behind before c cs none levels =
+    at_its_level before c cs
+    ∙ all_stand (depth_in_force (before ++ c ∷ [])) (before ++ c ∷ [])
+    (history before ++ brought_by before (history before) c ∷ []) cs none levels
 
-one_in_order : {A : Type 0} (part : Brought → List A) (commands before : List Numbered) (c : Numbered)
-    (cs : List Numbered) → commands ≡ before ++ c ∷ cs
-    → AreBrought (part_by part) commands (before ++ c ∷ []) cs
-    (flat_map part ((in_force names_stand) (behind before c cs)))
-    → (t : Bool) → list_all (stands_after (brought_by before (history before) c).level) (behind before c cs)
-    ≡ t
-    → AreBrought (part_by part) commands before (c ∷ cs)
-    (flat_map part (cond t (brought_by before (history before) c ∷ []) []
-    ++ (in_force names_stand) (behind before c cs)))
-one_in_order part commands before c cs is next true e =
-    inl (
-      stands_there commands before c cs is e,
-      flat_map part ((in_force names_stand) (behind before c cs)),
-      refl,
-      next,
-    )
-one_in_order part commands before c cs is next false e = inr (stands_not commands before c cs is e, next)
+both_ways : (b : Bool) → b ≡ true → b ≡ false → ⊥
+both_ways b h k = absurd (cc)
 
-in_order : {A : Type 0} (part : Brought → List A) (commands before cs : List Numbered)
-    → commands ≡ before ++ cs
-    → AreBrought (part_by part) commands before cs
-    (flat_map part ((in_force names_stand) (steps before (history before) cs)))
-in_order part commands before [] is = refl
-in_order part commands before (c ∷ cs) is =
-    let b = brought_by before (history before) c in
-    let more = before ++ c ∷ [] in
-    let next = in_order part commands more cs (is ∙ sym (append_assoc before (c ∷ []) cs)) in
-    let P : List Brought → Type 0 =
-    λ h. AreBrought (part_by part) commands more cs
-    (flat_map part ((in_force names_stand) (steps more h cs))) in
-    one_in_order part commands before c cs is (subst P (history-push before c) next)
-    (list_all (stands_after b.level) (behind before c cs)) refl
+pub assertions_in_words : InWords assertion_stands_after Stands
+assertions_in_words = record {
+  there = λ commands before c cs is e.
+      let kept = kept_behind before c cs e in
+      record { later = cs; place = is; no_reset = kept.no_reset; levels = kept.levels };
+  not_there = λ commands before c cs is e s.
+      let same = same_later commands before c s.later cs s.place is in
+      both_ways (list_all (stands_after (brought_by before (history before) c).level) (behind before c cs))
+      (all_behind before c cs
+      (subst (λ (l : List Numbered). list_any (λ d. is_reset d.command) l ≡ false) same s.no_reset)
+      (subst (λ (l : List Numbered). KeepLevels (depth_in_force (before ++ c ∷ [])) (before ++ c ∷ []) l) same
+      s.levels)) e;
+}
 
-pub brought_in_order : {A : Type 0} (part : Brought → List A) (commands : List Numbered)
-    → AreBrought (part_by part) commands [] commands
-    (flat_map part ((in_force names_stand) (history commands)))
-brought_in_order part commands =
-    subst (λ (h : List Brought). AreBrought (part_by part) commands [] commands
-    (flat_map part ((in_force names_stand) h))) (sym (steps-from [] [] commands))
-    (in_order part commands [] commands refl)
+-- ---- names, by whether declarations were global
+
+abbrev names_left : Bool → List Numbered → Numbered → List Numbered → Bool
+names_left global before c cs =
+    list_all (λ (l : Brought). cond global (not (is_everything l.removes))
+    (stands_after (brought_by before (history before) c).level l)) (behind before c cs)
+
+left_by : (global : Bool) (before : List Numbered) (c : Numbered) (cs : List Numbered)
+    → names_left global before c cs ≡ true → LeaveNames global (before ++ c ∷ []) cs
+left_by true before c cs e =
+    leaves (before ++ c ∷ []) (history before ++ brought_by before (history before) c ∷ []) cs e
+left_by false before c cs e = let kept = kept_behind before c cs e in (kept.no_reset, kept.levels)
+
+all_left_by : (global : Bool) (before : List Numbered) (c : Numbered) (cs : List Numbered)
+    → LeaveNames global (before ++ c ∷ []) cs → names_left global before c cs ≡ true
+all_left_by true before c cs h =
+    all_leave (before ++ c ∷ []) (history before ++ brought_by before (history before) c ∷ []) cs h
+all_left_by false before c cs h = all_behind before c cs h.0 h.1
+
+pub names_in_words : InWords name_stands_after NamesStand
+names_in_words = record {
+  there = λ commands before c cs is e.
+      record { later = cs; place = is; left = left_by (global_in_force before) before c cs e };
+  not_there = λ commands before c cs is e s.
+      let same = same_later commands before c s.later cs s.place is in
+      both_ways (names_left (global_in_force before) before c cs)
+      (all_left_by (global_in_force before) before c cs
+      (subst (LeaveNames (global_in_force before) (before ++ c ∷ [])) same s.left)) e;
+}
+
+module _ {A : Type 0} (after : Brought → Brought → Bool) (S : Standing) (words : InWords after S)
+    (part : Brought → List A) where
+  one_in_order : (commands before : List Numbered) (c : Numbered)
+      (cs : List Numbered) → commands ≡ before ++ c ∷ cs
+      → AreBrought S (part_by part) commands (before ++ c ∷ []) cs
+      (flat_map part (in_force (standing after) (behind before c cs)))
+      → (t : Bool) → list_all (after (brought_by before (history before) c)) (behind before c cs) ≡ t
+      → AreBrought S (part_by part) commands before (c ∷ cs)
+      (flat_map part (cond t (brought_by before (history before) c ∷ []) []
+      ++ in_force (standing after) (behind before c cs)))
+  one_in_order commands before c cs is next true e =
+      inl (
+        words.there commands before c cs is e,
+        flat_map part (in_force (standing after) (behind before c cs)),
+        refl,
+        next,
+      )
+  one_in_order commands before c cs is next false e = inr (words.not_there commands before c cs is e, next)
+
+  in_order : (commands before cs : List Numbered) → commands ≡ before ++ cs
+      → AreBrought S (part_by part) commands before cs
+      (flat_map part (in_force (standing after) (steps before (history before) cs)))
+  in_order commands before [] is = refl
+  in_order commands before (c ∷ cs) is =
+      let b = brought_by before (history before) c in
+      let more = before ++ c ∷ [] in
+      let next = in_order commands more cs (is ∙ sym (append_assoc before (c ∷ []) cs)) in
+      let P : List Brought → Type 0 =
+      λ h. AreBrought S (part_by part) commands more cs
+      (flat_map part (in_force (standing after) (steps more h cs))) in
+      one_in_order commands before c cs is (subst P (history-push before c) next)
+      (list_all (after b) (behind before c cs)) refl
+
+  pub brought_in_order : (commands : List Numbered)
+      → AreBrought S (part_by part) commands [] commands
+      (flat_map part (in_force (standing after) (history commands)))
+  brought_in_order commands =
+      subst (λ (h : List Brought). AreBrought S (part_by part) commands [] commands
+      (flat_map part (in_force (standing after) h))) (sym (steps-from [] [] commands))
+      (in_order commands [] commands refl)
 
 -- ---- what a command brought that stands is in force
 
-module _ {A : Type 0} (brings : Brings A) (commands : List Numbered) where
+module _ {A : Type 0} (S : Standing) (brings : Brings A) (commands : List Numbered) where
   first_stands : (before : List Numbered) (c : Numbered) (later : List Numbered) (xs : List A)
-      → AreBrought brings commands before (c ∷ later) xs → Stands commands before c
+      → AreBrought S brings commands before (c ∷ later) xs → S commands before c
       → AreAmong (brings before c) xs
   first_stands before c later xs (inl h) s = ([], h.1, h.2)
   first_stands before c later xs (inr h) s = absurd (h.0 s)
 
   later_stands : (before more : List Numbered) (m c : Numbered) (later : List Numbered) (some xs : List A)
-      → AreBrought brings commands before (m ∷ (more ++ c ∷ later)) xs
-      → ((rest : List A) → AreBrought brings commands (before ++ m ∷ []) (more ++ c ∷ later) rest
+      → AreBrought S brings commands before (m ∷ (more ++ c ∷ later)) xs
+      → ((rest : List A) → AreBrought S brings commands (before ++ m ∷ []) (more ++ c ∷ later) rest
       → AreAmong some rest) → AreAmong some xs
   later_stands before more m c later some xs (inl h) next =
       let r = next h.1 h.3 in (
@@ -113,17 +173,17 @@ module _ {A : Type 0} (brings : Brings A) (commands : List Numbered) where
   later_stands before more m c later some xs (inr h) next = next xs h.1
 
   pub stands_among : (before more : List Numbered) (c : Numbered) (later : List Numbered) (xs : List A)
-      → AreBrought brings commands before (more ++ c ∷ later) xs → Stands commands (before ++ more) c
+      → AreBrought S brings commands before (more ++ c ∷ later) xs → S commands (before ++ more) c
       → AreAmong (brings (before ++ more) c) xs
   stands_among before [] c later xs h s =
       let same = append-nil before in
       subst (λ (l : List Numbered). AreAmong (brings l c) xs) (sym same)
-      (first_stands before c later xs h (subst (λ (l : List Numbered). Stands commands l c) same s))
+      (first_stands before c later xs h (subst (λ (l : List Numbered). S commands l c) same s))
   stands_among before (m ∷ more) c later xs h s =
       let same = append_assoc before (m ∷ []) more in
       later_stands before more m c later (brings (before ++ m ∷ more) c) xs h
       (λ rest k.
-      let there = subst (λ (l : List Numbered). Stands commands l c) (sym same) s in
+      let there = subst (λ (l : List Numbered). S commands l c) (sym same) s in
       subst (λ (l : List Numbered). AreAmong (brings l c) rest) same
       (stands_among (before ++ m ∷ []) more c later rest k there))
 
@@ -145,25 +205,25 @@ among_either {A} (y ∷ ys) zs x [] last h = let same : y ≡ x = cc in inl ([],
 among_either (y ∷ ys) zs x (f ∷ first) last h = let rest : ys ++ zs ≡ first ++ x ∷ last =
     cc in one_further y x ys zs (among_either ys zs x first last rest)
 
-module _ {A : Type 0} (brings : Brings A) (commands : List Numbered) where
-  here_or_later : (before : List Numbered) (c : Numbered) (x : A) (rest : List A) → Stands commands before c
-      → (IsAmong x rest → IsBrought brings commands x) → IsAmong x (brings before c) ⊎ IsAmong x rest
-      → IsBrought brings commands x
+module _ {A : Type 0} (S : Standing) (brings : Brings A) (commands : List Numbered) where
+  here_or_later : (before : List Numbered) (c : Numbered) (x : A) (rest : List A) → S commands before c
+      → (IsAmong x rest → IsBrought S brings commands x) → IsAmong x (brings before c) ⊎ IsAmong x rest
+      → IsBrought S brings commands x
   here_or_later before c x rest stands next (inl h) =
-      record { earlier = before; command = c; stands = stands; among = h }
+      record { earlier = before; command = c; standing = stands; among = h }
   here_or_later before c x rest stands next (inr h) = next h
 
   found_first : (before : List Numbered) (c : Numbered) (cs : List Numbered) (xs : List A) (x : A)
-      → ((rest : List A) → AreBrought brings commands (before ++ c ∷ []) cs rest → IsAmong x rest
-      → IsBrought brings commands x)
-      → AreBrought brings commands before (c ∷ cs) xs → IsAmong x xs → IsBrought brings commands x
+      → ((rest : List A) → AreBrought S brings commands (before ++ c ∷ []) cs rest → IsAmong x rest
+      → IsBrought S brings commands x)
+      → AreBrought S brings commands before (c ∷ cs) xs → IsAmong x xs → IsBrought S brings commands x
   found_first before c cs xs x next (inl h) i =
       here_or_later before c x h.1 h.0 (next h.1 h.3)
       (among_either (brings before c) h.1 x i.0 i.1 (sym h.2 ∙ i.2))
   found_first before c cs xs x next (inr h) i = next xs h.1 i
 
   pub brought_found : (before cs : List Numbered) (xs : List A) (x : A)
-      → AreBrought brings commands before cs xs → IsAmong x xs → IsBrought brings commands x
+      → AreBrought S brings commands before cs xs → IsAmong x xs → IsBrought S brings commands x
   brought_found before [] xs x h i = absurd (none_among i.0 i.1 x (sym h ∙ i.2))
   brought_found before (c ∷ cs) xs x h i =
       found_first before c cs xs x (λ rest. brought_found (before ++ c ∷ []) cs rest x) h i
@@ -186,20 +246,22 @@ asserted_itself n command a (No none) (first, last, h) = absurd (none_among firs
 
 -- ---- the parts of what is in force
 
-abbrev pub part_in_force : {A : Type 0} → (Brought → List A) → List Numbered → List A
-part_in_force part commands = flat_map part ((in_force names_stand) (history commands))
+module _ {A : Type 0} (after : Brought → Brought → Bool) (S : Standing) (words : InWords after S)
+    (part : Brought → List A) where
+  abbrev pub part_in_force : List Numbered → List A
+  part_in_force commands = flat_map part (in_force (standing after) (history commands))
 
-pub part_stands : {A : Type 0} (part : Brought → List A) (commands earlier : List Numbered) (c : Numbered)
-    → Stands commands earlier c
-    → AreAmong (part_by part earlier c) (part_in_force part commands)
-part_stands part commands earlier c s =
-    let xs = part_in_force part commands in
-    stands_among (part_by part) commands [] earlier c s.later xs
-    (subst (λ (l : List Numbered). AreBrought (part_by part) commands [] l xs) s.place
-    (brought_in_order part commands)) s
+  pub part_stands : (commands earlier : List Numbered) (c : Numbered) → S commands earlier c
+      → (later : List Numbered) → commands ≡ earlier ++ c ∷ later
+      → AreAmong (part_by part earlier c) (part_in_force commands)
+  part_stands commands earlier c s later place =
+      let xs = part_in_force commands in
+      stands_among S (part_by part) commands [] earlier c later xs
+      (subst (λ (l : List Numbered). AreBrought S (part_by part) commands [] l xs) place
+      (brought_in_order after S words part commands)) s
 
-pub part_found : {A : Type 0} (part : Brought → List A) (commands : List Numbered) (x : A)
-    → IsAmong x (part_in_force part commands) → IsBrought (part_by part) commands x
-part_found part commands x i =
-    brought_found (part_by part) commands [] commands (part_in_force part commands) x
-    (brought_in_order part commands) i
+  pub part_found : (commands : List Numbered) (x : A) → IsAmong x (part_in_force commands)
+      → IsBrought S (part_by part) commands x
+  part_found commands x i =
+      brought_found S (part_by part) commands [] commands (part_in_force commands) x
+      (brought_in_order after S words part commands) i

@@ -1,8 +1,9 @@
 -- What each command does to a stack.
 use Rattle.std.proofs.Common.{◌≡◌, ◌≤◌, ℕ, ◌+◌, zero, suc, List, [], ◌∷◌, ◌++◌, inl, inr, Bool, false}
-use Rattle.std.proofs.Common.{◌||◌, Option, None, Some, Result, Ok, length, slice_get, take, refl, ap}
+use Rattle.std.proofs.Common.{true, cond, ◌||◌, Option, None, Some, Result, Ok, length, slice_get, take, refl, ap}
 use Rattle.std.proofs.Common.{append_assoc, sym, subst, ◌∙◌, arith}
 use Rattle.std.proofs.lemmas.List.{append-nil, length-append}
+use Rattle.std.specs.Prelude.{nat_le}
 use Rattle.std.proofs.lemmas.List.Sums.{fold-append}
 use Rattle.std.specs.Global.{Vec}
 use Rattle.std.specs.Option.{option_or}
@@ -35,14 +36,16 @@ use Rattle.smt_script.specs.Stack.{depth_in_force, entries_by, entries_of, flaw_
 use Rattle.smt_script.specs.Stack.{has_exited, history, in_force, names_stand, is_exit, is_reset, one_or_none}
 use Rattle.smt_script.specs.Stack.{print_success_after, print_success_in_force, signature_in_force}
 use Rattle.smt_script.specs.Stack.{signature_of, theories_after, theories_in_force, theories_or}
+use Rattle.smt_script.specs.Stack.{flaw_of_global, global_after, global_by, global_in_force, name_stands_after}
 use Rattle.smt_script.specs.Stack.{assertions_stand, is_logic_set, is_too_late, assumptions_after}
 use Rattle.smt_script.specs.Stack.{assumptions_in_force, flaw_of_formula, flaw_of_literals, trees_of}
-use Rattle.smt_script.specs.StackView.{AreAssertions, AreTerms, IsLevel, HasInForce, StandsFor, to_level}
+use Rattle.smt_script.specs.StackView.{AreAs, AreAssertions, AreNamesAlike, AreTerms, HasInForce, IsLevel, StandsFor}
+use Rattle.smt_script.specs.StackView.{assertions_to_level, names_level, names_to_level, signature_to_level, to_level}
 use Rattle.smt_script.specs.Internal.Effect.{ContentsAreKept, HasAssumed, HasEffect, IsEnded, IsUnchanged}
 use Rattle.smt_script.specs.Internal.Effect.{assumptions_left, logic_after, with_notes}
 use Rattle.smt_faults.specs.declared.command_fault.CommandFault.{CommandFault}
 use Rattle.smt_faults.specs.declared.command_flaw.CommandFlaw.{CommandFlaw}
-use Rattle.smt_faults.specs.declared.command_flaw.CommandFlaw.TheVariants.{Term}
+use Rattle.smt_faults.specs.declared.command_flaw.CommandFlaw.TheVariants.{Logic, Term}
 use Rattle.smt_faults.specs.Outcome.{Tells, TellsCommand, flaw_told}
 use Rattle.smt_faults.specs.declared.term_fault.TermFault.{TermFault}
 use Rattle.smt_faults.specs.declared.term_fault.TermFault.TheVariants as terms
@@ -50,9 +53,10 @@ use Rattle.smt_script.specs.declared.stack.Assertion.{Assertion}
 use Rattle.smt_script.specs.declared.stack.LogicState.{LogicState}
 use Rattle.smt_script.specs.declared.stack.levels.Level.{Level}
 use Rattle.smt_script.specs.declared.stack.Stack.{Stack}
-use Rattle.smt_script.proofs.HistoryLemmas.{abbreviations-push, assertions-push, entries-push, exited-push}
-use Rattle.smt_script.proofs.HistoryLemmas.{logic-push, in_force-grow, print-push, theories-push}
-use Rattle.smt_script.proofs.HistoryLemmas.{to_level-push, unfixed_is_empty}
+use Rattle.smt_script.proofs.HistoryLemmas.{abbreviations-push, alike-append, alike_step, assertion_stands_after}
+use Rattle.smt_script.proofs.HistoryLemmas.{assertions-push, assertions_rule, entries-push, exited-push, global-push}
+use Rattle.smt_script.proofs.HistoryLemmas.{global_to_level, in_force-grow, level_of, levels_to-push, logic-push}
+use Rattle.smt_script.proofs.HistoryLemmas.{names_rule, print-push, theories-push, to_level-push, unfixed_is_empty}
 use Rattle.smt_script.proofs.StandingLemmas.{depth-push}
 
 -- ---- assertions
@@ -119,58 +123,153 @@ with_brought s n command =
           s.entries ++ entries_by s n command;
     }
 
+-- signatures of the same
+pub same_signature : (t u : Theories) (xs ys : List Brought) → t ≡ u → abbreviations_of xs ≡ abbreviations_of ys
+    → entries_of xs ≡ entries_of ys → signature_of t xs ≡ signature_of u ys
+same_signature t u xs ys theories abbreviations entries =
+    ap (λ (t : Theories). signature_of t xs) theories
+    ∙ ap (λ (es : List Entry). record { theories = u; abbreviations = abbreviations_of xs; entries = es }) entries
+    ∙ ap (λ (as' : List (List ℕ × Sort)). record { theories = u; abbreviations = as'; entries = entries_of ys })
+    abbreviations
+
+pub names_grow : (cs : List Numbered) (c : Numbered) → is_reset c.command ≡ false
+    → depth_in_force cs ≤ depth_after (depth_in_force cs) c.command
+    → in_force names_stand (history (cs ++ c ∷ []))
+    ≡ in_force names_stand (history cs) ++ brought_by cs (history cs) c ∷ []
+names_grow = in_force-grow name_stands_after names_level names_rule
+
+pub assertions_grow : (cs : List Numbered) (c : Numbered) → is_reset c.command ≡ false
+    → depth_in_force cs ≤ depth_after (depth_in_force cs) c.command
+    → in_force assertions_stand (history (cs ++ c ∷ []))
+    ≡ in_force assertions_stand (history cs) ++ brought_by cs (history cs) c ∷ []
+assertions_grow = in_force-grow assertion_stands_after level_of assertions_rule
+
 pub signature-add : (cs : List Numbered) (c : Numbered) → Keeps c.command
     → signature_in_force (cs ++ c ∷ []) ≡ with_brought (signature_in_force cs) c.number c.command
 signature-add cs c adds =
     let b = brought_by cs (history cs) c in
-    let grow = in_force-grow cs c adds.no_reset (adds.level (depth_in_force cs)) in
-    ap (λ (t : Theories). signature_of t ((in_force names_stand) (history (cs ++ c ∷ []))))
+    let grow = names_grow cs c adds.no_reset (adds.level (depth_in_force cs)) in
+    ap (λ (t : Theories). signature_of t (in_force names_stand (history (cs ++ c ∷ []))))
     (theories-push cs c ∙ adds.theories (theories_in_force cs))
     ∙ ap (λ (l : List Brought). signature_of (theories_in_force cs) l) grow
     ∙ ap (λ (es : List Entry).
     record {
       theories = theories_in_force cs;
       abbreviations =
-          abbreviations_of ((in_force names_stand) (history cs) ++ b ∷ []);
+          abbreviations_of (in_force names_stand (history cs) ++ b ∷ []);
       entries = es;
     })
-    (entries-push ((in_force names_stand) (history cs)) b)
+    (entries-push (in_force names_stand (history cs)) b)
     ∙ ap (λ (as' : List (List ℕ × Sort)).
     record {
       theories = theories_in_force cs;
       abbreviations = as';
       entries =
-          entries_of ((in_force names_stand) (history cs)) ++ b.entries;
+          entries_of (in_force names_stand (history cs)) ++ b.entries;
     })
-    (abbreviations-push ((in_force names_stand) (history cs)) b)
+    (abbreviations-push (in_force names_stand (history cs)) b)
 
 pub assertions-add : (cs : List Numbered) (c : Numbered) → Keeps c.command
     → assertions_in_force (cs ++ c ∷ []) ≡ assertions_in_force cs ++ assertions_by c.number c.command
 assertions-add cs c adds =
     let b = brought_by cs (history cs) c in
-    let grow = in_force-grow cs c adds.no_reset (adds.level (depth_in_force cs)) in
-    ap assertions_of grow ∙ assertions-push ((in_force names_stand) (history cs)) b
+    let grow = assertions_grow cs c adds.no_reset (adds.level (depth_in_force cs)) in
+    ap assertions_of grow ∙ assertions-push (in_force assertions_stand (history cs)) b
 
--- a level stays as the contents and the assertions grow
-pub level_stays : ContentsAreKept
-    → (c d : Contents) (as' more : List Assertion) (l : Level) (t : Theories) (b : List Brought) → Extends c d
-    → IsLevel c as' l t b b → IsLevel d (as' ++ more) l t b b
-level_stays law c d as' more l t b grown h = record {
+-- ---- levels
+
+-- what levels leave of names that are global are all
+pub all_names_left : (k : ℕ) (cs : List Numbered) → AreAs true (in_force names_stand (history cs))
+    → signature_to_level k cs ≡ signature_in_force cs
+all_names_left k cs h =
+    let all = global_to_level k (in_force names_stand (history cs)) h in
+    same_signature (theories_in_force cs) (theories_in_force cs)
+    (names_to_level k (in_force names_stand (history cs))) (in_force names_stand (history cs)) refl all.1 all.0
+
+inside_local : (global : Bool) (k level : ℕ) → global ≡ false → k + 1 ≤ level → k + 1 ≤ cond global 0 level
+inside_local true k level h le = absurd (cc)
+inside_local false k level h le = le
+
+-- names that go with their level are none of an outer one
+pub local_names_left : (k : ℕ) (cs : List Numbered) (c : Numbered) → Keeps c.command
+    → global_in_force cs ≡ false → k + 1 ≤ depth_after (depth_in_force cs) c.command
+    → signature_to_level k (cs ++ c ∷ []) ≡ signature_to_level k cs
+local_names_left k cs c keeps local inside =
+    let b = brought_by cs (history cs) c in
+    let N = in_force names_stand (history cs) in
+    let same = ap (names_to_level k) (names_grow cs c keeps.no_reset (keeps.level (depth_in_force cs)))
+    ∙ to_level-push names_level k N b (inside_local (global_in_force cs) k b.level local inside) in
+    same_signature (theories_in_force (cs ++ c ∷ [])) (theories_in_force cs)
+    (names_to_level k (in_force names_stand (history (cs ++ c ∷ [])))) (names_to_level k N)
+    (theories-push cs c ∙ keeps.theories (theories_in_force cs))
+    (ap abbreviations_of same) (ap entries_of same)
+
+-- no names and no abbreviations behind others
+pub none_more : (xs : List Brought) (b : Brought) (u : Bool) → b.entries ≡ [] → b.abbreviations ≡ []
+    → (entries_of (xs ++ cond u (b ∷ []) []) ≡ entries_of xs)
+    × (abbreviations_of (xs ++ cond u (b ∷ []) []) ≡ abbreviations_of xs)
+none_more xs b true e a = (
+  entries-push xs b ∙ ap (λ (l : List Entry). entries_of xs ++ l) e ∙ append-nil (entries_of xs),
+  abbreviations-push xs b ∙ ap (λ (l : List (List ℕ × Sort)). abbreviations_of xs ++ l) a
+      ∙ append-nil (abbreviations_of xs),
+)
+none_more xs b false e a = (ap entries_of (append-nil xs), ap abbreviations_of (append-nil xs))
+
+-- nor are there more where a command brings none
+pub no_names_left : (k : ℕ) (cs : List Numbered) (c : Numbered) → Keeps c.command
+    → entries_by (signature_in_force cs) c.number c.command ≡ []
+    → abbreviations_by (signature_in_force cs) c.command ≡ []
+    → signature_to_level k (cs ++ c ∷ []) ≡ signature_to_level k cs
+no_names_left k cs c keeps entries abbreviations =
+    let b = brought_by cs (history cs) c in
+    let N = in_force names_stand (history cs) in
+    let same = ap (names_to_level k) (names_grow cs c keeps.no_reset (keeps.level (depth_in_force cs)))
+    ∙ levels_to-push names_level k N b in
+    let none = none_more (names_to_level k N) b (nat_le (names_level b) k) entries abbreviations in
+    same_signature (theories_in_force (cs ++ c ∷ [])) (theories_in_force cs)
+    (names_to_level k (in_force names_stand (history (cs ++ c ∷ [])))) (names_to_level k N)
+    (theories-push cs c ∙ keeps.theories (theories_in_force cs))
+    (ap abbreviations_of same ∙ none.1) (ap entries_of same ∙ none.0)
+
+-- assertions go with their level
+pub assertions_left : (k : ℕ) (cs : List Numbered) (c : Numbered) → Keeps c.command
+    → k + 1 ≤ depth_after (depth_in_force cs) c.command
+    → assertions_to_level k (cs ++ c ∷ []) ≡ assertions_to_level k cs
+assertions_left k cs c keeps inside =
+    ap assertions_of (ap (to_level k) (assertions_grow cs c keeps.no_reset (keeps.level (depth_in_force cs)))
+    ∙ to_level-push level_of k (in_force assertions_stand (history cs)) (brought_by cs (history cs) c) inside)
+
+-- a level as the contents and the assertions grow; global names grow with them
+pub level_grows : ContentsAreKept → (global : Bool)
+    → (c d : Contents) (as' more : List Assertion) (l : Level) (old new : Signature)
+    (asserted : List spec.Assertion) → Extends c d
+    → (global ≡ false → new ≡ old) → (global ≡ true → Holds c old → Holds d new)
+    → IsLevel global c as' l old asserted → IsLevel global d (as' ++ more) l new asserted
+level_grows law true c d as' more l old new asserted grown local names h = record {
   within = law.within l.mark c d h.within grown;
   count = (let e = length-append as' more in let m = h.count in omega arith);
-  holds = subst (λ (x : Contents). Holds x (signature_of t b)) (sym (law.first l.mark c d h.within grown))
-      h.holds;
+  holds = names refl h.holds;
   assertions_are =
-      subst (λ (x : Contents). AreAssertions x (take l.assertions (as' ++ more)) (assertions_of b))
+      subst (λ (x : List Assertion). AreAssertions d x asserted) (sym (take_before l.assertions as' more h.count))
+      (assertions_stay law c d grown (take l.assertions as') asserted h.assertions_are);
+}
+level_grows law false c d as' more l old new asserted grown local names h = record {
+  within = law.within l.mark c d h.within grown;
+  count = (let e = length-append as' more in let m = h.count in omega arith);
+  holds = subst (λ (x : Contents). Holds x new) (sym (law.first l.mark c d h.within grown))
+      (subst (Holds (first_of l.mark c)) (sym (local refl)) h.holds);
+  assertions_are =
+      subst (λ (x : Contents). AreAssertions x (take l.assertions (as' ++ more)) asserted)
       (sym (law.first l.mark c d h.within grown))
-      (subst (λ (x : List Assertion). AreAssertions (first_of l.mark c) x (assertions_of b))
+      (subst (λ (x : List Assertion). AreAssertions (first_of l.mark c) x asserted)
       (sym (take_before l.assertions as' more h.count)) h.assertions_are);
 }
 
 -- a stack after a command that adds to what is in force
 pub added : ContentsAreKept
     → (old new : Stack) (more : List Assertion) (cs : List Numbered) (n : ℕ) (command : Command)
-    → HasInForce old cs → Adds command
+    → HasInForce old cs → AreNamesAlike cs → Adds command
+    → global_after (global_in_force cs) command ≡ global_in_force cs → new.global ≡ old.global
     → new.levels.items ≡ old.levels.items → new.logic ≡ old.logic → new.print_success ≡ old.print_success
     → new.exited ≡ old.exited → new.initial_print_success ≡ old.initial_print_success
     → Extends (contents_of old.library) (contents_of new.library)
@@ -179,16 +278,19 @@ pub added : ContentsAreKept
     → AreAssertions (contents_of new.library) new.assertions.items
     (assertions_in_force cs ++ assertions_by n command)
     → HasInForce (with_notes command new) (cs ++ record { number = n; command = command } ∷ [])
-added law old new more cs n command h adds levels logic print exited start grown asserted names assertions =
+added law old new more cs n command h alike adds same_global global levels logic print exited start grown asserted
+    names assertions =
     let c : Numbered = record { number = n; command = command } in
     let b = brought_by cs (history cs) c in
-    let grow = in_force-grow cs c adds.no_reset (let e = adds.level (depth_in_force cs) in omega arith) in
-    let theories = theories-push cs c ∙ adds.theories (theories_in_force cs) in
+    let keeps = adds_keeps command adds in
+    let all = cs ++ c ∷ [] in
+    let now : global_after new.global command ≡ old.global =
+    ap (λ (g : Bool). global_after g command) (global ∙ h.global) ∙ same_global ∙ sym h.global in
     record {
       library = subst (λ (s : Signature). library.StandsFor new.library s)
-          (sym (signature-add cs c (adds_keeps command adds))) names;
+          (sym (signature-add cs c keeps)) names;
       assertions = subst (λ (l : List spec.Assertion). AreAssertions (contents_of new.library)
-          new.assertions.items l) (sym (assertions-add cs c (adds_keeps command adds))) assertions;
+          new.assertions.items l) (sym (assertions-add cs c keeps)) assertions;
       depth = ap length levels ∙ h.depth ∙ sym (depth-push cs c ∙ adds.level (depth_in_force cs));
       levels = λ k l at.
           let there : slice_get old.levels.items k ≡ Some l =
@@ -196,22 +298,31 @@ added law old new more cs n command h adds levels logic print exited start grown
           let inside : k + 1 ≤ b.level =
           (let m = within old.levels.items k l there in let e = h.depth in let f =
           adds.level (depth_in_force cs) in omega arith) in
-          subst (λ (t : Theories). IsLevel (contents_of new.library) new.assertions.items l t
-          (to_level k ((in_force names_stand) (history (cs ++ c ∷ []))))
-          (to_level k ((in_force assertions_stand) (history (cs ++ c ∷ []))))) (sym theories)
-          (subst (λ (x : List Brought). IsLevel (contents_of new.library) new.assertions.items l
-          (theories_in_force cs) x x)
-          (sym (ap (to_level k) grow ∙ to_level-push k ((in_force names_stand) (history cs)) b inside))
-          (subst (λ (x : List Assertion). IsLevel (contents_of new.library) x l (theories_in_force cs)
-          (to_level k ((in_force names_stand) (history cs)))
-          (to_level k ((in_force assertions_stand) (history cs)))) (sym asserted)
-          (level_stays law (contents_of old.library) (contents_of new.library) old.assertions.items more l
-          (theories_in_force cs) (to_level k ((in_force names_stand) (history cs))) grown
+          let more_global : AreAs (global_in_force cs) (in_force names_stand (history all)) =
+          subst (AreAs (global_in_force cs))
+          (sym (names_grow cs c adds.no_reset (keeps.level (depth_in_force cs))))
+          (alike-append (global_in_force cs) (in_force names_stand (history cs)) b alike (inl refl)) in
+          subst (λ (g : Bool). IsLevel g (contents_of new.library) new.assertions.items l
+          (signature_to_level k all) (assertions_to_level k all)) (sym now)
+          (subst (λ (x : List Assertion). IsLevel old.global (contents_of new.library) x l
+          (signature_to_level k all) (assertions_to_level k all)) (sym asserted)
+          (subst (λ (x : List spec.Assertion). IsLevel old.global (contents_of new.library)
+          (old.assertions.items ++ more) l (signature_to_level k all) x)
+          (sym (assertions_left k cs c keeps inside))
+          (level_grows law old.global (contents_of old.library) (contents_of new.library)
+          old.assertions.items more l (signature_to_level k cs) (signature_to_level k all)
+          (assertions_to_level k cs) grown
+          (λ local. local_names_left k cs c keeps (sym h.global ∙ local) inside)
+          (λ everywhere held. subst (λ (s : Signature). library.StandsFor new.library s)
+          (sym (all_names_left k all
+          (subst (λ (g : Bool). AreAs g (in_force names_stand (history all))) (sym h.global ∙ everywhere)
+          more_global) ∙ signature-add cs c keeps)) names)
           (h.levels k l there))));
       ordered = λ j k l m le at there.
           h.ordered j k l m le (ap (λ (xs : List Level). slice_get xs j) (sym levels) ∙ at)
           (ap (λ (xs : List Level). slice_get xs k) (sym levels) ∙ there);
       logic = ap (λ (x : LogicState). logic_after x command) (logic ∙ h.logic) ∙ sym (logic-push cs c);
+      global = ap (λ (g : Bool). global_after g command) (global ∙ h.global) ∙ sym (global-push cs c);
       print_success =
           ap (λ (x : Bool). print_success_after new.initial_print_success x command) (print ∙ h.print_success)
           ∙ ap (λ (x : Bool). print_success_after new.initial_print_success (print_success_in_force x cs) command) (sym start)
@@ -258,6 +369,7 @@ nothing_brought l s n command abbreviations entries h =
 -- a command that changes nothing but the notes
 pub record Idle (command : Command) : Type 0 where
   pub adds : Adds command
+  pub global : (g : Bool) → global_after g command ≡ g
   pub entries : (s : Signature) (n : ℕ) → entries_by s n command ≡ []
   pub abbreviations : (s : Signature) → abbreviations_by s command ≡ []
   pub assertions : (n : ℕ) → assertions_by n command ≡ []
@@ -267,10 +379,10 @@ pub idle_effect : ContentsAreKept → (s : Stack) (n : ℕ) (command : Command) 
     → HasEffect s s n command
 idle_effect law s n command idle = record {
   faultless = λ cs h. idle.faultless cs n;
-  stands = λ cs h.
+  stands = λ cs h alike.
       let P : List spec.Assertion → Type 0 =
       λ bs. AreAssertions (contents_of s.library) s.assertions.items (assertions_in_force cs ++ bs) in
-      added law s s [] cs n command h idle.adds refl refl refl refl refl
+      added law s s [] cs n command h alike idle.adds (idle.global (global_in_force cs)) refl refl refl refl refl refl
       (extends_itself (contents_of s.library)) (sym (append-nil s.assertions.items))
       (nothing_brought s.library (signature_in_force cs) n command
       (idle.abbreviations (signature_in_force cs)) (idle.entries (signature_in_force cs) n) h.library)
@@ -296,6 +408,7 @@ no_effect_is_idle command is = record {
     level = λ d. ap (depth_by d) is;
     theories = λ t. ap (theories_by t) is;
   };
+  global = λ g. ap (global_by g) is;
   entries = λ s n. ap (entries_of_effect s n) is;
   abbreviations = λ s. ap (abbreviations_of_effect s) is;
   assertions = λ n. ap (assertions_of_effect n) is;
@@ -307,6 +420,7 @@ no_effect_is_idle command is = record {
 -- a command that brings these names, without a fault
 pub record BringsNames (old new : Library) (n : ℕ) (command : Command) : Type 0 where
   pub adds : Adds command
+  pub global : (g : Bool) → global_after g command ≡ g
   pub grown : Extends (contents_of old) (contents_of new)
   pub assertions : assertions_by n command ≡ []
   pub names : (cs : List Numbered) → library.StandsFor old (signature_in_force cs)
@@ -317,11 +431,12 @@ pub names_effect : ContentsAreKept → (old : Stack) (l : Library) (n : ℕ) (co
     → BringsNames old.library l n command → HasEffect old (record old { library = l }) n command
 names_effect law old l n command brings = record {
   faultless = λ cs h. (brings.names cs h.library).0;
-  stands = λ cs h.
+  stands = λ cs h alike.
       let P : List spec.Assertion → Type 0 =
       λ bs. AreAssertions (contents_of l) old.assertions.items (assertions_in_force cs ++ bs) in
       added law old (record old { library = l })
-      [] cs n command h brings.adds refl refl refl refl refl brings.grown
+      [] cs n command h alike brings.adds (brings.global (global_in_force cs)) refl refl refl refl refl refl
+      brings.grown
       (sym (append-nil old.assertions.items)) (brings.names cs h.library).1
       (subst P (sym brings.assertions)
       (subst (λ (bs : List spec.Assertion). AreAssertions (contents_of l) old.assertions.items bs)
@@ -362,6 +477,7 @@ pub declare_const_effect : ContentsAreKept → (old : Stack) (l : Library) (n : 
 declare_const_effect law old l n x sort declares grown =
     names_effect law old l n (DeclareConst x sort) (record {
       adds = addition_adds (DeclareConst x sort) _ refl;
+      global = λ g. refl;
       grown = grown;
       assertions = refl;
       names = λ cs h.
@@ -379,6 +495,7 @@ pub declare_fun_effect : ContentsAreKept
 declare_fun_effect law old l n x parameters sort declares grown =
     names_effect law old l n (DeclareFun x parameters sort) (record {
       adds = addition_adds (DeclareFun x parameters sort) _ refl;
+      global = λ g. refl;
       grown = grown;
       assertions = refl;
       names = λ cs h.
@@ -401,6 +518,7 @@ pub define_effect : ContentsAreKept
 define_effect law old l n x parameters sort body defines grown =
     names_effect law old l n (DefineFun x parameters sort body) (record {
       adds = addition_adds (DefineFun x parameters sort body) _ refl;
+      global = λ g. refl;
       grown = grown;
       assertions = refl;
       names = λ cs h.
@@ -446,6 +564,7 @@ pub define_sort_effect : ContentsAreKept → (old : Stack) (l : Library) (n : �
 define_sort_effect law old l n x sort abbreviates grown =
     names_effect law old l n (DefineSort x sort) (record {
       adds = addition_adds (DefineSort x sort) _ refl;
+      global = λ g. refl;
       grown = grown;
       assertions = refl;
       names = λ cs h.
@@ -492,13 +611,13 @@ pub assert_effect : ContentsAreKept
     → HasEffect old (record old { library = l; assertions = as' }) a.command (Assert term)
 assert_effect law old l as' a term asserts stored grown pushed = record {
   faultless = λ cs h. ap flaw_of (asserts (signature_in_force cs) h.library).1;
-  stands = λ cs h.
+  stands = λ cs h alike.
       let made = asserts (signature_in_force cs) h.library in
       let P : List Assertion → Type 0 =
       λ xs. AreAssertions (contents_of l) xs
       (assertions_in_force cs ++ record { command = a.command; term = term } ∷ []) in
-      added law old (record old { library = l; assertions = as' }) (a ∷ []) cs a.command (Assert term) h
-      (addition_adds (Assert term) _ refl) refl refl refl refl refl grown pushed
+      added law old (record old { library = l; assertions = as' }) (a ∷ []) cs a.command (Assert term) h alike
+      (addition_adds (Assert term) _ refl) refl refl refl refl refl refl refl grown pushed
       (some_entries l (signature_in_force cs) a.command (Assert term) made.0 refl
       (ap spec.all_or_none made.1) made.2)
       (subst P (sym pushed)
@@ -532,15 +651,16 @@ unchanged_by law old l as' names grown same = record {
         (assertions_in_force cs) h.assertions);
     depth = h.depth;
     levels = λ k level at.
-        subst (λ (xs : List Assertion). IsLevel (contents_of l) xs level (theories_in_force cs)
-        (to_level k ((in_force names_stand) (history cs)))
-        (to_level k ((in_force assertions_stand) (history cs))))
+        subst (λ (xs : List Assertion). IsLevel old.global (contents_of l) xs level
+        (signature_to_level k cs) (assertions_to_level k cs))
         (append-nil old.assertions.items ∙ sym same)
-        (level_stays law (contents_of old.library) (contents_of l) old.assertions.items [] level
-        (theories_in_force cs) (to_level k ((in_force names_stand) (history cs))) grown
+        (level_grows law old.global (contents_of old.library) (contents_of l) old.assertions.items [] level
+        (signature_to_level k cs) (signature_to_level k cs) (assertions_to_level k cs) grown
+        (λ local. refl) (λ everywhere held. names (signature_to_level k cs) held)
         (h.levels k level at));
     ordered = h.ordered;
     logic = h.logic;
+    global = h.global;
     print_success = h.print_success;
     exited = h.exited;
   };
@@ -564,52 +684,125 @@ not_fixed : (old : Stack) (cs : List Numbered) → HasInForce old cs → (old.lo
     → (is_logic_set cs || is_too_late cs) ≡ false
 not_fixed old cs h free = sym (ap (λ (l : LogicState). l.set || l.late) h.logic) ∙ free
 
+not_late : (set late : Bool) → (set || late) ≡ false → late ≡ false
+not_late true late h = absurd (cc)
+not_late false late h = h
+
 pub logic_effect : (old : Stack) (l : Library) (theories : Theories) (name : List ℕ)
     → (old.logic.set || old.logic.late) ≡ false → theories_named name ≡ Some theories
     → library.StandsFor l (no_names theories)
     → (n : ℕ) → HasEffect old (record old { library = l }) n (SetLogic name)
 logic_effect old l theories name free named fresh n = record {
   faultless = λ cs h. rw (not_fixed old cs h free, named);
-  stands = λ cs h.
+  stands = λ cs h alike.
       let c : Numbered = record { number = n; command = SetLogic name } in
       let b = brought_by cs (history cs) c in
-      let B = (in_force names_stand) (history cs) in
-      let empty = unfixed_is_empty cs (not_fixed old cs h free) in
-      let grow = in_force-grow cs c refl (omega arith) in
-      let entries : entries_of (B ++ b ∷ []) ≡ [] =
-      entries-push B b ∙ append-nil (entries_of B) ∙ empty.0.entries in
-      let abbreviations : abbreviations_of (B ++ b ∷ []) ≡ [] =
-      abbreviations-push B b ∙ append-nil (abbreviations_of B) ∙ empty.0.abbreviations in
-      let assertions : assertions_of (B ++ b ∷ []) ≡ [] =
-      assertions-push B b ∙ append-nil (assertions_of B) ∙ empty.0.assertions in
+      let N = in_force names_stand (history cs) in
+      let A = in_force assertions_stand (history cs) in
+      let empty = unfixed_is_empty cs (not_late (is_logic_set cs) (is_too_late cs) (not_fixed old cs h free)) in
+      let none = none_more N b true refl refl in
+      let names = names_grow cs c refl (omega arith) in
+      let assertions : assertions_in_force (cs ++ c ∷ []) ≡ [] =
+      ap assertions_of (assertions_grow cs c refl (omega arith)) ∙ assertions-push A b
+      ∙ append-nil (assertions_of A) ∙ empty.0.assertions in
       let t : theories_in_force (cs ++ c ∷ []) ≡ theories =
       theories-push cs c ∙ ap (λ (o : Option Theories). theories_or (theories_in_force cs) o) named in
       let deep : depth_in_force (cs ++ c ∷ []) ≡ 0 = depth-push cs c ∙ empty.1 in
       let s : signature_in_force (cs ++ c ∷ []) ≡ no_names theories =
-      ap (λ (x : Theories). signature_of x ((in_force names_stand) (history (cs ++ c ∷ [])))) t
-      ∙ ap (λ (x : List Brought). signature_of theories x) grow
-      ∙ ap (λ (x : List Entry).
-      record { theories = theories; abbreviations = abbreviations_of (B ++ b ∷ []); entries = x }) entries
-      ∙ ap (λ (x : List (List ℕ × Sort)). record { theories = theories; abbreviations = x; entries = [] })
-      abbreviations in
+      same_signature (theories_in_force (cs ++ c ∷ [])) theories (in_force names_stand (history (cs ++ c ∷ []))) []
+      t (ap abbreviations_of names ∙ none.1 ∙ empty.0.abbreviations)
+      (ap entries_of names ∙ none.0 ∙ empty.0.entries) in
       let was : AreAssertions (contents_of old.library) old.assertions.items [] =
       subst (λ (x : List spec.Assertion). AreAssertions (contents_of old.library) old.assertions.items x)
       empty.0.assertions h.assertions in
       record {
         library = subst (λ (x : Signature). library.StandsFor l x) (sym s) fresh;
         assertions = subst (λ (x : List spec.Assertion). AreAssertions (contents_of l) old.assertions.items x)
-            (sym (ap assertions_of grow ∙ assertions))
+            (sym assertions)
             (none_of_any (contents_of old.library) (contents_of l) old.assertions.items was);
         depth = h.depth ∙ empty.1 ∙ sym deep;
         levels = λ k level at. absurd (no_levels old cs h empty.1 k level at);
         ordered = h.ordered;
         logic = ap (λ (x : LogicState). logic_after x (SetLogic name)) h.logic ∙ sym (logic-push cs c);
+        global = h.global ∙ sym (global-push cs c);
         print_success = ap (λ (x : Bool). print_success_after old.initial_print_success x (SetLogic name)) h.print_success
             ∙ sym (print-push old.initial_print_success cs c);
         exited = ap (λ (x : Bool). x || is_exit (SetLogic name)) h.exited ∙ sym (exited-push cs c);
       };
   start = refl;
 }
+
+-- ---- global declarations
+
+flaw_early : (late global on : Bool) → late ≡ false → flaw_of_global late global on ≡ None
+flaw_early true global on h = absurd (cc)
+flaw_early false global on h = refl
+
+flaw_same : (late global on : Bool) → global ≡ on → flaw_of_global late global on ≡ None
+flaw_same false global on h = refl
+flaw_same true true true h = refl
+flaw_same true true false h = absurd (cc)
+flaw_same true false true h = absurd (cc)
+flaw_same true false false h = refl
+
+flaw_late : (late global on : Bool) → late ≡ true → (global ≡ on → ⊥) → flaw_of_global late global on ≡ Some Logic
+flaw_late false global on h other = absurd (cc)
+flaw_late true true true h other = absurd (other refl)
+flaw_late true true false h other = refl
+flaw_late true false true h other = refl
+flaw_late true false false h other = absurd (other refl)
+
+global_adds : (on : Bool) → Adds (SetGlobalDeclarations on)
+global_adds on = record { no_reset = refl; level = λ d. refl; theories = λ t. refl }
+
+-- while it is early, there is no level and nothing in force
+pub early_global : (s : Stack) (n : ℕ) (on : Bool) → s.logic.late ≡ false
+    → HasEffect s s n (SetGlobalDeclarations on)
+early_global s n on early = record {
+  faultless = λ cs h. flaw_early (is_too_late cs) (global_in_force cs) on
+      (sym (ap (λ (l : LogicState). l.late) h.logic) ∙ early);
+  stands = λ cs h alike.
+      let command = SetGlobalDeclarations on in
+      let c : Numbered = record { number = n; command = command } in
+      let empty = unfixed_is_empty cs (sym (ap (λ (l : LogicState). l.late) h.logic) ∙ early) in
+      let keeps = adds_keeps command (global_adds on) in
+      record {
+        library = subst (λ (x : Signature). library.StandsFor s.library x) (sym (signature-add cs c keeps))
+            (nothing_brought s.library (signature_in_force cs) n command refl refl h.library);
+        assertions = subst (λ (bs : List spec.Assertion). AreAssertions (contents_of s.library)
+            s.assertions.items bs) (sym (assertions-add cs c keeps ∙ append-nil (assertions_in_force cs)))
+            h.assertions;
+        depth = h.depth ∙ sym (depth-push cs c);
+        levels = λ k level at. absurd (no_levels s cs h empty.1 k level at);
+        ordered = h.ordered;
+        logic = ap (λ (x : LogicState). logic_after x command) h.logic ∙ sym (logic-push cs c);
+        global = sym (global-push cs c);
+        print_success = h.print_success ∙ sym (print-push s.initial_print_success cs c);
+        exited = ap (λ (x : Bool). x || false) h.exited ∙ sym (exited-push cs c);
+      };
+  start = refl;
+}
+
+-- setting the value that there is changes nothing
+pub same_global : ContentsAreKept → (s : Stack) (n : ℕ) (on : Bool) → s.global ≡ on
+    → HasEffect s s n (SetGlobalDeclarations on)
+same_global law s n on same = record {
+  faultless = λ cs h. flaw_same (is_too_late cs) (global_in_force cs) on (sym h.global ∙ same);
+  stands = λ cs h alike.
+      added law s s [] cs n (SetGlobalDeclarations on) h alike (global_adds on) (sym same ∙ h.global)
+      refl refl refl refl refl refl
+      (extends_itself (contents_of s.library)) (sym (append-nil s.assertions.items))
+      (nothing_brought s.library (signature_in_force cs) n (SetGlobalDeclarations on) refl refl h.library)
+      (subst (λ (bs : List spec.Assertion). AreAssertions (contents_of s.library) s.assertions.items bs)
+      (sym (append-nil (assertions_in_force cs))) h.assertions);
+  start = refl;
+}
+
+pub late_global : (s : Stack) (on : Bool) → s.logic.late ≡ true → (s.global ≡ on → ⊥) → (cs : List Numbered)
+    → HasInForce s cs → (n : ℕ) → flaw_of_effect cs n (SetGlobalDeclarations on) ≡ Some Logic
+late_global s on late other cs h n =
+    flaw_late (is_too_late cs) (global_in_force cs) on (sym (ap (λ (l : LogicState). l.late) h.logic) ∙ late)
+    (λ same. other (h.global ∙ same))
 
 -- ---- numbers
 
@@ -622,17 +815,10 @@ with_last s n cs h = record {
   levels = h.levels;
   ordered = h.ordered;
   logic = h.logic;
+  global = h.global;
   print_success = h.print_success;
   exited = h.exited;
 }
-
--- so a command that took effect and was noted stands under its number
-pub numbered_stands : (old new made : Stack) (n : ℕ) (command : Command) → HasEffect old new n command
-    → made ≡ with_notes command new → (cs : List Numbered) → HasInForce old cs
-    → HasInForce (record made { last = n }) (cs ++ record { number = n; command = command } ∷ [])
-numbered_stands old new made n command effect is cs h =
-    let all = cs ++ record { number = n; command = command } ∷ [] in
-    with_last made n all (subst (λ (s : Stack). HasInForce s all) (sym is) (effect.stands cs h))
 
 -- ---- assumptions
 
@@ -715,9 +901,9 @@ pub assume_effect : ContentsAreKept → (old : Stack) (l : Library) (v : Vec ℕ
     → HasEffect old (record old { library = l; assumptions = v }) n (CheckSatAssuming literals)
 assume_effect law old l v n literals names grown none = record {
   faultless = λ cs h. none (signature_in_force cs) h.library;
-  stands = λ cs h.
-      added law old (record old { library = l; assumptions = v }) [] cs n (CheckSatAssuming literals) h
-      (assumes_adds literals) refl refl refl refl refl grown (sym (append-nil old.assertions.items))
+  stands = λ cs h alike.
+      added law old (record old { library = l; assumptions = v }) [] cs n (CheckSatAssuming literals) h alike
+      (assumes_adds literals) refl refl refl refl refl refl refl grown (sym (append-nil old.assertions.items))
       (nothing_brought l (signature_in_force cs) n (CheckSatAssuming literals) refl refl
       (names (signature_in_force cs) h.library))
       (subst (λ (bs : List spec.Assertion). AreAssertions (contents_of l) old.assertions.items bs)
@@ -735,9 +921,10 @@ ended_force command old new cs ended h =
       library = subst (λ (l : Library). library.StandsFor l (signature_in_force cs)) (sym ended.library) h.library;
       assertions = rw (ended.library, ended.assertions) h.assertions;
       depth = rw ended.levels h.depth;
-      levels = rw (ended.library, ended.assertions, ended.levels) h.levels;
+      levels = rw (ended.library, ended.assertions, ended.levels, ended.notes.global) h.levels;
       ordered = rw ended.levels h.ordered;
       logic = ended.notes.logic ∙ h.logic;
+      global = ended.notes.global ∙ h.global;
       print_success = ended.notes.print_success ∙ h.print_success
           ∙ ap (λ (b : Bool). print_success_in_force b cs) (sym ended.notes.start);
       exited = ended.notes.exited ∙ h.exited;
@@ -750,7 +937,8 @@ pub applied_stands : (old taken noted ended : Stack) (n : ℕ) (command : Comman
     → StandsFor (record ended { last = n }) (cs ++ record { number = n; command = command } ∷ [])
 applied_stands old taken noted ended n command effect assumed is gone cs h =
     let all = cs ++ record { number = n; command = command } ∷ [] in
-    let force : HasInForce noted all = subst (λ (s : Stack). HasInForce s all) (sym is) (effect.stands cs h.force) in
+    let force : HasInForce noted all = subst (λ (s : Stack). HasInForce s all) (sym is)
+    (effect.stands cs h.force h.alike) in
     let items : ended.assumptions.items ≡ assumptions_left command taken.assumptions.items =
     gone.assumptions ∙ ap (λ (s : Stack). assumptions_left command s.assumptions.items) is in
     let same_library : ended.library ≡ taken.library = gone.library ∙ ap (λ (s : Stack). s.library) is in
@@ -759,6 +947,7 @@ applied_stands old taken noted ended n command effect assumed is gone cs h =
     (record { number = n; command = command } ∷ []) in
     record {
       force = with_last ended n all (ended_force command noted ended all gone force);
+      alike = alike_step cs (record { number = n; command = command }) (effect.faultless cs h.force) h.alike;
       assumptions = rw (same_library, pushed)
           (left_assumptions old taken command (signature_in_force cs) (assumptions_in_force cs)
           ended.assumptions.items h.force.library assumed h.assumptions items);

@@ -1,7 +1,8 @@
 -- The names that commands without a fault brought.
 use Rattle.std.proofs.Common.{◌≡◌, ◌≤◌, ℕ, ◌+◌, Bool, true, false, cond, List, [], ◌∷◌, ◌++◌, ◌||◌, Option}
 use Rattle.std.proofs.Common.{Some, None, is_some, Result, Ok, Err, refl, ap, sym, ◌∙◌, subst, arith}
-use Rattle.std.proofs.Common.{append_assoc, append-nil}
+use Rattle.std.proofs.Common.{append_assoc, append-nil, not, inl, inr}
+use Rattle.std.proofs.lemmas.List.Elements.{filter-append}
 use Rattle.std.specs.Prelude.{bytes_eq, nat_le}
 use Rattle.std.specs.List.{filter}
 use Rattle.std.proofs.lemmas.Grind.{flat_map-append}
@@ -16,25 +17,27 @@ use Rattle.smt_terms.specs.Definitions.{defined_in}
 use Rattle.smt_terms.specs.Declarations.{declaration, declared_in, rank_named}
 use Rattle.smt_terms.specs.Freshness.{is_taken}
 use Rattle.smt_terms.specs.Signature.{Entry, Names, Origin, Declared, Defined, Rank, Signature, entry_named}
-use Rattle.smt_terms.specs.Signature.{names_of, rank_of_entry, ranks_of, sort_names_of, unlabelled_over}
+use Rattle.smt_terms.specs.Signature.{names_of, no_names, rank_of_entry, ranks_of, sort_names_of, unlabelled_over}
 use Rattle.smt_terms.specs.WellSorted.{AreIntroduced, IsIntroduced, IsSortedIfDefined, IsWellSorted}
 use Rattle.smt_terms.specs.WellSorted.{IsWellSortedFrom}
 use Rattle.smt_faults.specs.declared.term_flaw.TermFlaw.{TermFlaw}
 use Rattle.smt_faults.specs.declared.term_flaw.TermFlaw.TheVariants as terms
-use Rattle.smt_script.specs.Command.{Command, Effect, Addition, SetLogic, Pop, Declaration, Definition}
+use Rattle.smt_script.specs.Command.{Command, Effect, Addition, SetLogic, Pop, ResetAssertions, Declaration, Definition}
 use Rattle.smt_script.specs.Command.{Abbreviation, Assertion, SetsLogic, Brings, Assumes, Pushes, Pops, Removing}
-use Rattle.smt_script.specs.Command.{Nothing, AllButOptions, Everything, effect_of}
-use Rattle.smt_script.specs.Stack.{Brought, HaveNoFlaw, Numbered, all_or_none, brought_by, depth_by}
+use Rattle.smt_script.specs.Command.{SetsGlobal, Nothing, AllButOptions, Everything, effect_of}
+use Rattle.smt_script.specs.Stack.{Brought, HaveNoFlaw, Numbered, all_or_none, brought_by, depth_by, depth_in_force}
 use Rattle.smt_script.specs.Stack.{entries_by, entries_of_effect, entries_of_addition, flaw_by, flaw_of_addition}
-use Rattle.smt_script.specs.Stack.{removed_of_effect, resets, theories_by, entries_of, flaw_of}
-use Rattle.smt_script.specs.Stack.{flaw_of_effect, flaw_of_logic, history, in_force, names_stand, is_reset}
-use Rattle.smt_script.specs.Stack.{one_or_none, signature_in_force, theories_in_force, is_logic_set}
-use Rattle.smt_script.specs.Stack.{is_too_late}
-use Rattle.smt_script.specs.StackView.{to_level}
-use Rattle.smt_script.proofs.EffectLemmas.{Keeps, adds_keeps, addition_adds, no_effect_is_idle, signature-add}
-use Rattle.smt_script.proofs.HistoryLemmas.{AtMost, Kept, entries-push, history-push, in_force-grow}
-use Rattle.smt_script.proofs.HistoryLemmas.{in_force-push, kept_by_all, levels_still, none_still, still}
-use Rattle.smt_script.proofs.HistoryLemmas.{still_at_most, theories-push, unfixed_is_empty}
+use Rattle.smt_script.specs.Stack.{removed_by, removed_of_effect, resets, theories_by, entries_of, flaw_of}
+use Rattle.smt_script.specs.Stack.{flaw_of_effect, flaw_of_logic, global_in_force, history, in_force, is_everything}
+use Rattle.smt_script.specs.Stack.{name_stands_after, names_stand, one_or_none, signature_in_force, stands_after}
+use Rattle.smt_script.specs.Stack.{theories_after, theories_in_force, is_logic_set, is_too_late}
+use Rattle.smt_script.specs.StackView.{AreAs, AreNamesAlike, IsAs, names_level, names_to_level, to_level}
+use Rattle.smt_script.proofs.EffectLemmas.{Keeps, adds_keeps, addition_adds, names_grow, no_effect_is_idle}
+use Rattle.smt_script.proofs.EffectLemmas.{none_more, signature-add}
+use Rattle.smt_script.proofs.HistoryLemmas.{AtMost, Kept, alike_step, assertions_rule, entries-push, filter_alike}
+use Rattle.smt_script.proofs.HistoryLemmas.{global_to_level, history-push, in_force-left, in_force-push, kept_by_all}
+use Rattle.smt_script.proofs.HistoryLemmas.{level_of, names_rule, none_still, still, theories-push, unfixed_is_empty}
+use Rattle.smt_script.proofs.LevelLemmas.{names_kept}
 
 -- ---- what is in force stands in the order of its levels
 
@@ -70,23 +73,76 @@ at_least-push : (d : ℕ) (bs : List Brought) (b : Brought) → AtLeast d bs →
 at_least-push d [] b all h = (h, tt)
 at_least-push d (x ∷ bs) b all h = (all.0, at_least-push d bs b all.1 h)
 
-sorted-push : (bs : List Brought) (b : Brought) → Sorted bs → AtMost b.level bs → Sorted (bs ++ b ∷ [])
+sorted-push : (bs : List Brought) (b : Brought) → Sorted bs → AtMost level_of b.level bs → Sorted (bs ++ b ∷ [])
 sorted-push [] b all h = (tt, tt)
 sorted-push (x ∷ bs) b all h = (at_least-push x.level bs b all.0 h.0, sorted-push bs b all.1 h.1)
 
+-- names that go with their level
+abbrev local_names : List Brought → List Brought
+local_names bs = filter (λ (b : Brought). not b.global) bs
+
+one_local : (f : Brought → Bool) (b : Brought) (bs : List Brought)
+    → local_names (filter f bs) ≡ filter f (local_names bs) → (u v : Bool) → f b ≡ u → not b.global ≡ v
+    → local_names (cond u (b ∷ filter f bs) (filter f bs))
+    ≡ filter f (cond v (b ∷ local_names bs) (local_names bs))
+one_local f b bs rest true true h k = rw (h, k) (ap (λ (l : List Brought). b ∷ l) rest)
+one_local f b bs rest true false h k = rw k rest
+one_local f b bs rest false true h k = rw h rest
+one_local f b bs rest false false h k = rest
+
+-- which of some that hold go with their level
+local_filter : (f : Brought → Bool) (bs : List Brought) → local_names (filter f bs) ≡ filter f (local_names bs)
+local_filter f [] = refl
+local_filter f (b ∷ bs) = one_local f b bs (local_filter f bs) (f b) (not b.global) refl refl
+
+local-push : (bs : List Brought) (b : Brought)
+    → local_names (bs ++ b ∷ []) ≡ local_names bs ++ cond (not b.global) (b ∷ []) []
+local-push bs b = filter-append (λ (x : Brought). not x.global) bs (b ∷ [])
+
+-- those that stand after one more came at its level or an outer one
+abbrev AtMostLocal : ℕ → List Brought → Type 0
+AtMostLocal d bs = AtMost level_of d (local_names bs)
+
+local_at_most : (a b : Brought) (bs : List Brought) → AtMostLocal b.level (still name_stands_after b bs)
+    → (u v : Bool) → name_stands_after a b ≡ u → not a.global ≡ v
+    → AtMostLocal b.level (cond u (a ∷ still name_stands_after b bs) (still name_stands_after b bs))
+local_at_most a b bs rest false v h k = rest
+local_at_most a b bs rest true false h k = rw k rest
+local_at_most a b bs rest true true h k =
+    rw k (assertions_rule.within a b (stands_as a.global b a.level k h), rest)
+  where
+    stands_as : (g : Bool) (b : Brought) (level : ℕ) → not g ≡ true
+        → cond g (not (is_everything b.removes)) (stands_after level b) ≡ true → stands_after level b ≡ true
+    stands_as true b level k h = absurd (cc)
+    stands_as false b level k h = h
+
+still_local : (b : Brought) (bs : List Brought) → AtMostLocal b.level (still name_stands_after b bs)
+still_local b [] = tt
+still_local b (a ∷ bs) =
+    local_at_most a b bs (still_local b bs) (name_stands_after a b) (not a.global) refl refl
+
+one_more_sorted : (bs : List Brought) (b : Brought) (u : Bool) → Sorted bs → AtMost level_of b.level bs
+    → Sorted (bs ++ cond u (b ∷ []) [])
+one_more_sorted bs b true all h = sorted-push bs b all h
+one_more_sorted bs b false all h = subst Sorted (sym (append-nil bs)) all
+
 abbrev Ordered : List Numbered → List Brought → Type 0
-Ordered before brought = Sorted ((in_force names_stand) brought)
+Ordered before brought = Sorted (local_names (in_force names_stand brought))
 
 ordered_step : Kept Ordered
 ordered_step before brought c h =
     let b = brought_by before brought c in
-    subst Sorted (sym (in_force-push brought b))
-    (sorted-push (still b ((in_force names_stand) brought)) b
-    (filter_sorted _ ((in_force names_stand) brought) h)
-    (still_at_most b ((in_force names_stand) brought)))
+    let N = in_force names_stand brought in
+    let some = still name_stands_after b N in
+    subst (λ (l : List Brought). Sorted (local_names l)) (sym (in_force-push name_stands_after brought b))
+    (subst Sorted (sym (local-push some b))
+    (one_more_sorted (local_names some) b (not b.global)
+    (subst Sorted (sym (local_filter (λ (a : Brought). name_stands_after a b) N))
+    (filter_sorted (λ (a : Brought). name_stands_after a b) (local_names N) h))
+    (still_local b N)))
 
-in_force_sorted : (cs : List Numbered) → Sorted ((in_force names_stand) (history cs))
-in_force_sorted cs = kept_by_all Ordered tt ordered_step cs
+local_sorted : (cs : List Numbered) → Sorted (local_names (in_force names_stand (history cs)))
+local_sorted cs = kept_by_all Ordered tt ordered_step cs
 
 above : (m k : ℕ) → nat_le m k ≡ false → k + 1 ≤ m
 above m k h = grind (arith)
@@ -116,6 +172,62 @@ beginning_by k b bs all next false is = (
 beginning : (k : ℕ) (bs : List Brought) → Sorted bs → IsBeginning (to_level k bs) bs
 beginning k [] all = ([], refl)
 beginning k (b ∷ bs) all = beginning_by k b bs all.0 (beginning k bs all.1) (nat_le b.level k) refl
+
+-- where names go with their level, those that do are all
+all_local : (bs : List Brought) → AreAs false bs → entries_of (local_names bs) ≡ entries_of bs
+all_local [] h = refl
+all_local (b ∷ bs) h = one h.0 (all_local bs h.1)
+  where
+    either : (u : Bool) → b.entries ≡ [] → entries_of (local_names bs) ≡ entries_of bs
+        → entries_of (cond u (b ∷ local_names bs) (local_names bs)) ≡ b.entries ++ entries_of bs
+    either true e r = ap (λ (l : List Entry). b.entries ++ l) r
+    either false e r = r ∙ ap (λ (l : List Entry). l ++ entries_of bs) (sym e)
+
+    one : IsAs false b → entries_of (local_names bs) ≡ entries_of bs
+        → entries_of (cond (not b.global) (b ∷ local_names bs) (local_names bs)) ≡ b.entries ++ entries_of bs
+    one (inl is) r =
+        ap (λ (g : Bool). entries_of (cond (not g) (b ∷ local_names bs) (local_names bs))) is
+        ∙ ap (λ (l : List Entry). b.entries ++ l) r
+    one (inr none) r = either (not b.global) none.0 r
+
+-- the levels of names that go with their level
+one_level : (k : ℕ) (b : Brought) (bs : List Brought) → names_to_level k (local_names bs) ≡ to_level k (local_names bs)
+    → (g : Bool) → b.global ≡ g
+    → names_to_level k (cond (not g) (b ∷ local_names bs) (local_names bs))
+    ≡ to_level k (cond (not g) (b ∷ local_names bs) (local_names bs))
+one_level k b bs rest true is = rest
+one_level k b bs rest false is =
+    ap (λ (g : Bool). cond (nat_le (cond g 0 b.level) k) (b ∷ names_to_level k (local_names bs))
+    (names_to_level k (local_names bs))) is
+    ∙ ap (λ (l : List Brought). cond (nat_le b.level k) (b ∷ l) l) rest
+
+local_levels : (k : ℕ) (bs : List Brought) → names_to_level k (local_names bs) ≡ to_level k (local_names bs)
+local_levels k [] = refl
+local_levels k (b ∷ bs) = one_level k b bs (local_levels k bs) b.global refl
+
+-- the entries that some levels leave are a beginning of all, where names go with their level, and all else
+abbrev IsFirst : List Entry → List Entry → Type 0
+IsFirst first all = (rest : List Entry) × (all ≡ first ++ rest)
+
+first_entries : (global : Bool) (k : ℕ) (cs : List Numbered) → AreAs global (in_force names_stand (history cs))
+    → IsFirst (entries_of (names_to_level k (in_force names_stand (history cs))))
+    (entries_of (in_force names_stand (history cs)))
+first_entries true k cs h =
+    let N = in_force names_stand (history cs) in
+    ([], sym (append-nil (entries_of (names_to_level k N)) ∙ (global_to_level k N h).0))
+first_entries false k cs h =
+    let N = in_force names_stand (history cs) in
+    let L = local_names N in
+    let first = beginning k L (local_sorted cs) in
+    let some : AreAs false (names_to_level k N) = filter_alike (λ (b : Brought). nat_le (names_level b) k) false N h in
+    let kept : entries_of (names_to_level k N) ≡ entries_of (to_level k L) =
+    sym (all_local (names_to_level k N) some)
+    ∙ ap entries_of (local_filter (λ (b : Brought). nat_le (names_level b) k) N ∙ local_levels k N) in (
+      entries_of first.0,
+      sym (all_local N h) ∙ ap entries_of first.1
+          ∙ flat_map-append (λ (x : Brought). x.entries) (to_level k L) first.0
+          ∙ ap (λ (l : List Entry). l ++ entries_of first.0) (sym kept),
+    )
 
 -- ---- names
 
@@ -213,6 +325,10 @@ logic_alone command x h = grind (arith)
 pop_alone : (command : Command) (m : ℕ) → effect_of command ≡ Pops m → command ≡ Pop m
 pop_alone command m h = grind (arith)
 
+reset_assertions_alone : (command : Command) → effect_of command ≡ Removing AllButOptions
+    → command ≡ ResetAssertions
+reset_assertions_alone command h = grind (arith)
+
 module _ (law : NamesAreIntroduced) where
   declares : (s : Signature) (n : ℕ) (x : List ℕ) (parameters : Sexps) (sort : Sexp)
       → flaw_of (declared_in s n x parameters sort) ≡ None
@@ -256,7 +372,7 @@ module _ (law : NamesAreIntroduced) where
       (more_names s.theories [] s.entries (entries_by s c.number c.command) all brought)
 
   unfixed : (set late : Bool) (theories : Option Theories) → flaw_of_logic set late theories ≡ None
-      → (set || late) ≡ false
+      → late ≡ false
   unfixed true late theories h = absurd (cc)
   unfixed false true theories h = absurd (cc)
   unfixed false false theories h = refl
@@ -270,43 +386,61 @@ module _ (law : NamesAreIntroduced) where
   sets_logic cs n x h =
       let c : Numbered = record { number = n; command = SetLogic x } in
       let b = brought_by cs (history cs) c in
+      let N = in_force names_stand (history cs) in
       let empty = unfixed_is_empty cs (unfixed (is_logic_set cs) (is_too_late cs) (theories_named x) h) in
       no_entries (signature_in_force (cs ++ c ∷ []))
-      (ap entries_of (in_force-grow cs c refl (omega arith))
-      ∙ entries-push ((in_force names_stand) (history cs)) b
-      ∙ append-nil (entries_of ((in_force names_stand) (history cs))) ∙ empty.0.entries)
+      (ap entries_of (names_grow cs c refl (omega arith)) ∙ entries-push N b ∙ append-nil (entries_of N)
+      ∙ empty.0.entries)
 
-  pops : (cs : List Numbered) (n m : ℕ) → IsWell (signature_in_force cs)
+  -- some of the first names
+  first_well : (cs : List Numbered) (c : Numbered) (first : List Entry)
+      → theories_after (theories_in_force cs) c.command ≡ theories_in_force cs
+      → (signature_in_force (cs ++ c ∷ [])).entries ≡ first → IsFirst first (signature_in_force cs).entries
+      → IsWell (signature_in_force cs) → IsWell (signature_in_force (cs ++ c ∷ []))
+  first_well cs c first theories now rest all =
+      subst (λ (t : Theories). AreIntroduced t [] (signature_in_force (cs ++ c ∷ [])).entries)
+      (sym (theories-push cs c ∙ theories))
+      (subst (λ (es : List Entry). AreIntroduced (theories_in_force cs) [] es) (sym now)
+      (fewer_names (theories_in_force cs) [] first rest.0
+      (subst (λ (es : List Entry). AreIntroduced (theories_in_force cs) [] es) rest.1 all)))
+
+  pops : (cs : List Numbered) (n m : ℕ) → AreNamesAlike cs → IsWell (signature_in_force cs)
       → IsWell (signature_in_force (cs ++ record { number = n; command = Pop m } ∷ []))
-  pops cs n m all =
+  pops cs n m alike all =
       let c : Numbered = record { number = n; command = Pop m } in
       let b = brought_by cs (history cs) c in
-      let B = (in_force names_stand) (history cs) in
-      let first = beginning b.level B (in_force_sorted cs) in
-      let now : entries_of ((in_force names_stand) (history (cs ++ c ∷ [])))
-      ≡ entries_of (to_level b.level B) =
-      ap (λ (h : List Brought). entries_of ((in_force names_stand) h)) (history-push cs c)
-      ∙ ap entries_of (in_force-push (history cs) b)
-      ∙ entries-push (still b B) b ∙ append-nil (entries_of (still b B))
-      ∙ ap entries_of (levels_still b B refl) in
-      let split : entries_of B ≡ entries_of (to_level b.level B) ++ entries_of first.0 =
-      ap entries_of first.1 ∙ flat_map-append (λ (x : Brought). x.entries) (to_level b.level B) first.0 in
-      subst (λ (t : Theories). AreIntroduced t []
-      (entries_of ((in_force names_stand) (history (cs ++ c ∷ []))))) (sym (theories-push cs c))
-      (subst (λ (es : List Entry). AreIntroduced (theories_in_force cs) [] es) (sym now)
-      (fewer_names (theories_in_force cs) [] (entries_of (to_level b.level B)) (entries_of first.0)
-      (subst (λ (es : List Entry). AreIntroduced (theories_in_force cs) [] es) split all)))
+      let some = names_to_level b.level (in_force names_stand (history cs)) in
+      first_well cs c (entries_of some) refl
+      (ap entries_of (in_force-left name_stands_after names_level names_rule cs c refl)
+      ∙ (none_more some b true refl refl).0)
+      (first_entries (global_in_force cs) b.level cs alike) all
 
-  behind_reset : (cs : List Numbered) (c : Numbered) → is_reset c.command ≡ true
+  -- the names that stay are all or none
+  left_first : (global : Bool) (s : Signature) (theories : Theories)
+      → IsFirst (cond global s (no_names theories)).entries s.entries
+  left_first true s theories = ([], sym (append-nil s.entries))
+  left_first false s theories = (s.entries, refl)
+
+  resets_assertions : (cs : List Numbered) (n : ℕ) → AreNamesAlike cs → IsWell (signature_in_force cs)
+      → IsWell (signature_in_force (cs ++ record { number = n; command = ResetAssertions } ∷ []))
+  resets_assertions cs n alike all =
+      let c : Numbered = record { number = n; command = ResetAssertions } in
+      let left = cond (global_in_force cs) (signature_in_force cs) (no_names (theories_in_force cs)) in
+      first_well cs c left.entries refl
+      (ap (λ (s : Signature). s.entries) (names_kept (global_in_force cs) cs n alike))
+      (left_first (global_in_force cs) (signature_in_force cs) (theories_in_force cs)) all
+
+  behind_reset : (cs : List Numbered) (c : Numbered) → is_everything (removed_by c.command) ≡ true
       → ((s : Signature) (n : ℕ) → entries_by s n c.command ≡ []) → IsWell (signature_in_force (cs ++ c ∷ []))
   behind_reset cs c all none =
       let b = brought_by cs (history cs) c in
+      let N = in_force names_stand (history cs) in
       no_entries (signature_in_force (cs ++ c ∷ []))
-      (ap (λ (h : List Brought). entries_of ((in_force names_stand) h)) (history-push cs c)
-      ∙ ap entries_of (in_force-push (history cs) b)
-      ∙ entries-push (still b ((in_force names_stand) (history cs))) b
+      (ap (λ (h : List Brought). entries_of (in_force names_stand h)) (history-push cs c)
+      ∙ ap entries_of (in_force-push name_stands_after (history cs) b)
+      ∙ entries-push (still name_stands_after b N) b
       ∙ ap (λ (l : List Brought). entries_of l ++ b.entries)
-      (none_still b ((in_force names_stand) (history cs)) all) ∙ none (signature_in_force cs) c.number)
+      (none_still name_stands_after names_level names_rule b N all) ∙ none (signature_in_force cs) c.number)
 
   -- one more command, by what it does
   brings : (s : Signature) (n : ℕ) (item : Addition) → flaw_of_addition s n item ≡ None
@@ -329,47 +463,63 @@ module _ (law : NamesAreIntroduced) where
       (subst (BringsWell (signature_in_force cs)) (sym none) tt)
 
   step : (cs : List Numbered) (n : ℕ) (command : Command) (e : Effect) → effect_of command ≡ e
-      → IsWell (signature_in_force cs)
+      → AreNamesAlike cs → IsWell (signature_in_force cs)
       → flaw_by cs n e ≡ None → IsWellBehind cs n command
-  step cs n command (SetsLogic x) is all h =
+  step cs n command (SetsLogic x) is alike all h =
       subst (IsWellBehind cs n) (sym (logic_alone command x is)) (sets_logic cs n x h)
-  step cs n command (Brings item) is all h =
+  step cs n command (Brings item) is alike all h =
       let s = signature_in_force cs in
       adds cs (record { number = n; command = command }) (adds_keeps command (addition_adds command item is)) all
       (subst (BringsWell s) (sym (ap (entries_of_effect s n) is)) (brings s n item h))
-  step cs n command (Pushes m) is all h =
+  step cs n command (Pushes m) is alike all h =
       adds_none cs n command (record {
         no_reset = ap (λ (e : Effect). resets (removed_of_effect e)) is;
         level = λ d. (let e = ap (depth_by d) is in omega arith);
         theories = λ t. ap (theories_by t) is;
       }) (ap (entries_of_effect (signature_in_force cs) n) is) all
-  step cs n command (Pops m) is all h =
-      subst (IsWellBehind cs n) (sym (pop_alone command m is)) (pops cs n m all)
-  step cs n command (Assumes literals) is all h =
+  step cs n command (Pops m) is alike all h =
+      subst (IsWellBehind cs n) (sym (pop_alone command m is)) (pops cs n m alike all)
+  step cs n command (Assumes literals) is alike all h =
       adds_none cs n command (record {
         no_reset = ap (λ (e : Effect). resets (removed_of_effect e)) is;
         level = λ d. (let e = ap (depth_by d) is in omega arith);
         theories = λ t. ap (theories_by t) is;
       }) (ap (entries_of_effect (signature_in_force cs) n) is) all
-  step cs n command (Removing Nothing) is all h =
+  step cs n command (SetsGlobal on) is alike all h =
+      adds_none cs n command (record {
+        no_reset = ap (λ (e : Effect). resets (removed_of_effect e)) is;
+        level = λ d. (let e = ap (depth_by d) is in omega arith);
+        theories = λ t. ap (theories_by t) is;
+      }) (ap (entries_of_effect (signature_in_force cs) n) is) all
+  step cs n command (Removing Nothing) is alike all h =
       adds_none cs n command (adds_keeps command (no_effect_is_idle command is).adds)
       (ap (entries_of_effect (signature_in_force cs) n) is) all
-  step cs n command (Removing AllButOptions) is all h =
+  step cs n command (Removing AllButOptions) is alike all h =
+      subst (IsWellBehind cs n) (sym (reset_assertions_alone command is)) (resets_assertions cs n alike all)
+  step cs n command (Removing Everything) is alike all h =
       behind_reset cs (record { number = n; command = command })
-      (ap (λ (e : Effect). resets (removed_of_effect e)) is)
-      (λ s k. ap (entries_of_effect s k) is)
-  step cs n command (Removing Everything) is all h =
-      behind_reset cs (record { number = n; command = command })
-      (ap (λ (e : Effect). resets (removed_of_effect e)) is)
+      (ap (λ (e : Effect). is_everything (removed_of_effect e)) is)
       (λ s k. ap (entries_of_effect s k) is)
 
-  from : (before cs : List Numbered) → IsWell (signature_in_force before) → HaveNoFlaw before cs
-      → IsWell (signature_in_force (before ++ cs))
-  from before [] all h = subst (λ (cs : List Numbered). IsWell (signature_in_force cs))
+  from : (before cs : List Numbered) → AreNamesAlike before → IsWell (signature_in_force before)
+      → HaveNoFlaw before cs → IsWell (signature_in_force (before ++ cs))
+  from before [] alike all h = subst (λ (cs : List Numbered). IsWell (signature_in_force cs))
       (sym (append-nil before)) all
-  from before (c ∷ cs) all h =
+  from before (c ∷ cs) alike all h =
       subst (λ (ds : List Numbered). IsWell (signature_in_force ds)) (append_assoc before (c ∷ []) cs)
-      (from (before ++ c ∷ []) cs (step before c.number c.command (effect_of c.command) refl all h.0) h.1)
+      (from (before ++ c ∷ []) cs (alike_step before c h.0 alike)
+      (step before c.number c.command (effect_of c.command) refl alike all h.0) h.1)
 
   pub names_introduced : (cs : List Numbered) → HaveNoFlaw [] cs → IsWell (signature_in_force cs)
-  names_introduced cs h = from [] cs tt h
+  names_introduced cs h = from [] cs tt tt h
+
+-- ---- global names and others never stand together
+
+alike_from : (before cs : List Numbered) → AreNamesAlike before → HaveNoFlaw before cs → AreNamesAlike (before ++ cs)
+alike_from before [] alike h = subst AreNamesAlike (sym (append-nil before)) alike
+alike_from before (c ∷ cs) alike h =
+    subst AreNamesAlike (append_assoc before (c ∷ []) cs)
+    (alike_from (before ++ c ∷ []) cs (alike_step before c h.0 alike) h.1)
+
+pub names_alike : (cs : List Numbered) → HaveNoFlaw [] cs → AreNamesAlike cs
+names_alike cs h = alike_from [] cs tt h

@@ -1,7 +1,7 @@
 -- What the commands do that change levels.
-use Rattle.std.proofs.Common.{◌≡◌, ◌≤◌, ℕ, ◌+◌, ◌-◌, zero, suc, List, [], ◌∷◌, ◌++◌, Bool, true, false, ◌||◌}
-use Rattle.std.proofs.Common.{Some, length, slice_get, take, refl, ap, sym, subst, ◌∙◌, arith}
-use Rattle.std.specs.Prelude.{nat_lt}
+use Rattle.std.proofs.Common.{◌≡◌, ◌≤◌, ℕ, ◌+◌, ◌-◌, zero, suc, List, [], ◌∷◌, ◌++◌, Bool, true, false, cond, not}
+use Rattle.std.proofs.Common.{◌&&◌, ◌||◌, inl, inr, Some, length, slice_get, take, refl, ap, sym, subst, ◌∙◌, arith}
+use Rattle.std.specs.Prelude.{nat_le, nat_lt}
 use Rattle.std.proofs.lemmas.List.{append-nil, length-append}
 use Rattle.std.specs.Global.{Vec}
 use Rattle.smt_theory.specs.declared.sort.Sort.{Sort}
@@ -15,23 +15,27 @@ use Rattle.smt_script.specs.Command.{Command, Push, Pop, Reset, ResetAssertions}
 use Rattle.smt_script.specs.Stack as spec
 use Rattle.smt_script.specs.Stack.{Brought, Numbered, abbreviations_by, abbreviations_of, all_theories}
 use Rattle.smt_script.specs.Stack.{assertions_by, assertions_in_force, assertions_of, brought_by, depth_after}
-use Rattle.smt_script.specs.Stack.{depth_in_force, entries_by, entries_of, flaw_of_effect, has_exited}
-use Rattle.smt_script.specs.Stack.{history, in_force, names_stand, is_exit, is_reset, limit}
-use Rattle.smt_script.specs.Stack.{print_success_after, print_success_in_force, signature_in_force}
-use Rattle.smt_script.specs.Stack.{signature_of, theories_after, theories_in_force, assertions_stand}
-use Rattle.smt_script.specs.StackView.{AreAssertions, IsLevel, IsOuter, HasInForce, to_level}
-use Rattle.smt_script.specs.Internal.Effect.{HasEffect, IsCut, IsEmpty, IsUnchanged, NotesAll, copies, with_notes}
-use Rattle.smt_script.specs.Internal.Effect.{logic_after}
+use Rattle.smt_script.specs.Stack.{assertions_stand, depth_in_force, entries_by, entries_of, flaw_of_effect}
+use Rattle.smt_script.specs.Stack.{global_after, history, in_force, is_everything, is_exit, is_reset, limit}
+use Rattle.smt_script.specs.Stack.{name_stands_after, names_stand, print_success_after, print_success_in_force}
+use Rattle.smt_script.specs.Stack.{resets, signature_in_force, signature_of, stands_after, theories_after}
+use Rattle.smt_script.specs.Stack.{theories_in_force}
+use Rattle.smt_script.specs.StackView.{AreAs, AreAssertions, HasInForce, IsAs, IsLevel, IsOuter, assertions_to_level}
+use Rattle.smt_script.specs.StackView.{contents_left, names_level, names_to_level, signature_to_level, to_level}
+use Rattle.smt_script.specs.Internal.Effect.{HasEffect, HasNoAssertions, HasNotesOf, IsCut, IsEmpty, IsUnchanged}
+use Rattle.smt_script.specs.Internal.Effect.{NotesAll, copies, logic_after, with_notes}
 use Rattle.smt_faults.specs.declared.command_flaw.CommandFlaw.TheVariants.{TooDeep, NoLevel}
 use Rattle.smt_script.specs.declared.stack.Assertion.{Assertion}
 use Rattle.smt_script.specs.declared.stack.LogicState.{LogicState}
 use Rattle.smt_script.specs.declared.stack.levels.Level.{Level}
 use Rattle.smt_script.specs.declared.stack.Stack.{Stack}
-use Rattle.smt_script.proofs.EffectLemmas.{Keeps, assertions-add, nothing_brought, signature-add, within}
-use Rattle.smt_script.proofs.HistoryLemmas.{abbreviations-push, all_to_level, assertions-push, entries-push}
-use Rattle.smt_script.proofs.HistoryLemmas.{exited-push, logic-push, history-push, in_force-grow}
-use Rattle.smt_script.proofs.HistoryLemmas.{in_force-push, levels_bound, levels_still, none_still, print-push}
-use Rattle.smt_script.proofs.HistoryLemmas.{theories-push, to_fewer, to_level-push}
+use Rattle.smt_script.proofs.EffectLemmas.{Keeps, assertions-add, assertions_left, no_names_left, none_more}
+use Rattle.smt_script.proofs.EffectLemmas.{nothing_brought, same_signature, signature-add, within}
+use Rattle.smt_script.proofs.HistoryLemmas.{all_to_level, assertion_stands_after, assertions-push, assertions_rule}
+use Rattle.smt_script.proofs.HistoryLemmas.{exited-push, global-push, history-push, in_force-left, in_force-push}
+use Rattle.smt_script.proofs.HistoryLemmas.{level_of, levels_bound, levels_to-push, logic-push, names_rule}
+use Rattle.smt_script.proofs.HistoryLemmas.{no_assertions_still, none_still, print-push, still, theories-push}
+use Rattle.smt_script.proofs.HistoryLemmas.{to_fewer, to_level-push}
 use Rattle.smt_script.proofs.StandingLemmas.{depth-push}
 
 -- ---- lists
@@ -88,37 +92,50 @@ one_behind (y ∷ xs) n l (suc k) x h = further (one_behind xs n l k x h)
 push_keeps : (m : ℕ) → Keeps (Push m)
 push_keeps m = record { no_reset = refl; level = λ d. omega arith; theories = λ t. refl }
 
+-- a level that notes all leaves all
+left_all : (global : Bool) (l : Level) (c : Contents) → first_of l.mark c ≡ c → contents_left global l.mark c ≡ c
+left_all true l c h = refl
+left_all false l c h = h
+
 note_is_level : (s : Stack) (l : Level) (cs : List Numbered) (k : ℕ) → HasInForce s cs → NotesAll s l
     → depth_in_force cs ≤ k
-    → IsLevel (contents_of s.library) s.assertions.items l (theories_in_force cs)
-    (to_level k ((in_force names_stand) (history cs)))
-    (to_level k ((in_force assertions_stand) (history cs)))
+    → IsLevel s.global (contents_of s.library) s.assertions.items l (signature_to_level k cs)
+    (assertions_to_level k cs)
 note_is_level s l cs k h notes le =
-    let same = all_to_level k (depth_in_force cs) ((in_force names_stand) (history cs)) le (levels_bound cs)
-    in
-    subst (λ (b : List Brought). IsLevel (contents_of s.library) s.assertions.items l (theories_in_force cs)
-    b b) (sym same) (record {
+    let c = contents_of s.library in
+    let N = in_force names_stand (history cs) in
+    let A = in_force assertions_stand (history cs) in
+    let names : signature_to_level k cs ≡ signature_in_force cs =
+    ap (signature_of (theories_in_force cs))
+    (all_to_level name_stands_after names_level names_rule k (depth_in_force cs) N le
+    (levels_bound name_stands_after names_level names_rule cs)) in
+    let asserted : assertions_to_level k cs ≡ assertions_in_force cs =
+    ap assertions_of
+    (all_to_level assertion_stands_after level_of assertions_rule k (depth_in_force cs) A le
+    (levels_bound assertion_stands_after level_of assertions_rule cs)) in
+    let all = left_all s.global l c notes.all in
+    record {
       within = notes.within;
       count = (let e = notes.assertions in omega arith);
-      holds = subst (λ (c : Contents). Holds c (signature_in_force cs)) (sym notes.all) h.library;
+      holds = subst (λ (x : Contents). Holds x (signature_to_level k cs)) (sym all)
+          (subst (Holds c) (sym names) h.library);
       assertions_are =
-          subst (λ (c : Contents). AreAssertions c (take l.assertions s.assertions.items)
-          (assertions_in_force cs)) (sym notes.all)
-          (subst (λ (xs : List Assertion). AreAssertions (contents_of s.library) xs (assertions_in_force cs))
+          subst (λ (x : Contents). AreAssertions x (take l.assertions s.assertions.items)
+          (assertions_to_level k cs)) (sym all)
+          (subst (AreAssertions c (take l.assertions s.assertions.items)) (sym asserted)
+          (subst (λ (xs : List Assertion). AreAssertions c xs (assertions_in_force cs))
           (sym (ap (λ (n : ℕ). take n s.assertions.items) notes.assertions ∙ take_all s.assertions.items))
-          h.assertions);
-    })
+          h.assertions));
+    }
 
 push_level : (s : Stack) (l : Level) (cs : List Numbered) (k : ℕ) (x : Level) → HasInForce s cs → NotesAll s l
     → Behind s.levels.items l k x
-    → IsLevel (contents_of s.library) s.assertions.items x (theories_in_force cs)
-    (to_level k ((in_force names_stand) (history cs)))
-    (to_level k ((in_force assertions_stand) (history cs)))
+    → IsLevel s.global (contents_of s.library) s.assertions.items x (signature_to_level k cs)
+    (assertions_to_level k cs)
 push_level s l cs k x h notes (Before at) = h.levels k x at
 push_level s l cs k x h notes (Copy is le) =
-    subst (λ (y : Level). IsLevel (contents_of s.library) s.assertions.items y (theories_in_force cs)
-    (to_level k ((in_force names_stand) (history cs)))
-    (to_level k ((in_force assertions_stand) (history cs)))) (sym is)
+    subst (λ (y : Level). IsLevel s.global (contents_of s.library) s.assertions.items y
+    (signature_to_level k cs) (assertions_to_level k cs)) (sym is)
     (note_is_level s l cs k h notes (let e = h.depth in omega arith))
 
 push_ordered : (s : Stack) (l : Level) (cs : List Numbered) (j k : ℕ) (x y : Level) → HasInForce s cs
@@ -146,10 +163,9 @@ push_effect old v l m notes pushed fits n = record {
   faultless = λ cs h.
       let few : nat_lt limit (depth_in_force cs + m) ≡ false = (let e = h.depth in grind (arith)) in
       rw few refl;
-  stands = λ cs h.
+  stands = λ cs h alike.
       let c : Numbered = record { number = n; command = Push m } in
       let b = brought_by cs (history cs) c in
-      let grow = in_force-grow cs c refl (omega arith) in
       let P : List spec.Assertion → Type 0 =
       λ bs. AreAssertions (contents_of old.library) old.assertions.items bs in
       let deep : length v.items ≡ depth_in_force cs + m =
@@ -166,13 +182,10 @@ push_effect old v l m notes pushed fits n = record {
             let behind = one_behind old.levels.items m l k x
             (ap (λ (xs : List Level). slice_get xs k) (sym pushed) ∙ at) in
             let inside : k + 1 ≤ b.level = (let i = within v.items k x at in omega arith) in
-            subst (λ (t : Theories). IsLevel (contents_of old.library) old.assertions.items x t
-            (to_level k ((in_force names_stand) (history (cs ++ c ∷ []))))
-            (to_level k ((in_force assertions_stand) (history (cs ++ c ∷ [])))))
-            (sym (theories-push cs c))
-            (subst (λ (y : List Brought). IsLevel (contents_of old.library) old.assertions.items x
-            (theories_in_force cs) y y)
-            (sym (ap (to_level k) grow ∙ to_level-push k ((in_force names_stand) (history cs)) b inside))
+            subst (λ (y : Signature). IsLevel old.global (contents_of old.library) old.assertions.items x y
+            (assertions_to_level k (cs ++ c ∷ []))) (sym (no_names_left k cs c (push_keeps m) refl refl))
+            (subst (IsLevel old.global (contents_of old.library) old.assertions.items x (signature_to_level k cs))
+            (sym (assertions_left k cs c (push_keeps m) inside))
             (push_level old l cs k x h notes behind));
         ordered = λ j k x y le at there.
             push_ordered old l cs j k x y h notes le
@@ -181,6 +194,7 @@ push_effect old v l m notes pushed fits n = record {
             (one_behind old.levels.items m l k y
             (ap (λ (xs : List Level). slice_get xs k) (sym pushed) ∙ there));
         logic = ap (λ (x : LogicState). logic_after x (Push m)) h.logic ∙ sym (logic-push cs c);
+        global = h.global ∙ sym (global-push cs c);
         print_success = h.print_success ∙ sym (print-push old.initial_print_success cs c);
         exited = ap (λ (x : Bool). x || false) h.exited ∙ sym (exited-push cs c);
       };
@@ -197,16 +211,6 @@ push_refused s m over cs h n =
 
 -- ---- pop
 
--- what is in force after levels are removed
-in_force-pop : (cs : List Numbered) (c : Numbered) → is_reset c.command ≡ false
-    → (in_force names_stand) (history (cs ++ c ∷ []))
-    ≡ to_level (depth_after (depth_in_force cs) c.command) ((in_force names_stand) (history cs))
-    ++ brought_by cs (history cs) c ∷ []
-in_force-pop cs c keeps =
-    let b = brought_by cs (history cs) c in
-    ap (in_force names_stand) (history-push cs c) ∙ in_force-push (history cs) b
-    ∙ ap (λ (l : List Brought). l ++ b ∷ []) (levels_still b ((in_force names_stand) (history cs)) keeps)
-
 -- what a mark counts is the same in contents that are cut to a later one
 pub record CutsAreKept : Type 0 where
   pub first : (mark later : Mark) (c : Contents) → IsBelow mark later
@@ -214,11 +218,21 @@ pub record CutsAreKept : Type 0 where
   pub within : (mark later : Mark) (c : Contents) → IsBelow mark later → IsWithin later c
       → IsWithin mark (first_of later c)
 
+-- what an outer level leaves is what it leaves of what an inner one left
+left_of_left : CutsAreKept → (global : Bool) (mark later : Mark) (c : Contents) → IsBelow mark later
+    → contents_left global mark (contents_left global later c) ≡ contents_left global mark c
+left_of_left law true mark later c h = refl
+left_of_left law false mark later c h = law.first mark later c h
+
+within_left : CutsAreKept → (global : Bool) (mark later : Mark) (c : Contents) → IsBelow mark later
+    → IsWithin mark c → IsWithin later c → IsWithin mark (contents_left global later c)
+within_left law true mark later c h inner outer = inner
+within_left law false mark later c h inner outer = law.within mark later c h outer
+
 cut_level : CutsAreKept → (old new : Stack) (d : ℕ) (cs : List Numbered) → HasInForce old cs
     → (cut : IsCut old new d) → (k : ℕ) (x : Level) → slice_get new.levels.items k ≡ Some x
-    → IsLevel (contents_of new.library) new.assertions.items x (theories_in_force cs)
-    (to_level k ((in_force names_stand) (history cs)))
-    (to_level k ((in_force assertions_stand) (history cs)))
+    → IsLevel old.global (contents_of new.library) new.assertions.items x (signature_to_level k cs)
+    (assertions_to_level k cs)
 cut_level law old new d cs h cut k x at =
     let there = taken d old.levels.items k x (ap (λ (xs : List Level). slice_get xs k) (sym cut.levels) ∙ at)
     in
@@ -226,68 +240,97 @@ cut_level law old new d cs h cut k x at =
     let level = h.levels k x there.0 in
     let whole = h.levels d cut.level cut.at in
     let c = contents_of old.library in
-    let B = to_level k ((in_force names_stand) (history cs)) in
-    subst (λ (y : Contents). IsLevel y new.assertions.items x (theories_in_force cs) B B) (sym cut.library)
-    (subst (λ (xs : List Assertion). IsLevel (first_of cut.level.mark c) xs x (theories_in_force cs) B B)
+    let g = old.global in
+    let s = signature_to_level k cs in
+    let B = assertions_to_level k cs in
+    let same = left_of_left law g x.mark cut.level.mark c outer.mark in
+    subst (λ (y : Contents). IsLevel g y new.assertions.items x s B) (sym cut.library)
+    (subst (λ (xs : List Assertion). IsLevel g (contents_left g cut.level.mark c) xs x s B)
     (sym cut.assertions) (record {
-      within = law.within x.mark cut.level.mark c outer.mark whole.within;
+      within = within_left law g x.mark cut.level.mark c outer.mark level.within whole.within;
       count = (let e = take_length cut.level.assertions old.assertions.items whole.count in let o =
           outer.assertions in omega arith);
-      holds = subst (λ (y : Contents). Holds y (signature_of (theories_in_force cs) B))
-          (sym (law.first x.mark cut.level.mark c outer.mark)) level.holds;
+      holds = subst (λ (y : Contents). Holds y s) (sym same) level.holds;
       assertions_are =
           subst (λ (y : Contents). AreAssertions y
-          (take x.assertions (take cut.level.assertions old.assertions.items)) (assertions_of B))
-          (sym (law.first x.mark cut.level.mark c outer.mark))
-          (subst (λ (xs : List Assertion). AreAssertions (first_of x.mark c) xs (assertions_of B))
+          (take x.assertions (take cut.level.assertions old.assertions.items)) B) (sym same)
+          (subst (λ (xs : List Assertion). AreAssertions (contents_left g x.mark c) xs B)
           (sym (take_fewer x.assertions cut.level.assertions old.assertions.items outer.assertions))
           level.assertions_are);
     }))
 
-signature-pop : (t : Theories) (xs : List Brought) (b : Brought) → b.entries ≡ [] → b.abbreviations ≡ []
-    → signature_of t (xs ++ b ∷ []) ≡ signature_of t xs
-signature-pop t xs b entries abbreviations =
-    ap (λ (es : List Entry).
-    record { theories = t; abbreviations = abbreviations_of (xs ++ b ∷ []); entries = es })
-    (entries-push xs b ∙ ap (λ (es : List Entry). entries_of xs ++ es) entries
-    ∙ append-nil (entries_of xs))
-    ∙ ap (λ (as' : List (List ℕ × Sort)).
-    record { theories = t; abbreviations = as'; entries = entries_of xs })
-    (abbreviations-push xs b ∙ ap (λ (l : List (List ℕ × Sort)). abbreviations_of xs ++ l) abbreviations
-    ∙ append-nil (abbreviations_of xs))
+-- the names that levels leave which are no more than a command leaves
+names_popped : (k : ℕ) (cs : List Numbered) (c : Numbered) → is_reset c.command ≡ false
+    → theories_after (theories_in_force cs) c.command ≡ theories_in_force cs
+    → entries_by (signature_in_force cs) c.number c.command ≡ []
+    → abbreviations_by (signature_in_force cs) c.command ≡ []
+    → k ≤ depth_after (depth_in_force cs) c.command → signature_to_level k (cs ++ c ∷ []) ≡ signature_to_level k cs
+names_popped k cs c keeps theories entries abbreviations le =
+    let b = brought_by cs (history cs) c in
+    let N = in_force names_stand (history cs) in
+    let some = names_to_level b.level N in
+    let fewer = to_fewer names_level k b.level N le in
+    let same = ap (names_to_level k) (in_force-left name_stands_after names_level names_rule cs c keeps)
+    ∙ levels_to-push names_level k some b in
+    let none = none_more (names_to_level k some) b (nat_le (names_level b) k) entries abbreviations in
+    same_signature (theories_in_force (cs ++ c ∷ [])) (theories_in_force cs)
+    (names_to_level k (in_force names_stand (history (cs ++ c ∷ [])))) (names_to_level k N)
+    (theories-push cs c ∙ theories)
+    (ap abbreviations_of same ∙ none.1 ∙ ap abbreviations_of fewer) (ap entries_of same ∙ none.0 ∙ ap entries_of fewer)
+
+-- what is left of all names is what the levels left that a command left
+all_popped : (cs : List Numbered) (c : Numbered) → is_reset c.command ≡ false
+    → theories_after (theories_in_force cs) c.command ≡ theories_in_force cs
+    → entries_by (signature_in_force cs) c.number c.command ≡ []
+    → abbreviations_by (signature_in_force cs) c.command ≡ []
+    → signature_in_force (cs ++ c ∷ []) ≡ signature_to_level (depth_after (depth_in_force cs) c.command) cs
+all_popped cs c keeps theories entries abbreviations =
+    let b = brought_by cs (history cs) c in
+    let N = in_force names_stand (history cs) in
+    let same = in_force-left name_stands_after names_level names_rule cs c keeps in
+    let none = none_more (names_to_level b.level N) b true entries abbreviations in
+    same_signature (theories_in_force (cs ++ c ∷ [])) (theories_in_force cs)
+    (in_force names_stand (history (cs ++ c ∷ []))) (names_to_level b.level N)
+    (theories-push cs c ∙ theories) (ap abbreviations_of same ∙ none.1) (ap entries_of same ∙ none.0)
+
+assertions_popped : (k : ℕ) (cs : List Numbered) (c : Numbered) → is_reset c.command ≡ false
+    → k + 1 ≤ depth_after (depth_in_force cs) c.command
+    → assertions_to_level k (cs ++ c ∷ []) ≡ assertions_to_level k cs
+assertions_popped k cs c keeps inside =
+    let b = brought_by cs (history cs) c in
+    let A = in_force assertions_stand (history cs) in
+    ap assertions_of (ap (to_level k) (in_force-left assertion_stands_after level_of assertions_rule cs c keeps)
+    ∙ to_level-push level_of k (to_level b.level A) b inside
+    ∙ to_fewer level_of k b.level A (omega arith))
 
 pub pop_effect : CutsAreKept → (old new : Stack) (m d : ℕ) → IsCut old new d → d + m ≡ length old.levels.items
-    → new.logic ≡ old.logic → new.print_success ≡ old.print_success → new.exited ≡ old.exited
-    → new.initial_print_success ≡ old.initial_print_success → (n : ℕ) → HasEffect old new n (Pop m)
-pop_effect law old new m d cut sum logic print exited start n = record {
+    → HasNotesOf old new → (n : ℕ) → HasEffect old new n (Pop m)
+pop_effect law old new m d cut sum notes n = record {
   faultless = λ cs h. rw (enough cs h) refl;
-  stands = λ cs h.
+  stands = λ cs h alike.
       let c : Numbered = record { number = n; command = Pop m } in
       let b = brought_by cs (history cs) c in
-      let B = (in_force names_stand) (history cs) in
+      let all = cs ++ c ∷ [] in
+      let A = in_force assertions_stand (history cs) in
       let deep : depth_in_force cs - m ≡ d = (let e = h.depth in omega arith) in
-      let now : (in_force names_stand) (history (cs ++ c ∷ [])) ≡ to_level d B ++ b ∷ [] =
-      in_force-pop cs c refl ∙ ap (λ (k : ℕ). to_level k B ++ b ∷ []) deep in
       let whole = h.levels d cut.level cut.at in
-      let signature : signature_in_force (cs ++ c ∷ []) ≡ signature_of (theories_in_force cs) (to_level d B) =
-      ap (λ (t : Theories). signature_of t ((in_force names_stand) (history (cs ++ c ∷ []))))
-      (theories-push cs c)
-      ∙ ap (λ (x : List Brought). signature_of (theories_in_force cs) x) now
-      ∙ signature-pop (theories_in_force cs) (to_level d B) b refl refl in
-      let asserted : assertions_in_force (cs ++ c ∷ []) ≡ assertions_of (to_level d B) =
-      ap assertions_of now ∙ assertions-push (to_level d B) b
-      ∙ append-nil (assertions_of (to_level d B)) in
+      let signature : signature_in_force all ≡ signature_to_level d cs =
+      all_popped cs c refl refl refl refl ∙ ap (λ (k : ℕ). signature_to_level k cs) deep in
+      let asserted : assertions_in_force all ≡ assertions_to_level d cs =
+      ap assertions_of (in_force-left assertion_stands_after level_of assertions_rule cs c refl)
+      ∙ assertions-push (to_level b.level A) b ∙ append-nil (assertions_of (to_level b.level A))
+      ∙ ap (λ (k : ℕ). assertions_to_level k cs) deep in
+      let g = old.global in
       record {
         library = subst (λ (s : Signature). library.StandsFor new.library s) (sym signature)
-            (subst (λ (x : Contents). Holds x (signature_of (theories_in_force cs) (to_level d B)))
-            (sym cut.library) whole.holds);
+            (subst (λ (x : Contents). Holds x (signature_to_level d cs)) (sym cut.library) whole.holds);
         assertions =
             subst (λ (bs : List spec.Assertion). AreAssertions (contents_of new.library)
             new.assertions.items bs) (sym asserted)
-            (subst (λ (x : Contents). AreAssertions x new.assertions.items (assertions_of (to_level d B)))
+            (subst (λ (x : Contents). AreAssertions x new.assertions.items (assertions_to_level d cs))
             (sym cut.library)
             (subst (λ (xs : List Assertion). AreAssertions
-            (first_of cut.level.mark (contents_of old.library)) xs (assertions_of (to_level d B)))
+            (contents_left g cut.level.mark (contents_of old.library)) xs (assertions_to_level d cs))
             (sym cut.assertions) whole.assertions_are));
         depth = ap length cut.levels
             ∙ take_length d old.levels.items
@@ -297,26 +340,25 @@ pop_effect law old new m d cut sum logic print exited start n = record {
             let there = taken d old.levels.items k x
             (ap (λ (xs : List Level). slice_get xs k) (sym cut.levels) ∙ at) in
             let inside : k + 1 ≤ b.level = (let i = there.1 in let e = deep in omega arith) in
-            let same : to_level k ((in_force names_stand) (history (cs ++ c ∷ []))) ≡ to_level k B =
-            ap (to_level k) now ∙ to_level-push k (to_level d B) b inside
-            ∙ to_fewer k d B (let i = there.1 in omega arith) in
-            subst (λ (t : Theories). IsLevel (contents_of new.library) new.assertions.items x t
-            (to_level k ((in_force names_stand) (history (cs ++ c ∷ []))))
-            (to_level k ((in_force assertions_stand) (history (cs ++ c ∷ [])))))
-            (sym (theories-push cs c))
-            (subst (λ (y : List Brought). IsLevel (contents_of new.library) new.assertions.items x
-            (theories_in_force cs) y y) (sym same) (cut_level law old new d cs h cut k x at));
+            subst (λ (g : Bool). IsLevel g (contents_of new.library) new.assertions.items x
+            (signature_to_level k all) (assertions_to_level k all)) (sym notes.global)
+            (subst (λ (y : Signature). IsLevel g (contents_of new.library) new.assertions.items x y
+            (assertions_to_level k all)) (sym (names_popped k cs c refl refl refl refl (omega arith)))
+            (subst (IsLevel g (contents_of new.library) new.assertions.items x (signature_to_level k cs))
+            (sym (assertions_popped k cs c refl inside)) (cut_level law old new d cs h cut k x at)));
         ordered = λ j k x y le at there.
             h.ordered j k x y le (taken d old.levels.items j x
             (ap (λ (xs : List Level). slice_get xs j) (sym cut.levels) ∙ at)).0
             (taken d old.levels.items k y
             (ap (λ (xs : List Level). slice_get xs k) (sym cut.levels) ∙ there)).0;
-        logic = ap (λ (x : LogicState). logic_after x (Pop m)) (logic ∙ h.logic) ∙ sym (logic-push cs c);
-        print_success = print ∙ h.print_success ∙ ap (λ (x : Bool). print_success_in_force x cs) (sym start)
+        logic = ap (λ (x : LogicState). logic_after x (Pop m)) (notes.logic ∙ h.logic) ∙ sym (logic-push cs c);
+        global = notes.global ∙ h.global ∙ sym (global-push cs c);
+        print_success = notes.print_success ∙ h.print_success
+            ∙ ap (λ (x : Bool). print_success_in_force x cs) (sym notes.start)
             ∙ sym (print-push new.initial_print_success cs c);
-        exited = ap (λ (x : Bool). x || false) (exited ∙ h.exited) ∙ sym (exited-push cs c);
+        exited = ap (λ (x : Bool). x || false) (notes.exited ∙ h.exited) ∙ sym (exited-push cs c);
       };
-  start = start;
+  start = notes.start;
 }
   where
     enough : (cs : List Numbered) → HasInForce old cs → nat_lt (depth_in_force cs) m ≡ false
@@ -329,10 +371,9 @@ pop_keeps = record { no_reset = refl; level = λ d. omega arith; theories = λ t
 pub pop_none : (s : Stack) (n : ℕ) → HasEffect s s n (Pop 0)
 pop_none s n = record {
   faultless = λ cs h. rw (none_over (depth_in_force cs)) refl;
-  stands = λ cs h.
+  stands = λ cs h alike.
       let c : Numbered = record { number = n; command = Pop 0 } in
-      let b = brought_by cs (history cs) c in
-      let grow = in_force-grow cs c refl (omega arith) in
+      let all = cs ++ c ∷ [] in
       let same : depth_in_force cs - 0 ≡ depth_in_force cs = omega arith in
       record {
         library = subst (λ (x : Signature). library.StandsFor s.library x)
@@ -343,18 +384,15 @@ pop_none s n = record {
             h.assertions;
         depth = h.depth ∙ sym same ∙ sym (depth-push cs c);
         levels = λ k x at.
-            let inside : k + 1 ≤ b.level =
+            let inside : k + 1 ≤ depth_in_force cs - 0 =
             (let i = within s.levels.items k x at in let e = h.depth in omega arith) in
-            subst (λ (t : Theories). IsLevel (contents_of s.library) s.assertions.items x t
-            (to_level k ((in_force names_stand) (history (cs ++ c ∷ []))))
-            (to_level k ((in_force assertions_stand) (history (cs ++ c ∷ [])))))
-            (sym (theories-push cs c))
-            (subst (λ (y : List Brought). IsLevel (contents_of s.library) s.assertions.items x
-            (theories_in_force cs) y y)
-            (sym (ap (to_level k) grow ∙ to_level-push k ((in_force names_stand) (history cs)) b inside))
-            (h.levels k x at));
+            subst (λ (y : Signature). IsLevel s.global (contents_of s.library) s.assertions.items x y
+            (assertions_to_level k all)) (sym (no_names_left k cs c pop_keeps refl refl))
+            (subst (IsLevel s.global (contents_of s.library) s.assertions.items x (signature_to_level k cs))
+            (sym (assertions_left k cs c pop_keeps inside)) (h.levels k x at));
         ordered = h.ordered;
         logic = ap (λ (x : LogicState). logic_after x (Pop 0)) h.logic ∙ sym (logic-push cs c);
+        global = h.global ∙ sym (global-push cs c);
         print_success = h.print_success ∙ sym (print-push s.initial_print_success cs c);
         exited = ap (λ (x : Bool). x || false) h.exited ∙ sym (exited-push cs c);
       };
@@ -374,73 +412,167 @@ pop_refused s m over cs h n =
 
 -- ---- reset
 
-abbrev pub ResetsAll : Command → Type 0
-ResetsAll command = (is_reset command ≡ true) × ((d : ℕ) → depth_after d command ≡ 0)
-    × ((s : Signature) (n : ℕ) → entries_by s n command ≡ [])
-    × ((s : Signature) → abbreviations_by s command ≡ []) × ((n : ℕ) → assertions_by n command ≡ [])
+nothing_at : (k : ℕ) (x : Level) → slice_get {X = Level} [] k ≡ Some x → ⊥
+nothing_at k x at = absurd (cc)
 
-pub emptied : (old new : Stack) (cs : List Numbered) (n : ℕ) (command : Command) → HasInForce old cs
-    → ResetsAll command → IsEmpty new (theories_after (theories_in_force cs) command)
-    → new.logic ≡ old.logic → new.print_success ≡ old.print_success → new.exited ≡ old.exited
-    → new.initial_print_success ≡ old.initial_print_success → HasInForce (with_notes command new)
-    (cs ++ record { number = n; command = command } ∷ [])
-emptied old new cs n command h removes empty logic print exited start =
+-- what is in force where no level and no assertion is left
+without_assertions : (old new : Stack) (cs : List Numbered) (n : ℕ) (command : Command) → HasInForce old cs
+    → library.StandsFor new.library (signature_in_force (cs ++ record { number = n; command = command } ∷ []))
+    → is_reset command ≡ true → ((d : ℕ) → depth_after d command ≡ 0) → ((n : ℕ) → assertions_by n command ≡ [])
+    → new.assertions.items ≡ [] → new.levels.items ≡ [] → HasNotesOf old new
+    → HasInForce (with_notes command new) (cs ++ record { number = n; command = command } ∷ [])
+without_assertions old new cs n command h names resets no_depth brings none no_levels notes =
     let c : Numbered = record { number = n; command = command } in
     let b = brought_by cs (history cs) c in
-    let now : (in_force names_stand) (history (cs ++ c ∷ [])) ≡ b ∷ [] =
-    ap (in_force names_stand) (history-push cs c) ∙ in_force-push (history cs) b
-    ∙ ap (λ (l : List Brought). l ++ b ∷ [])
-    (none_still b ((in_force names_stand) (history cs)) removes.0) in
-    let signature : signature_in_force (cs ++ c ∷ [])
-    ≡ no_names (theories_after (theories_in_force cs) command) =
-    ap (λ (t : Theories). signature_of t ((in_force names_stand) (history (cs ++ c ∷ []))))
-    (theories-push cs c)
-    ∙ ap (λ (x : List Brought). signature_of (theories_after (theories_in_force cs) command) x) now
-    ∙ signature-pop (theories_after (theories_in_force cs) command) [] b (removes.2 (signature_in_force cs) n)
-    (removes.3 (signature_in_force cs)) in
+    let A = in_force assertions_stand (history cs) in
+    let now : in_force assertions_stand (history (cs ++ c ∷ [])) ≡ b ∷ [] =
+    ap (in_force assertions_stand) (history-push cs c) ∙ in_force-push assertion_stands_after (history cs) b
+    ∙ ap (λ (l : List Brought). l ++ b ∷ []) (no_assertions_still b A resets) in
     let asserted : assertions_in_force (cs ++ c ∷ []) ≡ [] =
-    ap assertions_of now ∙ assertions-push [] b ∙ removes.4 n in
+    ap assertions_of now ∙ assertions-push [] b ∙ brings n in
     record {
-      library = subst (λ (s : Signature). library.StandsFor new.library s) (sym signature) empty.library;
+      library = names;
       assertions = subst (λ (bs : List spec.Assertion). AreAssertions (contents_of new.library)
           new.assertions.items bs) (sym asserted)
-          (subst (λ (xs : List Assertion). AreAssertions (contents_of new.library) xs [])
-          (sym empty.assertions) tt);
-      depth = ap length empty.levels ∙ sym (depth-push cs c ∙ removes.1 (depth_in_force cs));
+          (subst (λ (xs : List Assertion). AreAssertions (contents_of new.library) xs []) (sym none) tt);
+      depth = ap length no_levels ∙ sym (depth-push cs c ∙ no_depth (depth_in_force cs));
       levels = λ k x at. absurd
-          (nothing_at k x (ap (λ (xs : List Level). slice_get xs k) (sym empty.levels) ∙ at));
+          (nothing_at k x (ap (λ (xs : List Level). slice_get xs k) (sym no_levels) ∙ at));
       ordered = λ j k x y le at there. absurd
-          (nothing_at j x (ap (λ (xs : List Level). slice_get xs j) (sym empty.levels) ∙ at));
-      logic = ap (λ (x : LogicState). logic_after x command) (logic ∙ h.logic) ∙ sym (logic-push cs c);
+          (nothing_at j x (ap (λ (xs : List Level). slice_get xs j) (sym no_levels) ∙ at));
+      logic = ap (λ (x : LogicState). logic_after x command) (notes.logic ∙ h.logic) ∙ sym (logic-push cs c);
+      global = ap (λ (g : Bool). global_after g command) (notes.global ∙ h.global) ∙ sym (global-push cs c);
       print_success =
-          ap (λ (x : Bool). print_success_after new.initial_print_success x command) (print ∙ h.print_success)
-          ∙ ap (λ (x : Bool). print_success_after new.initial_print_success (print_success_in_force x cs) command) (sym start)
+          ap (λ (x : Bool). print_success_after new.initial_print_success x command)
+          (notes.print_success ∙ h.print_success)
+          ∙ ap (λ (x : Bool). print_success_after new.initial_print_success (print_success_in_force x cs) command)
+          (sym notes.start)
           ∙ sym (print-push new.initial_print_success cs c);
-      exited = ap (λ (x : Bool). x || is_exit command) (exited ∙ h.exited) ∙ sym (exited-push cs c);
+      exited = ap (λ (x : Bool). x || is_exit command) (notes.exited ∙ h.exited) ∙ sym (exited-push cs c);
     }
-  where
-    nothing_at : (k : ℕ) (x : Level) → slice_get {X = Level} [] k ≡ Some x → ⊥
-    nothing_at k x at = absurd (cc)
 
-pub reset_effect : (old new : Stack) → IsEmpty new all_theories → new.logic ≡ old.logic
-    → new.print_success ≡ old.print_success → new.exited ≡ old.exited → new.initial_print_success ≡ old.initial_print_success → (n : ℕ)
+-- no names are in force behind a reset
+reset_names : (cs : List Numbered) (n : ℕ)
+    → signature_in_force (cs ++ record { number = n; command = Reset } ∷ []) ≡ no_names all_theories
+reset_names cs n =
+    let c : Numbered = record { number = n; command = Reset } in
+    let b = brought_by cs (history cs) c in
+    let now : in_force names_stand (history (cs ++ c ∷ [])) ≡ b ∷ [] =
+    ap (in_force names_stand) (history-push cs c) ∙ in_force-push name_stands_after (history cs) b
+    ∙ ap (λ (l : List Brought). l ++ b ∷ [])
+    (none_still name_stands_after names_level names_rule b (in_force names_stand (history cs)) refl) in
+    same_signature (theories_in_force (cs ++ c ∷ [])) all_theories (in_force names_stand (history (cs ++ c ∷ []))) []
+    (theories-push cs c) (ap abbreviations_of now) (ap entries_of now)
+
+pub reset_effect : (old new : Stack) → IsEmpty new all_theories → HasNotesOf old new → (n : ℕ)
     → HasEffect old new n Reset
-reset_effect old new empty logic print exited start n = record {
+reset_effect old new empty notes n = record {
   faultless = λ cs h. refl;
-  stands = λ cs h. emptied old new cs n Reset h (refl, λ d. refl, λ s k. refl, λ s. refl, λ k. refl)
-      empty logic print exited start;
-  start = start;
+  stands = λ cs h alike. without_assertions old new cs n Reset h
+      (subst (λ (s : Signature). library.StandsFor new.library s) (sym (reset_names cs n)) empty.library)
+      refl (λ d. refl) (λ k. refl) empty.assertions empty.levels notes;
+  start = notes.start;
 }
 
-pub reset_assertions_effect : (old new : Stack)
-    → ((cs : List Numbered) → HasInForce old cs → IsEmpty new (theories_in_force cs)) → new.logic ≡ old.logic
-    → new.print_success ≡ old.print_success → new.exited ≡ old.exited → new.initial_print_success ≡ old.initial_print_success
+-- names that are global stay where a command removes all but options
+globals_stay : (b : Brought) (bs : List Brought) → is_everything b.removes ≡ false → AreAs true bs
+    → (entries_of (still name_stands_after b bs) ≡ entries_of bs)
+    × (abbreviations_of (still name_stands_after b bs) ≡ abbreviations_of bs)
+globals_stay b [] some h = (refl, refl)
+globals_stay b (x ∷ xs) some h = one h.0 (globals_stay b xs some h.1)
+  where
+    rest : List Brought
+    rest = still name_stands_after b xs
+
+    Goal : Bool → Type 0
+    Goal u = (entries_of (cond u (x ∷ rest) rest) ≡ x.entries ++ entries_of xs)
+        × (abbreviations_of (cond u (x ∷ rest) rest) ≡ x.abbreviations ++ abbreviations_of xs)
+
+    either : (u : Bool) → x.entries ≡ [] → x.abbreviations ≡ []
+        → (entries_of rest ≡ entries_of xs) × (abbreviations_of rest ≡ abbreviations_of xs) → Goal u
+    either true e a r = (ap (λ (l : List Entry). x.entries ++ l) r.0,
+      ap (λ (l : List (List ℕ × Sort)). x.abbreviations ++ l) r.1)
+    either false e a r = (r.0 ∙ ap (λ (l : List Entry). l ++ entries_of xs) (sym e),
+      r.1 ∙ ap (λ (l : List (List ℕ × Sort)). l ++ abbreviations_of xs) (sym a))
+
+    one : IsAs true x → (entries_of rest ≡ entries_of xs) × (abbreviations_of rest ≡ abbreviations_of xs)
+        → Goal (name_stands_after x b)
+    one (inl is) r =
+        subst Goal (sym (ap (λ (g : Bool). cond g (not (is_everything b.removes)) (stands_after x.level b)) is
+        ∙ ap not some)) (ap (λ (l : List Entry). x.entries ++ l) r.0,
+          ap (λ (l : List (List ℕ × Sort)). x.abbreviations ++ l) r.1)
+    one (inr none) r = either (name_stands_after x b) none.0 none.1 r
+
+-- and others go
+others_go : (b : Brought) (bs : List Brought) → resets b.removes ≡ true → AreAs false bs
+    → (entries_of (still name_stands_after b bs) ≡ []) × (abbreviations_of (still name_stands_after b bs) ≡ [])
+others_go b [] all h = (refl, refl)
+others_go b (x ∷ xs) all h = one h.0 (others_go b xs all h.1)
+  where
+    rest : List Brought
+    rest = still name_stands_after b xs
+
+    Goal : Bool → Type 0
+    Goal u = (entries_of (cond u (x ∷ rest) rest) ≡ []) × (abbreviations_of (cond u (x ∷ rest) rest) ≡ [])
+
+    either : (u : Bool) → x.entries ≡ [] → x.abbreviations ≡ []
+        → (entries_of rest ≡ []) × (abbreviations_of rest ≡ []) → Goal u
+    either true e a r = (ap (λ (l : List Entry). l ++ entries_of rest) e ∙ r.0,
+      ap (λ (l : List (List ℕ × Sort)). l ++ abbreviations_of rest) a ∙ r.1)
+    either false e a r = r
+
+    one : IsAs false x → (entries_of rest ≡ []) × (abbreviations_of rest ≡ []) → Goal (name_stands_after x b)
+    one (inl is) r =
+        subst Goal (sym (ap (λ (g : Bool). cond g (not (is_everything b.removes)) (stands_after x.level b)) is
+        ∙ ap (λ (u : Bool). not u && nat_le x.level b.level) all)) r
+    one (inr none) r = either (name_stands_after x b) none.0 none.1 r
+
+-- the names in force behind `reset-assertions`
+pub names_kept : (global : Bool) (cs : List Numbered) (n : ℕ) → AreAs global (in_force names_stand (history cs))
+    → signature_in_force (cs ++ record { number = n; command = ResetAssertions } ∷ [])
+    ≡ cond global (signature_in_force cs) (no_names (theories_in_force cs))
+names_kept global cs n alike = by global alike
+  where
+    c : Numbered
+    c = record { number = n; command = ResetAssertions }
+
+    b : Brought
+    b = brought_by cs (history cs) c
+
+    N : List Brought
+    N = in_force names_stand (history cs)
+
+    now : in_force names_stand (history (cs ++ c ∷ [])) ≡ still name_stands_after b N ++ b ∷ []
+    now = ap (in_force names_stand) (history-push cs c) ∙ in_force-push name_stands_after (history cs) b
+
+    none : (entries_of (still name_stands_after b N ++ b ∷ []) ≡ entries_of (still name_stands_after b N))
+        × (abbreviations_of (still name_stands_after b N ++ b ∷ []) ≡ abbreviations_of (still name_stands_after b N))
+    none = none_more (still name_stands_after b N) b true refl refl
+
+    by : (g : Bool) → AreAs g N
+        → signature_in_force (cs ++ c ∷ []) ≡ cond g (signature_in_force cs) (no_names (theories_in_force cs))
+    by true h =
+        let stay = globals_stay b N refl h in
+        same_signature (theories_in_force (cs ++ c ∷ [])) (theories_in_force cs)
+        (in_force names_stand (history (cs ++ c ∷ []))) N (theories-push cs c)
+        (ap abbreviations_of now ∙ none.1 ∙ stay.1) (ap entries_of now ∙ none.0 ∙ stay.0)
+    by false h =
+        let go = others_go b N refl h in
+        same_signature (theories_in_force (cs ++ c ∷ [])) (theories_in_force cs)
+        (in_force names_stand (history (cs ++ c ∷ []))) [] (theories-push cs c)
+        (ap abbreviations_of now ∙ none.1 ∙ go.1) (ap entries_of now ∙ none.0 ∙ go.0)
+
+pub reset_assertions_effect : (old new : Stack) → HasNoAssertions old new → HasNotesOf old new
     → (n : ℕ) → HasEffect old new n ResetAssertions
-reset_assertions_effect old new empty logic print exited start n = record {
+reset_assertions_effect old new left notes n = record {
   faultless = λ cs h. refl;
-  stands = λ cs h. emptied old new cs n ResetAssertions h (refl, λ d. refl, λ s k. refl, λ s. refl, λ k. refl)
-      (empty cs h) logic print exited start;
-  start = start;
+  stands = λ cs h alike. without_assertions old new cs n ResetAssertions h
+      (subst (λ (s : Signature). library.StandsFor new.library s)
+      (sym (names_kept old.global cs n
+      (subst (λ (g : Bool). AreAs g (in_force names_stand (history cs))) (sym h.global) alike)))
+      (left.library (signature_in_force cs) h.library))
+      refl (λ d. refl) (λ k. refl) left.assertions left.levels notes;
+  start = notes.start;
 }
 
 -- ---- the code
@@ -466,6 +598,7 @@ levels_unchanged old v same = record {
         (ap (λ (xs : List Level). slice_get xs j) (sym same) ∙ at)
         (ap (λ (xs : List Level). slice_get xs k) (sym same) ∙ there);
     logic = h.logic;
+    global = h.global;
     print_success = h.print_success;
     exited = h.exited;
   };

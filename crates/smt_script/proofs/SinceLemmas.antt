@@ -11,14 +11,15 @@ use Rattle.smt_theory.specs.declared.theories.Theories.{Theories}
 use Rattle.smt_faults.specs.declared.command_flaw.CommandFlaw.TheVariants.{NoLevel}
 use Rattle.smt_script.specs.Command.{Command, Effect, SetLogic, SetPrintSuccess, Exit, SetsLogic, Brings}
 use Rattle.smt_script.specs.Command.{Assumes, Pushes, Pops, Removing, Nothing, AllButOptions, Everything, effect_of}
+use Rattle.smt_script.specs.Command.{SetsGlobal, SetGlobalDeclarations}
 use Rattle.smt_script.specs.Stack.{HaveNoFlaw, Numbered, all_theories, depth_after, depth_by, depth_in_force}
 use Rattle.smt_script.specs.Stack.{flaw_by, has_exited, is_exit, is_late_after, is_logic_set, is_reset}
 use Rattle.smt_script.specs.Stack.{is_set_after, is_too_late, makes_late, print_success_after}
 use Rattle.smt_script.specs.Stack.{print_success_in_force, removed_of_effect, resets, theories_after}
-use Rattle.smt_script.specs.Stack.{theories_in_force, theories_or}
+use Rattle.smt_script.specs.Stack.{global_after, global_in_force, theories_in_force, theories_or}
 use Rattle.smt_script.specs.Standing.{AreSince, Behind, IsAmong, IsLast, Never, Start, is_whole_reset}
 use Rattle.smt_script.specs.Standing.{levels_popped, levels_pushed, popped, pushed, sets_logic}
-use Rattle.smt_script.specs.Standing.{sets_print_success, sets_theories}
+use Rattle.smt_script.specs.Standing.{sets_global, sets_print_success, sets_theories}
 use Rattle.smt_script.proofs.StandingLemmas.{depth-push}
 
 -- ---- commands since one
@@ -146,6 +147,29 @@ print_of_the_start start commands since s none =
     ∙ unset (print_success_after start) sets_print_success is_whole_reset (print_kept start) start since none
     (never_since is_whole_reset commands since s)
 
+-- ---- global declarations
+
+global_anew : (v : Bool) (command : Command) → is_whole_reset command ≡ true → global_after v command ≡ false
+global_anew v command h = grind (arith)
+
+global_kept : (v : Bool) (command : Command) → sets_global command ≡ false → is_whole_reset command ≡ false
+    → global_after v command ≡ v
+global_kept v command h k = grind (arith)
+
+pub global_of_the_last : (on : Bool) (commands since : List Numbered) → AreSince is_whole_reset commands since
+    → IsLast sets_global since (SetGlobalDeclarations on) → global_in_force commands ≡ on
+global_of_the_last on commands since s l =
+    since_alone global_after is_whole_reset false global_anew commands since s
+    ∙ set_last global_after sets_global is_whole_reset global_kept false on since
+    (SetGlobalDeclarations on) (λ v. refl) l (never_since is_whole_reset commands since s)
+
+pub global_of_the_start : (commands since : List Numbered) → AreSince is_whole_reset commands since
+    → Never sets_global since → global_in_force commands ≡ false
+global_of_the_start commands since s none =
+    since_alone global_after is_whole_reset false global_anew commands since s
+    ∙ unset global_after sets_global is_whole_reset global_kept false since none
+    (never_since is_whole_reset commands since s)
+
 -- ---- logics
 
 set_anew : (v : Bool) (command : Command) → is_whole_reset command ≡ true → is_set_after v command ≡ false
@@ -191,6 +215,7 @@ levels_by before n (SetsLogic x) h k = refl
 levels_by before n (Brings item) h k = refl
 levels_by before n (Assumes literals) h k = refl
 levels_by before n (Removing Nothing) h k = refl
+levels_by before n (SetsGlobal on) h k = refl
 levels_by before n (Removing AllButOptions) h k = absurd (cc)
 levels_by before n (Removing Everything) h k = absurd (cc)
 

@@ -7,11 +7,11 @@ use Rattle.std.proofs.lemmas.List.{append-nil}
 use Rattle.std.proofs.lemmas.List.Sums.{fold-append}
 use Rattle.smt_trees.specs.Sexp.{Sexp}
 use Rattle.smt_script.specs.Command.{Command, Effect, Assert, SetsLogic, Brings, Pushes, Pops, Removing}
-use Rattle.smt_script.specs.Command.{Assumes, effect_of}
+use Rattle.smt_script.specs.Command.{Assumes, SetsGlobal, effect_of}
 use Rattle.smt_script.specs.Command as items
 use Rattle.smt_script.specs.Stack.{Brought, KeepLevels, Numbered, assertions_by, assertions_of_effect}
 use Rattle.smt_script.specs.Stack.{brought_by, brought_from, depth_after, depth_in_force, is_reset}
-use Rattle.smt_script.specs.Stack.{stands_after}
+use Rattle.smt_script.specs.Stack.{is_everything, removes_everything, stands_after}
 
 -- what commands bring, behind those before them
 abbrev pub steps : List Numbered → List Brought → List Numbered → List Brought
@@ -111,6 +111,32 @@ keeps level before brought (c ∷ cs) h =
       );
     }
 
+-- nothing is removed by commands none of which removes everything
+pub all_leave : (before : List Numbered) (brought : List Brought) (cs : List Numbered)
+    → list_any (λ d. removes_everything d.command) cs ≡ false
+    → list_all (λ (l : Brought). not (is_everything l.removes)) (steps before brought cs) ≡ true
+all_leave before brought [] none = refl
+all_leave before brought (c ∷ cs) none =
+    let b = brought_by before brought c in
+    let split = or_false (removes_everything c.command) (list_any (λ d. removes_everything d.command) cs) none in
+    let here : not (removes_everything c.command) ≡ true = ap not split.0 in
+    let there = all_leave (before ++ c ∷ []) (brought ++ b ∷ []) cs split.1 in
+    rw (here, there) refl
+
+-- and where nothing is, none does
+pub leaves : (before : List Numbered) (brought : List Brought) (cs : List Numbered)
+    → list_all (λ (l : Brought). not (is_everything l.removes)) (steps before brought cs) ≡ true
+    → list_any (λ d. removes_everything d.command) cs ≡ false
+leaves before brought [] h = refl
+leaves before brought (c ∷ cs) h =
+    let b = brought_by before brought c in
+    let split = and_true (not (removes_everything c.command))
+    (list_all (λ (l : Brought). not (is_everything l.removes)) (steps (before ++ c ∷ []) (brought ++ b ∷ []) cs))
+    h in
+    let first : removes_everything c.command ≡ false = not_true (removes_everything c.command) split.0 in
+    let rest = leaves (before ++ c ∷ []) (brought ++ b ∷ []) cs split.1 in
+    rw (first, rest) refl
+
 -- ---- which commands bring an assertion
 
 pub data IsAssertion (n : ℕ) (command : Command) : Type 0 where
@@ -131,6 +157,7 @@ brings_or_not n command (SetsLogic x) is = No (ap (assertions_of_effect n) is)
 brings_or_not n command (Pushes m) is = No (ap (assertions_of_effect n) is)
 brings_or_not n command (Pops m) is = No (ap (assertions_of_effect n) is)
 brings_or_not n command (Removing what) is = No (ap (assertions_of_effect n) is)
+brings_or_not n command (SetsGlobal on) is = No (ap (assertions_of_effect n) is)
 brings_or_not n command (Assumes literals) is = No (ap (assertions_of_effect n) is)
 
 pub assertion_or_not : (n : ℕ) (command : Command) → IsAssertion n command

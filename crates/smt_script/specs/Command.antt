@@ -1,6 +1,6 @@
 -- SMT-LIB 2.6, section 4.2: the trees that are commands. Which commands are supported is this project's
 -- choice.
-use Rattle.std.specs.Prelude.{ℕ, List, Bool, true, false, ◌&&◌, Option, Some, None, is_some, option_map}
+use Rattle.std.specs.Prelude.{ℕ, List, Bool, true, false, Option, Some, None, is_some, option_map}
 use Rattle.std.specs.Prelude.{option_and_then, Result, Err, ok_or, bytes_eq, codes, if◌then◌else◌}
 use Rattle.smt_trees.specs.Sexp.{Sexp, Sexps, Atom, Reserved, Items, Nil, Cons, Symbol}
 use Rattle.smt_trees.specs.declared.reserved.Word.{Word}
@@ -55,17 +55,11 @@ is_print_success keyword = bytes_eq keyword (codes "print-success")
 abbrev pub is_global_declarations : List ℕ → Bool
 is_global_declarations keyword = bytes_eq keyword (codes "global-declarations")
 
--- declarations may be set to be no longer global, as they are at the start; that they are global is not
--- supported
-abbrev pub global_setting : Option Bool → Option Command
-global_setting (Some false) = Some (SetGlobalDeclarations false)
-global_setting _ = None
-
 -- the command that sets an option to a value, or to none
 abbrev pub option_setting : List ℕ × Option Sexp → Option Command
 option_setting p =
     if is_print_success p.0 then option_map SetPrintSuccess (truth_of_value p.1)
-    else if is_global_declarations p.0 then global_setting (truth_of_value p.1)
+    else if is_global_declarations p.0 then option_map SetGlobalDeclarations (truth_of_value p.1)
     else Some (SetOption p.0 p.1)
 
 -- ---- commands
@@ -109,15 +103,6 @@ abbrev pub is_abbreviation : Sexps → Bool
 is_abbreviation (Cons (Atom Symbol x) rest) = is_some (list_and_tree rest)
 is_abbreviation _ = false
 
-abbrev pub is_true : Option Bool → Bool
-is_true (Some true) = true
-is_true _ = false
-
--- whether these parts of a `set-option` make declarations global
-abbrev pub makes_global : Option (List ℕ × Option Sexp) → Bool
-makes_global None = false
-makes_global (Some p) = is_global_declarations p.0 && is_true (truth_of_value p.1)
-
 -- what is wrong with a list that begins with this word, and is no command: some commands of the standard are
 -- not supported, whatever follows their word; others with some parts
 abbrev pub refusal : Word → Sexps → CommandFlaw
@@ -127,7 +112,6 @@ refusal words.DeclareSort parts = Unsupported
 refusal words.DefineFunRec parts = Unsupported
 refusal words.DefineFunsRec parts = Unsupported
 refusal words.DefineSort parts = if is_abbreviation parts then Unsupported else Form
-refusal words.SetOption parts = if makes_global (keyword_and_value parts) then Unsupported else Form
 refusal _ parts = Form
 
 -- the command that a tree is, or why it is refused
@@ -210,12 +194,13 @@ pub data Effect : Type 0 where
   Pushes : (levels : ℕ) → Effect
   Pops : (levels : ℕ) → Effect
   Removing : (what : Removes) → Effect
+  SetsGlobal : (on : Bool) → Effect
   Assumes : (literals : Sexps) → Effect
 
 abbrev pub effect_of : Command → Effect
 effect_of (SetLogic name) = SetsLogic name
 effect_of (SetPrintSuccess on) = Removing Nothing
-effect_of (SetGlobalDeclarations on) = Removing Nothing
+effect_of (SetGlobalDeclarations on) = SetsGlobal on
 effect_of (SetOption keyword value) = Removing Nothing
 effect_of (SetInfo keyword value) = Removing Nothing
 effect_of (DeclareConst x sort) = Brings (Declaration x Nil sort)

@@ -1,10 +1,11 @@
 -- SMT-LIB 2.6, sections 4.1.1, 4.1.4 and 4.2: what is in force after commands that took effect, and the fault
--- of a command's effect. Commands count from 1. Declarations, definitions, labels and abbreviations go with
--- the level at which they came, as assertions do: `:global-declarations` is false. That there are at most
--- 10,000 levels is this project's limit.
+-- of a command's effect. Commands count from 1. Assertions go with the level at which they came; so do
+-- declarations, definitions, labels and abbreviations, unless declarations are global (section 4.1.7): then a
+-- `reset` alone removes them. That there are at most 10,000 levels is this project's limit.
 use Rattle.std.specs.Prelude.{◌≡◌, ◌≤◌, ℕ, ◌+◌, ◌-◌, List, [], ◌∷◌, ◌++◌, Bool, true, false, not, ◌&&◌, ◌||◌}
 use Rattle.std.specs.Prelude.{Option, Some, None, is_some, Result, Ok, Err, fold, nat_le, nat_lt}
 use Rattle.std.specs.Prelude.{if◌then◌else◌}
+use Rattle.std.specs.Bool.{beq}
 use Rattle.std.specs.List.{flat_map, list_all, list_any}
 use Rattle.std.specs.Option.{option_or}
 use Rattle.smt_trees.specs.Sexp.{Sexp, Sexps, Nil, Cons}
@@ -21,6 +22,7 @@ use Rattle.smt_terms.specs.Signature.{Entry, Names, Signature, names_of, sort_na
 use Rattle.smt_faults.specs.declared.term_flaw.TermFlaw.{TermFlaw}
 use Rattle.smt_faults.specs.declared.term_flaw.TermFlaw.TheVariants.{IllSorted}
 use Rattle.smt_script.specs.Command.{Command, Effect, Addition, Removes, SetsLogic, Brings, Pushes, Pops}
+use Rattle.smt_script.specs.Command.{SetsGlobal}
 use Rattle.smt_script.specs.Command.{Assumes, Removing, Nothing, AllButOptions, Everything, closes_window}
 use Rattle.smt_script.specs.Command.{effect_of, is_check, kind_of}
 use Rattle.smt_script.specs.Command as items
@@ -56,6 +58,12 @@ resets Nothing = false
 resets AllButOptions = true
 resets Everything = true
 
+-- whether it is the options too
+abbrev pub is_everything : Removes → Bool
+is_everything Nothing = false
+is_everything AllButOptions = false
+is_everything Everything = true
+
 -- the theories once so much is removed
 abbrev pub theories_left : Theories → Removes → Theories
 theories_left theories Nothing = theories
@@ -68,6 +76,7 @@ theories_by theories (Brings item) = theories
 theories_by theories (Pushes levels) = theories
 theories_by theories (Pops levels) = theories
 theories_by theories (Removing what) = theories_left theories what
+theories_by theories (SetsGlobal on) = theories
 theories_by theories (Assumes literals) = theories
 
 -- the theories after a command, from those before it
@@ -84,6 +93,7 @@ depth_by depth (Brings item) = depth
 depth_by depth (Pushes levels) = depth + levels
 depth_by depth (Pops levels) = depth - levels
 depth_by depth (Removing what) = if resets what then 0 else depth
+depth_by depth (SetsGlobal on) = depth
 depth_by depth (Assumes literals) = depth
 
 -- how many levels there are after a command
@@ -93,6 +103,23 @@ depth_after depth command = depth_by depth (effect_of command)
 -- how many levels there are after commands
 abbrev pub depth_in_force : List Numbered → ℕ
 depth_in_force commands = fold (λ depth c. depth_after depth c.command) 0 commands
+
+abbrev pub global_by : Bool → Effect → Bool
+global_by global (SetsLogic name) = global
+global_by global (Brings item) = global
+global_by global (Pushes levels) = global
+global_by global (Pops levels) = global
+global_by global (Removing what) = if is_everything what then false else global
+global_by global (SetsGlobal on) = on
+global_by global (Assumes literals) = global
+
+-- whether declarations are global after a command, from whether they were before it
+abbrev pub global_after : Bool → Command → Bool
+global_after global command = global_by global (effect_of command)
+
+-- whether declarations are global after commands: as the last one since the last `reset` said that set it
+abbrev pub global_in_force : List Numbered → Bool
+global_in_force commands = fold (λ global c. global_after global c.command) false commands
 
 abbrev pub print_success_by : Bool → Bool → Kind → Bool
 print_success_by initial on (kinds.PrintSuccess value) = value
@@ -120,10 +147,11 @@ has_exited commands = list_any (λ c. is_exit c.command) commands
 
 -- ---- what each command brought
 
--- what a command brought: names, abbreviations and assertions; the level at which they came; and what it
--- removed
+-- what a command brought: names, abbreviations and assertions; the level at which they came; whether
+-- declarations were global there; and what it removed
 pub record Brought : Type 0 where
   pub level : ℕ
+  pub global : Bool
   pub removes : Removes
   pub entries : List Entry
   pub abbreviations : List (List ℕ × Sort)
@@ -134,13 +162,19 @@ pub record Brought : Type 0 where
 abbrev pub stands_after : ℕ → Brought → Bool
 stands_after level later = not (resets later.removes) && nat_le level later.level
 
--- whether names and abbreviations stand that were brought before these, and whether assertions do: the same
--- rule for both, as declarations go with their levels
-abbrev pub names_stand : Brought → List Brought → Bool
-names_stand b later = list_all (stands_after b.level) later
-
+-- whether assertions stand that were brought before these
 abbrev pub assertions_stand : Brought → List Brought → Bool
 assertions_stand b later = list_all (stands_after b.level) later
+
+-- whether names and abbreviations that were brought stand after a later command: global ones do that did not
+-- remove everything, and others as assertions do
+abbrev pub name_stands_after : Brought → Brought → Bool
+name_stands_after b later =
+    if b.global then not (is_everything later.removes) else stands_after b.level later
+
+-- whether they stand that were brought before these
+abbrev pub names_stand : Brought → List Brought → Bool
+names_stand b later = list_all (name_stands_after b) later
 
 -- what is in force of all that was brought: what stands after all that was brought later
 abbrev pub in_force : (Brought → List Brought → Bool) → List Brought → List Brought
@@ -190,6 +224,7 @@ entries_of_effect s n (Brings item) = entries_of_addition s n item
 entries_of_effect s n (Pushes levels) = []
 entries_of_effect s n (Pops levels) = []
 entries_of_effect s n (Removing what) = []
+entries_of_effect s n (SetsGlobal on) = []
 entries_of_effect s n (Assumes literals) = []
 
 -- the names that command n brings to a signature
@@ -209,6 +244,7 @@ abbreviations_of_effect s (Brings item) = abbreviations_of_addition s item
 abbreviations_of_effect s (Pushes levels) = []
 abbreviations_of_effect s (Pops levels) = []
 abbreviations_of_effect s (Removing what) = []
+abbreviations_of_effect s (SetsGlobal on) = []
 abbreviations_of_effect s (Assumes literals) = []
 
 -- the abbreviations that a command brings
@@ -227,6 +263,7 @@ assertions_of_effect n (Brings item) = assertions_of_addition n item
 assertions_of_effect n (Pushes levels) = []
 assertions_of_effect n (Pops levels) = []
 assertions_of_effect n (Removing what) = []
+assertions_of_effect n (SetsGlobal on) = []
 assertions_of_effect n (Assumes literals) = []
 
 -- the assertion that command n brings
@@ -239,6 +276,7 @@ removed_of_effect (Brings item) = Nothing
 removed_of_effect (Pushes levels) = Nothing
 removed_of_effect (Pops levels) = Nothing
 removed_of_effect (Removing what) = what
+removed_of_effect (SetsGlobal on) = Nothing
 removed_of_effect (Assumes literals) = Nothing
 
 -- what a command removes at whatever level it came: a reset does. What `pop` takes is no matter of this, but
@@ -246,9 +284,13 @@ removed_of_effect (Assumes literals) = Nothing
 abbrev pub removed_by : Command → Removes
 removed_by command = removed_of_effect (effect_of command)
 
--- whether it removes all names, abbreviations and assertions
+-- whether it removes all assertions, and with them the names and abbreviations that are not global
 abbrev pub is_reset : Command → Bool
 is_reset command = resets (removed_by command)
+
+-- whether it removes everything
+abbrev pub removes_everything : Command → Bool
+removes_everything command = is_everything (removed_by command)
 
 -- what a command brings, behind the commands before it and what they brought
 abbrev pub brought_by : List Numbered → List Brought → Numbered → Brought
@@ -256,6 +298,7 @@ brought_by before brought c =
     let s = signature_of (theories_in_force before) (in_force names_stand brought) in
     record {
       level = depth_after (depth_in_force before) c.command;
+      global = global_in_force before;
       removes = removed_by c.command;
       entries = entries_by s c.number c.command;
       abbreviations = abbreviations_by s c.command;
@@ -310,13 +353,26 @@ KeepLevels level before [] = Unit {0}
 KeepLevels level before (c ∷ commands) =
     (level ≤ depth_in_force (before ++ c ∷ [])) × KeepLevels level (before ++ c ∷ []) commands
 
--- what a command brought stands behind the earlier ones: no later one removes all, and none leaves fewer
--- levels than there were then
+-- an assertion that a command brought stands behind the earlier ones: no later one removes all, and none
+-- leaves fewer levels than there were then
 pub record Stands (commands earlier : List Numbered) (c : Numbered) : Type 0 where
   pub later : List Numbered
   pub place : commands ≡ earlier ++ c ∷ later
   pub no_reset : list_any (λ d. is_reset d.command) later ≡ false
   pub levels : KeepLevels (depth_in_force (earlier ++ c ∷ [])) (earlier ++ c ∷ []) later
+
+-- the later commands leave names that a command brought behind the earlier ones: global ones where none
+-- removes everything, and others where none removes all assertions, or leaves fewer levels
+abbrev pub LeaveNames : (global : Bool) → (before later : List Numbered) → Type 0
+LeaveNames true before later = list_any (λ d. removes_everything d.command) later ≡ false
+LeaveNames false before later =
+    (list_any (λ d. is_reset d.command) later ≡ false) × KeepLevels (depth_in_force before) before later
+
+-- the names and abbreviations that a command brought stand behind the earlier ones
+pub record NamesStand (commands earlier : List Numbered) (c : Numbered) : Type 0 where
+  pub later : List Numbered
+  pub place : commands ≡ earlier ++ c ∷ later
+  pub left : LeaveNames (global_in_force earlier) (earlier ++ c ∷ []) later
 
 abbrev pub is_set_by : Bool → Kind → Bool
 is_set_by set kinds.Logic = true
@@ -343,8 +399,8 @@ fixes_logic kinds.Model = false
 fixes_logic kinds.Echo = false
 fixes_logic kinds.Query = false
 
--- whether it is too late to set a logic behind the command: a declaration, definition, assertion, change of
--- level or check
+-- whether it is too late behind the command to set a logic, or to change whether declarations are global: a
+-- declaration, definition, assertion, change of level or check
 abbrev pub makes_late : Command → Bool
 makes_late command = fixes_logic (kind_of command)
 
@@ -355,7 +411,7 @@ is_late_by late kind = late || fixes_logic kind
 abbrev pub is_late_after : Bool → Command → Bool
 is_late_after late command = is_late_by late (kind_of command)
 
--- whether it is too late to set a logic: one of these came since the start or the last reset
+-- whether it is too late: one of these came since the start or the last reset
 abbrev pub is_too_late : List Numbered → Bool
 is_too_late commands = fold (λ late c. is_late_after late c.command) false commands
 
@@ -370,6 +426,10 @@ flaw_of (Err fault) = Some (Term fault)
 -- is too late
 abbrev pub flaw_of_logic : (set late : Bool) → Option Theories → Option CommandFlaw
 flaw_of_logic set late theories = if (set || late) || not (is_some theories) then Some Logic else None
+
+-- the fault of setting whether declarations are global: where it is too late to change it
+abbrev pub flaw_of_global : (late global on : Bool) → Option CommandFlaw
+flaw_of_global late global on = if late && not (beq global on) then Some Logic else None
 
 -- the greatest number of levels
 abbrev pub limit : ℕ
@@ -401,6 +461,7 @@ flaw_by before n (Pushes levels) =
     if nat_lt limit (depth_in_force before + levels) then Some TooDeep else None
 flaw_by before n (Pops levels) = if nat_lt (depth_in_force before) levels then Some NoLevel else None
 flaw_by before n (Removing what) = None
+flaw_by before n (SetsGlobal on) = flaw_of_global (is_too_late before) (global_in_force before) on
 flaw_by before n (Assumes literals) = flaw_of_literals (names_of (signature_in_force before)) literals
 
 -- the fault of the effect of command n after the commands that took effect before it

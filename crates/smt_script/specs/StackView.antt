@@ -1,15 +1,17 @@
 -- What a contract sees of a stack, and the commands that it stands for.
-use Rattle.std.specs.Prelude.{◌≡◌, ◌≤◌, ℕ, List, [], ◌∷◌, Bool, Some, length, nat_le, slice_get, take}
+use Rattle.std.specs.Prelude.{◌≡◌, ◌≤◌, ◌⊎◌, ℕ, List, [], ◌∷◌, Bool, Some, length, nat_le, slice_get, take}
+use Rattle.std.specs.Prelude.{if◌then◌else◌}
 use Rattle.std.specs.List.{filter}
 use Rattle.smt_trees.specs.Sexp.{Sexp}
-use Rattle.smt_theory.specs.declared.theories.Theories.{Theories}
 use Rattle.smt_terms.specs.Contents.{Contents, IsBelow, IsWithin, contents_of, first_of}
 use Rattle.smt_terms.specs.Library as library
 use Rattle.smt_terms.specs.Library.{Holds, IsTermOf}
+use Rattle.smt_terms.specs.Signature.{Signature}
 use Rattle.smt_terms.specs.declared.library.Library.{Library}
+use Rattle.smt_terms.specs.declared.library.marks.Mark.{Mark}
 use Rattle.smt_script.specs.Stack as spec
 use Rattle.smt_script.specs.Stack.{Brought, Numbered, assertions_in_force, assertions_of, assumptions_in_force}
-use Rattle.smt_script.specs.Stack.{depth_in_force}
+use Rattle.smt_script.specs.Stack.{depth_in_force, global_in_force}
 use Rattle.smt_script.specs.Stack.{has_exited, history, in_force, is_logic_set, is_too_late, names_stand}
 use Rattle.smt_script.specs.Stack.{assertions_stand, print_success_in_force, signature_in_force, signature_of}
 use Rattle.smt_script.specs.Stack.{theories_in_force}
@@ -41,15 +43,35 @@ AreAssertions terms _ _ = ⊥
 abbrev pub to_level : ℕ → List Brought → List Brought
 to_level k brought = filter (λ b. nat_le b.level k) brought
 
--- the first so many of the terms and names as a level notes are what was brought, and so are the first so
--- many of the assertions
-pub record IsLevel (contents : Contents) (assertions : List Assertion) (level : Level) (theories : Theories)
-    (names asserted : List Brought) : Type 0 where
+-- the level with which names go: global ones stay while there is any
+abbrev pub names_level : Brought → ℕ
+names_level b = if b.global then 0 else b.level
+
+-- what was brought whose names go with this level or an outer one
+abbrev pub names_to_level : ℕ → List Brought → List Brought
+names_to_level k brought = filter (λ b. nat_le (names_level b) k) brought
+
+-- the names in force that stay if so many levels do
+abbrev pub signature_to_level : ℕ → List Numbered → Signature
+signature_to_level k commands =
+    signature_of (theories_in_force commands) (names_to_level k (in_force names_stand (history commands)))
+
+-- the assertions in force that stay if so many levels do
+abbrev pub assertions_to_level : ℕ → List Numbered → List spec.Assertion
+assertions_to_level k commands = assertions_of (to_level k (in_force assertions_stand (history commands)))
+
+-- what a level leaves of terms and names: the first so many as it notes, or all, if declarations are global
+abbrev pub contents_left : (global : Bool) → Mark → Contents → Contents
+contents_left global mark contents = if global then contents else first_of mark contents
+
+-- what a level leaves are these names, and the first so many of the assertions as it notes are these
+pub record IsLevel (global : Bool) (contents : Contents) (assertions : List Assertion) (level : Level)
+    (names : Signature) (asserted : List spec.Assertion) : Type 0 where
   pub within : IsWithin level.mark contents
   pub count : level.assertions ≤ length assertions
-  pub holds : Holds (first_of level.mark contents) (signature_of theories names)
-  pub assertions_are : AreAssertions (first_of level.mark contents) (take level.assertions assertions)
-      (assertions_of asserted)
+  pub holds : Holds (contents_left global level.mark contents) names
+  pub assertions_are :
+      AreAssertions (contents_left global level.mark contents) (take level.assertions assertions) asserted
 
 -- an inner level notes as much as an outer one, or more
 pub record IsOuter (level inner : Level) : Type 0 where
@@ -74,17 +96,31 @@ pub record HasInForce (stack : Stack) (commands : List Numbered) : Type 0 where
       (assertions_in_force commands)
   pub depth : length stack.levels.items ≡ depth_in_force commands
   pub levels : (k : ℕ) (level : Level) → slice_get stack.levels.items k ≡ Some level
-      → IsLevel (contents_of (library_of stack)) stack.assertions.items level (theories_in_force commands)
-      (to_level k (in_force names_stand (history commands)))
-      (to_level k (in_force assertions_stand (history commands)))
+      → IsLevel stack.global (contents_of (library_of stack)) stack.assertions.items level
+      (signature_to_level k commands) (assertions_to_level k commands)
   pub ordered : (j k : ℕ) (level inner : Level) → j ≤ k → slice_get stack.levels.items j ≡ Some level
       → slice_get stack.levels.items k ≡ Some inner → IsOuter level inner
   pub logic : stack.logic ≡ logic_state commands
+  pub global : stack.global ≡ global_in_force commands
   pub print_success : stack.print_success ≡ print_success_in_force stack.initial_print_success commands
   pub exited : stack.exited ≡ has_exited commands
+
+-- what was brought has no names and no abbreviations, or was brought where declarations were as global as
+-- they are now
+abbrev pub IsAs : Bool → Brought → Type 0
+IsAs global b = (b.global ≡ global) ⊎ ((b.entries ≡ []) × (b.abbreviations ≡ []))
+
+abbrev pub AreAs : Bool → List Brought → Type 0
+AreAs global [] = Unit {0}
+AreAs global (b ∷ brought) = IsAs global b × AreAs global brought
+
+-- global names and others never stand together
+abbrev pub AreNamesAlike : List Numbered → Type 0
+AreNamesAlike commands = AreAs (global_in_force commands) (in_force names_stand (history commands))
 
 -- so it does, and it holds the assumptions of the last check, if nothing in force has changed since
 pub record StandsFor (stack : Stack) (commands : List Numbered) : Type 0 where
   pub force : HasInForce stack commands
+  pub alike : AreNamesAlike commands
   pub assumptions : AreTerms (contents_of (library_of stack)) stack.assumptions.items
       (assumptions_in_force commands)

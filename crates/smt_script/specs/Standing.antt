@@ -4,10 +4,10 @@ use Rattle.std.specs.List.{list_any}
 use Rattle.smt_theory.specs.Theories.{theories_named}
 use Rattle.smt_theory.specs.declared.sort.Sort.{Sort}
 use Rattle.smt_terms.specs.Signature.{Entry}
-use Rattle.smt_script.specs.Command.{Command, Effect, SetsLogic, Pushes, Pops, effect_of, kind_of}
+use Rattle.smt_script.specs.Command.{Command, Effect, SetsLogic, SetsGlobal, Pushes, Pops, effect_of, kind_of}
 use Rattle.smt_script.specs.declared.command.Kind.{Kind}
 use Rattle.smt_script.specs.declared.command.Kind.TheVariants as kinds
-use Rattle.smt_script.specs.Stack.{Assertion, Numbered, Stands, abbreviations_by, assertions_by, entries_by}
+use Rattle.smt_script.specs.Stack.{Assertion, Numbered, abbreviations_by, assertions_by, entries_by}
 use Rattle.smt_script.specs.Stack.{signature_in_force}
 
 abbrev pub numbered : ℕ → Command → Numbered
@@ -35,20 +35,26 @@ IsAmong {A} x xs = (first last : List A) × (xs ≡ first ++ x ∷ last)
 abbrev pub AreAmong : {A : Type 0} → List A → List A → Type 0
 AreAmong {A} some xs = (first last : List A) × (xs ≡ first ++ (some ++ last))
 
+-- when what a command brought stands, behind the earlier ones, after all commands
+abbrev pub Standing : Type 1
+Standing = (commands earlier : List Numbered) → Numbered → Type 0
+
 -- one of the commands stands, and brings it
-pub record IsBrought {A : Type 0} (brings : Brings A) (commands : List Numbered) (x : A) : Type 0 where
+pub record IsBrought {A : Type 0} (stands : Standing) (brings : Brings A) (commands : List Numbered) (x : A)
+    : Type 0 where
   pub earlier : List Numbered
   pub command : Numbered
-  pub stands : Stands commands earlier command
+  pub standing : stands commands earlier command
   pub among : IsAmong x (brings earlier command)
 
 -- these are, in order, what each of the later commands brings that stands, and nothing of the others
-abbrev pub AreBrought : {A : Type 0} → Brings A → (commands earlier later : List Numbered) → List A → Type 0
-AreBrought brings commands earlier [] xs = xs ≡ []
-AreBrought {A} brings commands earlier (c ∷ later) xs =
-    (Stands commands earlier c × (rest : List A) × (xs ≡ brings earlier c ++ rest)
-    × AreBrought brings commands (earlier ++ c ∷ []) later rest)
-    ⊎ ((Stands commands earlier c → ⊥) × AreBrought brings commands (earlier ++ c ∷ []) later xs)
+abbrev pub AreBrought : {A : Type 0} → Standing → Brings A → (commands earlier later : List Numbered)
+    → List A → Type 0
+AreBrought stands brings commands earlier [] xs = xs ≡ []
+AreBrought {A} stands brings commands earlier (c ∷ later) xs =
+    (stands commands earlier c × (rest : List A) × (xs ≡ brings earlier c ++ rest)
+    × AreBrought stands brings commands (earlier ++ c ∷ []) later rest)
+    ⊎ ((stands commands earlier c → ⊥) × AreBrought stands brings commands (earlier ++ c ∷ []) later xs)
 
 -- ---- what commands set
 
@@ -98,6 +104,14 @@ is_print_success_kind _ = false
 
 abbrev pub sets_print_success : Command → Bool
 sets_print_success command = is_print_success_kind (kind_of command)
+
+abbrev pub is_global_effect : Effect → Bool
+is_global_effect (SetsGlobal on) = true
+is_global_effect _ = false
+
+-- it sets whether declarations are global
+abbrev pub sets_global : Command → Bool
+sets_global command = is_global_effect (effect_of command)
 
 -- how many levels a command adds, and how many it removes
 abbrev pub levels_pushed : Effect → ℕ

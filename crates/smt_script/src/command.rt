@@ -18,8 +18,8 @@ pub enum Command {
     SetPrintSuccess {
         on: bool,
     },
-    /// `(set-option :global-declarations false)` (section 4.1.7): declarations go with their levels, as from
-    /// the start. `read_command` refuses `true` as not supported, and on the stack neither changes anything.
+    /// `(set-option :global-declarations true)`, or `false` (section 4.1.7): whether the names and
+    /// abbreviations that come stay in force until a `reset`, or go with their levels as assertions do.
     SetGlobalDeclarations {
         on: bool,
     },

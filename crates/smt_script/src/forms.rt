@@ -13,7 +13,7 @@ mod shapes;
 use crate::command::{Command, Query};
 use crate::forms::parts::Parts;
 use crate::forms::shapes::{
-    is_abbreviation, is_global_declarations, keyword_and_value, makes_global, name_and_abbreviated,
+    is_abbreviation, is_global_declarations, keyword_and_value, name_and_abbreviated,
     name_and_definition, name_and_rank, name_and_sort, one_keyword, one_list, one_list_of_literals,
     one_numeral, one_symbol, one_text, one_tree, truth_of_value,
 };
@@ -21,8 +21,8 @@ use smt_faults::CommandFlaw;
 use smt_trees::{Bytes, Tree, Word, split_first};
 
 /// The command that a tree is (SMT-LIB 2.6, section 4.2). A tree that is none is refused: as `Unsupported`
-/// where it is a list that begins with the name of a command that is not supported, whatever follows, a
-/// `define-sort` with parameters, or makes declarations global; else for its `Form`.
+/// where it is a list that begins with the name of a command that is not supported, whatever follows, or a
+/// `define-sort` with parameters; else for its `Form`.
 pub fn read_command(tree: Tree) -> Result<Command, CommandFlaw>
     ensures { MatchResult result (λ command. commands.command_of (sexp_of tree) ≡ Ok (command_view command))
         (λ flaw. commands.command_of (sexp_of tree) ≡ Err flaw) }
@@ -96,8 +96,7 @@ fn alone(command: Command, parts: Parts) -> Option<Command>
     parts.is_empty().then_some(command)
 }
 
-// The setting of an option: `:print-success` has to be a truth value, and `:global-declarations` has to be
-// `false`.
+// The setting of an option: `:print-success` and `:global-declarations` have to be truth values.
 fn option(parts: Parts) -> Option<Command>
     ensures { option_map command_view result ≡ commands.command_with Word.SetOption (parts_view parts) }
 {
@@ -107,20 +106,10 @@ fn option(parts: Parts) -> Option<Command>
         return Some(Command::SetPrintSuccess { on });
     }
     if is_global_declarations(&keyword) {
-        return global_setting(truth_of_value(&value)?);
+        let on = truth_of_value(&value)?;
+        return Some(Command::SetGlobalDeclarations { on });
     }
     Some(Command::SetOption { keyword, value })
-}
-
-// That declarations are global is not supported.
-fn global_setting(on: bool) -> Option<Command>
-    ensures { option_map command_view result ≡ commands.global_setting (Some on) }
-{
-    if on {
-        None
-    } else {
-        Some(Command::SetGlobalDeclarations { on })
-    }
 }
 
 fn is_print_success(keyword: &Bytes) -> bool
@@ -217,7 +206,6 @@ fn refusal(word: Word, parts: &[Tree]) -> CommandFlaw
         Word::DeclareDatatype | Word::DeclareDatatypes => CommandFlaw::Unsupported,
         Word::DeclareSort | Word::DefineFunRec | Word::DefineFunsRec => CommandFlaw::Unsupported,
         Word::DefineSort => unsupported_if(is_abbreviation(parts)),
-        Word::SetOption => unsupported_if(makes_global(parts)),
         Word::Bang | Word::Underscore | Word::As | Word::Binary | Word::Decimal =>
             CommandFlaw::Form,
         Word::Exists | Word::Hexadecimal | Word::Forall | Word::Let | Word::Match =>
@@ -229,7 +217,7 @@ fn refusal(word: Word, parts: &[Tree]) -> CommandFlaw
         Word::GetInfo | Word::GetModel | Word::GetOption | Word::GetProof => CommandFlaw::Form,
         Word::GetUnsatAssumptions | Word::GetUnsatCore | Word::GetValue => CommandFlaw::Form,
         Word::Pop | Word::Push | Word::Reset | Word::ResetAssertions => CommandFlaw::Form,
-        Word::SetInfo | Word::SetLogic => CommandFlaw::Form,
+        Word::SetInfo | Word::SetLogic | Word::SetOption => CommandFlaw::Form,
     }
 }
 

@@ -11,16 +11,19 @@ ghost use Rattle.smt_terms.specs.Definitions.{defined_in};
 ghost use Rattle.smt_terms.specs.Declarations.{abbreviated_in, declared_in};
 ghost use Rattle.smt_terms.specs.Signature.{Entry, names_of, sort_names_of};
 ghost use Rattle.smt_terms.specs.WellSorted.{AreIntroduced};
-ghost use Rattle.smt_script.specs.Command.{Command, SetLogic, SetPrintSuccess, DeclareConst, DeclareFun};
+ghost use Rattle.smt_script.specs.Command.{Command, SetGlobalDeclarations, SetLogic, SetPrintSuccess};
+ghost use Rattle.smt_script.specs.Command.{DeclareConst, DeclareFun};
 ghost use Rattle.smt_script.specs.Command.{DefineFun, DefineSort, Assert, Push, Pop, Exit};
-ghost use Rattle.smt_script.specs.Stack.{Assertion, HaveNoFlaw, Numbered, Stands, all_theories};
+ghost use Rattle.smt_script.specs.Stack.{Assertion, HaveNoFlaw, NamesStand, Numbered, Stands, all_theories};
+ghost use Rattle.smt_script.specs.Stack.{global_in_force};
+ghost use Rattle.smt_script.specs.StackView.{AreNamesAlike};
 ghost use Rattle.smt_script.specs.Stack.{assertions_in_force, depth_in_force, flaw_of_effect, has_exited};
 ghost use Rattle.smt_script.specs.Stack.{is_logic_set, is_reset, is_too_late, makes_late};
 ghost use Rattle.smt_script.specs.Stack.{print_success_in_force, signature_in_force, theories_in_force};
 ghost use Rattle.smt_script.specs.Standing.{AreAmong, AreBrought, AreSince, IsAmong, IsBrought, IsLast};
 ghost use Rattle.smt_script.specs.Standing.{Never, abbreviations_of_command, assertions_of_command};
 ghost use Rattle.smt_script.specs.Standing.{is_whole_reset, names_of_command, numbered, popped, pushed};
-ghost use Rattle.smt_script.specs.Standing.{sets_logic, sets_print_success, sets_theories};
+ghost use Rattle.smt_script.specs.Standing.{sets_global, sets_logic, sets_print_success, sets_theories};
 
 use smt_terms::laws::{definitions_are_well_sorted, labels_are_introduced};
 
@@ -56,28 +59,31 @@ pub fn commands_bring_names()
 {}
 
 /// The names in force are those of the commands that stand, in the order of the commands: of those that were
-/// followed by no reset, and by no fewer levels (SMT-LIB 2.6, section 4.1.4).
+/// followed by no `reset` and, where declarations were not global, by no `reset-assertions`, and by no fewer
+/// levels (SMT-LIB 2.6, sections 4.1.4 and 4.1.7).
 pub fn names_in_force_stand()
-    ensures stands { (commands earlier : List Numbered) (c : Numbered) → Stands commands earlier c
+    ensures stands { (commands earlier : List Numbered) (c : Numbered) → NamesStand commands earlier c
         → AreAmong (names_of_command earlier c) (signature_in_force commands).entries }
     ensures found { (commands : List Numbered) (e : Entry) → IsAmong e (signature_in_force commands).entries
-        → IsBrought names_of_command commands e }
+        → IsBrought NamesStand names_of_command commands e }
     ensures ordered { (commands : List Numbered)
-        → AreBrought names_of_command commands [] commands (signature_in_force commands).entries }
+        → AreBrought NamesStand names_of_command commands [] commands (signature_in_force commands).entries }
 {}
 
 /// So are the abbreviations in force.
 pub fn abbreviations_in_force_stand()
-    ensures stands { (commands earlier : List Numbered) (c : Numbered) → Stands commands earlier c
+    ensures stands { (commands earlier : List Numbered) (c : Numbered) → NamesStand commands earlier c
         → AreAmong (abbreviations_of_command earlier c) (signature_in_force commands).abbreviations }
     ensures found { (commands : List Numbered) (a : List ℕ × Sort)
         → IsAmong a (signature_in_force commands).abbreviations
-        → IsBrought abbreviations_of_command commands a }
-    ensures ordered { (commands : List Numbered) → AreBrought abbreviations_of_command commands [] commands
+        → IsBrought NamesStand abbreviations_of_command commands a }
+    ensures ordered { (commands : List Numbered)
+        → AreBrought NamesStand abbreviations_of_command commands [] commands
         (signature_in_force commands).abbreviations }
 {}
 
-/// So are the assertions in force.
+/// The assertions in force are those that were followed by no reset, and by no fewer levels, whether
+/// declarations are global or not (SMT-LIB 2.6, section 4.1.4).
 pub fn assertions_in_force_stand()
     ensures stands { (commands earlier : List Numbered) (c : Numbered) (term : Sexp)
         → Stands commands earlier c → c.command ≡ Assert term
@@ -87,7 +93,7 @@ pub fn assertions_in_force_stand()
         → (earlier : List Numbered) × (c : Numbered)
         × Stands commands earlier c × (c.command ≡ Assert a.term) × (c.number ≡ a.command) }
     ensures ordered { (commands : List Numbered)
-        → AreBrought assertions_of_command commands [] commands (assertions_in_force commands) }
+        → AreBrought Stands assertions_of_command commands [] commands (assertions_in_force commands) }
 {}
 
 /// The theories in force are those of the last logic that was set since the last `reset`, or else all
@@ -111,22 +117,36 @@ pub fn print_success_is_the_last()
         → Never sets_print_success since → print_success_in_force start commands ≡ start }
 {}
 
-/// A logic is set, and it is too late to set one, where a command since the last `reset` made it so. While
-/// neither holds, nothing is in force (SMT-LIB 2.6, sections 4.1.1 and 4.2.1).
+/// Whether declarations are global was said by the last command since the last `reset` that sets it, or else
+/// they are not (SMT-LIB 2.6, sections 4.1.7 and 4.2.1).
+pub fn global_declarations_are_the_last()
+    ensures set { (on : Bool) (commands since : List Numbered) → AreSince is_whole_reset commands since
+        → IsLast sets_global since (SetGlobalDeclarations on) → global_in_force commands ≡ on }
+    ensures start { (commands since : List Numbered) → AreSince is_whole_reset commands since
+        → Never sets_global since → global_in_force commands ≡ false }
+{}
+
+/// Names and abbreviations that are global never stand beside others: behind commands without a fault each
+/// that brought some was looked at while declarations were as global as they are at the end (SMT-LIB 2.6,
+/// section 4.1.7).
+pub fn declarations_are_alike()
+    ensures { (commands : List Numbered) → HaveNoFlaw [] commands → AreNamesAlike commands }
+{}
+
+/// A logic is set, and it is too late to set one, where a command since the last `reset` made it so. Until it
+/// is too late, nothing is in force (SMT-LIB 2.6, sections 4.1.1 and 4.2.1).
 pub fn logics_are_set_first()
     ensures set { (commands since : List Numbered) → AreSince is_whole_reset commands since
         → is_logic_set commands ≡ list_any (λ c. sets_logic c.command) since }
     ensures late { (commands since : List Numbered) → AreSince is_whole_reset commands since
         → is_too_late commands ≡ list_any (λ c. makes_late c.command) since }
-    ensures names { (commands : List Numbered) → is_logic_set commands ≡ false → is_too_late commands ≡ false
+    ensures names { (commands : List Numbered) → is_too_late commands ≡ false
         → (signature_in_force commands).entries ≡ [] }
-    ensures abbreviations { (commands : List Numbered) → is_logic_set commands ≡ false
-        → is_too_late commands ≡ false
+    ensures abbreviations { (commands : List Numbered) → is_too_late commands ≡ false
         → (signature_in_force commands).abbreviations ≡ [] }
-    ensures assertions { (commands : List Numbered) → is_logic_set commands ≡ false
-        → is_too_late commands ≡ false
+    ensures assertions { (commands : List Numbered) → is_too_late commands ≡ false
         → assertions_in_force commands ≡ [] }
-    ensures levels { (commands : List Numbered) → is_logic_set commands ≡ false → is_too_late commands ≡ false
+    ensures levels { (commands : List Numbered) → is_too_late commands ≡ false
         → depth_in_force commands ≡ 0 }
 {}
 

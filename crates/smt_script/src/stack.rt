@@ -62,6 +62,8 @@ pub struct Stack {
     /// For each level, what came outside it.
     levels: Vec<Level>,
     logic: LogicState,
+    /// Whether declarations are global.
+    global: bool,
     /// Whether `success` is printed: now, and at the start.
     print_success: bool,
     initial_print_success: bool,
@@ -98,6 +100,7 @@ impl Stack {
                 set: false,
                 late: false,
             },
+            global: false,
             print_success: initial_print_success,
             initial_print_success,
             exited: false,
@@ -175,11 +178,15 @@ impl Stack {
     ///   `IllSorted` for a term that is no formula (sections 3.6.5 and 4.2.4).
     /// - `CheckSatAssuming`: `Term` with the fault of the first literal that has one, and with `IllSorted` for
     ///   one that is no formula (section 4.2.5).
+    /// - `SetGlobalDeclarations`: `Logic` where the value is another than the one in force and a command came
+    ///   that declared, defined, asserted, changed levels or checked, since the start or the last `Reset`
+    ///   (section 4.1.7).
     /// - `Push`: `TooDeep` where there would be more than 10,000 levels. `Pop`: `NoLevel` where it removes
     ///   more than there are (section 4.2.2).
     ///
     /// The others have none. `Pop` removes what came at the levels that it removes, and takes time for that
-    /// alone. The stack keeps no tree of the command: the nodes of its terms stand in the library.
+    /// alone; `ResetAssertions` removes all but the logic and the options. While declarations are global both
+    /// remove assertions and levels, and no name. The stack keeps no tree of the command: the nodes of its terms stand in the library.
     pub fn apply(&mut self, number: u64, command: &Command) -> Result<(), CommandFault>
         requires { last_of self.old < number }
         ensures faultless { OnOk result

@@ -10,11 +10,12 @@ use Rattle.smt_terms.specs.Library as library
 use Rattle.smt_terms.specs.Library.{IsTermOf}
 use Rattle.smt_terms.specs.Signature.{Signature, no_names}
 use Rattle.smt_terms.specs.declared.library.marks.Mark.{Mark}
-use Rattle.smt_script.specs.Command.{Assumes, CheckSatAssuming, Command, Effect, Nothing, Removing}
+use Rattle.smt_script.specs.Command.{Assumes, CheckSatAssuming, Command, Effect, Nothing, Removing, SetsGlobal}
 use Rattle.smt_script.specs.Command.{closes_window, is_check}
 use Rattle.smt_script.specs.Stack.{Numbered, flaw_of_effect, is_exit, is_late_after, is_set_after, trees_of}
-use Rattle.smt_script.specs.Stack.{print_success_after}
-use Rattle.smt_script.specs.StackView.{AreTerms, HasInForce, last_of, initial_print_success_of}
+use Rattle.smt_script.specs.Stack.{global_after, print_success_after}
+use Rattle.smt_script.specs.StackView.{AreNamesAlike, AreTerms, HasInForce, contents_left, last_of}
+use Rattle.smt_script.specs.StackView.{initial_print_success_of}
 use Rattle.smt_faults.specs.declared.command_fault.CommandFault.{CommandFault}
 use Rattle.smt_faults.specs.Outcome.{TellsCommand}
 use Rattle.smt_script.specs.declared.stack.LogicState.{LogicState}
@@ -37,6 +38,7 @@ pub record ContentsAreKept : Type 0 where
 abbrev pub with_notes : Command → Stack → Stack
 with_notes command stack = record stack {
   logic = logic_after stack.logic command;
+  global = global_after stack.global command;
   print_success = print_success_after stack.initial_print_success stack.print_success command;
   exited = stack.exited || is_exit command;
 }
@@ -45,7 +47,7 @@ with_notes command stack = record stack {
 pub record HasEffect (old new : Stack) (n : ℕ) (command : Command) : Type 0 where
   pub faultless : (commands : List Numbered) → HasInForce old commands
       → flaw_of_effect commands n command ≡ None
-  pub stands : (commands : List Numbered) → HasInForce old commands
+  pub stands : (commands : List Numbered) → HasInForce old commands → AreNamesAlike commands
       → HasInForce (with_notes command new) (commands ++ record { number = n; command = command } ∷ [])
   pub start : initial_print_success_of new ≡ initial_print_success_of old
 
@@ -72,11 +74,15 @@ HasAssumed old new (Assumes literals) =
 HasAssumed old new (Removing Nothing) =
     (ts : List Sexp) → AreTerms (contents_of old.library) old.assumptions.items ts
     → AreTerms (contents_of new.library) new.assumptions.items ts
+HasAssumed old new (SetsGlobal on) =
+    (ts : List Sexp) → AreTerms (contents_of old.library) old.assumptions.items ts
+    → AreTerms (contents_of new.library) new.assumptions.items ts
 HasAssumed old new _ = Unit {0}
 
 -- what is noted of the commands is the same
 pub record HasNotesOf (old new : Stack) : Type 0 where
   pub logic : new.logic ≡ old.logic
+  pub global : new.global ≡ old.global
   pub print_success : new.print_success ≡ old.print_success
   pub start : new.initial_print_success ≡ old.initial_print_success
   pub exited : new.exited ≡ old.exited
@@ -114,9 +120,30 @@ pub record NotesAll (stack : Stack) (level : Level) : Type 0 where
 pub record IsCut (old new : Stack) (depth : ℕ) : Type 0 where
   pub level : Level
   pub at : slice_get old.levels.items depth ≡ Some level
-  pub library : contents_of new.library ≡ first_of level.mark (contents_of old.library)
+  pub library : contents_of new.library ≡ contents_left old.global level.mark (contents_of old.library)
   pub assertions : new.assertions.items ≡ take level.assertions old.assertions.items
   pub levels : new.levels.items ≡ take depth old.levels.items
+
+-- the names are those of before, if declarations are global, or none
+abbrev pub HasNamesLeft : (old new : Stack) → Type 0
+HasNamesLeft old new =
+    (s : Signature) → library.StandsFor old.library s
+    → library.StandsFor new.library (if old.global then s else no_names s.theories)
+
+-- so they are, and all else is as before
+pub record NamesAreDropped (old new : Stack) : Type 0 where
+  pub library : HasNamesLeft old new
+  pub assertions : new.assertions ≡ old.assertions
+  pub levels : new.levels ≡ old.levels
+  pub assumptions : new.assumptions ≡ old.assumptions
+  pub alloc : new.alloc ≡ old.alloc
+  pub notes : HasNotesOf old new
+
+-- so they are, and no assertion is in force, and no level
+pub record HasNoAssertions (old new : Stack) : Type 0 where
+  pub library : HasNamesLeft old new
+  pub assertions : new.assertions.items ≡ []
+  pub levels : new.levels.items ≡ []
 
 -- nothing is in force, in these theories
 pub record IsEmpty (new : Stack) (theories : Theories) : Type 0 where

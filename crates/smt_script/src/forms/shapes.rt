@@ -262,28 +262,8 @@ pub(crate) fn is_abbreviation(parts: &[Tree]) -> bool
     split_first(rest).is_none()
 }
 
-/// Whether these parts of a `set-option` make declarations global.
-pub(crate) fn makes_global(parts: &[Tree]) -> bool
-    ensures { result ≡ commands.makes_global (shapes.keyword_and_value (sexps_of parts.now)) }
-{
-    let Some((Tree::Keyword(keyword), rest)) = split_first(parts) else {
-        return false;
-    };
-    is_global_declarations(keyword) && is_one_true(rest)
-}
-
 pub(crate) fn is_global_declarations(keyword: &Bytes) -> bool
     ensures { result ≡ commands.is_global_declarations keyword.now }
 {
     keyword.as_slice() == b"global-declarations".as_slice()
-}
-
-// Whether this is the symbol `true` alone.
-fn is_one_true(trees: &[Tree]) -> bool
-    ensures { result ≡ commands.is_true (shapes.truth_of_value (one_value (sexps_of trees.now))) }
-{
-    match split_first(trees) {
-        Some((value, rest)) => split_first(rest).is_none() && value.is_symbol(b"true"),
-        None => false,
-    }
 }

@@ -7,7 +7,8 @@ ghost use Rattle.smt_trees.specs.Tree.{sexp_of, sexps_of};
 ghost use Rattle.smt_forms.specs.Bindings.{named_trees};
 ghost use Rattle.smt_script.specs.Command as commands;
 ghost use Rattle.smt_script.specs.Command.{SetLogic, DeclareConst, DeclareFun, DefineFun, DefineSort, Assert};
-ghost use Rattle.smt_script.specs.Command.{CheckSatAssuming, Push, Pop, effect_of};
+ghost use Rattle.smt_script.specs.Command.{CheckSatAssuming, Push, Pop, SetGlobalDeclarations, SetsGlobal};
+ghost use Rattle.smt_script.specs.Command.{effect_of};
 ghost use Rattle.smt_script.specs.CommandView.{command_view};
 ghost use Rattle.smt_faults.specs.Outcome.{TellsCommand};
 ghost use Rattle.smt_terms.specs.Contents.{Extends, contents_of};
@@ -72,7 +73,7 @@ impl Stack {
             Command::Reset => self.reset(),
             Command::ResetAssertions => self.reset_assertions(),
             Command::SetPrintSuccess { .. } => Ok(()),
-            Command::SetGlobalDeclarations { .. } => Ok(()),
+            Command::SetGlobalDeclarations { on } => self.set_global(*on),
             Command::SetOption { .. } => Ok(()),
             Command::SetInfo { .. } => Ok(()),
             Command::Exit => Ok(()),
@@ -84,8 +85,8 @@ impl Stack {
         }
     }
 
-    // Notes of a command that took effect whether a logic may be set, whether `success` is printed, and
-    // whether it was `exit`.
+    // Notes of a command that took effect whether a logic may be set, whether declarations are global, whether
+    // `success` is printed, and whether it was `exit`.
     pub(super) fn note(&mut self, command: &Command)
         ensures { self.new ≡ with_notes (command_view command.now) self.old }
     {
@@ -94,6 +95,7 @@ impl Stack {
             set: is_set_after(self.logic.set, kind),
             late: is_late_after(self.logic.late, kind),
         };
+        self.global = global_after(self.global, command);
         self.print_success = print_success_after(
             self.initial_print_success,
             self.print_success,
@@ -129,6 +131,24 @@ impl Stack {
             return Err(CommandFault::Logic);
         };
         self.library = Library::new(self.alloc, theories);
+        Ok(())
+    }
+
+    // Whether declarations are global changes while nothing is in force and there are no levels.
+    fn set_global(&mut self, on: bool) -> Result<(), CommandFault>
+        ensures effect { OnOk result ((number : ℕ) → HasEffect self.old self.new number (SetGlobalDeclarations on)) }
+        ensures refused { IfErr result
+            (λ fault. (number : ℕ) → IsRefused self.old number (SetGlobalDeclarations on) fault) }
+        ensures unchanged { OnErr result (IsUnchanged self.old self.new) }
+        ensures assumed { OnOk result (HasAssumed self.old self.new (SetsGlobal on)) }
+    {
+        contents_are_kept();
+        if self.global == on {
+            return Ok(());
+        }
+        if self.logic.late {
+            return Err(CommandFault::Logic);
+        }
         Ok(())
     }
 
@@ -284,6 +304,17 @@ fn is_ended_by(kind: Kind) -> bool
         Kind::Check | Kind::Logic | Kind::Change | Kind::Reset => true,
         Kind::PrintSuccess { .. } | Kind::Setting | Kind::Exit => false,
         Kind::Model | Kind::Echo | Kind::Query => false,
+    }
+}
+
+// Whether declarations are global after a command, by whether they were before.
+fn global_after(global: bool, command: &Command) -> bool
+    ensures { result ≡ stack.global_after global (command_view command.now) }
+{
+    match command {
+        Command::SetGlobalDeclarations { on } => *on,
+        Command::Reset => false,
+        _ => global,
     }
 }
 

@@ -27,7 +27,7 @@ impl Stack {
     ghost use Rattle.smt_script.specs.Command.{Push, Pop};
     ghost use Rattle.smt_script.specs.Command as commands;
     ghost use Rattle.smt_script.specs.Internal.Effect.{HasEffect, HasNotesOf, IsCut, IsRefused, IsUnchanged};
-    ghost use Rattle.smt_script.specs.Internal.Effect.{NotesAll};
+    ghost use Rattle.smt_script.specs.Internal.Effect.{NamesAreDropped, NotesAll};
 
     // Adds levels. What is in force came outside each of them.
     pub(super) fn push(&mut self, digits: &[u8]) -> Result<(), CommandFault>
@@ -79,14 +79,16 @@ impl Stack {
         Ok(())
     }
 
-    // Leaves so many levels, and what came outside the others.
+    // Leaves so many levels, and what came outside the others; of names all, if declarations are global.
     fn cut_to(&mut self, depth: usize)
         requires { depth < length self.old.levels.items }
         ensures cut { IsCut self.old self.new depth }
         ensures notes { HasNotesOf self.old self.new }
     {
         let level = self.levels.as_slice()[depth];
-        self.library.cut(level.mark);
+        if !self.global {
+            self.library.cut(level.mark);
+        }
         self.assertions.truncate(level.assertions);
         self.levels.truncate(depth);
     }
@@ -103,17 +105,26 @@ impl Stack {
         Ok(())
     }
 
-    // Removes all but the logic.
+    // Removes all but the logic and the options; of names none, if declarations are global.
     pub(super) fn reset_assertions(&mut self) -> Result<(), CommandFault>
         ensures effect { OnOk result ((n : ℕ) → HasEffect self.old self.new n commands.ResetAssertions) }
         ensures refused { IfErr result
             (λ fault. (n : ℕ) → IsRefused self.old n commands.ResetAssertions fault) }
         ensures unchanged { OnErr result (IsUnchanged self.old self.new) }
     {
-        self.library = Library::new(self.alloc, self.library.theories());
+        self.drop_names();
         self.assertions.truncate(0);
         self.levels.truncate(0);
         Ok(())
+    }
+
+    // Drops names and terms, unless declarations are global.
+    fn drop_names(&mut self)
+        ensures { NamesAreDropped self.old self.new }
+    {
+        if !self.global {
+            self.library = Library::new(self.alloc, self.library.theories());
+        }
     }
 }
 

@@ -1,11 +1,6 @@
-use Rattle.std.proofs.Common.{◌≡◌, Bool, false, ◌||◌, ap, ◌∙◌}
-use Rattle.smt_script.specs.Stack.{is_logic_set, is_too_late}
 use Rattle.smt_script.proofs.HistoryLemmas.{unfixed_is_empty}
 use Rattle.smt_script.proofs.SinceLemmas.{late_since, set_since}
 use Rattle.smt_script.proofs.laws.logics_are_set_first.Goals as goal
-
-neither : (a b : Bool) → a ≡ false → b ≡ false → (a || b) ≡ false
-neither a b h k = ap (λ (x : Bool). x || b) h ∙ k
 
 pub returns-clause-set : goal.returns-clause-set
 returns-clause-set c = set_since
@@ -14,17 +9,13 @@ pub returns-clause-late : goal.returns-clause-late
 returns-clause-late c = late_since
 
 pub returns-clause-names : goal.returns-clause-names
-returns-clause-names c =
-    λ cs set late. (unfixed_is_empty cs (neither (is_logic_set cs) (is_too_late cs) set late)).0.entries
+returns-clause-names c = λ cs late. (unfixed_is_empty cs late).0.entries
 
 pub returns-clause-abbreviations : goal.returns-clause-abbreviations
-returns-clause-abbreviations c =
-    λ cs set late. (unfixed_is_empty cs (neither (is_logic_set cs) (is_too_late cs) set late)).0.abbreviations
+returns-clause-abbreviations c = λ cs late. (unfixed_is_empty cs late).0.abbreviations
 
 pub returns-clause-assertions : goal.returns-clause-assertions
-returns-clause-assertions c =
-    λ cs set late. (unfixed_is_empty cs (neither (is_logic_set cs) (is_too_late cs) set late)).0.assertions
+returns-clause-assertions c = λ cs late. (unfixed_is_empty cs late).0.assertions
 
 pub returns-clause-levels : goal.returns-clause-levels
-returns-clause-levels c =
-    λ cs set late. (unfixed_is_empty cs (neither (is_logic_set cs) (is_too_late cs) set late)).1
+returns-clause-levels c = λ cs late. (unfixed_is_empty cs late).1

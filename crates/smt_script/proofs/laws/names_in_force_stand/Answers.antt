@@ -1,10 +1,11 @@
-use Rattle.smt_script.specs.Stack.{Brought}
-use Rattle.smt_script.proofs.BroughtLemmas.{brought_in_order, part_found, part_stands}
+use Rattle.smt_script.specs.Stack.{Brought, NamesStand, name_stands_after}
+use Rattle.smt_script.proofs.BroughtLemmas.{brought_in_order, names_in_words, part_found, part_stands}
 use Rattle.smt_script.proofs.laws.names_in_force_stand.Goals as goal
 
 pub returns : goal.returns
 returns c = record {
-  stands = part_stands (λ (b : Brought). b.entries);
-  found = part_found (λ (b : Brought). b.entries);
-  ordered = brought_in_order (λ (b : Brought). b.entries);
+  stands = λ commands earlier d s. part_stands name_stands_after NamesStand names_in_words (λ (b : Brought). b.entries)
+      commands earlier d s s.later s.place;
+  found = part_found name_stands_after NamesStand names_in_words (λ (b : Brought). b.entries);
+  ordered = brought_in_order name_stands_after NamesStand names_in_words (λ (b : Brought). b.entries);
 }

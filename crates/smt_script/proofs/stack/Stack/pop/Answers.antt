@@ -7,7 +7,6 @@ use Rattle.smt_script.proofs.stack.Stack.pop.Goals as goal
 
 pub returns-then-count-gt0-clause-effect : goal.returns-then-count-gt0-clause-effect
 returns-then-count-gt0-clause-effect c =
-    let notes = c.cut_to.ensures.notes in
     let same = c.in-Some.ensures.0 in
     let most = c.in-Some.ensures.1 in
     let depth = c.len-depth.ensures in
@@ -16,7 +15,7 @@ returns-then-count-gt0-clause-effect c =
     let law = c.earlier_marks_are_kept.ensures in
     pop_effect (record { first = law.first; within = law.within }) c.args.self.now c.cut_to.new.self
     (digits_value 10 c.args.digits.now) (c.len-depth.result - c.in-Some.count)
-    c.cut_to.ensures.cut sum notes.logic notes.print_success notes.exited notes.start
+    c.cut_to.ensures.cut sum c.cut_to.ensures.notes
 
 pub returns-else-count-gt0-clause-effect : goal.returns-else-count-gt0-clause-effect
 returns-else-count-gt0-clause-effect c =

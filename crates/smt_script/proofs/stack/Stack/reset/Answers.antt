@@ -19,4 +19,5 @@ returns-clause-effect c =
           c.all_theories.ensures c.new.ensures;
       assertions = c.truncate.ensures.items;
       levels = c.truncate-2.ensures.items;
-    }) refl refl refl refl
+    })
+    (record { logic = refl; global = refl; print_success = refl; start = refl; exited = refl; last = refl })

@@ -1,23 +1,23 @@
-use Rattle.std.proofs.Common.{refl, subst}
-use Rattle.smt_theory.specs.declared.theories.Theories.{Theories}
-use Rattle.smt_terms.specs.Library as library
-use Rattle.smt_terms.specs.Signature.{no_names}
-use Rattle.smt_script.specs.Stack.{signature_in_force}
 use Rattle.smt_script.proofs.LevelLemmas.{reset_assertions_effect}
 use Rattle.smt_script.proofs.stack.Stack.reset_assertions.Goals as goal
 
 pub returns-clause-effect : goal.returns-clause-effect
 returns-clause-effect c =
+    let dropped = c.drop_names.ensures in
+    let notes = dropped.notes in
+    let before = c.drop_names.new.self in
     reset_assertions_effect c.args.self.now
-    (record c.args.self.now {
-      library = c.new.result;
-      assertions = c.truncate.new.self;
-      levels =
-          c.truncate-2.new.self;
-    })
-    (λ cs h. record {
-      library = subst (λ (t : Theories). library.StandsFor c.new.result (no_names t))
-          (c.theories.ensures (signature_in_force cs) h.library) c.new.ensures;
+    (record before { assertions = c.truncate.new.self; levels = c.truncate-2.new.self })
+    (record {
+      library = dropped.library;
       assertions = c.truncate.ensures.items;
       levels = c.truncate-2.ensures.items;
-    }) refl refl refl refl
+    })
+    (record {
+      logic = notes.logic;
+      global = notes.global;
+      print_success = notes.print_success;
+      start = notes.start;
+      exited = notes.exited;
+      last = notes.last;
+    })

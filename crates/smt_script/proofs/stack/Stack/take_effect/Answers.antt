@@ -3,7 +3,7 @@ use Rattle.std.specs.Str.Parse.{digits_value}
 use Rattle.smt_trees.specs.Tree.{sexp_of, sexps_of}
 use Rattle.smt_forms.specs.Bindings.{named_trees}
 use Rattle.smt_script.specs.Command.{CheckSatAssuming, Command, DefineFun, DefineSort, Pop, Push, Reset, ResetAssertions}
-use Rattle.smt_script.specs.Command.{SetLogic, effect_of}
+use Rattle.smt_script.specs.Command.{SetGlobalDeclarations, SetLogic, effect_of}
 use Rattle.smt_script.specs.CommandView.{command_view}
 use Rattle.smt_script.specs.Internal.Effect.{HasEffect, IsRefused}
 use Rattle.smt_faults.specs.declared.command_fault.CommandFault.{CommandFault}
@@ -160,9 +160,15 @@ returns-in-SetPrintSuccess-clause-effect c =
 
 pub returns-in-SetGlobalDeclarations-clause-effect : goal.returns-in-SetGlobalDeclarations-clause-effect
 returns-in-SetGlobalDeclarations-clause-effect c =
-    idle_effect c.contents_are_kept.ensures c.args.self.now c.args.number (command_view c.args.command.now)
-    (no_effect_is_idle (command_view c.args.command.now)
-    (ap (λ d. effect_of (command_view d)) c.in-SetGlobalDeclarations.is))
+    effect_at c.set_global.result c.args.self.now c.set_global.new.self
+    (SetGlobalDeclarations c.in-SetGlobalDeclarations.on) (command_view c.args.command.now) c.args.number
+    (ap command_view c.in-SetGlobalDeclarations.is) c.set_global.ensures.effect
+
+pub returns-in-SetGlobalDeclarations-clause-refused : goal.returns-in-SetGlobalDeclarations-clause-refused
+returns-in-SetGlobalDeclarations-clause-refused c =
+    refused_at c.set_global.result c.args.self.now (SetGlobalDeclarations c.in-SetGlobalDeclarations.on)
+    (command_view c.args.command.now) c.args.number
+    (ap command_view c.in-SetGlobalDeclarations.is) c.set_global.ensures.refused
 
 pub returns-in-SetOption-clause-effect : goal.returns-in-SetOption-clause-effect
 returns-in-SetOption-clause-effect c =
