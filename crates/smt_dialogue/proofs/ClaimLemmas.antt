@@ -14,7 +14,8 @@ use Rattle.smt_forms.specs.Labels.{labels_in}
 use Rattle.smt_terms.specs.Assertions.{label_entries}
 use Rattle.smt_terms.specs.Checking.{sort_in}
 use Rattle.smt_terms.specs.Signature.{Entry, Names, in_assertion, names_of}
-use Rattle.smt_script.specs.Command.{Assert, Assumes, Brings, Effect, Pops, Pushes, Removing, SetsLogic, effect_of}
+use Rattle.smt_script.specs.Command.{Assert, Assumes, Brings, Effect, Pops, Pushes, Removing, SetsGlobal, SetsLogic}
+use Rattle.smt_script.specs.Command.{effect_of}
 use Rattle.smt_script.specs.Stack.{Assertion, flaw_by, flaw_of, flaw_of_formula, flaw_of_literals, literals_of}
 use Rattle.smt_script.specs.Stack.{literals_of_effect, trees_of}
 use Rattle.smt_dialogue.proofs.AssertedLemmas.{AssertionsAreFound, AssertionsStand, asserted_from, asserted_in_force}
@@ -90,6 +91,7 @@ assumed_by before n k (Brings item) t none at = absurd (cc)
 assumed_by before n k (Pushes levels) t none at = absurd (cc)
 assumed_by before n k (Pops levels) t none at = absurd (cc)
 assumed_by before n k (Removing what) t none at = absurd (cc)
+assumed_by before n k (SetsGlobal on) t none at = absurd (cc)
 assumed_by before n k (Assumes ls) t none at = literal_at (names_of (signature_after before)) ls k t none at
 
 -- an assumption of a check that took effect, without a fault, is a formula

@@ -10,7 +10,8 @@ use Rattle.smt_theory.specs.declared.sort.Sort.{Sort}
 use Rattle.smt_theory.specs.declared.theories.Theories.{Theories}
 use Rattle.smt_terms.specs.Signature.{Entry, Signature}
 use Rattle.smt_trees.specs.Sexp.{Sexp, Sexps}
-use Rattle.smt_script.specs.Command.{Command, Effect, Assumes, Nothing, Removing, closes_window, effect_of, is_check}
+use Rattle.smt_script.specs.Command.{Command, Effect, AllButOptions, Assumes, Everything, Nothing, Removes, Removing}
+use Rattle.smt_script.specs.Command.{SetsGlobal, closes_window, effect_of, is_check}
 use Rattle.smt_script.specs.Command.{SetLogic, SetPrintSuccess, SetGlobalDeclarations, SetOption, SetInfo}
 use Rattle.smt_script.specs.Command.{DeclareConst, DeclareFun, DefineFun, DefineSort, Assert, Push, Pop, Reset}
 use Rattle.smt_script.specs.Command.{ResetAssertions, Exit, CheckSat, CheckSatAssuming, GetModel, Echo, Get}
@@ -19,9 +20,11 @@ use Rattle.smt_script.specs.Stack.{Brought, Numbered, abbreviations_by, abbrevia
 use Rattle.smt_script.specs.Stack.{abbreviations_of_effect, assertions_by, assertions_in_force, assertions_of}
 use Rattle.smt_script.specs.Stack.{assertions_of_effect, brought_by, brought_from}
 use Rattle.smt_script.specs.Stack.{depth_after, depth_by, depth_in_force, entries_by, entries_of}
-use Rattle.smt_script.specs.Stack.{entries_of_effect, history, in_force, is_reset, names_stand}
+use Rattle.smt_script.specs.Stack.{assertions_stand, entries_of_effect, history, in_force, is_everything, is_reset}
+use Rattle.smt_script.specs.Stack.{name_stands_after, names_stand}
 use Rattle.smt_script.specs.Stack.{removed_of_effect, resets, signature_in_force, signature_of, stands_after}
 use Rattle.smt_script.specs.Stack.{theories_after, theories_by, theories_in_force}
+use Rattle.smt_script.specs.StackView.{names_level}
 
 -- a command that changes no level and no theories, and brings nothing
 pub record IsQuiet (c : Command) : Type 0 where
@@ -34,10 +37,11 @@ pub record IsQuiet (c : Command) : Type 0 where
 
 -- a command that changes nothing that is in force has one of these effects
 leaves_force : (c : Command) → closes_window c ≡ false
-    → (effect_of c ≡ Removing Nothing) ⊎ ((literals : Sexps) × (effect_of c ≡ Assumes literals))
+    → (effect_of c ≡ Removing Nothing)
+    ⊎ (((literals : Sexps) × (effect_of c ≡ Assumes literals)) ⊎ ((on : Bool) × (effect_of c ≡ SetsGlobal on)))
 leaves_force (SetLogic name) h = cc
 leaves_force (SetPrintSuccess on) h = inl refl
-leaves_force (SetGlobalDeclarations on) h = inl refl
+leaves_force (SetGlobalDeclarations on) h = inr (inr (on, refl))
 leaves_force (SetOption keyword value) h = inl refl
 leaves_force (SetInfo keyword value) h = inl refl
 leaves_force (DeclareConst x sort) h = cc
@@ -51,7 +55,7 @@ leaves_force Reset h = cc
 leaves_force ResetAssertions h = cc
 leaves_force Exit h = inl refl
 leaves_force CheckSat h = inl refl
-leaves_force (CheckSatAssuming literals) h = inr (literals, refl)
+leaves_force (CheckSatAssuming literals) h = inr (inl (literals, refl))
 leaves_force GetModel h = inl refl
 leaves_force (Echo text) h = inl refl
 leaves_force (Get query) h = inl refl
@@ -77,9 +81,21 @@ assumes_quiet c literals is = record {
   assertions = λ n. ap (assertions_of_effect n) is;
 }
 
+sets_global_quiet : (c : Command) (on : Bool) → effect_of c ≡ SetsGlobal on → IsQuiet c
+sets_global_quiet c on is = record {
+  level = λ d. ap (depth_by d) is;
+  resets = ap (λ (e : Effect). resets (removed_of_effect e)) is;
+  theories = λ t. ap (theories_by t) is;
+  entries = λ s n. ap (entries_of_effect s n) is;
+  abbreviations = λ s. ap (abbreviations_of_effect s) is;
+  assertions = λ n. ap (assertions_of_effect n) is;
+}
+
 -- so a command is quiet that changes nothing that is in force
 pub quiet : (c : Command) → closes_window c ≡ false → IsQuiet c
-quiet c h = ⊎_elim (quiet_by c) (λ it. assumes_quiet c it.0 it.1) (leaves_force c h)
+quiet c h =
+    ⊎_elim (quiet_by c) (⊎_elim (λ it. assumes_quiet c it.0 it.1) (λ it. sets_global_quiet c it.0 it.1))
+    (leaves_force c h)
 
 -- ## Assumptions
 
@@ -97,13 +113,13 @@ pub assumptions-check : (cs : List Numbered) (c : Numbered) → is_check c.comma
     → assumptions_in_force (cs ++ c ∷ []) ≡ literals_of c.command
 assumptions-check cs c check = assumptions-push cs c ∙ rw check refl
 
--- ## What stands at the end is within the last level
+-- ## What stands at the end goes with a level that there still is
 
--- all that stands was brought at a level that there still is
-abbrev pub IsWithin : ℕ → List Brought → Type 0
-IsWithin depth [] = Unit {0}
-IsWithin depth (b ∷ later) =
-    (list_all (stands_after b.level) later ≡ true → b.level ≤ depth) × IsWithin depth later
+-- how names stand, or assertions: after which later ones, and the level with which they go
+record IsRule (after : Brought → Brought → Bool) (level : Brought → ℕ) : Type 0 where
+  kept : (a b : Brought) → resets b.removes ≡ false → level a ≤ b.level → after a b ≡ true
+  within : (a b : Brought) → after a b ≡ true → level a ≤ b.level
+  inner : (b : Brought) → level b ≤ b.level
 
 and_true : (a b : Bool) → a && b ≡ true → (a ≡ true) × (b ≡ true)
 and_true true b h = (refl, h)
@@ -114,6 +130,54 @@ le_of m n h = grind (arith)
 
 le_true : (m n : ℕ) → m ≤ n → nat_le m n ≡ true
 le_true m n h = grind (arith)
+
+both : (a b : Bool) → a ≡ false → b ≡ true → not a && b ≡ true
+both a b h k = rw (h, k) refl
+
+assertion_stands_after : Brought → Brought → Bool
+assertion_stands_after a b = stands_after a.level b
+
+level_of : Brought → ℕ
+level_of b = b.level
+
+kept_at : (level : ℕ) (b : Brought) → resets b.removes ≡ false → level ≤ b.level → stands_after level b ≡ true
+kept_at level b keeps le = both (resets b.removes) (nat_le level b.level) keeps (le_true level b.level le)
+
+within_at : (level : ℕ) (b : Brought) → stands_after level b ≡ true → level ≤ b.level
+within_at level b is = le_of level b.level (and_true (not (resets b.removes)) (nat_le level b.level) is).1
+
+assertions_rule : IsRule assertion_stands_after level_of
+assertions_rule = record {
+  kept = λ a b keeps le. kept_at a.level b keeps le;
+  within = λ a b is. within_at a.level b is;
+  inner = λ b. omega arith;
+}
+
+not_everything : (what : Removes) → resets what ≡ false → is_everything what ≡ false
+not_everything Nothing h = refl
+not_everything AllButOptions h = refl
+not_everything Everything h = absurd (cc)
+
+kept_by : (global : Bool) (level : ℕ) (b : Brought) → resets b.removes ≡ false → cond global 0 level ≤ b.level
+    → cond global (not (is_everything b.removes)) (stands_after level b) ≡ true
+kept_by true level b keeps le = ap not (not_everything b.removes keeps)
+kept_by false level b keeps le = kept_at level b keeps le
+
+within_by : (global : Bool) (level : ℕ) (b : Brought)
+    → cond global (not (is_everything b.removes)) (stands_after level b) ≡ true → cond global 0 level ≤ b.level
+within_by true level b is = omega arith
+within_by false level b is = within_at level b is
+
+inner_by : (global : Bool) (level : ℕ) → cond global 0 level ≤ level
+inner_by true level = omega arith
+inner_by false level = omega arith
+
+names_rule : IsRule name_stands_after names_level
+names_rule = record {
+  kept = λ a b keeps le. kept_by a.global a.level b keeps le;
+  within = λ a b is. within_by a.global a.level b is;
+  inner = λ b. inner_by b.global b.level;
+}
 
 all-append : (p : Brought → Bool) (xs : List Brought) (b : Brought)
     → list_all p (xs ++ b ∷ []) ≡ list_all p xs && p b
@@ -129,35 +193,9 @@ all-append p (x ∷ xs) b =
     and_assoc true s t = refl
     and_assoc false s t = refl
 
-within_last : (xs : List Brought) (b : Brought) → IsWithin b.level (xs ++ b ∷ [])
-within_last [] b = (λ h. omega arith, tt)
-within_last (x ∷ xs) b = (
-  λ h.
-      let last = and_true (list_all (stands_after x.level) xs) (stands_after x.level b)
-      (sym (all-append (stands_after x.level) xs b) ∙ h) in
-      le_of x.level b.level (and_true (not (resets b.removes)) (nat_le x.level b.level) last.1).1,
-  within_last xs b,
-)
-
 depth-push : (cs : List Numbered) (c : Numbered)
     → depth_in_force (cs ++ c ∷ []) ≡ depth_after (depth_in_force cs) c.command
 depth-push cs c = fold-append (λ (d : ℕ) (x : Numbered). depth_after d x.command) 0 cs (c ∷ [])
-
-within_from : (before : List Numbered) (brought : List Brought) (cs : List Numbered)
-    → IsWithin (depth_in_force before) brought
-    → IsWithin (depth_in_force (before ++ cs)) (brought_from before brought cs)
-within_from before brought [] h =
-    subst (λ (b : List Numbered). IsWithin (depth_in_force b) brought) (sym (append-nil before)) h
-within_from before brought (c ∷ cs) h =
-    let b = brought_by before brought c in
-    let here : IsWithin (depth_in_force (before ++ c ∷ [])) (brought ++ b ∷ []) =
-    subst (λ (d : ℕ). IsWithin d (brought ++ b ∷ [])) (sym (depth-push before c)) (within_last brought b)
-    in
-    subst (λ (l : List Numbered). IsWithin (depth_in_force l)
-    (brought_from (before ++ c ∷ []) (brought ++ b ∷ []) cs)) (append_assoc before (c ∷ []) cs)
-    (within_from (before ++ c ∷ []) (brought ++ b ∷ []) cs here)
-
--- ## One more command
 
 brought-append : (before : List Numbered) (brought : List Brought) (xs ys : List Numbered)
     → brought_from before brought (xs ++ ys) ≡ brought_from (before ++ xs) (brought_from before brought xs) ys
@@ -173,34 +211,59 @@ absorbs : (t s : Bool) → (t ≡ true → s ≡ true) → t && s ≡ t
 absorbs true s f = f refl
 absorbs false s f = refl
 
-both : (a b : Bool) → a ≡ false → b ≡ true → not a && b ≡ true
-both a b h k = rw (h, k) refl
+standing : (Brought → Brought → Bool) → Brought → List Brought → Bool
+standing after b later = list_all (after b) later
 
--- all that stands does so behind what resets nothing and leaves as many levels
-stands-push : (xs : List Brought) (b : Brought) → resets b.removes ≡ false → IsWithin b.level xs
-    → (in_force names_stand) (xs ++ b ∷ []) ≡ (in_force names_stand) xs ++ b ∷ []
-stands-push [] b keeps within = refl
-stands-push (x ∷ xs) b keeps within =
-    let all = list_all (stands_after x.level) xs in
-    let same : list_all (stands_after x.level) (xs ++ b ∷ []) ≡ all =
-    all-append (stands_after x.level) xs b
-    ∙ absorbs all (stands_after x.level b)
-    (λ h. both (resets b.removes) (nat_le x.level b.level) keeps (le_true x.level b.level (within.0 h)))
-    in
-    ap (λ (t : Bool). cond t (x ∷ []) [] ++ (in_force names_stand) (xs ++ b ∷ [])) same
-    ∙ ap (λ (l : List Brought). cond all (x ∷ []) [] ++ l) (stands-push xs b keeps within.1)
-    ∙ sym (append_assoc (cond all (x ∷ []) []) ((in_force names_stand) xs) (b ∷ []))
+module _ (after : Brought → Brought → Bool) (level : Brought → ℕ) (rule : IsRule after level) where
+  -- all that stands goes with a level that there still is
+  abbrev IsWithin : ℕ → List Brought → Type 0
+  IsWithin depth [] = Unit {0}
+  IsWithin depth (b ∷ later) = (list_all (after b) later ≡ true → level b ≤ depth) × IsWithin depth later
 
-in_force-push : (cs : List Numbered) (c : Numbered) → IsQuiet c.command
-    → (in_force names_stand) (history (cs ++ c ∷ []))
-    ≡ (in_force names_stand) (history cs) ++ brought_by cs (history cs) c ∷ []
-in_force-push cs c quiet =
-    let b = brought_by cs (history cs) c in
-    let within : IsWithin b.level (history cs) =
-    subst (λ (d : ℕ). IsWithin d (history cs)) (sym (quiet.level (depth_in_force cs)))
-    (within_from [] [] cs tt) in
-    ap (in_force names_stand) (brought-append [] [] cs (c ∷ []))
-    ∙ stands-push (history cs) b quiet.resets within
+  within_last : (xs : List Brought) (b : Brought) → IsWithin b.level (xs ++ b ∷ [])
+  within_last [] b = (λ h. rule.inner b, tt)
+  within_last (x ∷ xs) b = (
+    λ h. rule.within x b (and_true (list_all (after x) xs) (after x b) (sym (all-append (after x) xs b) ∙ h)).1,
+    within_last xs b,
+  )
+
+  within_from : (before : List Numbered) (brought : List Brought) (cs : List Numbered)
+      → IsWithin (depth_in_force before) brought
+      → IsWithin (depth_in_force (before ++ cs)) (brought_from before brought cs)
+  within_from before brought [] h =
+      subst (λ (b : List Numbered). IsWithin (depth_in_force b) brought) (sym (append-nil before)) h
+  within_from before brought (c ∷ cs) h =
+      let b = brought_by before brought c in
+      let here : IsWithin (depth_in_force (before ++ c ∷ [])) (brought ++ b ∷ []) =
+      subst (λ (d : ℕ). IsWithin d (brought ++ b ∷ [])) (sym (depth-push before c)) (within_last brought b)
+      in
+      subst (λ (l : List Numbered). IsWithin (depth_in_force l)
+      (brought_from (before ++ c ∷ []) (brought ++ b ∷ []) cs)) (append_assoc before (c ∷ []) cs)
+      (within_from (before ++ c ∷ []) (brought ++ b ∷ []) cs here)
+
+  -- all that stands does so behind what resets nothing and leaves as many levels
+  stands-push : (xs : List Brought) (b : Brought) → resets b.removes ≡ false → IsWithin b.level xs
+      → in_force (standing after) (xs ++ b ∷ []) ≡ in_force (standing after) xs ++ b ∷ []
+  stands-push [] b keeps within = refl
+  stands-push (x ∷ xs) b keeps within =
+      let all = list_all (after x) xs in
+      let same : list_all (after x) (xs ++ b ∷ []) ≡ all =
+      all-append (after x) xs b ∙ absorbs all (after x b) (λ h. rule.kept x b keeps (within.0 h)) in
+      ap (λ (t : Bool). cond t (x ∷ []) [] ++ in_force (standing after) (xs ++ b ∷ [])) same
+      ∙ ap (λ (l : List Brought). cond all (x ∷ []) [] ++ l) (stands-push xs b keeps within.1)
+      ∙ sym (append_assoc (cond all (x ∷ []) []) (in_force (standing after) xs) (b ∷ []))
+
+  -- one more command
+  in_force-push : (cs : List Numbered) (c : Numbered) → IsQuiet c.command
+      → in_force (standing after) (history (cs ++ c ∷ []))
+      ≡ in_force (standing after) (history cs) ++ brought_by cs (history cs) c ∷ []
+  in_force-push cs c quiet =
+      let b = brought_by cs (history cs) c in
+      let within : IsWithin b.level (history cs) =
+      subst (λ (d : ℕ). IsWithin d (history cs)) (sym (quiet.level (depth_in_force cs)))
+      (within_from [] [] cs tt) in
+      ap (in_force (standing after)) (brought-append [] [] cs (c ∷ []))
+      ∙ stands-push (history cs) b quiet.resets within
 
 -- what brings nothing adds nothing
 brings_none : {A : Type 0} (f : Brought → List A) (xs : List Brought) (b : Brought) → f b ≡ []
@@ -212,8 +275,8 @@ brings_none {A} f xs b none =
 pub assertions-quiet : (cs : List Numbered) (c : Numbered) → IsQuiet c.command
     → assertions_in_force (cs ++ c ∷ []) ≡ assertions_in_force cs
 assertions-quiet cs c quiet =
-    ap assertions_of (in_force-push cs c quiet)
-    ∙ brings_none (λ (b : Brought). b.assertions) ((in_force names_stand) (history cs))
+    ap assertions_of (in_force-push assertion_stands_after level_of assertions_rule cs c quiet)
+    ∙ brings_none (λ (b : Brought). b.assertions) ((in_force assertions_stand) (history cs))
     (brought_by cs (history cs) c) (quiet.assertions c.number)
 
 pub signature-quiet : (cs : List Numbered) (c : Numbered) → IsQuiet c.command
@@ -230,7 +293,8 @@ signature-quiet cs c quiet =
     let abbreviations : abbreviations_of (old ++ b ∷ []) ≡ abbreviations_of old =
     brings_none (λ (x : Brought). x.abbreviations) old b (quiet.abbreviations s) in
     ap (λ (t : Theories). signature_of t ((in_force names_stand) (history (cs ++ c ∷ [])))) theories
-    ∙ ap (λ (l : List Brought). signature_of (theories_in_force cs) l) (in_force-push cs c quiet)
+    ∙ ap (λ (l : List Brought). signature_of (theories_in_force cs) l)
+    (in_force-push name_stands_after names_level names_rule cs c quiet)
     ∙ ap (λ (es : List Entry).
     record {
       theories = theories_in_force cs;
