@@ -10,9 +10,9 @@ from collections import namedtuple
 from flaws import BEFORE_LOGICS, LETTERS, Flaws
 from inventor import ALL_OPERATORS, NAMES, OPERATOR_NAMES, Inventor, width_names
 from models import Structure
-from script import Assertion, Declaration, Definition, Force, Refused, command_of, is_define_fun
+from script import CHECKS, Assertion, Declaration, Definition, Force, Refused, command_of, is_define_fun
 from sorts import ALL_THEORIES, BITS, BOOL, INT, INTS, LOGICS, Faulty
-from terms import Checker, Context, check_assertion, check_definition
+from terms import Checker, Context, Rank, check_assertion, check_definition, check_literal
 from text import BINARY, Atom, is_symbol
 from trees import copied, depth_of, keyword, listed, lists_in, numeral, string, symbol, word, written
 from validator import IF_FITS, NEEDED, QUESTIONS, takes
@@ -39,6 +39,13 @@ AIMS = (
     + aims("script", {"X1": 3, "X2": 1, "X3": 2})
     + aims("answers", {"X1": 3, "X2": 1, "X3": 2})
     + aims("pairing", {"P1": 1, "P2": 3, "P3": 1})
+    + aims(
+        "assuming",
+        {
+            "form": 4, "fault": 6, "false": 9, "open": 6, "several": 3, "next": 2, "levels": 2, "model": 2, "answer": 2, "pairing": 3,
+            "exit": 1, "long": 3,
+        },
+    )
     + aims("outcome", {"lacks": 1, "refuted": 1, "open": 2, "no model": 1, "several": 1, "outside": 1, "long": 2})
     + [(None, None, 0, 1)] * 40
 )
@@ -78,6 +85,8 @@ class Story:
         self.helpers = {}
         self.window = False
         self.over = False
+        # What the last check assumed, as nodes.
+        self.assumed = []
         self.costs = []
         self.fresh = 0
 
@@ -105,16 +114,17 @@ class Story:
         if taken and (is_symbol(answer, "unsupported") or self.is_error(answer)):
             return False
         try:
-            self.force.take(number, command)
+            assumed = self.force.take(number, command)
         except Refused:
-            if taken and self.rng.random() < 0.6:
+            if taken and self.rng.random() < (0.2 if self.aim == "assuming" else 0.6):
                 self.answers[-1] = self.error()
                 return False
             self.over = True
             return False
         self.settle_items()
-        if command.word == "check-sat":
+        if command.word in CHECKS:
             self.window = is_symbol(answer, "sat")
+            self.assumed = assumed
         elif command.word not in ("get-model", "echo", "set-option", "set-info", "exit") and command.word not in QUESTIONS:
             self.window = False
         elif command.word == "exit":
@@ -138,7 +148,7 @@ class Story:
         """What the solver answers."""
         rng = self.rng
         name = command.word
-        if name == "check-sat":
+        if name in CHECKS:
             found = rng.choices(("sat", "unsat", "unknown", "none"), (16, 2, 1, 1))[0]
             return self.no_effect() if found == "none" else symbol(found)
         if name == "get-model":
@@ -425,13 +435,63 @@ class Story:
     def check(self):
         """A check, with models behind it, mostly."""
         rng = self.rng
-        self.do(listed("check-sat"))
+        tree = self.check_tree()
+        if not self.over:
+            self.do(tree)
         if rng.random() < 0.85:
             for _ in range(rng.choice((1, 1, 1, 1, 2, 3))):
                 if rng.random() < 0.1 and not self.over:
                     self.between()
                 if not self.over:
                     self.do(listed("get-model"))
+
+    def check_tree(self):
+        """A check, with assumptions now and then."""
+        rng = self.rng
+        if rng.random() < 0.6:
+            return listed("check-sat")
+        if not self.formulas() and rng.random() < 0.6:
+            self.new_formula(rng.choice(("declared", "defined", "label", "open")))
+        return self.check_of(self.literals())
+
+    @staticmethod
+    def check_of(literals):
+        """A check that assumes these literals."""
+        return listed("check-sat-assuming", literals)
+
+    def formulas(self):
+        """The constants in force that are formulas."""
+        return [name for name, rank in self.force.ranks.items() if rank == Rank((), BOOL)]
+
+    def value_of(self, literal):
+        """The value of a literal in the secret model."""
+        return self.structure().value(check_literal(self.force.context(), literal), {})
+
+    def literal(self, wanted=True):
+        """A literal that has this value in the secret model, mostly."""
+        rng = self.rng
+        names = self.formulas()
+        if not names or rng.random() < 0.12:
+            names = ["true", "false"]
+        tree = symbol(rng.choice(names))
+        if self.value_of(tree) is OPEN and rng.random() < 0.6:
+            tree = symbol("true")
+        value = self.value_of(tree)
+        if value not in (OPEN, wanted) or value is OPEN and rng.random() < 0.5:
+            return listed("not", tree)
+        return tree
+
+    def literals(self):
+        """What a check assumes, mostly what is true in the secret model."""
+        rng = self.rng
+        found = [self.literal(not self.chance(0.06)) for _ in range(rng.choice((0, 1, 1, 1, 2, 2, 3, 5)))]
+        if rng.random() < 0.7:
+            found = [tree for place, tree in enumerate(found) if tree not in found[:place]]
+        if found and rng.random() < 0.15:
+            found.append(copied(rng.choice(found)))
+        if self.chance(0.03):
+            found.insert(rng.randint(0, len(found)), self.flaws(self.inventor()).literal(rng.choice(("F3", "F4"))))
+        return found
 
     def between(self):
         """A command that ends no window."""
@@ -557,7 +617,8 @@ class Story:
         items = [copied(item[0]) for item in self.known_items().values()]
         structure = self.structure()
         try:
-            self.costs.append(sum(structure.cost(thing.node) for thing in self.force.of_kind(Assertion)))
+            nodes = [thing.node for thing in self.force.of_kind(Assertion)]
+            self.costs.append(sum(map(structure.cost, nodes + self.assumed)))
         except KeyError:
             pass
         if flaws is None:
@@ -677,6 +738,8 @@ class Story:
         if not self.with_steps or rng.random() > (0.8 if self.what == "long" else 0.25):
             return None
         cost = rng.choice(self.costs) if self.costs else rng.choice((0, 3, 10))
+        if self.aim == "assuming" and self.what == "long" and self.costs:
+            return min(max(0, self.costs[-1] - rng.choice((0, 0, 0, 1, 1, 2))), MOST_STEPS)
         choices = [cost, cost - 1, cost, cost - 1, cost + 1, cost // 2, 0, 1]
         if self.what == "long":
             choices = [cost - 1, cost - 1, cost // 2]
@@ -684,10 +747,10 @@ class Story:
             choices += [MOST_STEPS, 2**63, 2**32]
         return max(0, min(rng.choice(choices), MOST_STEPS if cost < 100000 else 200000))
 
-    def right_check(self, flaws=()):
+    def right_check(self, flaws=(), tree=None):
         """A check that is answered `sat`, with a model that has these flaws alone."""
         if not self.over:
-            self.do(listed("check-sat"), symbol("sat"))
+            self.do(tree or listed("check-sat"), symbol("sat"))
         if not self.over:
             self.do(listed("get-model"), self.model(list(flaws)))
 
@@ -724,8 +787,9 @@ class Story:
                 )
             )
         elif kind == "item":
+            tree = self.check_tree()
             if not self.over:
-                self.do(listed("check-sat"), symbol("sat"))
+                self.do(tree, symbol("sat"))
             if not self.over:
                 items = self.model([])
                 self.spoil_item(Inventor(rng, self.model_context(), self.widths), items, what, self.turn)
@@ -747,6 +811,8 @@ class Story:
             self.faulty(what, self.turn)
         elif kind == "outcome":
             self.aim_at_outcome(what)
+        elif kind == "assuming":
+            self.aim_at_assuming(what, flaws)
 
     def aim_at_contest(self, inventor, flaws):
         """Faults of which one comes first."""
@@ -801,7 +867,8 @@ class Story:
                 self.right_check()
         elif what == "no model":
             self.do(listed("check-sat"), symbol("sat"))
-            self.do(rng.choice((listed("push", 0), listed("assert", "true"), listed("check-sat"), listed("get-info", keyword(":a")))))
+            ends = listed("push", 0), listed("assert", "true"), listed("check-sat"), self.check_of([]), listed("get-info", keyword(":a"))
+            self.do(rng.choice(ends))
         elif what == "several":
             self.right_check()
             for _ in range(rng.choice((1, 2))):
@@ -816,6 +883,127 @@ class Story:
             else:
                 self.assertion()
             self.right_check()
+
+    def new_formula(self, kind):
+        """A new constant that is a formula: declared, defined, a label, or defined as what is open. Its name, or None."""
+        self.fresh += 1
+        name = "b%d" % self.fresh
+        opened = listed("=", listed("div", 1, 0), 1) if INTS in self.force.theories else listed("and", "true", "false")
+        if self.over or self.force.context().is_taken(name):
+            return None
+        if kind == "declared":
+            self.do(listed("declare-const", name, "Bool"))
+        elif kind == "label":
+            self.assert_tree(listed("!", self.inventor().term(BOOL, 3, {}), keyword(":named"), name), self.rng.random() < 0.3)
+        else:
+            self.do(listed("define-fun", name, [], "Bool", opened if kind == "open" else self.inventor().term(BOOL, 3, {})))
+        return name if name in self.force.ranks else None
+
+    def flipped(self, name):
+        """The secret model with the other value for a declared formula."""
+        items = self.model([])
+        for item in items:
+            if is_right_form(item) and item[1].text == name:
+                item[4] = listed("not", item[4])
+        return items
+
+    def aim_at_assuming(self, what, flaws):
+        """A check with assumptions."""
+        rng = self.rng
+        kinds = ("declared", "declared", "defined", "label")
+        name = self.new_formula("open" if what == "open" else "declared" if what in ("several", "next", "model") else rng.choice(kinds))
+        if name is None:
+            return
+        right = [self.literal() for _ in range(rng.choice((0, 0, 1, 1, 2, 3)))]
+        answer = symbol(rng.choice(("sat", "sat", "unsat", "unknown")))
+        if what == "form":
+            self.do(flaws.assuming(name), answer)
+        elif what == "fault":
+            for letter in rng.choice((("F3",), ("F4",), ("F3", "F4"), ("F4", "F3"))):
+                right.insert(rng.randint(0, len(right)), flaws.literal(letter))
+            self.do(self.check_of(right), self.no_effect() if rng.random() < 0.15 else answer)
+        elif what in ("false", "open"):
+            wrong = [listed("not", name) if rng.random() < 0.3 else symbol(name)] if what == "open" else []
+            wrong += [self.literal(False) for _ in range(rng.choice((0, 0, 1) if what == "open" else (1, 1, 2)))]
+            if rng.random() < 0.5 and what == "false":
+                wrong.append(symbol(self.new_formula("open") or "true"))
+            for literal in wrong:
+                right.insert(rng.randint(0, len(right)), literal)
+            if not self.over and rng.random() < 0.6:
+                self.assert_contested(name)
+            self.right_check([], self.check_of(right))
+        elif what == "levels":
+            self.assume_on_levels()
+        elif what == "answer":
+            self.do(self.check_of(right + [self.literal(rng.random() < 0.5)]), rng.choice((answer, self.no_effect(), self.no_effect())))
+            if not self.over:
+                self.do(listed(rng.choice(("get-unsat-assumptions", "get-model", "get-unsat-core"))))
+        elif what == "exit":
+            self.do(listed("exit"))
+            self.do(self.check_of(right))
+        elif what == "pairing":
+            wrong = rng.choice((symbol("success"), symbol("timeout"), [], listed("error"), None, None))
+            self.do(self.check_of(right), wrong or symbol("sat"))
+            if wrong is None:
+                self.answers.pop()
+            self.over = True
+        elif what == "long":
+            self.do(self.check_of(right + [self.literal() for _ in range(2)]), symbol("sat"))
+            if not self.over:
+                self.do(listed("get-model"), self.model([]))
+        else:
+            self.assume_in_models(what, name, right)
+
+    def assert_contested(self, name):
+        """An assertion that is open or false, so that it competes with assumptions."""
+        choice = self.rng.random()
+        if choice < 0.2:
+            self.assert_tree(listed("not", symbol(name)), True)
+        elif choice < 0.5:
+            self.assert_tree(symbol("false"), True)
+        elif INTS in self.force.theories:
+            self.assert_tree(listed("=", listed("mod", 1, 0), 1), True)
+
+    def assume_on_levels(self):
+        """A formula of a level, which is assumed there and when the level is gone."""
+        rng = self.rng
+        if not self.over:
+            self.do(listed("push", 1))
+        name = self.new_formula(rng.choice(("declared", "defined", "label")))
+        if name is None:
+            return
+        self.right_check([], self.check_of([self.literal(), symbol(name)]))
+        if not self.over:
+            self.do(rng.choice((listed("pop", 1), listed("pop", 1), listed("reset-assertions"), listed("reset"), listed("push", 1))))
+        if not self.over:
+            self.right_check([], self.check_of([symbol(name)] if rng.random() < 0.7 else [self.literal()]))
+
+    def assume_in_models(self, what, name, right):
+        """Models in which an assumption is false: a second one, one for the next check, or one with another flaw besides."""
+        rng = self.rng
+        assumed = symbol(name) if self.value_of(symbol(name)) is True else listed("not", name)
+        right.insert(rng.randint(0, len(right)), assumed)
+        if what == "several":
+            self.right_check([], self.check_of(right))
+            for flip in rng.choice(((False, True), (True,), (True, False), (False,))):
+                if not self.over:
+                    self.do(listed("get-model"), self.flipped(name) if flip else self.model([]))
+        elif what == "next":
+            self.right_check([], self.check_of(right))
+            other = copied(assumed[1]) if type(assumed) is list else listed("not", assumed)
+            tree = rng.choice((listed("check-sat"), self.check_of([other]), self.check_of([assumed]), self.check_of([])))
+            if not self.over:
+                self.do(tree, symbol("sat"))
+            if not self.over:
+                self.do(listed("get-model"), self.flipped(name))
+        else:
+            if not self.over:
+                self.do(self.check_of(right), symbol("sat"))
+            items = self.flipped(name)
+            if rng.random() < 0.7:
+                self.spoil_model(items, rng.choice(("missing", "contest", rng.choice(LETTERS))))
+            if not self.over:
+                self.do(listed("get-model"), items)
 
     # What happens to the answers and the texts
 

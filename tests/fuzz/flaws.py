@@ -3,7 +3,7 @@
 Templates are texts. In them SOME and OTHER stand for right terms of some sorts, VECTOR for a bit vector, TAKEN for a name in force, and BAD
 for a term with any fault.
 """
-from sorts import BITS
+from sorts import BITS, BOOL
 from text import read
 from trees import copied, keyword, listed, symbol
 
@@ -130,15 +130,35 @@ COMMANDS = by_letter(
             (get-unsat-assumptions x) (define-sort s x Int) (define-sort let (x) Int) (define-sort 1 (x) Int) (define-sort "s" (x y) Int) (define-sort s () Int Int) (define-sort s (x))
             (define-sort s ()) (define-sort (s) () Int) (define-sort let () Int) (eval 1) (define-const x Int 1) (sat) (|check-sat|)
             (|declare-sort| U 0) (|define-fun-rec|) (par) (_ push 1) (let) (assert . true) (check-sat-using x) (simplify 1)
+            (check-sat-assuming) (check-sat-assuming true) (|check-sat-assuming| ()) (check-sat-assuming (not true))
         """,
         "C2": """
-            (check-sat-assuming (p)) (check-sat-assuming) (declare-sort U 0) (declare-sort) (declare-datatypes) (declare-datatype x)
+            (declare-sort U 0) (declare-sort) (declare-datatypes) (declare-datatype x)
             (define-fun-rec) (define-fun-rec f () Int 1) (define-funs-rec ()) (define-sort s (x) ()) (define-sort Int (()) let)
             (define-sort s (x y) Int) (define-sort s (1) "a") (set-option :global-declarations true)
             (set-option :global-declarations |true|)
         """,
     }
 )
+
+# Checks that are out of form; NAME stands for a name in force that is a formula.
+ASSUMING = templates(
+    """
+    (check-sat-assuming) (check-sat-assuming NAME) (check-sat-assuming (NAME) (NAME)) (check-sat-assuming (not NAME) NAME)
+    (check-sat-assuming ((not (not NAME)))) (check-sat-assuming ((and NAME NAME))) (check-sat-assuming ((not)))
+    (check-sat-assuming ((not NAME NAME))) (check-sat-assuming ((NAME))) (check-sat-assuming (())) (check-sat-assuming (1))
+    (check-sat-assuming (NAME "a")) (check-sat-assuming (:a)) (check-sat-assuming (NAME let)) (check-sat-assuming ((not let)))
+    (check-sat-assuming ((! NAME :named l))) (check-sat-assuming (NAME ((not) NAME))) (check-sat-assuming (#b1))
+    (check-sat-assuming ((not (NAME)))) (check-sat-assuming NAME NAME) (check-sat-assuming () ()) (check-sat-assuming ((= NAME true)))
+    (check-sat-assuming (unknown (not 1))) (check-sat-assuming ((=> NAME false))) (check-sat-assuming (NAME (|Not| NAME)))
+    (check-sat-assuming "NAME") (check-sat-assuming :a) (check-sat-assuming let) (check-sat-assuming ((let ((x NAME)) x)))
+    (check-sat-assuming (((not NAME)))) (check-sat-assuming ((not . NAME))) (check-sat-assuming ((not true) (not not true)))
+    (check-sat-assuming ((and NAME))) (check-sat-assuming ((xor NAME))) (check-sat-assuming (assert)) (check-sat-assuming ((_ not NAME)))
+    """
+)
+# Names that are no formulas in any theory; and names of none.
+NO_FORMULAS = templates("and not = distinct ite =>")
+UNKNOWN_NAMES = templates("unknown || |let| extract divisible p! |a  b| bv1 repeat |not | |True|")
 
 UNKNOWN_LOGICS = ("QF_LRA", "QF_ABV", "all", "", "QF_AUFLIA", "LIA", "QF_S", "HORN", "QF_UFLRA", "UF", "NIA", "let")
 
@@ -150,7 +170,9 @@ BEFORE_LOGICS = [
         ("(define-sort s9 () Bool)", ""), ("(assert true)", ""), ("(push 0)", ""), ("(push 1)", ""), ("(pop 0)", ""),
         ("(reset-assertions)", ""),
         ("(check-sat)", "sat"), ("(check-sat)", "unsat"), ("(check-sat)", "unknown"), ("(check-sat)", "unsupported"),
-        ("(check-sat)", '(error "")'), ("(get-model)", "()"), ("(set-option :a)", ""), ("(set-option :print-success true)", "success"),
+        ("(check-sat)", '(error "")'), ("(check-sat-assuming ())", "unsat"), ("(check-sat-assuming (true))", "sat"),
+        ("(check-sat-assuming (unknown))", '(error "")'), ("(check-sat-assuming (and))", "unsupported"), ("(get-model)", "()"),
+        ("(set-option :a)", ""), ("(set-option :print-success true)", "success"),
         ("(set-info :a)", ""), ('(echo "")', '""'), ("(get-value (x))", "x"), ("(get-info :a)", '(error "")'), ("(reset)", ""),
     )
 ]
@@ -224,6 +246,19 @@ class Flaws:
     def contest(self, scope):
         """A term with faults of which one comes first."""
         return self.filled(self.pick(CONTESTS), scope)
+
+    def literal(self, letter):
+        """A literal of a check with F3 or F4."""
+        names = UNKNOWN_NAMES
+        if letter == "F4":
+            ranks = self.inventor.context.ranks.items()
+            names = NO_FORMULAS[:3] + [symbol(name) for name, rank in ranks if rank.parameters or rank.result != BOOL] * 3
+        tree = self.pick(names)
+        return listed("not", tree) if self.rng.random() < 0.5 else tree
+
+    def assuming(self, name):
+        """A check that is out of form."""
+        return self.named(self.pick(ASSUMING), {"NAME": symbol(name)})
 
     def command(self, letter, force):
         """A command with this fault, where these things are in force."""

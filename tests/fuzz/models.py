@@ -1,4 +1,4 @@
-"""Printed models: their items, their cost, and what they make of the assertions in force."""
+"""Printed models: their items, their cost, and what they make of the assertions in force and of the assumptions of their check."""
 from script import Assertion, Declaration, Definition, is_define_fun
 from sorts import Faulty
 from terms import Apply, Context, Let, Literal, Note, Use, Variable, check_definition
@@ -103,8 +103,11 @@ def bodies_of(tree, force):
 CONFIRMED = "confirmed"
 
 
-def judged(tree, force, steps, reached=None):
-    """What a model makes of the assertions in force: CONFIRMED, or the words that stand behind the model in the report."""
+def judged(tree, force, assumed, steps, reached=None):
+    """What a model makes of the assertions in force and of the nodes that are assumed.
+
+    It is CONFIRMED, or the words that stand behind the model in the report.
+    """
     try:
         bodies = bodies_of(tree, force)
     except ItemFault as fault:
@@ -116,13 +119,47 @@ def judged(tree, force, steps, reached=None):
         bodies[thing.name] = thing.body
     structure = Structure(bodies, reached)
     assertions = force.of_kind(Assertion)
-    if steps is not None and sum(structure.cost(assertion.node) for assertion in assertions) > steps:
+    costs = [structure.cost(assertion.node) for assertion in assertions], [structure.cost(node) for node in assumed]
+    if reached is not None and assumed and steps is not None:
+        count_costs(reached, *map(sum, costs), steps)
+    if steps is not None and sum(map(sum, costs)) > steps:
         return "too long"
-    opened = None
-    for assertion in assertions:
-        value = structure.value(assertion.node, {})
-        if value is False:
-            return "refuted by the assertion of command %d" % assertion.command
-        if value is OPEN and opened is None:
-            opened = assertion.command
-    return CONFIRMED if opened is None else "assertion of command %d not decided" % opened
+    asserted = [structure.value(assertion.node, {}) for assertion in assertions]
+    found = [structure.value(node, {}) for node in assumed]
+    if reached is not None:
+        count_values(reached, asserted, found)
+    if False in asserted:
+        return "refuted by the assertion of command %d" % assertions[asserted.index(False)].command
+    if False in found:
+        return "refuted by assumption %d" % (found.index(False) + 1)
+    if OPEN in asserted:
+        return "assertion of command %d not decided" % assertions[asserted.index(OPEN)].command
+    if OPEN in found:
+        return "assumption %d not decided" % (found.index(OPEN) + 1)
+    return CONFIRMED
+
+
+def count_costs(reached, asserted, assumed, steps):
+    """Counts how the costs of assertions and assumptions are to the limit."""
+    if asserted <= steps < asserted + assumed:
+        reached["assuming: too long by its literals"] += 1
+    if asserted + assumed == steps:
+        reached["assuming: as long as the limit"] += 1
+
+
+def count_values(reached, asserted, assumed):
+    """Counts which values of assertions and assumptions compete for the line of a model, by those that come first."""
+    if not assumed:
+        return
+    first = {value: assumed.index(value) for value in (False, OPEN) if value in assumed}
+    if assumed.count(True) == len(assumed):
+        reached["assuming: all true" + (", an assertion false" if False in asserted else "")] += 1
+    for value, words in ((False, "false"), (OPEN, "open")):
+        if value in first and False in asserted:
+            reached["assuming: %s, an assertion false" % words] += 1
+        elif value in first and OPEN in asserted:
+            reached["assuming: %s, an assertion open" % words] += 1
+        elif first.get(value) and assumed[0] is True:
+            reached["assuming: %s behind one that is true" % words] += 1
+    if len(first) == 2:
+        reached["assuming: false %s one that is open" % ("before" if first[False] < first[OPEN] else "behind")] += 1

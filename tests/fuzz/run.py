@@ -42,6 +42,7 @@ LETTERS = ["F%d" % number for number in range(1, 9)]
 LINES = (
     ["check " + answer for answer in ("unsat", "unknown", "unsupported", "error", "sat, confirmed", "sat, no model")]
     + ["model: " + end for end in ["item " + letter for letter in LETTERS] + ["lacks", "refuted", "not decided"]]
+    + ["model: refuted by assumption", "model: assumption not decided"]
     + ["fault %s in the %s" % (letter, where) for letter in ("X1", "X2", "X3") for where in ("script", "answers")]
     + ["fault C%d" % number for number in range(1, 7)]
     + ["fault C7 " + letter for letter in LETTERS]
@@ -55,13 +56,28 @@ OTHERS = [
     "a folder: status 4",
     "command line: status 5",
 ]
+# What checks with assumptions have to reach.
+ASSUMING = [
+    "assuming: " + what
+    for what in ["answered " + answer for answer in ("sat", "unsat", "unknown", "unsupported", "error")]
+    + ["fault " + fault for fault in ("C1", "C6", "C7 F3", "C7 F4", "P1", "P2")]
+    + ["nothing", "a negation", "true or false", "a declared name", "a definition", "a label", "a literal twice"]
+    + ["a literal and its negation", "no name in force, no effect"]
+    + ["all true", "all true, an assertion false", "false, an assertion false", "open, an assertion false"]
+    + ["false, an assertion open", "open, an assertion open", "false behind one that is true", "open behind one that is true"]
+    + ["false before one that is open", "false behind one that is open"]
+    + ["several models, confirmed", "several models, one not confirmed"]
+]
+OTHERS += ASSUMING
 REQUIRED = LINES + OTHERS + ["operator " + name for name in ALL_OPERATORS]
-WITH_STEPS = ["model: too long", "limit on steps"]
+WITH_STEPS = ["model: too long", "limit on steps", "assuming: too long by its literals", "assuming: as long as the limit"]
 
 ENDS = (
     ("model: item ", re.compile(r"item \d+ (F\d)$")),
     ("model: lacks", re.compile(r"lacks the symbol of command \d+$")),
     ("model: refuted", re.compile(r"refuted by the assertion of command \d+$")),
+    ("model: refuted by assumption", re.compile(r"refuted by assumption \d+$")),
+    ("model: assumption not decided", re.compile(r"assumption \d+ not decided$")),
     ("model: not decided", re.compile(r"assertion of command \d+ not decided$")),
     ("model: too long", re.compile(r"too long$")),
 )

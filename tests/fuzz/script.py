@@ -2,7 +2,7 @@
 from collections import namedtuple
 
 from sorts import ALL_THEORIES, BOOL, INT, LOGICS, Faulty
-from terms import Body, Context, Rank, check_assertion, check_definition, is_binding
+from terms import Body, Context, Rank, check_assertion, check_definition, check_literal, is_binding
 from text import KEYWORD, NUMERAL, RESERVED, STRING, is_kind, is_symbol
 
 MOST_LEVELS = 10000
@@ -54,6 +54,11 @@ def is_number(parts):
     return len(parts) == 1 and is_kind(parts[0], NUMERAL)
 
 
+def is_literal(tree):
+    """A symbol, or its negation."""
+    return is_symbol(tree) or type(tree) is list and len(tree) == 2 and is_symbol(tree[0], "not") and is_symbol(tree[1])
+
+
 def is_nothing(parts):
     """No tree."""
     return not parts
@@ -66,6 +71,7 @@ FORMS = {
     "define-fun": is_define_fun,
     "define-sort": lambda p: len(p) == 3 and is_symbol(p[0]) and p[1] == [],
     "assert": lambda p: len(p) == 1,
+    "check-sat-assuming": lambda p: len(p) == 1 and type(p[0]) is list and all(map(is_literal, p[0])),
     "push": is_number,
     "pop": is_number,
     "set-option": is_set_option,
@@ -80,7 +86,7 @@ for word in (
 ).split():
     FORMS[word] = is_nothing
 
-UNSUPPORTED = frozenset("check-sat-assuming declare-datatype declare-datatypes declare-sort define-fun-rec define-funs-rec".split())
+UNSUPPORTED = frozenset("declare-datatype declare-datatypes declare-sort define-fun-rec define-funs-rec".split())
 
 
 def command_of(tree):
@@ -105,10 +111,9 @@ Definition = namedtuple("Definition", "command level name rank body")
 Abbreviation = namedtuple("Abbreviation", "command level name sort")
 Assertion = namedtuple("Assertion", "command level node")
 
-# Commands behind which no logic is set, and commands that end the window of a check.
-SETTLING = frozenset(
-    "set-logic declare-const declare-fun define-fun define-sort assert push pop reset-assertions check-sat".split()
-)
+# Checks, commands behind which no logic is set, and commands that end the window of a check.
+CHECKS = frozenset(["check-sat", "check-sat-assuming"])
+SETTLING = CHECKS.union("set-logic declare-const declare-fun define-fun define-sort assert push pop reset-assertions".split())
 CHANGING = frozenset("assert declare-const declare-fun define-fun define-sort push pop reset reset-assertions".split())
 
 
@@ -160,8 +165,9 @@ class Force:
         return Context(self.theories, self.abbreviations, self.ranks)
 
     def take(self, number, command):
-        """A command that took effect; its fault where it has one."""
+        """A command that took effect: the literals that it assumes, as nodes, and its fault where it has one."""
         word, parts = command
+        assumed = []
         if word == "set-logic":
             if self.settled or parts[0].text not in LOGICS:
                 raise Refused("C5")
@@ -184,12 +190,16 @@ class Force:
             self.clear()
         elif word == "set-option" and parts[0].text == ":print-success":
             self.print_success = is_option(parts[1], "true")
-        elif word in ("declare-const", "declare-fun", "define-fun", "define-sort", "assert"):
+        elif word in ("declare-const", "declare-fun", "define-fun", "define-sort", "assert", "check-sat-assuming"):
             try:
-                self.take_term(number, word, parts)
+                if word == "check-sat-assuming":
+                    assumed = [check_literal(self.context(), tree) for tree in parts[0]]
+                else:
+                    self.take_term(number, word, parts)
             except Faulty as fault:
                 raise Refused("C7", fault.letter)
         self.settled = self.settled or word in SETTLING
+        return assumed
 
     def take_term(self, number, word, parts):
         """A declaration, a definition, an abbreviation or an assertion."""

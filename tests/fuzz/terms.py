@@ -215,6 +215,14 @@ def check_assertion(context, tree):
     return node, checker.labels
 
 
+def check_literal(context, tree):
+    """The node of a literal of a check, which has no labels."""
+    sort, node = Checker(context).check(tree, {})
+    if sort != BOOL:
+        raise Faulty("F4")
+    return node
+
+
 def check_parameters(context, checker, trees):
     """The scope of the parameters `(s o)` of a definition, their numbers and their sorts."""
     scope, numbers, sorts = {}, [], []

@@ -7,8 +7,8 @@ import sys
 import threading
 
 from models import CONFIRMED, judged
-from script import CHANGING, Force, Refused, command_of, is_option
-from text import STRING, is_kind, is_symbol, read
+from script import CHANGING, CHECKS, Declaration, Force, Refused, command_of, is_option
+from text import STRING, begins_with, is_kind, is_symbol, read
 
 STEPS = 10000000
 STATUS = {"valid": 0, "invalid": 1, "not decided": 2, "refused": 3}
@@ -76,7 +76,7 @@ NEEDED, IF_FITS, NONE = "a needed answer", "the next answer if it fits", "no ans
 def takes(command, print_success):
     """What answer a command takes: one of the three above, and which trees fit."""
     word, parts = command
-    if word == "check-sat":
+    if word in CHECKS:
         return NEEDED, lambda answer: is_one_of(answer, "sat", "unsat", "unknown") or is_no_effect(answer)
     if word == "get-model":
         return NEEDED, lambda answer: type(answer) is list or is_one_of(answer, "unsupported")
@@ -96,10 +96,11 @@ def takes(command, print_success):
 
 
 class Window:
-    """The window of a check that was answered `sat`."""
+    """The window of a check that was answered `sat`, and the nodes that this check assumes."""
 
-    def __init__(self, begin):
+    def __init__(self, begin, assumed):
         self.begin = begin
+        self.assumed = assumed
         self.models = 0
 
 
@@ -137,6 +138,8 @@ class Dialogue:
                 self.tell(self.window.begin + "sat, no model", "undecided")
             if self.window.models > 1:
                 self.count("window of several models, confirmed")
+                if self.window.assumed:
+                    self.count("assuming: several models, confirmed")
         self.window = None
 
     def run(self):
@@ -152,6 +155,9 @@ class Dialogue:
         except Fault as fault:
             self.close_window()
             self.lines.append(str(fault))
+            kind, command, _ = str(fault).partition(" at command ")
+            if command and begins_with(self.script.reading.trees[self.script.taken - 1], "check-sat-assuming"):
+                self.count("assuming: " + kind)
             verdict = "refused"
         counts = ", ".join("%s %d" % item for item in self.counts.items())
         self.lines.append("verdict: %s, %s" % (verdict, counts))
@@ -175,18 +181,18 @@ class Dialogue:
         if self.exited:
             raise Refused("C6")
         command = command_of(tree)
-        if command.word == "check-sat":
+        if command.word in CHECKS:
             self.close_window()
         answer = self.answer_of(number, command)
         if answer is not None and is_no_effect(answer):
-            if command.word == "check-sat":
-                self.take_check(number, "error" if type(answer) is list else answer.text)
+            if command.word in CHECKS:
+                self.take_check(number, command, "error" if type(answer) is list else answer.text, [])
             return
         if command.word in CHANGING:
             self.close_window()
-        self.force.take(number, command)
-        if command.word == "check-sat":
-            self.take_check(number, answer.text)
+        assumed = self.force.take(number, command)
+        if command.word in CHECKS:
+            self.take_check(number, command, answer.text, assumed)
         elif command.word == "get-model":
             self.take_model(number, answer)
         elif command.word == "exit":
@@ -209,25 +215,52 @@ class Dialogue:
             raise self.answers.fault("answers")
         raise Fault("fault P1 at command %d" % number)
 
-    def take_check(self, number, answer):
-        """A check and its answer."""
+    def take_check(self, number, command, answer, assumed):
+        """A check, its answer, and the nodes that it assumes."""
         self.checks += 1
         begin = "check %d at command %d: " % (self.checks, number)
+        if command.word == "check-sat-assuming" and self.reached is not None:
+            self.count("assuming: answered " + answer)
+            self.count_literals(command.parts[0])
         if answer == "sat":
-            self.window = Window(begin)
+            self.window = Window(begin, assumed)
         else:
             self.tell(begin + answer, "unchecked")
+
+    def count_literals(self, literals):
+        """Counts which kinds of literals a check has."""
+        names = [(literal[1] if type(literal) is list else literal).text for literal in literals]
+        kinds = {thing.name: thing for thing in self.force.brought if hasattr(thing, "rank")}
+        for literal, name in zip(literals, names):
+            thing = kinds.get(name)
+            if thing is None:
+                self.count("assuming: true or false" if name in ("true", "false") else "assuming: no name in force, no effect")
+            elif type(thing) is Declaration:
+                self.count("assuming: a declared name")
+            else:
+                labelled = begins_with(self.script.reading.trees[thing.command - 1], "assert")
+                self.count("assuming: a label" if labelled else "assuming: a definition")
+            if type(literal) is list:
+                self.count("assuming: a negation")
+        if not literals:
+            self.count("assuming: nothing")
+        if len(set(map(str, literals))) < len(literals):
+            self.count("assuming: a literal twice")
+        if len(set(names)) < len(set(map(str, literals))):
+            self.count("assuming: a literal and its negation")
 
     def take_model(self, number, model):
         """A model, which is looked at if it is in a window."""
         if self.window is None:
             self.count("model outside windows")
             return
-        outcome = judged(model, self.force, self.steps, self.reached)
+        outcome = judged(model, self.force, self.window.assumed, self.steps, self.reached)
         self.window.models += 1
         if outcome != CONFIRMED:
             if self.window.models > 1:
                 self.count("window of several models, one not confirmed")
+                if "assumption" in outcome:
+                    self.count("assuming: several models, one not confirmed")
             kind = "refuted" if outcome.startswith("refuted") else "undecided"
             self.tell("%ssat, model of command %d: %s" % (self.window.begin, number, outcome), kind)
             self.window = None
