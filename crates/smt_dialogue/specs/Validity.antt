@@ -104,8 +104,8 @@ pub record IsValid (options : Options) (script answers : List ℕ) : Type 0 wher
 
 -- what an invalid verdict means: in the window of a check that was answered `sat` stands a model of the names
 -- in force, which with the script's definitions gives a structure that makes a claim of the check, a
--- well-sorted assertion in force or assumption, false, whatever division by zero gives, and the report has the line that
--- says so
+-- well-sorted assertion in force or assumption, false, whatever division by zero gives, and the report has the
+-- line that says so
 pub record IsInvalid (options : Options) (script answers : List ℕ) (ls : List Line) : Type 0 where
   pub pairs : List Pair
   pub paired : IsFullyPaired options script answers pairs

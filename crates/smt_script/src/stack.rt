@@ -186,7 +186,8 @@ impl Stack {
     ///
     /// The others have none. `Pop` removes what came at the levels that it removes, and takes time for that
     /// alone; `ResetAssertions` removes all but the logic and the options. While declarations are global both
-    /// remove assertions and levels, and no name. The stack keeps no tree of the command: the nodes of its terms stand in the library.
+    /// remove assertions and levels, and no name. The stack keeps no tree of the command: the nodes of its terms
+    /// stand in the library.
     pub fn apply(&mut self, number: u64, command: &Command) -> Result<(), CommandFault>
         requires { last_of self.old < number }
         ensures faultless { OnOk result

@@ -19,7 +19,8 @@ abbrev pub claims_after : List Pair → List Claimed
 claims_after pairs = all_claims (assertions_after pairs) (assumptions_after pairs)
 
 abbrev pub of_assertions : List Assertion → List ReadClaim
-of_assertions assertions = map (λ (a : Assertion). record { claim = claiming.Assertion a.command; term = a.term }) assertions
+of_assertions assertions =
+    map (λ (a : Assertion). record { claim = claiming.Assertion a.command; term = a.term }) assertions
 
 abbrev pub of_assumptions : ℕ → List ℕ → List ReadClaim
 of_assumptions place [] = []
