@@ -134,10 +134,10 @@ le_true m n h = grind (arith)
 both : (a b : Bool) → a ≡ false → b ≡ true → not a && b ≡ true
 both a b h k = rw (h, k) refl
 
-assertion_stands_after : Brought → Brought → Bool
+abbrev assertion_stands_after : Brought → Brought → Bool
 assertion_stands_after a b = stands_after a.level b
 
-level_of : Brought → ℕ
+abbrev level_of : Brought → ℕ
 level_of b = b.level
 
 kept_at : (level : ℕ) (b : Brought) → resets b.removes ≡ false → level ≤ b.level → stands_after level b ≡ true
@@ -211,7 +211,7 @@ absorbs : (t s : Bool) → (t ≡ true → s ≡ true) → t && s ≡ t
 absorbs true s f = f refl
 absorbs false s f = refl
 
-standing : (Brought → Brought → Bool) → Brought → List Brought → Bool
+abbrev standing : (Brought → Brought → Bool) → Brought → List Brought → Bool
 standing after b later = list_all (after b) later
 
 module _ (after : Brought → Brought → Bool) (level : Brought → ℕ) (rule : IsRule after level) where
