@@ -474,11 +474,13 @@ unfixed_step before brought c h = (
       let b = brought_by before brought c in
       let after = unfixed_by before brought c h
       (unfixing (is_too_late before) c.command (sym (late-push before c) ∙ is)) in
-      let P : List Brought → List Brought → Type 0 = λ xs ys. Nothing xs ys in
-      (subst (λ (xs : List Brought). P xs (assertions_in (brought ++ b ∷ [])))
-      (sym (in_force-push name_stands_after brought b))
-      (subst (P (still name_stands_after b (names_in brought) ++ b ∷ []))
-      (sym (in_force-push assertion_stands_after brought b)) after.0), depth-push before c ∙ after.1),
+      let P : List Brought → List Brought → Type 0 = λ xs ys. Nothing xs ys in (
+        subst (λ (xs : List Brought). P xs (assertions_in (brought ++ b ∷ [])))
+            (sym (in_force-push name_stands_after brought b))
+            (subst (P (still name_stands_after b (names_in brought) ++ b ∷ []))
+            (sym (in_force-push assertion_stands_after brought b)) after.0),
+        depth-push before c ∙ after.1,
+      ),
 )
 
 -- until it is too late to set a logic nothing is in force, and there are no levels
@@ -610,13 +612,17 @@ global_to_level k (b ∷ bs) h = one h.0 (global_to_level k bs h.1)
 
     with_it : (entries_of (names_to_level k bs) ≡ entries_of bs)
         × (abbreviations_of (names_to_level k bs) ≡ abbreviations_of bs) → Goal true
-    with_it r = (ap (λ (l : List Entry). b.entries ++ l) r.0,
-      ap (λ (l : List (List ℕ × Sort)). b.abbreviations ++ l) r.1)
+    with_it r = (
+      ap (λ (l : List Entry). b.entries ++ l) r.0,
+      ap (λ (l : List (List ℕ × Sort)). b.abbreviations ++ l) r.1,
+    )
 
     without : b.entries ≡ [] → b.abbreviations ≡ [] → (entries_of (names_to_level k bs) ≡ entries_of bs)
         × (abbreviations_of (names_to_level k bs) ≡ abbreviations_of bs) → Goal false
-    without e a r = (r.0 ∙ ap (λ (l : List Entry). l ++ entries_of bs) (sym e),
-      r.1 ∙ ap (λ (l : List (List ℕ × Sort)). l ++ abbreviations_of bs) (sym a))
+    without e a r = (
+      r.0 ∙ ap (λ (l : List Entry). l ++ entries_of bs) (sym e),
+      r.1 ∙ ap (λ (l : List (List ℕ × Sort)). l ++ abbreviations_of bs) (sym a),
+    )
 
     either : (u : Bool) → b.entries ≡ [] → b.abbreviations ≡ [] → (entries_of (names_to_level k bs) ≡ entries_of bs)
         × (abbreviations_of (names_to_level k bs) ≡ abbreviations_of bs) → Goal u

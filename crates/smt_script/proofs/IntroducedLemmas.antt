@@ -25,7 +25,7 @@ use Rattle.smt_faults.specs.declared.term_flaw.TermFlaw.TheVariants as terms
 use Rattle.smt_script.specs.Command.{Command, Effect, Addition, SetLogic, Pop, ResetAssertions, Declaration, Definition}
 use Rattle.smt_script.specs.Command.{Abbreviation, Assertion, SetsLogic, Brings, Assumes, Pushes, Pops, Removing}
 use Rattle.smt_script.specs.Command.{SetsGlobal, Nothing, AllButOptions, Everything, effect_of}
-use Rattle.smt_script.specs.Stack.{Brought, HaveNoFlaw, Numbered, all_or_none, brought_by, depth_by, depth_in_force}
+use Rattle.smt_script.specs.Stack.{Brought, HaveNoFlaw, Numbered, all_or_none, brought_by, depth_by}
 use Rattle.smt_script.specs.Stack.{entries_by, entries_of_effect, entries_of_addition, flaw_by, flaw_of_addition}
 use Rattle.smt_script.specs.Stack.{removed_by, removed_of_effect, resets, theories_by, entries_of, flaw_of}
 use Rattle.smt_script.specs.Stack.{flaw_of_effect, flaw_of_logic, global_in_force, history, in_force, is_everything}
