@@ -46,12 +46,11 @@ fn cost_at(kept: &[u64], from: &Place<'_>) -> u64
     ensures { (c : ℕ → ℕ) → AreKept c kept.now
         → result ≡ capped (node_cost (length kept.now) c (found_around from.now) (found from.now)) }
 {
-    let parts = match from.node() {
-        Some(node) => parts_of(kept, from, &node),
-        None => 0,
-    };
-    1u64.saturating_add(from.around() as u64)
-        .saturating_add(parts)
+    match from.annotated() {
+        Some((node, around)) => 1u64.saturating_add(around as u64)
+            .saturating_add(parts_of(kept, from, &node)),
+        None => 1,
+    }
 }
 
 // What the parts of a node cost, and the body that it names.

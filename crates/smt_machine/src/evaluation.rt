@@ -109,9 +109,11 @@ impl Machine {
     {
         let place = tables.place(number);
         *left -= 1;
-        *left -= place.around() as u64;
-        match place.node() {
-            Some(node) => self.visit_node(number, &place, &node),
+        match place.annotated() {
+            Some((node, around)) => {
+                *left -= around as u64;
+                self.visit_node(number, &place, &node)
+            }
             None => self.leave(None),
         }
     }

@@ -1,6 +1,6 @@
 //! The nodes of a model and of a script as one table, and what names lead to. This file evaluates nothing.
 
-ghost use Rattle.std.specs.Prelude.{◌≡◌, ◌+◌, option_map, slice_get};
+ghost use Rattle.std.specs.Prelude.{◌≡◌, ◌+◌, option_map, slice_get, unwrap_or};
 ghost use Rattle.smt_machine.specs.Costs.{around_at};
 ghost use Rattle.smt_machine.specs.Internal.Parts.{found, found_around, meaning, number_of, numbers_of};
 ghost use Rattle.smt_machine.specs.Tables.{arounds_of, model_count, nodes_of, shifted};
@@ -80,6 +80,15 @@ impl<'a> Place<'a> {
         ensures { option_map (meaning self.now) result ≡ found self.now }
     {
         self.nodes.get(self.number)
+    }
+
+    /// The node, with how many annotations stand round it, if one is there.
+    #[inline(always)]
+    pub(crate) fn annotated(&self) -> Option<(Node<'a>, usize)>
+        ensures node { option_map (λ p. meaning self.now p.0) result ≡ found self.now }
+        ensures around { unwrap_or (option_map (λ p. p.1) result) 0 ≡ found_around self.now }
+    {
+        self.nodes.get_annotated(self.number)
     }
 
     /// How many annotations stand round it; none where no node is.

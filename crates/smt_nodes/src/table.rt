@@ -62,6 +62,25 @@ impl Nodes {
         }
     }
 
+    /// The node of a number, and how many annotations stand round it as `around` has them; `None` from the
+    /// length on.
+    #[inline(always)]
+    pub fn get_annotated(&self, number: usize) -> Option<(Node<'_>, usize)>
+        ensures node { option_map (λ p. node_view p.0) result
+            ≡ option_map (λ row. row.node) (slice_get (rows_of self.now) number) }
+        ensures around { option_map (λ p. p.1) result
+            ≡ option_map (λ row. row.around) (slice_get (rows_of self.now) number) }
+    {
+        match self.row(number) {
+            Some(row) => {
+                let around = around(row.stored) as usize;
+                let node = self.node(row);
+                Some((node, around))
+            }
+            None => None,
+        }
+    }
+
     /// The sort of the node of a number; `None` from the length on.
     pub fn sort(&self, number: usize) -> Option<Sort>
         ensures { result ≡ option_map (λ row. row.sort) (slice_get (rows_of self.now) number) }
@@ -174,6 +193,7 @@ impl Nodes {
 }
 
 // How many annotations stand round the node of a row.
+#[inline(always)]
 fn around(stored: Stored) -> u32
     ensures { result ≡ around_of stored }
 {

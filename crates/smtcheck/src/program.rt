@@ -2,6 +2,7 @@
 //! verdict.
 
 use crate::files::run;
+use crate::room::has_room;
 use smt_dialogue::{RunFault, Verdict};
 use smtcheck_command_line::{LineFault, settings};
 use smtcheck_status::status_of;
@@ -32,6 +33,7 @@ pub(crate) fn run_program<R: Files + Env + AllocGlobal + Print + Eprint>(rt: &R)
 /// Runs the program on these words, the program's name first, and answers its exit status.
 pub(crate) fn run_words<R: Files + AllocGlobal + Print + Eprint>(rt: &R, words: &[&str]) -> u8 {
     match settings(rt.alloc(), words) {
+        Ok(_) if !has_room() => status(rt, Err(RunFault::Memory)),
         Ok(settings) => status(rt, run(rt, settings)),
         Err(LineFault::Memory) => status(rt, Err(RunFault::Memory)),
         Err(LineFault::Refused(error)) => {
