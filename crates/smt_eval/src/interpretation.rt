@@ -65,9 +65,11 @@ impl Interpretation {
     }
 
     /// Counts what each node of the model and of the library costs, by one pass over both, so that `cost` looks
-    /// it up. The library is the one that the model was read over, as it is now. Refused is want of memory alone.
+    /// it up. The library is the one that the model was read over, as it is now. Refused is want of memory alone,
+    /// and then nothing has changed.
     pub fn count(&mut self, declared: &Library) -> Result<(), Memory>
         ensures costs { OnOk result (KnowsCosts self.new declared.now) }
+        ensures unchanged { OnErr result (self.new ≡ self.old) }
         ensures same { (script definitions : Signature) → IsInterpretation self.old script definitions
             → IsInterpretation self.new script definitions }
         ensures fits { Fits self.old declared.now → Fits self.new declared.now }
