@@ -43,8 +43,12 @@ AIMS = (
         "assuming",
         {
             "form": 4, "fault": 6, "false": 9, "open": 6, "several": 3, "next": 2, "levels": 2, "model": 2, "answer": 2, "pairing": 3,
-            "exit": 1, "long": 3,
+            "exit": 2, "long": 3,
         },
+    )
+    + aims(
+        "global",
+        {"late": 6, "kept": 6, "twice": 9, "label": 3, "lacks": 2, "reset": 2, "assumed": 2, "item": 3, "back": 3, "no effect": 4},
     )
     + aims("outcome", {"lacks": 1, "refuted": 1, "open": 2, "no model": 1, "several": 1, "outside": 1, "long": 2})
     + [(None, None, 0, 1)] * 40
@@ -116,7 +120,7 @@ class Story:
         try:
             assumed = self.force.take(number, command)
         except Refused:
-            if taken and self.rng.random() < (0.2 if self.aim == "assuming" else 0.6):
+            if taken and self.rng.random() < (0.2 if self.aim in ("assuming", "global") else 0.6):
                 self.answers[-1] = self.error()
                 return False
             self.over = True
@@ -290,11 +294,15 @@ class Story:
             self.do(listed("set-info", keyword(":status"), rng.choice(("sat", "unsat"))))
         if rng.random() < 0.15:
             self.do(listed("set-option", keyword(":produce-models"), "true"))
+        if rng.random() < 0.3:
+            self.set_global(rng.random() < 0.8)
         if rng.random() < 0.5 and self.aim != "operator":
             calm = self.aim not in (None, "before logic") and rng.random() < 0.7
             self.do(listed("set-logic", "ALL" if calm else rng.choice(LOGIC_NAMES)))
         elif self.chance(0.03):
             self.do(listed("set-logic", rng.choice(("QF_LRA", "HORN", "", "all"))))
+        if rng.random() < 0.1 and not self.over:
+            self.set_global(rng.random() < 0.7)
         for _ in range(rng.choice((0, 0, 0, 1, 2))):
             self.make_helper()
 
@@ -514,10 +522,15 @@ class Story:
             value = rng.choice(("true", "false"))
             self.do(listed("set-option", keyword(":print-success"), value))
         elif choice < 0.7:
-            self.do(listed("set-option", keyword(":global-declarations"), "true" if self.chance(0.05) else "false"))
+            late = self.force.settled and not self.chance(0.1)
+            self.set_global(self.force.global_declarations if late else rng.random() < 0.6)
         else:
             value = rng.choice(([], [numeral(3)], [word("true")], [listed("a", "b")]))
             self.do(listed("set-option", keyword(rng.choice((":produce-models", ":a", ":random-seed"))), *value))
+
+    def set_global(self, value):
+        """Sets global declarations, which is a fault where that is late and changes the value."""
+        self.do(listed("set-option", keyword(":global-declarations"), "true" if value else "false"))
 
     def question(self):
         """A question that isn't looked at."""
@@ -600,7 +613,7 @@ class Story:
         elif kind in ("reset", "reset-assertions"):
             if self.rng.random() < 0.5 or self.wild > 0.3:
                 self.do(listed(kind))
-        elif kind == "logic" and not self.force.settled:
+        elif kind == "logic" and not self.force.settled and not self.force.with_logic:
             self.do(listed("set-logic", self.rng.choice(LOGIC_NAMES)))
         elif kind == "faulty" and self.chance(0.6):
             self.faulty()
@@ -813,6 +826,8 @@ class Story:
             self.aim_at_outcome(what)
         elif kind == "assuming":
             self.aim_at_assuming(what, flaws)
+        elif kind == "global":
+            self.aim_at_global(what)
 
     def aim_at_contest(self, inventor, flaws):
         """Faults of which one comes first."""
@@ -919,6 +934,10 @@ class Story:
         if what == "form":
             self.do(flaws.assuming(name), answer)
         elif what == "fault":
+            self.declare()
+            if self.over:
+                return
+            flaws = self.flaws(self.inventor())
             for letter in rng.choice((("F3",), ("F4",), ("F3", "F4"), ("F4", "F3"))):
                 right.insert(rng.randint(0, len(right)), flaws.literal(letter))
             self.do(self.check_of(right), self.no_effect() if rng.random() < 0.15 else answer)
@@ -1004,6 +1023,128 @@ class Story:
                 self.spoil_model(items, rng.choice(("missing", "contest", rng.choice(LETTERS))))
             if not self.over:
                 self.do(listed("get-model"), items)
+
+    def aim_at_global(self, what):
+        """Global declarations."""
+        rng = self.rng
+        if what == "late":
+            self.set_late()
+            return
+        if what == "back":
+            # A value that is changed more than once where that is early, behind a logic too.
+            self.do(listed("reset"))
+            for value in rng.choice(((True, False), (True, False), (True, False, True), (True, True))):
+                if not self.over:
+                    self.set_global(value)
+                if not self.over and not self.force.with_logic and rng.random() < 0.3:
+                    self.do(listed("set-logic", rng.choice(LOGIC_NAMES)))
+            if not self.over:
+                self.keep(None)
+            return
+        if not self.force.global_declarations and (what != "no effect" or rng.random() < 0.4):
+            if self.force.settled:
+                self.do(listed("reset"))
+            if not self.over:
+                self.set_global(True)
+        if what == "no effect" and not self.over:
+            # A change that is late, and took no effect.
+            self.do(listed("push", 0))
+            if not self.over:
+                command = listed("set-option", keyword(":global-declarations"), "false" if self.force.global_declarations else "true")
+                self.do(command, self.no_effect() if self.force.print_success else symbol("unsupported"))
+        if not self.over:
+            self.keep(what)
+
+    def set_late(self):
+        """A command that may make a change late, and a change behind it, or the same value."""
+        rng = self.rng
+        self.do(listed("reset"))
+        before = rng.random() < 0.5
+        if rng.random() < 0.6 and not self.over:
+            self.set_global(before)
+        command, answer = BEFORE_LOGICS[self.turn % len(BEFORE_LOGICS)]
+        if not self.over:
+            self.do(copied(command), answer if answer is not None or not self.force.print_success else symbol("success"))
+        if not self.over:
+            self.set_global(not self.force.global_declarations if rng.random() < 0.75 else self.force.global_declarations)
+        if not self.over:
+            self.keep(None)
+
+    def keep(self, what):
+        """Things of a level or of none, the end of that level or of all, and a use of them behind it."""
+        rng = self.rng
+        levels = rng.choice((1, 1, 2) if what in ("twice", "item", "lacks") else (0, 1, 1, 1, 2))
+        if levels:
+            self.do(listed("push", levels))
+        kind = rng.choice(("declared", "defined", "label", "open", "declared", "abbreviation", "abbreviation", "function"))
+        if what == "twice":
+            kind = ("abbreviation", "label", "defined", "declared", "abbreviation", "label", "function")[self.turn % 7]
+        kind = {"label": "label", "lacks": "declared", "item": rng.choice(("label", "defined"))}.get(what, kind)
+        name = self.new_thing(kind)
+        if name is None:
+            return
+        if rng.random() < 0.4:
+            self.right_check([], self.check_tree())
+        if rng.random() < 0.3 and not self.over:
+            self.assertion()
+        ends = [listed("pop", levels)] * 4 + [listed("reset-assertions")] * 3 + [listed("pop", rng.randint(0, levels))]
+        if what == "reset" or what is None and rng.random() < 0.2:
+            ends = [listed("reset")]
+        if not self.over:
+            self.do(rng.choice(ends))
+        if not self.over and rng.random() < 0.08:
+            self.do(listed("pop", 1))
+        if not self.over:
+            self.use_kept(what, kind, name)
+
+    def new_thing(self, kind):
+        """A new name or abbreviation of this kind, or None."""
+        if kind not in ("abbreviation", "function"):
+            return self.new_formula(kind)
+        self.fresh += 1
+        name = "k%d" % self.fresh
+        tree = self.inventor().sort_tree(self.inventor().sort())
+        if self.over or self.force.context().is_taken(name) or name in self.force.abbreviations:
+            return None
+        self.do(listed("define-sort", name, [], tree) if kind == "abbreviation" else listed("declare-fun", name, [tree], "Bool"))
+        return None if self.over else name
+
+    def use_kept(self, what, kind, name):
+        """A use of a thing that is in force still, or of one that is not."""
+        rng = self.rng
+        if what == "twice" or self.rng.random() < 0.15:
+            if kind == "abbreviation":
+                again = [listed("define-sort", name, [], "Bool")] * 2 + [listed("declare-const", name, name)]
+            else:
+                again = [
+                    listed("declare-const", name, "Bool"), listed("define-fun", name, [], "Bool", "true"),
+                    listed("assert", listed("!", "true", keyword(":named"), name)), listed("define-sort", name, [], "Bool"),
+                ][: rng.choice((2, 2, 4))]
+            self.do(rng.choice(again))
+        elif kind == "abbreviation":
+            uses = (
+                listed("declare-const", "of_kept", name), listed("declare-fun", "of_kept", [symbol(name)], name),
+                listed("define-fun", "of_kept", [listed("x", name)], name, "x"),
+            )
+            self.do(rng.choice(uses))
+        elif kind == "function":
+            self.right_check()
+        elif what == "assumed" or rng.random() < 0.25:
+            self.right_check([], self.check_of([self.literal() for _ in range(rng.choice((0, 1)))] + [symbol(name)]))
+        elif rng.random() < 0.5:
+            self.assert_tree(listed("or", name, self.inventor().term(BOOL, 2, {})))
+        if self.over:
+            return
+        self.do(self.check_tree(), symbol("sat"))
+        if self.over:
+            return
+        items = self.model([])
+        if what == "item":
+            item = listed("define-fun", name, [], "Bool", "true")
+            items.insert(rng.randint(0, len(items)), item)
+        elif what == "lacks" or rng.random() < 0.2:
+            items = [item for item in items if not is_right_form(item) or item[1].text != name]
+        self.do(listed("get-model"), items)
 
     # What happens to the answers and the texts
 

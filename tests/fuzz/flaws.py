@@ -130,13 +130,14 @@ COMMANDS = by_letter(
             (get-unsat-assumptions x) (define-sort s x Int) (define-sort let (x) Int) (define-sort 1 (x) Int) (define-sort "s" (x y) Int) (define-sort s () Int Int) (define-sort s (x))
             (define-sort s ()) (define-sort (s) () Int) (define-sort let () Int) (eval 1) (define-const x Int 1) (sat) (|check-sat|)
             (|declare-sort| U 0) (|define-fun-rec|) (par) (_ push 1) (let) (assert . true) (check-sat-using x) (simplify 1)
-            (check-sat-assuming) (check-sat-assuming true) (|check-sat-assuming| ()) (check-sat-assuming (not true))
+            (set-option :global-declarations 1) (set-option :global-declarations true false) (set-option :global-declarations (true))
+            (set-option |:global-declarations| true) (check-sat-assuming) (check-sat-assuming true) (|check-sat-assuming| ())
+            (check-sat-assuming (not true))
         """,
         "C2": """
             (declare-sort U 0) (declare-sort) (declare-datatypes) (declare-datatype x)
             (define-fun-rec) (define-fun-rec f () Int 1) (define-funs-rec ()) (define-sort s (x) ()) (define-sort Int (()) let)
-            (define-sort s (x y) Int) (define-sort s (1) "a") (set-option :global-declarations true)
-            (set-option :global-declarations |true|)
+            (define-sort s (x y) Int) (define-sort s (1) "a")
         """,
     }
 )
@@ -151,6 +152,7 @@ ASSUMING = templates(
     (check-sat-assuming ((! NAME :named l))) (check-sat-assuming (NAME ((not) NAME))) (check-sat-assuming (#b1))
     (check-sat-assuming ((not (NAME)))) (check-sat-assuming NAME NAME) (check-sat-assuming () ()) (check-sat-assuming ((= NAME true)))
     (check-sat-assuming (unknown (not 1))) (check-sat-assuming ((=> NAME false))) (check-sat-assuming (NAME (|Not| NAME)))
+    (check-sat-assuming ((not (not true)))) (check-sat-assuming (NAME (not (not (not NAME))))) (check-sat-assuming ((not (true))))
     (check-sat-assuming "NAME") (check-sat-assuming :a) (check-sat-assuming let) (check-sat-assuming ((let ((x NAME)) x)))
     (check-sat-assuming (((not NAME)))) (check-sat-assuming ((not . NAME))) (check-sat-assuming ((not true) (not not true)))
     (check-sat-assuming ((and NAME))) (check-sat-assuming ((xor NAME))) (check-sat-assuming (assert)) (check-sat-assuming ((_ not NAME)))
@@ -172,7 +174,8 @@ BEFORE_LOGICS = [
         ("(check-sat)", "sat"), ("(check-sat)", "unsat"), ("(check-sat)", "unknown"), ("(check-sat)", "unsupported"),
         ("(check-sat)", '(error "")'), ("(check-sat-assuming ())", "unsat"), ("(check-sat-assuming (true))", "sat"),
         ("(check-sat-assuming (unknown))", '(error "")'), ("(check-sat-assuming (and))", "unsupported"), ("(get-model)", "()"),
-        ("(set-option :a)", ""), ("(set-option :print-success true)", "success"),
+        ("(set-option :a)", ""), ("(set-option :print-success true)", "success"), ("(set-option :global-declarations true)", ""),
+        ("(set-option :global-declarations false)", ""), ("(exit)", ""), ("(get-unsat-assumptions)", "()"),
         ("(set-info :a)", ""), ('(echo "")', '""'), ("(get-value (x))", "x"), ("(get-info :a)", '(error "")'), ("(reset)", ""),
     )
 ]
@@ -269,7 +272,9 @@ class Flaws:
             return listed("push", rng.choice((10001, 10001 - force.levels, 10001 - force.levels, 2**64, 2**64 - force.levels, 10**40)))
         if letter == "C4":
             return listed("pop", force.levels + rng.choice((1, 1, 2, 2**64, 10001)))
-        if force.settled and rng.random() < 0.7:
+        if force.settled and rng.random() < 0.3:
+            return listed("set-option", keyword(":global-declarations"), "false" if force.global_declarations else "true")
+        if (force.settled or force.with_logic) and rng.random() < 0.7:
             return listed("set-logic", rng.choice(("QF_UF", "ALL", "QF_BV", "QF_LIA")))
         return listed("set-logic", symbol(self.pick(UNKNOWN_LOGICS)))
 

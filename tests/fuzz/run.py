@@ -68,7 +68,24 @@ ASSUMING = [
     + ["false before one that is open", "false behind one that is open"]
     + ["several models, confirmed", "several models, one not confirmed"]
 ]
-OTHERS += ASSUMING
+# What global declarations have to reach.
+GLOBALS = ["global: " + what for what in (
+    "set to true, early", "set to false, early", "set to true, behind a logic", "set to false, behind a logic", "set to true, late",
+    "set to false, late", "kept to true, late", "kept to false, late", "kept to true, early", "set to true, late, without effect",
+    "set to false, late, without effect", "set to true, early, without effect", "fault C5", "a logic that is late",
+)]
+NAMED = ("a declared name", "a definition", "a label")
+GLOBALS += [
+    "global %s: %s with %s" % (on, word, kind)
+    for on in ("on", "off")
+    for word in ("pop", "reset-assertions", "reset")
+    for kind in NAMED + ("an abbreviation", "an assertion")
+]
+GLOBALS += ["global: fault C7 F7, %s whose level is gone" % kind for kind in NAMED + ("an abbreviation",)]
+GLOBALS += ["global: %s with %s whose level is gone" % (word, kind) for word in ("assert", "check-sat-assuming") for kind in NAMED]
+GLOBALS += ["global: declare-const with an abbreviation whose level is gone"]
+GLOBALS += ["global: model with names whose levels are gone: " + end for end in ("lacks a name", "item F7", "refuted", "confirmed")]
+OTHERS += ASSUMING + GLOBALS
 REQUIRED = LINES + OTHERS + ["operator " + name for name in ALL_OPERATORS]
 WITH_STEPS = ["model: too long", "limit on steps", "assuming: too long by its literals", "assuming: as long as the limit"]
 

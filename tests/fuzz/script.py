@@ -100,8 +100,6 @@ def command_of(tree):
         raise Refused("C2")
     if word not in FORMS or not FORMS[word](parts):
         raise Refused("C1")
-    if word == "set-option" and parts[0].text == ":global-declarations" and is_option(parts[1], "true"):
-        raise Refused("C2")
     return Command(word, parts)
 
 
@@ -111,9 +109,9 @@ Definition = namedtuple("Definition", "command level name rank body")
 Abbreviation = namedtuple("Abbreviation", "command level name sort")
 Assertion = namedtuple("Assertion", "command level node")
 
-# Checks, commands behind which no logic is set, and commands that end the window of a check.
+# Checks, commands behind which no logic is set and global declarations aren't changed, and commands that end the window of a check.
 CHECKS = frozenset(["check-sat", "check-sat-assuming"])
-SETTLING = CHECKS.union("set-logic declare-const declare-fun define-fun define-sort assert push pop reset-assertions".split())
+SETTLING = CHECKS.union("declare-const declare-fun define-fun define-sort assert push pop reset-assertions".split())
 CHANGING = frozenset("assert declare-const declare-fun define-fun define-sort push pop reset reset-assertions".split())
 
 
@@ -127,14 +125,26 @@ class Force:
     def restart(self):
         """The start."""
         self.print_success = self.start
+        self.global_declarations = False
         self.theories = ALL_THEORIES
+        self.with_logic = False
         self.settled = False
-        self.clear()
-
-    def clear(self):
-        """No levels, and nothing at them."""
         self.levels = 0
         self.brought = []
+        # Which things are in force though a pop or a reset of assertions has come behind them: their kinds and names.
+        self.outlived = set()
+        self.look()
+
+    def remove(self, goes):
+        """What goes is not in force any more; but what is global stays, which assertions never are."""
+        stays = []
+        for thing in self.brought:
+            if not goes(thing):
+                stays.append(thing)
+            elif self.global_declarations and type(thing) is not Assertion:
+                stays.append(thing)
+                self.outlived.add((type(thing), thing.name))
+        self.brought = stays
         self.look()
 
     def look(self):
@@ -169,9 +179,10 @@ class Force:
         word, parts = command
         assumed = []
         if word == "set-logic":
-            if self.settled or parts[0].text not in LOGICS:
+            if self.with_logic or self.settled or parts[0].text not in LOGICS:
                 raise Refused("C5")
             self.theories = LOGICS[parts[0].text]
+            self.with_logic = True
         elif word == "push":
             count = int(parts[0].text)
             if self.levels + count > MOST_LEVELS:
@@ -182,14 +193,19 @@ class Force:
             if count > self.levels:
                 raise Refused("C4")
             self.levels -= count
-            self.brought = [thing for thing in self.brought if thing.level <= self.levels]
-            self.look()
+            self.remove(lambda thing: thing.level > self.levels)
         elif word == "reset":
             self.restart()
         elif word == "reset-assertions":
-            self.clear()
+            self.levels = 0
+            self.remove(lambda thing: True)
         elif word == "set-option" and parts[0].text == ":print-success":
             self.print_success = is_option(parts[1], "true")
+        elif word == "set-option" and parts[0].text == ":global-declarations":
+            value = is_option(parts[1], "true")
+            if value != self.global_declarations and self.settled:
+                raise Refused("C5")
+            self.global_declarations = value
         elif word in ("declare-const", "declare-fun", "define-fun", "define-sort", "assert", "check-sat-assuming"):
             try:
                 if word == "check-sat-assuming":

@@ -7,7 +7,7 @@ import sys
 import threading
 
 from models import CONFIRMED, judged
-from script import CHANGING, CHECKS, Declaration, Force, Refused, command_of, is_option
+from script import CHANGING, CHECKS, Abbreviation, Assertion, Declaration, Definition, Force, Refused, command_of, is_option
 from text import STRING, begins_with, is_kind, is_symbol, read
 
 STEPS = 10000000
@@ -155,13 +155,26 @@ class Dialogue:
         except Fault as fault:
             self.close_window()
             self.lines.append(str(fault))
-            kind, command, _ = str(fault).partition(" at command ")
-            if command and begins_with(self.script.reading.trees[self.script.taken - 1], "check-sat-assuming"):
-                self.count("assuming: " + kind)
+            self.count_fault(str(fault))
             verdict = "refused"
         counts = ", ".join("%s %d" % item for item in self.counts.items())
         self.lines.append("verdict: %s, %s" % (verdict, counts))
         return verdict
+
+    def count_fault(self, fault):
+        """Counts faults of checks with assumptions, and those that have to do with global declarations."""
+        kind, command, _ = fault.partition(" at command ")
+        if not command or self.reached is None:
+            return
+        tree = self.script.reading.trees[self.script.taken - 1]
+        if begins_with(tree, "check-sat-assuming"):
+            self.count("assuming: " + kind)
+        if kind == "fault C5":
+            self.count("global: fault C5" if begins_with(tree, "set-option") else "global: a logic that is late")
+        if kind == "fault C7 F7" and is_symbol(tree[1]) and self.force.outlived:
+            for thing in self.outlived():
+                if thing.name == tree[1].text and (type(thing) is Abbreviation) == begins_with(tree, "define-sort"):
+                    self.count("global: fault C7 F7, %s whose level is gone" % self.words_of(thing))
 
     def take_commands(self):
         """Takes all commands and their answers."""
@@ -187,9 +200,12 @@ class Dialogue:
         if answer is not None and is_no_effect(answer):
             if command.word in CHECKS:
                 self.take_check(number, command, "error" if type(answer) is list else answer.text, [])
+            self.count_change(command, "without effect")
             return
         if command.word in CHANGING:
             self.close_window()
+        self.count_change(command, "")
+        self.count_uses(command)
         assumed = self.force.take(number, command)
         if command.word in CHECKS:
             self.take_check(number, command, answer.text, assumed)
@@ -227,6 +243,51 @@ class Dialogue:
         else:
             self.tell(begin + answer, "unchecked")
 
+    def count_change(self, command, how):
+        """Counts what a command does to global declarations."""
+        force = self.force
+        word, parts = command
+        if self.reached is None:
+            return
+        if word == "set-option" and parts[0].text == ":global-declarations":
+            same = is_option(parts[1], "true") == force.global_declarations
+            late = "late" if force.settled else "behind a logic" if force.with_logic else "early"
+            self.count("global: %s to %s, %s%s" % ("kept" if same else "set", parts[1].text, late, how and ", " + how))
+        elif word in ("pop", "reset-assertions", "reset") and not how:
+            on = "on" if force.global_declarations else "off"
+            least = int(parts[0].text) if word == "pop" else 0
+            gone = [thing for thing in force.brought if word != "pop" or thing.level > force.levels - least]
+            for thing in gone:
+                self.count("global %s: %s with %s" % (on, word, self.words_of(thing)))
+
+    def count_uses(self, command):
+        """Counts commands with names whose levels are gone."""
+        if self.reached is None or not self.force.outlived:
+            return
+        waiting, names = list(command.parts), set()
+        while waiting:
+            part = waiting.pop()
+            if type(part) is list:
+                waiting.extend(part)
+            elif is_symbol(part):
+                names.add(part.text)
+        for thing in self.outlived():
+            if thing.name in names:
+                self.count("global: %s with %s whose level is gone" % (command.word, self.words_of(thing)))
+
+    def outlived(self):
+        """The things in force whose level is gone."""
+        return [
+            thing for thing in self.force.brought if type(thing) is not Assertion and (type(thing), thing.name) in self.force.outlived
+        ]
+
+    def words_of(self, thing):
+        """What a thing in force is."""
+        if type(thing) is Definition:
+            labelled = begins_with(self.script.reading.trees[thing.command - 1], "assert")
+            return "a label" if labelled else "a definition"
+        return {Declaration: "a declared name", Abbreviation: "an abbreviation", Assertion: "an assertion"}[type(thing)]
+
     def count_literals(self, literals):
         """Counts which kinds of literals a check has."""
         names = [(literal[1] if type(literal) is list else literal).text for literal in literals]
@@ -235,11 +296,8 @@ class Dialogue:
             thing = kinds.get(name)
             if thing is None:
                 self.count("assuming: true or false" if name in ("true", "false") else "assuming: no name in force, no effect")
-            elif type(thing) is Declaration:
-                self.count("assuming: a declared name")
             else:
-                labelled = begins_with(self.script.reading.trees[thing.command - 1], "assert")
-                self.count("assuming: a label" if labelled else "assuming: a definition")
+                self.count("assuming: " + self.words_of(thing))
             if type(literal) is list:
                 self.count("assuming: a negation")
         if not literals:
@@ -256,6 +314,8 @@ class Dialogue:
             return
         outcome = judged(model, self.force, self.window.assumed, self.steps, self.reached)
         self.window.models += 1
+        if self.reached is not None and self.force.outlived:
+            self.count_model(outcome)
         if outcome != CONFIRMED:
             if self.window.models > 1:
                 self.count("window of several models, one not confirmed")
@@ -264,6 +324,18 @@ class Dialogue:
             kind = "refuted" if outcome.startswith("refuted") else "undecided"
             self.tell("%ssat, model of command %d: %s" % (self.window.begin, number, outcome), kind)
             self.window = None
+
+
+    def count_model(self, outcome):
+        """Counts how models end where names are in force whose levels are gone."""
+        word, last = outcome.split(" ")[0], outcome.split(" ")[-1]
+        ends = {"lacks": "lacks a name", "item": "item " + last, "refuted": "refuted", "confirmed": "confirmed"}
+        if word == "lacks":
+            thing = [thing for thing in self.force.of_kind(Declaration) if thing.command == int(last)][0]
+            if (Declaration, thing.name) not in self.force.outlived:
+                return
+        if word in ends:
+            self.count("global: model with names whose levels are gone: " + ends[word])
 
 
 def report(script, answers, print_success=True, steps=STEPS, script_ended=True, answers_ended=True, reached=None):
