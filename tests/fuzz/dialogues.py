@@ -934,6 +934,10 @@ class Story:
         if what == "form":
             self.do(flaws.assuming(name), answer)
         elif what == "fault":
+            self.declare()
+            if self.over:
+                return
+            flaws = self.flaws(self.inventor())
             for letter in rng.choice((("F3",), ("F4",), ("F3", "F4"), ("F4", "F3"))):
                 right.insert(rng.randint(0, len(right)), flaws.literal(letter))
             self.do(self.check_of(right), self.no_effect() if rng.random() < 0.15 else answer)
@@ -1088,6 +1092,8 @@ class Story:
             ends = [listed("reset")]
         if not self.over:
             self.do(rng.choice(ends))
+        if not self.over and rng.random() < 0.08:
+            self.do(listed("pop", 1))
         if not self.over:
             self.use_kept(what, kind, name)
 

@@ -152,6 +152,7 @@ ASSUMING = templates(
     (check-sat-assuming ((! NAME :named l))) (check-sat-assuming (NAME ((not) NAME))) (check-sat-assuming (#b1))
     (check-sat-assuming ((not (NAME)))) (check-sat-assuming NAME NAME) (check-sat-assuming () ()) (check-sat-assuming ((= NAME true)))
     (check-sat-assuming (unknown (not 1))) (check-sat-assuming ((=> NAME false))) (check-sat-assuming (NAME (|Not| NAME)))
+    (check-sat-assuming ((not (not true)))) (check-sat-assuming (NAME (not (not (not NAME))))) (check-sat-assuming ((not (true))))
     (check-sat-assuming "NAME") (check-sat-assuming :a) (check-sat-assuming let) (check-sat-assuming ((let ((x NAME)) x)))
     (check-sat-assuming (((not NAME)))) (check-sat-assuming ((not . NAME))) (check-sat-assuming ((not true) (not not true)))
     (check-sat-assuming ((and NAME))) (check-sat-assuming ((xor NAME))) (check-sat-assuming (assert)) (check-sat-assuming ((_ not NAME)))
