@@ -3,7 +3,7 @@
 # memory for each call that waits, no stack, and nothing for what isn't used. Needs what `rt ci` has built. Says nothing where all is well.
 set -e
 cd "$(dirname "$0")/.."
-program=$PWD/crates/smtcheck/out/smtcheck
+program=${SMTCHECK:-$PWD/crates/smtcheck/out/smtcheck}
 work=$(mktemp -d)
 trap 'rm -rf "$work"' EXIT
 
@@ -38,3 +38,27 @@ doubling() {
     report 'an unused constant of the script' 'check 1 at command 67: sat, confirmed'
 echo '(assert true)(check-sat)(get-model)' | report 'an unused constant of the model' 'check 1 at command 2: sat, confirmed' \
     "sat ($(doubling)(define-fun c () Int (f63 0)))"
+
+# Under limits that leave too little for the stack of the deepest term it says so, and opens no file.
+refused() {
+    status=0
+    (ulimit "$1" "$2" && exec "$program" "$work/none" "$work/none") >"$work/report" 2>"$work/errors" || status=$?
+    [ "$status" = 4 ] && [ ! -s "$work/report" ] && [ "$(cat "$work/errors")" = 'smtcheck: memory' ] ||
+        { echo "deep terms: ulimit $1 $2: status $status, $(cat "$work/errors")"; exit 1; }
+}
+
+refused -s 256
+refused -s 3071
+refused -v 8191
+
+# Within them the deepest term has its report.
+echo 'sat ()' >"$work/answers"
+awk 'BEGIN { printf "(assert "; for (k = 0; k < 998; k++) printf "(not "; printf "true"; for (k = 0; k < 998; k++) printf ")"
+    print ")(check-sat)(get-model)" }' >"$work/script"
+for limit in '-s 3072' '-v 8192'; do
+    status=0
+    # (two words)
+    (ulimit $limit && exec "$program" --print-success off "$work/script" "$work/answers") >"$work/report" 2>"$work/errors" || status=$?
+    [ "$status" = 0 ] && [ "$(head -n 1 "$work/report")" = 'check 1 at command 2: sat, confirmed' ] ||
+        { echo "deep terms: ulimit $limit: status $status, $(cat "$work/errors" "$work/report")"; exit 1; }
+done

@@ -2,8 +2,7 @@
 # limits.sh [BYTES]: runs the program on dialogues of some 5 MB, or so many bytes, each of which needs much of something, under twenty
 # limits on its addresses (`ulimit -v`, in KB), and with a machine's stack of 256 KB. Each run gives the report that it gives without a
 # limit, or status 4, the line `smtcheck: memory` and the first lines of that report. Takes some minutes, and stands in no gate. Needs what
-# `rt ci` has built, or another program: SMTCHECK names it; and Python 3. Prints each run that is wrong, as those are on deep terms where
-# the stack has less than 2 MB (docs/SECURITY.md), and nothing where all is well.
+# `rt ci` has built, or another program: SMTCHECK names it; and Python 3. Prints each run that is wrong, and nothing where all is well.
 set -e
 cd "$(dirname "$0")/.."
 program=${SMTCHECK:-$PWD/crates/smtcheck/out/smtcheck}

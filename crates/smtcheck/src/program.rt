@@ -33,7 +33,7 @@ pub(crate) fn run_program<R: Files + Env + AllocGlobal + Print + Eprint>(rt: &R)
 /// Runs the program on these words, the program's name first, and answers its exit status.
 pub(crate) fn run_words<R: Files + AllocGlobal + Print + Eprint>(rt: &R, words: &[&str]) -> u8 {
     match settings(rt.alloc(), words) {
-        Ok(_) if !has_room() => status(rt, Err(RunFault::Memory)),
+        Ok(_) if !has_room(rt) => status(rt, Err(RunFault::Memory)),
         Ok(settings) => status(rt, run(rt, settings)),
         Err(LineFault::Memory) => status(rt, Err(RunFault::Memory)),
         Err(LineFault::Refused(error)) => {
