@@ -499,6 +499,8 @@ class Story:
             found.append(copied(rng.choice(found)))
         if self.chance(0.03):
             found.insert(rng.randint(0, len(found)), self.flaws(self.inventor()).literal(rng.choice(("F3", "F4"))))
+        if found and self.chance(0.02):
+            found.append(listed("not", listed("not", rng.choice(("true", copied(found[0]))))))
         return found
 
     def between(self):
