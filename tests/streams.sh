@@ -62,7 +62,7 @@ status 2 "$script" 'success success sat ()'
 status 3 "$script" 'success'
 status 3 '\177\000\001' '\000'
 
-# Which files are opened: what the loader of programs opens aside, the two that are named, in order. No program is started, and nothing
+# Which files are opened: what the loader of programs opens aside, its limits and the two that are named, in order. No program is started, and nothing
 # is asked of a network.
 if strace -o "$work/trace" true 2>"$work/errors"; then
     printf '(declare-const p Bool)(set-option :diagnostic-output-channel "%s")(set-info :source |%s|)(check-sat)(get-model)' \
@@ -72,7 +72,7 @@ if strace -o "$work/trace" true 2>"$work/errors"; then
     sed 's/^[0-9]* *//' "$work/trace" |
         grep '^\(open\|creat\|exec\|fork\|vfork\|clone\|socket\|connect\|bind\|link\|symlink\|unlink\|rename\|mkdir\)' |
         grep -v '/ld\.so\.\|\.so\.[0-9]' | sed 's/^execve(.*/execve/; s/(.*\/\([a-z]*\)", O_RDONLY.*/ \1/' >"$work/calls"
-    printf '%s\n' execve 'openat script' 'openat answers' | cmp -s - "$work/calls" || fail "it calls: $(cat "$work/calls")"
+    printf '%s\n' execve 'openat limits' 'openat script' 'openat answers' | cmp -s - "$work/calls" || fail "it calls: $(cat "$work/calls")"
 else
     echo 'streams: no strace, so that it is not looked at which files are opened' >&2
 fi

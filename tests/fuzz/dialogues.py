@@ -571,7 +571,7 @@ class Story:
         rng = self.rng
         if INTS not in self.force.theories or any(self.force.context().is_taken("f%d" % number) for number in range(80)):
             return
-        longest = (3, 8, 12, 17, 21, 24, 30, 70) if self.with_steps else (2, 3, 5)
+        longest = (3, 8, 12, 17, 21, 22, 30, 70) if self.with_steps else (2, 3, 5)
         length = length or rng.choice(longest)
         nested = length <= 9 and rng.random() < 0.5
         constants = rng.random() < 0.2
