@@ -47,7 +47,8 @@ fn cost_at(kept: &[u64], from: &Place<'_>) -> u64
         → result ≡ capped (node_cost (length kept.now) c (found_around from.now) (found from.now)) }
 {
     match from.annotated() {
-        Some((node, around)) => 1u64.saturating_add(around as u64)
+        Some((node, around)) => 1u64
+            .saturating_add(around as u64)
             .saturating_add(parts_of(kept, from, &node)),
         None => 1,
     }
