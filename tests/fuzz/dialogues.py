@@ -571,7 +571,7 @@ class Story:
         rng = self.rng
         if INTS not in self.force.theories or any(self.force.context().is_taken("f%d" % number) for number in range(80)):
             return
-        longest = (3, 8, 12, 17, 21, 22, 30, 70) if self.with_steps else (2, 3, 5)
+        longest = (3, 8, 12, 17, 21, 24, 30, 70) if self.with_steps else (2, 3, 5)
         length = length or rng.choice(longest)
         nested = length <= 9 and rng.random() < 0.5
         constants = rng.random() < 0.2
@@ -754,13 +754,15 @@ class Story:
             return None
         cost = rng.choice(self.costs) if self.costs else rng.choice((0, 3, 10))
         if self.aim == "assuming" and self.what == "long" and self.costs:
-            return min(max(0, self.costs[-1] - rng.choice((0, 0, 0, 1, 1, 2))), MOST_STEPS)
+            # (a model that costs very much is told as too long, and not waited for)
+            fewer = (0, 0, 0, 1, 1, 2) if self.costs[-1] < 30000000 else (1, 2)
+            return min(max(0, self.costs[-1] - rng.choice(fewer)), MOST_STEPS)
         choices = [cost, cost - 1, cost, cost - 1, cost + 1, cost // 2, 0, 1]
         if self.what == "long":
             choices = [cost - 1, cost - 1, cost // 2]
-        elif cost < 100000:
+        elif max(self.costs, default=0) < 100000:
             choices += [MOST_STEPS, 2**63, 2**32]
-        return max(0, min(rng.choice(choices), MOST_STEPS if cost < 100000 else 200000))
+        return max(0, min(rng.choice(choices), MOST_STEPS if max(self.costs, default=0) < 100000 else 200000))
 
     def right_check(self, flaws=(), tree=None):
         """A check that is answered `sat`, with a model that has these flaws alone."""
