@@ -755,8 +755,7 @@ class Story:
         cost = rng.choice(self.costs) if self.costs else rng.choice((0, 3, 10))
         if self.aim == "assuming" and self.what == "long" and self.costs:
             # (a model that costs very much is told as too long, and not waited for)
-            fewer = (0, 0, 0, 1, 1, 2) if self.costs[-1] < 30000000 else (1, 2)
-            return min(max(0, self.costs[-1] - rng.choice(fewer)), MOST_STEPS)
+            return min(max(0, self.costs[-1] - rng.choice((0, 0, 0, 1, 1, 2))), 20000000)
         choices = [cost, cost - 1, cost, cost - 1, cost + 1, cost // 2, 0, 1]
         if self.what == "long":
             choices = [cost - 1, cost - 1, cost // 2]
