@@ -1,6 +1,7 @@
 """Scripts whose answers are those of a solver: five kinds of problems that people give to solvers, each of three sizes.
 
-Each function of KINDS gives the script of a problem of a size, 0, 1 or 2. A solution is chosen first, so that there is one.
+Each function of KINDS gives the script of a problem of a size, 0, 1 or 2. Each check has to be answered by `sat`, and
+most problems are made round a solution.
 """
 
 
