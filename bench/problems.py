@@ -104,7 +104,7 @@ def colours(size, random):
 
 def queens(size, random):
     """queens on a board, the column of each row being the value of a function (QF_UFLIA)"""
-    count = (10, 20, 30)[size]
+    count = (8, 16, 24)[size]
     lines = ["(set-logic QF_UFLIA)", "(declare-fun column (Int) Int)"]
     for row in range(count):
         lines.append("(assert (and (<= 0 (column %d)) (< (column %d) %d)))" % (row, row, count))
