@@ -1,97 +1,116 @@
 -- The trees that a builder holds.
-use Rattle.std.proofs.Common.{◌≡◌, ℕ, ◌+◌, ◌-◌, ◌<◌, ◌≤◌, List, [], ◌∷◌, ◌++◌, length, true, false, cond}
-use Rattle.std.proofs.Common.{Option, Some, None, Result, Ok, Err, MatchResult, get_or, set, take, refl, ap}
-use Rattle.std.proofs.Common.{sym, ◌∙◌, arith}
-use Rattle.std.proofs.lemmas.Bool.{false≢true, lt-ltb, le-ltb}
-use Rattle.std.proofs.lemmas.List.{take_all, take_more, take_more_set, length-set}
+use Rattle.std.proofs.Common.{◌≡◌, ℕ, suc, ◌<◌, ◌≤◌, List, [], ◌∷◌, ◌++◌, length, true, cond}
+use Rattle.std.proofs.Common.{Option, Some, None, Result, Ok, Err, OnOk, OnErr, take, drop, reverse, refl, ap}
+use Rattle.std.proofs.Common.{sym, subst, ◌∙◌, arith}
+use Rattle.std.proofs.lemmas.Bool.{lt-ltb, le-ltb, leb-true, le-leb, and_from, and_parts}
+use Rattle.std.specs.Prelude.{nat_le}
+use Rattle.std.proofs.lemmas.List.{reverse-append, length-reverse, length-append, length-take-le}
+use Rattle.std.proofs.lemmas.List.{drop-append-le, take-append-le}
 use Rattle.std.specs.declared.alloc.Global.{Global}
 use Rattle.std.specs.declared.vec.Vec.{Vec}
 use Rattle.smt_trees.specs.TreeJoins.{sexps_of-append}
 use Rattle.smt_text.specs.Grammar.{OpenParenthesis, CloseParenthesis}
 use Rattle.smt_text.specs.Internal.Machine.{Levels, On, State, At, add, add_if, atom_of, flush, begun, ended}
 use Rattle.smt_text.specs.Internal.Machine.{depth_of, depth_in, act, settle}
-use Rattle.smt_text.specs.Internal.ReaderState.{lists_of}
-use Rattle.smt_trees.specs.Sexp.{Sexp, Sexps, Items}
+use Rattle.smt_text.specs.Internal.OpenLists.{are_nested, lists_of}
+use Rattle.smt_trees.specs.Sexp.{Sexp, Sexps, append}
 use Rattle.smt_trees.specs.Tree.{sexp_of, sexps_of}
 use Rattle.smt_text.specs.declared.lexer.AtomState.TheVariants.{Nothing}
 use Rattle.smt_trees.specs.declared.tree.Tree.{Tree}
 
-pub length-lists_of : (lists : List (Vec Tree Global)) (around : List Sexps)
-    → length (lists_of lists around) ≡ length lists + length around
-length-lists_of [] around = omega arith
-length-lists_of (parts ∷ inner) around = omega (arith, length-lists_of inner (sexps_of parts.items ∷ around))
+pub length-lists_of : (parts : List Tree) (begins : List ℕ) → length (lists_of parts begins) ≡ length begins
+length-lists_of parts [] = refl
+length-lists_of parts (begin ∷ around) = ap suc (length-lists_of (take begin parts) around)
 
--- one more list inside the others
-pub lists_of-push : (lists : List (Vec Tree Global)) (parts : Vec Tree Global) (around : List Sexps)
-    → lists_of (lists ++ parts ∷ []) around ≡ sexps_of parts.items ∷ lists_of lists around
-lists_of-push [] parts around = refl
-lists_of-push (first ∷ inner) parts around = lists_of-push inner parts (sexps_of first.items ∷ around)
+abbrev pub AreNested : ℕ → List ℕ → Type 0
+AreNested end begins = are_nested end begins ≡ true
 
-pub begin_levels : (lists more : List (Vec Tree Global)) (parts : Vec Tree Global) (top : Sexps)
-    → more ≡ lists ++ parts ∷ [] → parts.items ≡ []
-    → On (lists_of more []) top ≡ begun (On (lists_of lists []) top)
-begin_levels lists more parts top is empty =
-    ap (λ x. On (lists_of x []) top) is ∙ ap (λ x. On x top) (lists_of-push lists parts []) ∙ ap
-    (λ x. On (sexps_of x ∷ lists_of lists []) top) empty
+parts_of : (end begin : ℕ) (around : List ℕ) → AreNested end (begin ∷ around)
+    → (begin ≤ end) × AreNested begin around
+parts_of end begin around n =
+    let both : (nat_le begin end ≡ true) × (are_nested begin around ≡ true) = and_parts _ _ n in
+    (leb-true begin end both.0, both.1)
 
-pub begin_levels_at : (lists more : List (Vec Tree Global)) (parts : Vec Tree Global) (ready now : List Tree)
-    → now ≡ ready → more ≡ lists ++ parts ∷ [] → parts.items ≡ []
-    → On (lists_of more []) (sexps_of now) ≡ begun (On (lists_of lists []) (sexps_of ready))
-begin_levels_at lists more parts ready now same is empty =
-    ap (λ x. On (lists_of more []) (sexps_of x)) same ∙ begin_levels lists more parts
-    (sexps_of ready) is empty
+join : (end begin : ℕ) (around : List ℕ) → begin ≤ end → AreNested begin around
+    → AreNested end (begin ∷ around)
+join end begin around h n = and_from _ _ (le-leb begin end h) n
 
-pub end_levels : (lists fewer : List (Vec Tree Global)) (parts : Vec Tree Global) (trees top : Sexps)
-    → lists ≡ fewer ++ parts ∷ [] → trees ≡ sexps_of parts.items
-    → ended (On (lists_of lists []) top) ≡ add (Items trees) (On (lists_of fewer []) top)
-end_levels lists fewer parts trees top is e =
-    ap (λ x. ended (On (lists_of x []) top)) is ∙ ap (λ x. ended (On x top))
-    (lists_of-push fewer parts []) ∙ ap (λ x. add (Items x) (On (lists_of fewer []) top)) (sym e)
+-- more trees leave lists within their bounds
+nested_within : (begins : List ℕ) (end more : ℕ) → end ≤ more → AreNested end begins → AreNested more begins
+nested_within [] end more h n = refl
+nested_within (begin ∷ around) end more h n =
+    let both = parts_of end begin around n in
+    join more begin around (omega (arith, h, both.0)) both.1
+
+-- what the last place is, the others aside
+last_place : (begins fewer : List ℕ) (begin : ℕ) → begins ≡ fewer ++ begin ∷ []
+    → reverse begins ≡ begin ∷ reverse fewer
+last_place begins fewer begin is = ap reverse is ∙ reverse-append fewer (begin ∷ [])
 
 -- a tree at the top
-pub add_top : (ready more : List Tree) (tree : Tree) → more ≡ ready ++ tree ∷ []
+add_top : (ready more : List Tree) (tree : Tree) → more ≡ ready ++ tree ∷ []
     → On [] (sexps_of more) ≡ add (sexp_of tree) (On [] (sexps_of ready))
 add_top ready more tree is =
     ap (λ x. On [] (sexps_of x)) is ∙ ap (λ x. On [] x) (sexps_of-append ready (tree ∷ []))
 
 -- a tree in the innermost list
-pub add_inside : (lists : List (Vec Tree Global)) (parts longer : Vec Tree Global) (tree : Tree) (top : Sexps)
-    → longer.items ≡ parts.items ++ tree ∷ []
-    → On (lists_of (lists ++ longer ∷ []) []) top
-    ≡ add (sexp_of tree) (On (lists_of (lists ++ parts ∷ []) []) top)
-add_inside lists parts longer tree top is =
-    ap (λ x. On x top) (lists_of-push lists longer []) ∙ ap (λ x. On (x ∷ lists_of lists []) top)
-    (ap sexps_of is ∙ sexps_of-append parts.items (tree ∷ []))
-    ∙ ap (λ x. add (sexp_of tree) (On x top)) (sym (lists_of-push lists parts []))
+add_inside : (parts more : List Tree) (tree : Tree) (begin : ℕ) (around : List ℕ) (top : Sexps)
+    → begin ≤ length parts → more ≡ parts ++ tree ∷ []
+    → On (lists_of more (begin ∷ around)) top
+    ≡ add (sexp_of tree) (On (lists_of parts (begin ∷ around)) top)
+add_inside parts more tree begin around top h is =
+    ap (λ x. On (lists_of x (begin ∷ around)) top) is
+    ∙ ap (λ x. On (sexps_of x ∷ lists_of (take begin (parts ++ tree ∷ [])) around) top)
+    (drop-append-le begin parts (tree ∷ []) h)
+    ∙ ap (λ x. On (x ∷ lists_of (take begin (parts ++ tree ∷ [])) around) top)
+    (sexps_of-append (drop begin parts) (tree ∷ []))
+    ∙ ap (λ x. On (append (sexps_of (drop begin parts)) (sexps_of (tree ∷ [])) ∷ lists_of x around) top)
+    (take-append-le begin parts (tree ∷ []) h)
 
-pub match_then : {T E : Type 0} (r : Result T E) (P : T → Type 0) (Q : E → Type 0) (R : T → Type 0)
-    → MatchResult r P Q → ((x : T) → P x → R x) → MatchResult r R Q
-match_then (Ok x) P Q R h f = f x h
-match_then (Err e) P Q R h f = h
+-- a tree in the innermost of some lists
+pub add_last : (parts more : List Tree) (begins : List ℕ) (tree : Tree) (top : Sexps)
+    → (length begins ≡ 0 → ⊥) → AreNested (length parts) (reverse begins) → more ≡ parts ++ tree ∷ []
+    → On (lists_of more (reverse begins)) top ≡ add (sexp_of tree) (On (lists_of parts (reverse begins)) top)
+add_last parts more begins tree top some n is = by (reverse begins) (length-reverse begins) n
+  where
+    by : (places : List ℕ) → length places ≡ length begins → AreNested (length parts) places
+        → On (lists_of more places) top ≡ add (sexp_of tree) (On (lists_of parts places) top)
+    by [] e h = absurd (some (sym e))
+    by (begin ∷ around) e h =
+        add_inside parts more tree begin around top (parts_of (length parts) begin around h).0 is
 
--- a tree in the last of the lists
-pub add_last : (lists : List (Vec Tree Global)) (n : ℕ) (parts longer : Vec Tree Global) (tree : Tree)
-    (top : Sexps) → n ≡ length lists → 0 < n → parts ≡ get_or lists (n - 1) parts
-    → longer.items ≡ parts.items ++ tree ∷ []
-    → On (lists_of (set lists (n - 1) longer) []) top ≡ add (sexp_of tree) (On (lists_of lists []) top)
-add_last lists n parts longer tree top e some at is =
-    let i = n - 1 in
-    let before : take (i + 1) lists ≡ lists = take_all (i + 1) lists (omega arith) in
-    let now : take (i + 1) (set lists i longer) ≡ set lists i longer = take_all (i + 1) (set lists i longer)
-    (omega (arith, length-set lists i longer)) in
-    let olds : lists ≡ take i lists ++ parts ∷ [] = sym before ∙ take_more lists i parts (omega arith) ∙ ap
-    (λ x. take i lists ++ x ∷ []) (sym at) in
-    let news : set lists i longer ≡ take i lists ++ longer ∷ [] = sym now ∙ take_more_set lists i longer
-    (omega arith) in
-    ap (λ x. On (lists_of x []) top) news ∙ add_inside (take i lists) parts longer tree top is ∙ ap
-    (λ x. add (sexp_of tree) (On (lists_of x []) top)) (sym olds)
+pub add_nested : (parts more : List Tree) (begins : List ℕ) (tree : Tree) → more ≡ parts ++ tree ∷ []
+    → AreNested (length parts) (reverse begins) → AreNested (length more) (reverse begins)
+add_nested parts more begins tree is n =
+    nested_within (reverse begins) (length parts) (length more)
+    (omega (arith, ap length is, length-append parts (tree ∷ []))) n
 
 -- a tree at the top, where there is no list
-pub add_topmost : (lists : List (Vec Tree Global)) (n : ℕ) (ready more : List Tree) (tree : Tree)
-    → n ≡ length lists → (0 < n → false ≡ true) → more ≡ ready ++ tree ∷ []
-    → On (lists_of lists []) (sexps_of more) ≡ add (sexp_of tree) (On (lists_of lists []) (sexps_of ready))
-add_topmost [] n ready more tree e none is = add_top ready more tree is
-add_topmost (parts ∷ lists) n ready more tree e none is = absurd (false≢true (none (omega arith)))
+pub add_topmost : (parts : List Tree) (begins : List ℕ) (ready more : List Tree) (tree : Tree)
+    → length begins ≡ 0 → more ≡ ready ++ tree ∷ []
+    → On (lists_of parts (reverse begins)) (sexps_of more)
+    ≡ add (sexp_of tree) (On (lists_of parts (reverse begins)) (sexps_of ready))
+add_topmost parts [] ready more tree none is = add_top ready more tree is
+add_topmost parts (begin ∷ begins) ready more tree none is = absurd (omega (arith, none))
+
+last_nested : (parts : List Tree) (begins fewer : List ℕ) (begin : ℕ) → begins ≡ fewer ++ begin ∷ []
+    → AreNested (length parts) (reverse begins) → (begin ≤ length parts) × AreNested begin (reverse fewer)
+last_nested parts begins fewer begin is n =
+    parts_of (length parts) begin (reverse fewer)
+    (subst (AreNested (length parts)) (last_place begins fewer begin is) n)
+
+-- the places that are left lie within the trees that are left, all of them where none could be taken off
+pub split_nested : {T E : Type 0} (r : Result T E) (parts left : Vec Tree Global) (begins fewer : List ℕ)
+    (begin : ℕ) → begins ≡ fewer ++ begin ∷ [] → OnOk r (left.items ≡ take begin parts.items)
+    → OnErr r (left ≡ parts) → AreNested (length parts.items) (reverse begins)
+    → AreNested (length left.items) (reverse fewer)
+split_nested (Ok x) parts left begins fewer begin is taken kept n =
+    let h = last_nested parts.items begins fewer begin is n in
+    subst (λ b. AreNested b (reverse fewer)) (sym (ap length taken ∙ length-take-le begin parts.items h.0)) h.1
+split_nested (Err e) parts left begins fewer begin is taken kept n =
+    let h = last_nested parts.items begins fewer begin is n in
+    subst (λ (v : Vec Tree Global). AreNested (length v.items) (reverse fewer)) (sym kept)
+    (nested_within (reverse fewer) begin (length parts.items) h.0 h.1)
 
 -- an atom is at the depth of the lists around it
 depth_of-add_if : (o : Option Sexp) (levels : Levels) → depth_of (add_if o levels) ≡ depth_of levels
@@ -140,13 +159,3 @@ pub end_taken : (limit : ℕ) (s : State) (levels : Levels) → 0 < depth_in s �
     → settle (act limit CloseParenthesis (flush s)) ≡ Some (At Nothing [] levels)
 end_taken limit s levels h e =
     close_some limit (flush s) (omega (arith, depth_of-flush s)) ∙ ap (λ x. Some (At Nothing [] x)) e
-
-pub end_levels_at : (lists before after : List (Vec Tree Global)) (parts : Vec Tree Global)
-    (exact : List Tree) (trees : Sexps) (ready now : List Tree) → lists ≡ before ++ parts ∷ []
-    → exact ≡ parts.items → trees ≡ sexps_of exact → after ≡ before → now ≡ ready
-    → ended (On (lists_of lists []) (sexps_of ready))
-    ≡ add (Items trees) (On (lists_of after []) (sexps_of now))
-end_levels_at lists before after parts exact trees ready now is same e left keeps =
-    end_levels lists before parts trees (sexps_of ready) is (e ∙ ap sexps_of same)
-    ∙ ap (λ x. add (Items trees) (On (lists_of x []) (sexps_of ready))) (sym left)
-    ∙ ap (λ x. add (Items trees) (On (lists_of after []) (sexps_of x))) (sym keeps)

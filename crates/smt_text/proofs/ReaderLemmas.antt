@@ -1,7 +1,7 @@
 -- How a reader's value goes on with the text.
-use Rattle.std.proofs.Common.{◌≡◌, ◌≢◌, ◌⊎◌, ◌<◌, ◌+◌, ℕ, List, [], ◌∷◌, ◌++◌, length, drop, take, get_or}
-use Rattle.std.proofs.Common.{Option, Some, None, Result, Ok, Err, is_some, Bool, true, false, cond, ltb}
-use Rattle.std.proofs.Common.{refl, sym, ap, ◌∙◌, inl, inr, arith, subst}
+use Rattle.std.proofs.Common.{◌≡◌, ◌≢◌, ◌⊎◌, ◌<◌, ◌+◌, ℕ, List, [], ◌∷◌, ◌++◌, length, drop, take, reverse}
+use Rattle.std.proofs.Common.{get_or, Option, Some, None, Result, Ok, Err, is_some, Bool, true, false, cond}
+use Rattle.std.proofs.Common.{ltb, refl, sym, ap, ◌∙◌, inl, inr, arith, subst}
 use Rattle.std.specs.Result.{result_err}
 use Rattle.std.proofs.lemmas.List.{append_assoc, length-append, length-take-le, take-append-drop, drop_more}
 use Rattle.smt_text.proofs.SexpLemmas.{append_nil, append_assoc as sexps_assoc}
@@ -14,7 +14,8 @@ use Rattle.smt_text.specs.Internal.Machine.{Levels, On, State, At, start, add, a
 use Rattle.smt_text.specs.Internal.Machine.{settle, lex, move, may_end, token_in, step, go_on, run, depth_of}
 use Rattle.smt_text.specs.Internal.Machine.{depth_in, top_of, complete_of, IsStuck, Leaves, blame}
 use Rattle.smt_text.specs.Reading.{Reads}
-use Rattle.smt_text.specs.Internal.ReaderState.{GoesOnFrom, lists_of, state_of, under, after_taken}
+use Rattle.smt_text.specs.Internal.OpenLists.{lists_of}
+use Rattle.smt_text.specs.Internal.ReaderState.{GoesOnFrom, state_of, under, after_taken}
 use Rattle.smt_text.specs.Internal.ReaderState.{GoesThrough, Ends, flaw_found}
 use Rattle.smt_trees.specs.Sexp.{Sexp, Sexps, Items, Nil, Cons, append}
 use Rattle.smt_trees.specs.Tree.{sexp_of, sexps_of}
@@ -406,10 +407,11 @@ handed ended old new fed taken longer f same all k = (
 pub stands_handed : (old new : Reader) (fed : List ℕ) (taken : Sexps) (tree : Tree)
     → bytes_fed new ≡ bytes_fed old → is_finished new ≡ is_finished old → new.failure ≡ old.failure
     → new.token ≡ old.token → new.bytes.items ≡ old.bytes.items
-    → new.builder.lists.items ≡ old.builder.lists.items
+    → new.builder.parts.items ≡ old.builder.parts.items
+    → new.builder.begins.items ≡ old.builder.begins.items
     → old.builder.ready.items ≡ tree ∷ new.builder.ready.items → StandsFor old fed taken
     → StandsFor new fed (append taken (Cons (sexp_of tree) Nil))
-stands_handed old new fed taken tree count e f same_token same_bytes same_lists first h =
+stands_handed old new fed taken tree count e f same_token same_bytes same_parts same_begins first h =
     (count ∙ h.0, by h.1)
   where
     all : append (append taken (Cons (sexp_of tree) Nil)) (trees_ready new) ≡ append taken (trees_ready old)
@@ -419,8 +421,10 @@ stands_handed old new fed taken tree count e f same_token same_bytes same_lists 
     same : after_taken (append taken (Cons (sexp_of tree) Nil)) (state_of new)
         ≡ after_taken taken (state_of old)
     same =
-        let inner : lists_of new.builder.lists.items [] ≡ lists_of old.builder.lists.items [] = ap
-        (λ x. lists_of x []) same_lists in
+        let inner : lists_of new.builder.parts.items (reverse new.builder.begins.items)
+        ≡ lists_of old.builder.parts.items (reverse old.builder.begins.items) =
+        ap (λ x. lists_of x (reverse new.builder.begins.items)) same_parts
+        ∙ ap (λ x. lists_of old.builder.parts.items (reverse x)) same_begins in
         let outer : append (append taken (Cons (sexp_of tree) Nil)) (sexps_of new.builder.ready.items)
         ≡ append taken (sexps_of old.builder.ready.items) = all in
         cc

@@ -1,10 +1,8 @@
 //! Trees, built from tokens in order.
 
-ghost use Rattle.std.specs.Prelude.{◌≡◌, ◌<◌, [], ◌∷◌, IfOk, MatchOption};
-ghost use Rattle.smt_text.specs.Internal.Machine.{On, add, begun, ended, depth_of};
-ghost use Rattle.smt_text.specs.Internal.ReaderState.{levels_of};
-ghost use Rattle.smt_trees.specs.Sexp.{Nil};
-ghost use Rattle.smt_trees.specs.Tree.{sexp_of};
+ghost use Rattle.std.proofs.Props.{props};
+ghost use Rattle.std.specs.Prelude.{◌≡◌, true, length, reverse};
+ghost use Rattle.smt_text.specs.Internal.OpenLists.{are_nested};
 
 use smt_faults::Memory;
 use smt_trees::{Tree, Trees};
@@ -14,32 +12,38 @@ use std::collections::VecDeque;
 /// The trees of the tokens so far.
 #[derive(Drop)]
 pub(crate) struct Builder {
-    alloc: Global,
-    /// What each list that is not closed holds so far, the outermost list first.
-    lists: Vec<Vec<Tree>>,
-    /// Vectors whose memory the next lists use.
-    spare: Vec<Vec<Tree>>,
+    /// What the lists that are not closed hold so far, one list after another, the outermost first.
+    parts: Vec<Tree>,
+    /// Where each of them begins there, the outermost first.
+    begins: Vec<usize>,
     /// The trees at the top that were not handed out.
     ready: VecDeque<Tree>,
+    ghost nested: { are_nested (length parts.items) (reverse begins.items) ≡ true } by { Prim.hlevel props },
 }
 
 impl Builder {
+    ghost use Rattle.std.specs.Prelude.{◌<◌, [], ◌∷◌, IfOk, MatchOption};
+    ghost use Rattle.smt_text.specs.Internal.Machine.{On, add, begun, ended, depth_of};
+    ghost use Rattle.smt_text.specs.Internal.ReaderState.{levels_of};
+    ghost use Rattle.smt_trees.specs.Sexp.{Nil};
+    ghost use Rattle.smt_trees.specs.Tree.{sexp_of};
+
     pub(crate) fn new(alloc: Global) -> Self
         ensures { levels_of result ≡ On [] Nil }
     {
         Builder {
-            alloc,
-            lists: Vec::new(alloc),
-            spare: Vec::new(alloc),
+            parts: Vec::new(alloc),
+            begins: Vec::new(alloc),
             ready: VecDeque::new(alloc),
         }
     }
 
     /// How many lists are not closed.
+    #[inline(always)]
     pub(crate) fn depth(&self) -> usize
         ensures { result ≡ depth_of (levels_of self.now) }
     {
-        self.lists.len()
+        self.begins.len()
     }
 
     /// Adds a tree to the innermost list that is not closed, or at the top.
@@ -47,12 +51,11 @@ impl Builder {
     pub(crate) fn add(&mut self, tree: Tree) -> Result<(), Memory>
         ensures { IfOk result (λ _. levels_of self.new ≡ add (sexp_of tree) (levels_of self.old)) }
     {
-        match self.lists.last_mut() {
-            Some(parts) => {
-                parts.reserve(1)?;
-                parts.push_reserved(tree);
-            }
-            None => self.ready.push_back(tree)?,
+        if self.begins.is_empty() {
+            self.ready.push_back(tree)?;
+        } else {
+            self.parts.reserve(1)?;
+            self.parts.push_reserved(tree);
         }
         Ok(())
     }
@@ -62,9 +65,9 @@ impl Builder {
     pub(crate) fn begin_list(&mut self) -> Result<(), Memory>
         ensures { IfOk result (λ _. levels_of self.new ≡ begun (levels_of self.old)) }
     {
-        self.lists.reserve(1)?;
-        let parts = self.empty_list();
-        self.lists.push_reserved(parts);
+        let begin = self.parts.len();
+        self.begins.reserve(1)?;
+        self.begins.push_reserved(begin);
         Ok(())
     }
 
@@ -73,48 +76,20 @@ impl Builder {
         requires { 0 < depth_of (levels_of self.old) }
         ensures { IfOk result (λ _. ended (levels_of self.old) ≡ levels_of self.new) }
     {
-        match self.lists.pop() {
-            Some(parts) => {
-                let parts = self.exact(parts)?;
+        match self.begins.pop() {
+            Some(begin) => {
+                // The vector that is split off has room for its items alone.
+                let parts = self.parts.split_off(begin)?;
                 self.add(Tree::List(Trees::new(parts)))
             }
             None => Ok(()),
         }
     }
 
-    // An empty vector, with the memory of a list that was closed, if there is one.
-    #[inline(always)]
-    fn empty_list(&mut self) -> Vec<Tree>
-        ensures empty { result.items ≡ [] }
-        ensures lists { self.new.lists ≡ self.old.lists }
-        ensures ready { self.new.ready ≡ self.old.ready }
-    {
-        match self.spare.pop() {
-            Some(mut parts) => {
-                parts.clear();
-                parts
-            }
-            None => Vec::new(self.alloc),
-        }
-    }
-
-    // The parts in a vector that has room for no more. The memory that they had is for the next list.
-    fn exact(&mut self, parts: Vec<Tree>) -> Result<Vec<Tree>, Memory>
-        ensures same { IfOk result (λ exact. exact.items ≡ parts.items) }
-        ensures lists { self.new.lists ≡ self.old.lists }
-        ensures ready { self.new.ready ≡ self.old.ready }
-    {
-        let mut parts = parts;
-        let mut exact = Vec::with_capacity(self.alloc, parts.len())?;
-        exact.append(&mut parts)?;
-        self.spare.reserve(1)?;
-        self.spare.push_reserved(parts);
-        Ok(exact)
-    }
-
     /// The first tree that was not handed out.
     pub(crate) fn hand_out(&mut self) -> Option<Tree>
-        ensures lists { self.new.lists ≡ self.old.lists }
+        ensures parts { self.new.parts ≡ self.old.parts }
+        ensures begins { self.new.begins ≡ self.old.begins }
         ensures first { MatchOption result ((self.old.ready.items ≡ []) × (self.new.ready.items ≡ []))
             (λ tree. self.old.ready.items ≡ tree ∷ self.new.ready.items) }
     {

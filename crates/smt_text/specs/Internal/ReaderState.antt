@@ -1,14 +1,13 @@
 -- The state that a reader's value is.
-use Rattle.std.specs.Prelude.{◌≡◌, ◌<◌, ◌≤◌, ◌+◌, ◌⊎◌, ℕ, length, take, get_or, List, [], ◌∷◌, Bool, true}
-use Rattle.std.specs.Prelude.{false, Option, Some, None, Result, Ok, Err}
+use Rattle.std.specs.Prelude.{◌≡◌, ◌<◌, ◌≤◌, ◌+◌, ◌⊎◌, ℕ, length, take, reverse, get_or, List, []}
+use Rattle.std.specs.Prelude.{Bool, true, false, Option, Some, None, Result, Ok, Err}
 use Rattle.smt_faults.specs.declared.failure.Failure.{Failure}
 use Rattle.smt_faults.specs.declared.failure.Failure.TheVariants.{Fault, Memory}
 use Rattle.smt_faults.specs.declared.text_flaw.TextFlaw.{TextFlaw}
 use Rattle.smt_faults.specs.declared.text_flaw.TextFlaw.TheVariants.{End}
 use Rattle.smt_text.specs.declared.refusal.Refusal.{Refusal}
 use Rattle.smt_text.specs.declared.reader.TheConstants.{MAX_DEPTH}
-use Rattle.std.specs.declared.alloc.Global.{Global}
-use Rattle.std.specs.declared.vec.Vec.{Vec}
+use Rattle.smt_text.specs.Internal.OpenLists.{lists_of}
 use Rattle.smt_text.specs.Internal.Machine.{Leaves, Levels, On, State, At, blame, depth_in, finished, lex}
 use Rattle.smt_text.specs.Internal.Machine.{levels_in, may_end, refusal_of, run, separated, step, token_in}
 use Rattle.smt_text.specs.Lexical.{ends_token}
@@ -19,15 +18,10 @@ use Rattle.smt_trees.specs.Tree.{sexps_of}
 use Rattle.smt_text.specs.declared.lexer.AtomState.TheVariants.{Nothing}
 use Rattle.smt_text.specs.declared.builder.Builder.{Builder}
 use Rattle.smt_text.specs.declared.reader.Reader.{Reader}
-use Rattle.smt_trees.specs.declared.tree.Tree.{Tree}
-
--- the trees of lists that are not closed, the outermost list first, in prefix of those of lists around them
-abbrev pub lists_of : List (Vec Tree Global) → List Sexps → List Sexps
-lists_of [] around = around
-lists_of (parts ∷ inner) around = lists_of inner (sexps_of parts.items ∷ around)
 
 abbrev pub levels_of : Builder → Levels
-levels_of builder = On (lists_of builder.lists.items []) (sexps_of builder.ready.items)
+levels_of builder =
+    On (lists_of builder.parts.items (reverse builder.begins.items)) (sexps_of builder.ready.items)
 
 abbrev pub state_of : Reader → State
 state_of reader = At reader.token reader.bytes.items (levels_of reader.builder)
