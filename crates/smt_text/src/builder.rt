@@ -1,6 +1,6 @@
 //! Trees, built from tokens in order.
 
-ghost use Rattle.std.specs.Prelude.{◌≡◌, ◌<◌, [], ◌∷◌, IfOk, MatchOption};
+ghost use Rattle.std.specs.Prelude.{◌≡◌, ◌<◌, [], ◌∷◌, ◌++◌, IfOk, MatchOption};
 ghost use Rattle.smt_text.specs.Internal.Machine.{On, add, begun, ended, depth_of};
 ghost use Rattle.smt_text.specs.Internal.ReaderState.{levels_of};
 ghost use Rattle.smt_trees.specs.Sexp.{Nil};
@@ -48,13 +48,9 @@ impl Builder {
         ensures { IfOk result (λ _. levels_of self.new ≡ add (sexp_of tree) (levels_of self.old)) }
     {
         match self.lists.last_mut() {
-            Some(parts) => {
-                parts.reserve(1)?;
-                parts.push_reserved(tree);
-            }
-            None => self.ready.push_back(tree)?,
+            Some(parts) => push_in_place(parts, tree),
+            None => Ok(self.ready.push_back(tree)?),
         }
-        Ok(())
     }
 
     /// Begins a list.
@@ -90,11 +86,8 @@ impl Builder {
         ensures ready { self.new.ready ≡ self.old.ready }
     {
         match self.spare.pop() {
-            Some(mut parts) => {
-                parts.clear();
-                parts
-            }
-            None => Vec::new(self.alloc),
+            Some(parts) if parts.is_empty() => parts,
+            _ => Vec::new(self.alloc),
         }
     }
 
@@ -120,4 +113,16 @@ impl Builder {
     {
         self.ready.pop_front()
     }
+}
+
+// Adds an item behind others. The test for room is made here, since a call of `reserve` is not inlined.
+#[inline(always)]
+fn push_in_place<T: Drop>(items: &mut Vec<T>, item: T) -> Result<(), Memory>
+    ensures { IfOk result (λ _. items.new.items ≡ items.old.items ++ item ∷ []) }
+{
+    if items.len() >= items.capacity() {
+        items.reserve(1)?;
+    }
+    items.push_reserved(item);
+    Ok(())
 }

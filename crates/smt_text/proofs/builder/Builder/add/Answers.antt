@@ -1,15 +1,15 @@
-use Rattle.std.proofs.Common.{vec_len, refl, ap, ◌∙◌, ◌++◌, ◌∷◌, []}
-use Rattle.smt_text.proofs.BuilderLemmas.{add_last, add_topmost}
+use Rattle.std.proofs.Common.{vec_len, refl}
+use Rattle.smt_text.proofs.BuilderLemmas.{add_last, add_topmost, match_then}
 use Rattle.smt_trees.specs.Tree.{sexps_of}
 use Rattle.smt_text.proofs.builder.Builder.add.Goals as goal
 
-pub returns-in_ok-reserve-in-Some : goal.returns-in_ok-reserve-in-Some
-returns-in_ok-reserve-in-Some c =
-    add_last c.args.self.now.lists.items
-    (vec_len c.args.self.now.lists) c.in-Some.parts.now c.push_reserved.new.self c.args.tree
+pub returns-in-Some : goal.returns-in-Some
+returns-in-Some c =
+    match_then c.push_in_place.result _ _ _ c.push_in_place.ensures
+    (λ _ e. add_last c.args.self.now.lists.items
+    (vec_len c.args.self.now.lists) c.in-Some.parts.now c.push_in_place.new.items c.args.tree
     (sexps_of c.args.self.now.ready.items) c.args.self.now.lists.ok.0
-    (c.in-Some.ensures.variant.0 refl) c.in-Some.ensures.value
-    (c.push_reserved.ensures.items ∙ ap (λ trees. trees ++ c.args.tree ∷ []) c.reserve.ensures.items)
+    (c.in-Some.ensures.variant.0 refl) c.in-Some.ensures.value e)
 
 pub returns-in_ok-push_back-in-None : goal.returns-in_ok-push_back-in-None
 returns-in_ok-push_back-in-None c =
