@@ -9,7 +9,7 @@ use Rattle.smt_text.proofs.ReaderCompleteness.{step-at, run-push, run-cons, run-
 use Rattle.smt_text.specs.Lexical.{ends_token, is_white}
 use Rattle.smt_text.specs.Internal.Machine.{Levels, State, At, add_if, atom_of, ended, levels_in, lex}
 use Rattle.smt_text.specs.Internal.Machine.{separated, token_in, step, run, depth_of, blame, refusal_of, flaw_at}
-use Rattle.smt_text.specs.Internal.ReaderState.{BeginsAtom, GoesOver, GoesThrough}
+use Rattle.smt_text.specs.Internal.ReaderState.{state_of, BeginsAtom, GoesOn, GoesOver, GoesThrough}
 use Rattle.smt_text.specs.declared.lexer.AtomState.{AtomState}
 use Rattle.smt_text.specs.declared.lexer.AtomState.TheVariants.{Nothing, InComment}
 use Rattle.smt_text.specs.declared.lexer.LexerStep.{LexerStep}
@@ -17,6 +17,7 @@ use Rattle.smt_text.specs.declared.lexer.LexerStep.TheVariants.{Push, Skip, Fini
 use Rattle.smt_faults.specs.declared.failure.Failure.TheVariants.{Fault}
 use Rattle.smt_text.specs.declared.refusal.Refusal.{Refusal}
 use Rattle.smt_faults.specs.declared.text_flaw.TextFlaw.{TextFlaw}
+use Rattle.smt_text.specs.declared.reader.Reader.{Reader}
 use Rattle.smt_text.specs.declared.reader.TheConstants.{MAX_DEPTH}
 
 -- bytes that are kept
@@ -112,6 +113,26 @@ further limit s mid next piece place n e f =
     (take n (drop place piece)) e
     ∙ ap (λ x. run limit mid (take n x)) (sym (rest_is piece place)) ∙ f
 
+-- some bytes, and more behind them
+pub goes_further : (old mid new : Reader) (text : List ℕ) (place n : ℕ) → GoesOn old text place mid
+    → GoesOn mid (rest_of text place) n new → GoesOn old text (place + n) new
+goes_further old mid new text place n h k = record {
+  within = omega (arith, rest_length text place, h.within, k.within);
+  runs = further MAX_DEPTH (state_of old) (state_of mid) (state_of new) text place n h.runs k.runs;
+  token = k.token ∙ h.token;
+  bytes = k.bytes ∙ h.bytes;
+}
+
+pub over_goes : (old new : Reader) (text : List ℕ) (n : ℕ)
+    → Over MAX_DEPTH (state_of old) text n (state_of new) → new.token ≡ old.token → new.bytes ≡ old.bytes
+    → GoesOn old text n new
+over_goes old new text n h e f = record {
+  within = h.1;
+  runs = h.2;
+  token = e;
+  bytes = f;
+}
+
 -- an atom behind its mark
 marked_run : (s : State) (text : List ℕ) (mark n : ℕ) (token : AtomState) → BeginsAtom s text mark token → 0 < n
     → mark + n ≤ length text
@@ -157,19 +178,6 @@ atom_close s mid next token new left text mark n begins e f some lt h close deep
           (marked_run s text mark n token begins some (omega arith) h)
           (close_step MAX_DEPTH (levels_in s) next token said b (begins.ended b (ap ends_token close)) close
           deep (ap ended (sym adds) ∙ ends) ∙ ap Some (at_nothing new left next e f)),
-    )
-
-pub atom_kept : (s : State) (token : AtomState) (bytes longer text : List ℕ) (mark n : ℕ)
-    → BeginsAtom s text mark token → bytes ≡ [] → 0 < n → mark + n ≤ length text
-    → ((k : ℕ) → k < n → lex token (get_or (rest_of text mark) k 0) ≡ Push token)
-    → longer ≡ bytes ++ take n (rest_of text mark)
-    → Over MAX_DEPTH s text (mark + n) (At token longer (levels_in s))
-atom_kept s token bytes longer text mark n begins f some le h is =
-    let said = take n (rest_of text mark) in
-    let same : said ≡ longer = ap (λ x. x ++ said) (sym f) ∙ sym is in (
-      omega arith,
-      le,
-      marked_run s text mark n token begins some le h ∙ ap (λ x. Some (At token x (levels_in s))) same,
     )
 
 pub run_kept : (limit : ℕ) (levels : Levels) (token : AtomState) (bytes longer text : List ℕ) (n : ℕ) → 0 < n
