@@ -87,11 +87,17 @@ add_last lists n parts longer tree top e some at is =
     (λ x. add (sexp_of tree) (On (lists_of x []) top)) (sym olds)
 
 -- a tree at the top, where there is no list
-pub add_topmost : (lists : List (Vec Tree Global)) (n : ℕ) (ready more : List Tree) (tree : Tree)
+add_topmost : (lists : List (Vec Tree Global)) (n : ℕ) (ready more : List Tree) (tree : Tree)
     → n ≡ length lists → (0 < n → false ≡ true) → more ≡ ready ++ tree ∷ []
     → On (lists_of lists []) (sexps_of more) ≡ add (sexp_of tree) (On (lists_of lists []) (sexps_of ready))
 add_topmost [] n ready more tree e none is = add_top ready more tree is
 add_topmost (parts ∷ lists) n ready more tree e none is = absurd (false≢true (none (omega arith)))
+
+pub add_topmost_at : (lists same : List (Vec Tree Global)) (n : ℕ) (ready more : List Tree) (tree : Tree)
+    → same ≡ lists → n ≡ length lists → (0 < n → false ≡ true) → more ≡ ready ++ tree ∷ []
+    → On (lists_of same []) (sexps_of more) ≡ add (sexp_of tree) (On (lists_of lists []) (sexps_of ready))
+add_topmost_at lists same n ready more tree keeps e none is =
+    ap (λ x. On (lists_of x []) (sexps_of more)) keeps ∙ add_topmost lists n ready more tree e none is
 
 -- an atom is at the depth of the lists around it
 depth_of-add_if : (o : Option Sexp) (levels : Levels) → depth_of (add_if o levels) ≡ depth_of levels

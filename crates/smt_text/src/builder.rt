@@ -49,8 +49,18 @@ impl Builder {
     {
         match self.lists.last_mut() {
             Some(parts) => push_in_place(parts, tree),
-            None => Ok(self.ready.push_back(tree)?),
+            None => self.add_ready(tree),
         }
+    }
+
+    // Adds a tree at the top.
+    #[inline(never)]
+    fn add_ready(&mut self, tree: Tree) -> Result<(), Memory>
+        ensures lists { self.new.lists ≡ self.old.lists }
+        ensures ready { IfOk result (λ _. self.new.ready.items ≡ self.old.ready.items ++ tree ∷ []) }
+    {
+        self.ready.push_back(tree)?;
+        Ok(())
     }
 
     /// Begins a list.

@@ -228,12 +228,12 @@ impl Reader {
         ensures goes { IfOk result (λ count. GoesOn self.old text.now count self.new) }
     {
         match text[0] {
-            first if is_letter(first) => self.read_atom(text, 0, AtomState::Name),
-            b' ' | b'\n' => Ok(1),
             b'(' if self.builder.depth() < MAX_DEPTH => {
                 self.builder.begin_list()?;
                 Ok(1)
             }
+            first if is_letter(first) => self.read_atom(text, 0, AtomState::Name),
+            b' ' | b'\n' => Ok(1),
             b')' if self.builder.depth() > 0 => {
                 self.builder.end_list()?;
                 Ok(1)
