@@ -1,6 +1,7 @@
 -- Several bytes at once.
 use Rattle.std.proofs.Common.{◌≡◌, ◌+◌, ◌-◌, ◌<◌, ◌≤◌, ℕ, zero, suc, List, [], ◌∷◌, ◌++◌, length, take, drop}
-use Rattle.std.proofs.Common.{get_or, Some, None, Err, true, refl, sym, ap, ◌∙◌, arith, subst}
+use Rattle.std.proofs.Common.{get_or, Some, None, Err, true, refl, sym, ap, ◌∙◌, arith, subst, ◌⊎◌, inl, inr}
+use Rattle.std.proofs.lemmas.Bool.{cases_lt}
 use Rattle.std.proofs.Math.Seq.{take-add}
 use Rattle.std.proofs.lemmas.List.{append-nil, append_assoc, take_more, take_all, get_or-drop, length-drop}
 use Rattle.smt_text.proofs.BuilderLemmas.{end_taken}
@@ -102,6 +103,10 @@ pub first_of_rest : (piece : List ℕ) (place : ℕ) → get_or (rest_of piece p
 first_of_rest piece place = ap (λ x. get_or x 0 0) (rest_is piece place) ∙ get_or-drop place piece 0 0 ∙ ap
     (λ n. get_or piece n 0) (omega arith)
 
+at_rest : (piece : List ℕ) (place k : ℕ) → get_or (rest_of piece place) k 0 ≡ get_or piece (place + k) 0
+at_rest piece place k = ap (λ x. get_or x k 0) (rest_is piece place) ∙ get_or-drop place piece k 0 ∙ ap
+    (λ n. get_or piece n 0) (omega arith)
+
 pub rest_length : (piece : List ℕ) (place : ℕ) → length (rest_of piece place) ≡ length piece - place
 rest_length piece place = ap length (rest_is piece place) ∙ length-drop place piece
 
@@ -132,6 +137,21 @@ over_goes old new text n h e f = record {
   token = e;
   bytes = f;
 }
+
+-- bytes that are known to be kept, and those that were found to be
+pub kept_on : (token : AtomState) (text : List ℕ) (mark known count : ℕ)
+    → ((k : ℕ) → k < known → lex token (get_or text (mark + k) 0) ≡ Push token)
+    → ((k : ℕ) → k < count → lex token (get_or (rest_of (rest_of text mark) known) k 0) ≡ Push token)
+    → (k : ℕ) → k < known + count → lex token (get_or (rest_of text mark) k 0) ≡ Push token
+kept_on token text mark known count first found k lt = by (cases_lt k known)
+  where
+    by : (k < known) ⊎ (known ≤ k) → lex token (get_or (rest_of text mark) k 0) ≡ Push token
+    by (inl h) = ap (lex token) (at_rest text mark k) ∙ first k h
+    by (inr h) =
+        let n = k - known in
+        let at : get_or (rest_of text mark) k 0 ≡ get_or (rest_of (rest_of text mark) known) n 0 =
+        ap (λ m. get_or (rest_of text mark) m 0) (omega arith) ∙ sym (at_rest (rest_of text mark) known n) in
+        ap (lex token) at ∙ found n (omega arith)
 
 -- an atom behind its mark
 marked_run : (s : State) (text : List ℕ) (mark n : ℕ) (token : AtomState) → BeginsAtom s text mark token → 0 < n

@@ -19,6 +19,7 @@ ghost use Rattle.smt_faults.specs.Faults.{flaw_in};
 ghost use Rattle.smt_faults.specs.declared.failure.Failure.TheVariants as failures;
 ghost use Rattle.smt_text.specs.declared.refusal.Refusal.TheVariants.{TooDeep, Unfit};
 ghost use Rattle.smt_text.specs.declared.lexer.AtomState.TheVariants.{InComment, Name, Nothing};
+ghost use Rattle.smt_text.specs.declared.lexer.LexerStep.TheVariants.{Push};
 
 use crate::builder::Builder;
 use crate::byte_class::{is_letter, is_nonzero_digit, is_white};
@@ -232,13 +233,13 @@ impl Reader {
                 self.builder.begin_list()?;
                 Ok(1)
             }
-            first if is_letter(first) => self.read_atom(text, 0, AtomState::Name),
+            first if is_letter(first) => self.read_atom(text, 0, 1, AtomState::Name),
             b' ' | b'\n' => Ok(1),
             b')' if self.builder.depth() > 0 => {
                 self.builder.end_list()?;
                 Ok(1)
             }
-            first if is_nonzero_digit(first) => self.read_atom(text, 0, AtomState::Digits),
+            first if is_nonzero_digit(first) => self.read_atom(text, 0, 1, AtomState::Digits),
             b'#' => self.read_literal(text),
             _ => Ok(0),
         }
@@ -255,16 +256,24 @@ impl Reader {
         ensures goes { IfOk result (λ count. GoesOn self.old text.now count self.new) }
     {
         match text.get(1) {
-            Some(b'x') => self.read_atom(text, 2, AtomState::HexDigits),
-            Some(b'b') => self.read_atom(text, 2, AtomState::BinDigits),
+            Some(b'x') => self.read_atom(text, 2, 0, AtomState::HexDigits),
+            Some(b'b') => self.read_atom(text, 2, 0, AtomState::BinDigits),
             _ => Ok(0),
         }
     }
 
-    // Reads an atom whose bytes stand behind a mark of so many, and the byte behind it, where that ends it.
+    // Reads an atom whose bytes stand behind a mark of so many, and the byte behind it, where that ends it. So
+    // many of its bytes are known to be kept: they are not looked at again.
     #[inline(always)]
-    fn read_atom(&mut self, text: &[u8], mark: usize, token: AtomState) -> Result<usize, Memory>
-        requires within { mark ≤ length text.now }
+    fn read_atom(
+        &mut self,
+        text: &[u8],
+        mark: usize,
+        known: usize,
+        token: AtomState,
+    ) -> Result<usize, Memory>
+        requires within { mark + known ≤ length text.now }
+        requires kept { (k : ℕ) → k < known → lex token (slice_index text.now (mark + k)) ≡ Push token }
         requires begins { BeginsAtom (state_of self.old) text.now mark token }
         requires token { self.old.token ≡ Nothing }
         requires bytes { self.old.bytes.items ≡ [] }
@@ -272,7 +281,7 @@ impl Reader {
         ensures goes { IfOk result (λ count. GoesOn self.old text.now count self.new) }
     {
         let said = &text[mark..];
-        let count = token.run_length(said);
+        let count = known + token.run_length(&said[known..]);
         let end = mark + count;
         if count == 0 || end >= text.len() {
             return Ok(0);

@@ -1,6 +1,6 @@
 use Rattle.std.proofs.Common.{◌≡◌, ◌<◌, ◌+◌, ℕ, true, ltb-true, eqb-true, arith, get_or, subst, sym, ap, ◌∙◌, take}
 use Rattle.std.proofs.lemmas.Bool.{false≢true}
-use Rattle.smt_text.proofs.RunLemmas.{atom_white, atom_close, over_goes, rest_of}
+use Rattle.smt_text.proofs.RunLemmas.{atom_white, atom_close, kept_on, over_goes, rest_of}
 use Rattle.smt_text.proofs.BuilderLemmas.{depth_of-flush}
 use Rattle.smt_text.specs.Internal.ReaderState.{levels_of, state_of, GoesOn}
 use Rattle.smt_text.specs.Internal.Machine.{At, depth_of}
@@ -15,7 +15,7 @@ use Rattle.smt_text.proofs.reader.Reader.read_atom.Goals.{else-not-closes-via-th
 pub end_list-requires : goal.end_list-requires
 end_list-requires c =
     let mid = c.add_atom.new.self in
-    let said = take c.run_length-count.result (rest_of c.args.text.now c.args.mark) in
+    let said = take (c.args.known + c.run_length.result) (rest_of c.args.text.now c.args.mark) in
     let levels = levels_of c.args.self.now.builder in
     let same : depth_of (levels_of mid.builder) ≡ depth_of levels = ap depth_of c.in_ok-add_atom.ensures.added
     ∙ depth_of-flush (At c.args.token said levels) in
@@ -23,7 +23,7 @@ end_list-requires c =
       | then-text-end-eq41 w ↦ subst (λ (x : ℕ). 0 < x) w.depth.ensures
           (ltb-true 0 w.depth.result (sym w.closes-is ∙ c.if-closes.true))
       | else-text-end-eq41 w ↦ absurd (w.if-text-end-eq41.false
-          (eqb-true (get_or c.args.text.now (c.args.mark + c.run_length-count.result) 0) 41
+          (eqb-true (get_or c.args.text.now (c.args.mark + (c.args.known + c.run_length.result)) 0) 41
           (sym w.closes-is ∙ c.if-closes.true)))
     ] in
     subst (λ (x : ℕ). 0 < x) (sym same) deep
@@ -32,7 +32,9 @@ pub returns-clause-goes : goal.returns-clause-goes
 returns-clause-goes c =
     let text = c.args.text.now in
     let mark = c.args.mark in
-    let n = c.run_length-count.result in
+    let n = c.args.known + c.run_length.result in
+    let kept = kept_on c.args.token text mark c.args.known c.run_length.result c.requires.kept
+    c.run_length.ensures.kept in
     let levels = levels_of c.args.self.now.builder in
     let mid = c.add_atom.new.self in
     let token = c.in_ok-add_atom.ensures.token ∙ c.requires.token in
@@ -54,7 +56,7 @@ returns-clause-goes c =
           (over_goes c.args.self.now _ text (mark + n + 1)
           (atom_close (state_of c.args.self.now) (levels_of mid.builder) (levels_of w.end_list.new.self)
           c.args.token mid.token mid.bytes.items text mark n c.requires.begins token left
-          (omega arith) (omega arith) c.run_length-count.ensures.kept
+          (omega arith) (omega arith) kept
           (closes w.if-closes.true).0
           (closes w.if-closes.true).1 c.in_ok-add_atom.ensures.added w.in_ok-end_list.ensures)
           c.in_ok-add_atom.ensures.token c.in_ok-add_atom.ensures.bytes)
@@ -69,7 +71,7 @@ returns-clause-goes c =
           (over_goes c.args.self.now _ text (mark + n + 1)
           (atom_white (state_of c.args.self.now) (levels_of mid.builder) c.args.token mid.token mid.bytes.items
           text mark n c.requires.begins token left
-          (omega arith) (omega arith) c.run_length-count.ensures.kept white
+          (omega arith) (omega arith) kept white
           c.in_ok-add_atom.ensures.added)
           c.in_ok-add_atom.ensures.token c.in_ok-add_atom.ensures.bytes)
     ]
