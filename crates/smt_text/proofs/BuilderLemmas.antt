@@ -1,6 +1,6 @@
 -- The trees that a builder holds.
 use Rattle.std.proofs.Common.{◌≡◌, ℕ, suc, ◌<◌, ◌≤◌, List, [], ◌∷◌, ◌++◌, length, true, cond}
-use Rattle.std.proofs.Common.{Option, Some, None, Result, Ok, Err, OnOk, OnErr, take, drop, reverse, refl, ap}
+use Rattle.std.proofs.Common.{Option, Some, None, Result, Ok, Err, IfOk, OnOk, OnErr, take, drop, reverse, refl, ap}
 use Rattle.std.proofs.Common.{sym, subst, ◌∙◌, arith}
 use Rattle.std.proofs.lemmas.Bool.{lt-ltb, le-ltb, leb-true, le-leb, and_from, and_parts}
 use Rattle.std.specs.Prelude.{nat_le}
@@ -79,11 +79,19 @@ add_last parts more begins tree top some n is = by (reverse begins) (length-reve
     by (begin ∷ around) e h =
         add_inside parts more tree begin around top (parts_of (length parts) begin around h).0 is
 
-pub add_nested : (parts more : List Tree) (begins : List ℕ) (tree : Tree) → more ≡ parts ++ tree ∷ []
+-- the places lie within the trees, whether there is one more or not
+pub add_nested : {T E : Type 0} (r : Result T E) (parts more : List Tree) (begins : List ℕ) (tree : Tree)
+    → IfOk r (λ _. more ≡ parts ++ tree ∷ []) → OnErr r (more ≡ parts)
     → AreNested (length parts) (reverse begins) → AreNested (length more) (reverse begins)
-add_nested parts more begins tree is n =
+add_nested (Ok x) parts more begins tree pushed kept n =
     nested_within (reverse begins) (length parts) (length more)
-    (omega (arith, ap length is, length-append parts (tree ∷ []))) n
+    (omega (arith, ap length pushed, length-append parts (tree ∷ []))) n
+add_nested (Err e) parts more begins tree pushed kept n =
+    subst (λ (trees : List Tree). AreNested (length trees) (reverse begins)) (sym kept) n
+
+pub if_ok : {T E : Type 0} {P Q : Type 0} (r : Result T E) → (P → Q) → IfOk r (λ _. P) → IfOk r (λ _. Q)
+if_ok (Ok x) f h = f h
+if_ok (Err e) f h = h
 
 -- a tree at the top, where there is no list
 pub add_topmost : (parts : List Tree) (begins : List ℕ) (ready more : List Tree) (tree : Tree)

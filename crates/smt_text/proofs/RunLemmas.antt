@@ -1,6 +1,7 @@
 -- Several bytes at once.
 use Rattle.std.proofs.Common.{◌≡◌, ◌+◌, ◌-◌, ◌<◌, ◌≤◌, ℕ, zero, suc, List, [], ◌∷◌, ◌++◌, length, take, drop}
-use Rattle.std.proofs.Common.{get_or, Some, None, Err, true, refl, sym, ap, ◌∙◌, arith, subst}
+use Rattle.std.proofs.Common.{get_or, Some, None, Err, true, refl, sym, ap, ◌∙◌, arith, subst, ◌⊎◌, inl, inr}
+use Rattle.std.proofs.lemmas.Bool.{cases_lt}
 use Rattle.std.proofs.Math.Seq.{take-add}
 use Rattle.std.proofs.lemmas.List.{append-nil, append_assoc, take_more, take_all, get_or-drop, length-drop}
 use Rattle.smt_text.proofs.BuilderLemmas.{end_taken}
@@ -9,7 +10,7 @@ use Rattle.smt_text.proofs.ReaderCompleteness.{step-at, run-push, run-cons, run-
 use Rattle.smt_text.specs.Lexical.{ends_token, is_white}
 use Rattle.smt_text.specs.Internal.Machine.{Levels, State, At, add_if, atom_of, ended, levels_in, lex}
 use Rattle.smt_text.specs.Internal.Machine.{separated, token_in, step, run, depth_of, blame, refusal_of, flaw_at}
-use Rattle.smt_text.specs.Internal.ReaderState.{BeginsAtom, GoesOver, GoesThrough}
+use Rattle.smt_text.specs.Internal.ReaderState.{state_of, BeginsAtom, GoesOn, GoesOver, GoesThrough}
 use Rattle.smt_text.specs.declared.lexer.AtomState.{AtomState}
 use Rattle.smt_text.specs.declared.lexer.AtomState.TheVariants.{Nothing, InComment}
 use Rattle.smt_text.specs.declared.lexer.LexerStep.{LexerStep}
@@ -17,6 +18,7 @@ use Rattle.smt_text.specs.declared.lexer.LexerStep.TheVariants.{Push, Skip, Fini
 use Rattle.smt_faults.specs.declared.failure.Failure.TheVariants.{Fault}
 use Rattle.smt_text.specs.declared.refusal.Refusal.{Refusal}
 use Rattle.smt_faults.specs.declared.text_flaw.TextFlaw.{TextFlaw}
+use Rattle.smt_text.specs.declared.reader.Reader.{Reader}
 use Rattle.smt_text.specs.declared.reader.TheConstants.{MAX_DEPTH}
 
 -- bytes that are kept
@@ -101,6 +103,10 @@ pub first_of_rest : (piece : List ℕ) (place : ℕ) → get_or (rest_of piece p
 first_of_rest piece place = ap (λ x. get_or x 0 0) (rest_is piece place) ∙ get_or-drop place piece 0 0 ∙ ap
     (λ n. get_or piece n 0) (omega arith)
 
+at_rest : (piece : List ℕ) (place k : ℕ) → get_or (rest_of piece place) k 0 ≡ get_or piece (place + k) 0
+at_rest piece place k = ap (λ x. get_or x k 0) (rest_is piece place) ∙ get_or-drop place piece k 0 ∙ ap
+    (λ n. get_or piece n 0) (omega arith)
+
 pub rest_length : (piece : List ℕ) (place : ℕ) → length (rest_of piece place) ≡ length piece - place
 rest_length piece place = ap length (rest_is piece place) ∙ length-drop place piece
 
@@ -111,6 +117,41 @@ further limit s mid next piece place n e f =
     ap (run limit s) (take-add place n piece) ∙ run-append limit s mid (take place piece)
     (take n (drop place piece)) e
     ∙ ap (λ x. run limit mid (take n x)) (sym (rest_is piece place)) ∙ f
+
+-- some bytes, and more behind them
+pub goes_further : (old mid new : Reader) (text : List ℕ) (place n : ℕ) → GoesOn old text place mid
+    → GoesOn mid (rest_of text place) n new → GoesOn old text (place + n) new
+goes_further old mid new text place n h k = record {
+  within = omega (arith, rest_length text place, h.within, k.within);
+  runs = further MAX_DEPTH (state_of old) (state_of mid) (state_of new) text place n h.runs k.runs;
+  token = k.token ∙ h.token;
+  bytes = k.bytes ∙ h.bytes;
+}
+
+pub over_goes : (old new : Reader) (text : List ℕ) (n : ℕ)
+    → Over MAX_DEPTH (state_of old) text n (state_of new) → new.token ≡ old.token → new.bytes ≡ old.bytes
+    → GoesOn old text n new
+over_goes old new text n h e f = record {
+  within = h.1;
+  runs = h.2;
+  token = e;
+  bytes = f;
+}
+
+-- bytes that are known to be kept, and those that were found to be
+pub kept_on : (token : AtomState) (text : List ℕ) (mark known count : ℕ)
+    → ((k : ℕ) → k < known → lex token (get_or text (mark + k) 0) ≡ Push token)
+    → ((k : ℕ) → k < count → lex token (get_or (rest_of (rest_of text mark) known) k 0) ≡ Push token)
+    → (k : ℕ) → k < known + count → lex token (get_or (rest_of text mark) k 0) ≡ Push token
+kept_on token text mark known count first found k lt = by (cases_lt k known)
+  where
+    by : (k < known) ⊎ (known ≤ k) → lex token (get_or (rest_of text mark) k 0) ≡ Push token
+    by (inl h) = ap (lex token) (at_rest text mark k) ∙ first k h
+    by (inr h) =
+        let n = k - known in
+        let at : get_or (rest_of text mark) k 0 ≡ get_or (rest_of (rest_of text mark) known) n 0 =
+        ap (λ m. get_or (rest_of text mark) m 0) (omega arith) ∙ sym (at_rest (rest_of text mark) known n) in
+        ap (lex token) at ∙ found n (omega arith)
 
 -- an atom behind its mark
 marked_run : (s : State) (text : List ℕ) (mark n : ℕ) (token : AtomState) → BeginsAtom s text mark token → 0 < n
@@ -157,19 +198,6 @@ atom_close s mid next token new left text mark n begins e f some lt h close deep
           (marked_run s text mark n token begins some (omega arith) h)
           (close_step MAX_DEPTH (levels_in s) next token said b (begins.ended b (ap ends_token close)) close
           deep (ap ended (sym adds) ∙ ends) ∙ ap Some (at_nothing new left next e f)),
-    )
-
-pub atom_kept : (s : State) (token : AtomState) (bytes longer text : List ℕ) (mark n : ℕ)
-    → BeginsAtom s text mark token → bytes ≡ [] → 0 < n → mark + n ≤ length text
-    → ((k : ℕ) → k < n → lex token (get_or (rest_of text mark) k 0) ≡ Push token)
-    → longer ≡ bytes ++ take n (rest_of text mark)
-    → Over MAX_DEPTH s text (mark + n) (At token longer (levels_in s))
-atom_kept s token bytes longer text mark n begins f some le h is =
-    let said = take n (rest_of text mark) in
-    let same : said ≡ longer = ap (λ x. x ++ said) (sym f) ∙ sym is in (
-      omega arith,
-      le,
-      marked_run s text mark n token begins some le h ∙ ap (λ x. Some (At token x (levels_in s))) same,
     )
 
 pub run_kept : (limit : ℕ) (levels : Levels) (token : AtomState) (bytes longer text : List ℕ) (n : ℕ) → 0 < n

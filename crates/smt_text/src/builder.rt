@@ -1,7 +1,7 @@
 //! Trees, built from tokens in order.
 
 ghost use Rattle.std.proofs.Props.{props};
-ghost use Rattle.std.specs.Prelude.{◌≡◌, true, length, reverse};
+ghost use Rattle.std.specs.Prelude.{◌≡◌, [], ◌∷◌, ◌++◌, true, length, reverse, IfOk, OnErr};
 ghost use Rattle.smt_text.specs.Internal.OpenLists.{are_nested};
 
 use smt_faults::Memory;
@@ -22,7 +22,7 @@ pub(crate) struct Builder {
 }
 
 impl Builder {
-    ghost use Rattle.std.specs.Prelude.{◌<◌, [], ◌∷◌, IfOk, MatchOption};
+    ghost use Rattle.std.specs.Prelude.{◌<◌, MatchOption};
     ghost use Rattle.smt_text.specs.Internal.Machine.{On, add, begun, ended, depth_of};
     ghost use Rattle.smt_text.specs.Internal.ReaderState.{levels_of};
     ghost use Rattle.smt_trees.specs.Sexp.{Nil};
@@ -52,12 +52,10 @@ impl Builder {
         ensures { IfOk result (λ _. levels_of self.new ≡ add (sexp_of tree) (levels_of self.old)) }
     {
         if self.begins.is_empty() {
-            self.ready.push_back(tree)?;
+            push_ready(&mut self.ready, tree)
         } else {
-            self.parts.reserve(1)?;
-            self.parts.push_reserved(tree);
+            push_in_place(&mut self.parts, tree)
         }
-        Ok(())
     }
 
     /// Begins a list.
@@ -66,9 +64,7 @@ impl Builder {
         ensures { IfOk result (λ _. levels_of self.new ≡ begun (levels_of self.old)) }
     {
         let begin = self.parts.len();
-        self.begins.reserve(1)?;
-        self.begins.push_reserved(begin);
-        Ok(())
+        push_in_place(&mut self.begins, begin)
     }
 
     /// Closes the innermost list.
@@ -95,4 +91,26 @@ impl Builder {
     {
         self.ready.pop_front()
     }
+}
+
+// Adds an item behind others. The test for room is made here, since a call of `reserve` is not inlined.
+#[inline(always)]
+fn push_in_place<T: Drop>(items: &mut Vec<T>, item: T) -> Result<(), Memory>
+    ensures pushed { IfOk result (λ _. items.new.items ≡ items.old.items ++ item ∷ []) }
+    ensures unchanged { OnErr result (items.new.items ≡ items.old.items) }
+{
+    if items.len() >= items.capacity() {
+        items.reserve(1)?;
+    }
+    items.push_reserved(item);
+    Ok(())
+}
+
+// Adds a tree behind those that are ready. Few trees stand at the top, so this is not inlined.
+#[inline(never)]
+fn push_ready(ready: &mut VecDeque<Tree>, tree: Tree) -> Result<(), Memory>
+    ensures { IfOk result (λ _. ready.new.items ≡ ready.old.items ++ tree ∷ []) }
+{
+    ready.push_back(tree)?;
+    Ok(())
 }

@@ -7,7 +7,7 @@ ghost use Rattle.smt_text.specs.Reader.{is_finished, bytes_fed, fault_of, trees_
 ghost use Rattle.smt_text.specs.Reader.{FewerWait, IsFound, with_answer};
 ghost use Rattle.smt_text.specs.Internal.Machine.{act, add_if, atom_of, finished, flush, lex, refusal_of};
 ghost use Rattle.smt_text.specs.Internal.Machine.{settle, step};
-ghost use Rattle.smt_text.specs.Internal.ReaderState.{levels_of, state_of, BeginsAtom, Ends, Goes, GoesOver};
+ghost use Rattle.smt_text.specs.Internal.ReaderState.{levels_of, state_of, BeginsAtom, Ends, Goes, GoesOn, GoesOver};
 ghost use Rattle.smt_text.specs.Internal.ReaderState.{GoesThrough};
 ghost use Rattle.smt_text.specs.Internal.ReaderState.{IsBeside};
 ghost use Rattle.smt_text.specs.Reading.{Reads};
@@ -19,6 +19,7 @@ ghost use Rattle.smt_faults.specs.Faults.{flaw_in};
 ghost use Rattle.smt_faults.specs.declared.failure.Failure.TheVariants as failures;
 ghost use Rattle.smt_text.specs.declared.refusal.Refusal.TheVariants.{TooDeep, Unfit};
 ghost use Rattle.smt_text.specs.declared.lexer.AtomState.TheVariants.{InComment, Name, Nothing};
+ghost use Rattle.smt_text.specs.declared.lexer.LexerStep.TheVariants.{Push};
 
 use crate::builder::Builder;
 use crate::byte_class::{is_letter, is_nonzero_digit, is_white};
@@ -178,88 +179,122 @@ impl Reader {
         ensures goes { GoesOver (state_of self.old) text.now result (state_of self.new) }
     {
         match self.token {
-            AtomState::Nothing if self.bytes.is_empty() => self.read_token(text),
+            AtomState::Nothing if self.bytes.is_empty() => self.read_between(text),
             AtomState::InComment => self.read_comment(text),
             _ => self.read_run(text),
         }
     }
 
     // Reads on where no token has begun.
-    fn read_token(&mut self, text: &[u8]) -> Result<usize, Failure<Refusal>>
+    fn read_between(&mut self, text: &[u8]) -> Result<usize, Failure<Refusal>>
         requires some { 0 < length text.now }
         requires token { self.old.token ≡ Nothing }
         requires bytes { self.old.bytes.items ≡ [] }
         ensures beside { IsBeside self.old self.new }
         ensures goes { GoesOver (state_of self.old) text.now result (state_of self.new) }
     {
+        let count = self.read_tokens(text)?;
+        if count == 0 {
+            return self.read_byte(text);
+        }
+        Ok(count)
+    }
+
+    // Reads the tokens that end at the beginning of a text, and the white space between them.
+    fn read_tokens(&mut self, text: &[u8]) -> Result<usize, Memory>
+        requires token { self.old.token ≡ Nothing }
+        requires bytes { self.old.bytes.items ≡ [] }
+        ensures beside { IsBeside self.old self.new }
+        ensures goes { IfOk result (λ count. GoesOn self.old text.now count self.new) }
+    {
+        let mut place = 0;
+        while place < text.len() {
+            let count = self.read_token(&text[place..])?;
+            if count == 0 {
+                return Ok(place);
+            }
+            place += count;
+        }
+        Ok(place)
+    }
+
+    // Reads an atom that ends, a parenthesis or white space at the beginning of a text that is not empty. It
+    // reads nothing where something else stands there, or one that comes seldom.
+    #[inline(always)]
+    fn read_token(&mut self, text: &[u8]) -> Result<usize, Memory>
+        requires some { 0 < length text.now }
+        requires token { self.old.token ≡ Nothing }
+        requires bytes { self.old.bytes.items ≡ [] }
+        ensures beside { IsBeside self.old self.new }
+        ensures goes { IfOk result (λ count. GoesOn self.old text.now count self.new) }
+    {
         match text[0] {
-            first if is_letter(first) => self.read_atom(text, 0, AtomState::Name),
-            b' ' | b'\n' => Ok(1),
             b'(' if self.builder.depth() < MAX_DEPTH => {
                 self.builder.begin_list()?;
                 Ok(1)
             }
+            first if is_letter(first) => self.read_atom(text, 0, 1, AtomState::Name),
+            b' ' | b'\n' => Ok(1),
             b')' if self.builder.depth() > 0 => {
                 self.builder.end_list()?;
                 Ok(1)
             }
-            first if is_nonzero_digit(first) => self.read_atom(text, 0, AtomState::Digits),
+            first if is_nonzero_digit(first) => self.read_atom(text, 0, 1, AtomState::Digits),
             b'#' => self.read_literal(text),
-            _ => self.read_byte(text),
+            _ => Ok(0),
         }
     }
 
-    // Reads a literal of a bit vector, and the byte behind it where it ends the literal.
-    fn read_literal(&mut self, text: &[u8]) -> Result<usize, Failure<Refusal>>
+    // Reads a literal of a bit vector, and the byte behind it, where that ends it.
+    #[inline(always)]
+    fn read_literal(&mut self, text: &[u8]) -> Result<usize, Memory>
         requires some { 0 < length text.now }
         requires first { slice_index text.now 0 ≡ 35 }
         requires token { self.old.token ≡ Nothing }
         requires bytes { self.old.bytes.items ≡ [] }
         ensures beside { IsBeside self.old self.new }
-        ensures goes { GoesOver (state_of self.old) text.now result (state_of self.new) }
+        ensures goes { IfOk result (λ count. GoesOn self.old text.now count self.new) }
     {
         match text.get(1) {
-            Some(b'x') => self.read_atom(text, 2, AtomState::HexDigits),
-            Some(b'b') => self.read_atom(text, 2, AtomState::BinDigits),
-            _ => self.read_byte(text),
+            Some(b'x') => self.read_atom(text, 2, 0, AtomState::HexDigits),
+            Some(b'b') => self.read_atom(text, 2, 0, AtomState::BinDigits),
+            _ => Ok(0),
         }
     }
 
-    // Reads an atom whose bytes stand behind a mark of so many, and the byte behind it where it ends the atom.
+    // Reads an atom whose bytes stand behind a mark of so many, and the byte behind it, where that ends it. So
+    // many of its bytes are known to be kept: they are not looked at again.
     #[inline(always)]
     fn read_atom(
         &mut self,
         text: &[u8],
         mark: usize,
+        known: usize,
         token: AtomState,
-    ) -> Result<usize, Failure<Refusal>>
-        requires some { 0 < length text.now }
-        requires within { mark ≤ length text.now }
+    ) -> Result<usize, Memory>
+        requires within { mark + known ≤ length text.now }
+        requires kept { (k : ℕ) → k < known → lex token (slice_index text.now (mark + k)) ≡ Push token }
         requires begins { BeginsAtom (state_of self.old) text.now mark token }
         requires token { self.old.token ≡ Nothing }
         requires bytes { self.old.bytes.items ≡ [] }
         ensures beside { IsBeside self.old self.new }
-        ensures goes { GoesOver (state_of self.old) text.now result (state_of self.new) }
+        ensures goes { IfOk result (λ count. GoesOn self.old text.now count self.new) }
     {
         let said = &text[mark..];
-        let count = token.run_length(said);
-        if count == 0 {
-            return self.read_byte(text);
-        }
+        let count = known + token.run_length(&said[known..]);
         let end = mark + count;
-        if end < text.len() {
-            let closes = text[end] == b')' && self.builder.depth() > 0;
-            if closes || is_white(text[end]) {
-                self.add_atom(token, said, count)?;
-                if closes {
-                    self.builder.end_list()?;
-                }
-                return Ok(end + 1);
-            }
+        if count == 0 || end >= text.len() {
+            return Ok(0);
         }
-        self.bytes.extend_from_slice(&said[..count])?;
-        self.token = token;
-        Ok(end)
+        let closes = text[end] == b')' && self.builder.depth() > 0;
+        if !closes && !is_white(text[end]) {
+            return Ok(0);
+        }
+        self.add_atom(token, said, count)?;
+        if closes {
+            self.builder.end_list()?;
+        }
+        Ok(end + 1)
     }
 
     // Adds the atom that a token which says so many bytes at the beginning of a text is, if it is one.

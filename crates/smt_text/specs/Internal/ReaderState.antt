@@ -67,6 +67,13 @@ GoesOver old text (Err (Fault e)) new =
     × (e ≡ refusal_of (lex (token_in old) (get_or text 0 0))) × (new ≡ old)
 GoesOver old text (Err Memory) new = Unit {0}
 
+-- the reader went over so many bytes of the text, up to where no token has begun
+pub record GoesOn (old : Reader) (text : List ℕ) (count : ℕ) (new : Reader) : Type 0 where
+  pub within : count ≤ length text
+  pub runs : run MAX_DEPTH (state_of old) (take count text) ≡ Some (state_of new)
+  pub token : new.token ≡ old.token
+  pub bytes : new.bytes ≡ old.bytes
+
 -- behind a mark of so many bytes, of which no token keeps one, a token begins with a byte that it keeps
 pub record BeginsAtom (s : State) (text : List ℕ) (mark : ℕ) (token : AtomState) : Type 0 where
   pub start : AtomState

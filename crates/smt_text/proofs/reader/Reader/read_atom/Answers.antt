@@ -1,46 +1,40 @@
 use Rattle.std.proofs.Common.{◌≡◌, ◌<◌, ◌+◌, ℕ, true, ltb-true, eqb-true, arith, get_or, subst, sym, ap, ◌∙◌, take}
 use Rattle.std.proofs.lemmas.Bool.{false≢true}
-use Rattle.smt_text.proofs.RunLemmas.{Over, atom_white, atom_close, atom_kept, rest_of}
+use Rattle.smt_text.proofs.RunLemmas.{atom_white, atom_close, kept_on, over_goes, rest_of}
 use Rattle.smt_text.proofs.BuilderLemmas.{depth_of-flush}
-use Rattle.smt_text.specs.Internal.ReaderState.{levels_of, state_of}
+use Rattle.smt_text.specs.Internal.ReaderState.{levels_of, state_of, GoesOn}
 use Rattle.smt_text.specs.Internal.Machine.{At, depth_of}
 use Rattle.smt_text.specs.Lexical.{is_white}
 use Rattle.smt_text.specs.declared.reader.Reader.{Reader}
-use Rattle.smt_text.specs.declared.reader.TheConstants.{MAX_DEPTH}
 use Rattle.smt_text.proofs.reader.Reader.read_atom.Goals as goal
-use Rattle.smt_text.proofs.reader.Reader.read_atom.Goals.{then-closes-2+in_ok-end_list, else-closes-2}
-use Rattle.smt_text.proofs.reader.Reader.read_atom.Goals.{then-closes-via-then-closes}
-use Rattle.smt_text.proofs.reader.Reader.read_atom.Goals.{then-closes-via-else-closes+then-is_white}
 use Rattle.smt_text.proofs.reader.Reader.read_atom.Goals.{then-text-end-eq41, else-text-end-eq41}
+use Rattle.smt_text.proofs.reader.Reader.read_atom.Goals.{then-closes+in_ok-end_list, else-closes}
+use Rattle.smt_text.proofs.reader.Reader.read_atom.Goals.{else-not-closes-via-else-not-closes}
+use Rattle.smt_text.proofs.reader.Reader.read_atom.Goals.{else-not-closes-via-then-not-closes+else-not-is_white}
 
 pub end_list-requires : goal.end_list-requires
 end_list-requires c =
     let mid = c.add_atom.new.self in
-    let said = take c.run_length-count.result (rest_of c.args.text.now c.args.mark) in
+    let said = take (c.args.known + c.run_length.result) (rest_of c.args.text.now c.args.mark) in
     let levels = levels_of c.args.self.now.builder in
     let same : depth_of (levels_of mid.builder) ≡ depth_of levels = ap depth_of c.in_ok-add_atom.ensures.added
     ∙ depth_of-flush (At c.args.token said levels) in
     let deep : 0 < depth_of levels = elim c.if-text-end-eq41.branch [
       | then-text-end-eq41 w ↦ subst (λ (x : ℕ). 0 < x) w.depth.ensures
-          (ltb-true 0 w.depth.result (sym w.closes-is ∙ c.if-closes-2.true))
+          (ltb-true 0 w.depth.result (sym w.closes-is ∙ c.if-closes.true))
       | else-text-end-eq41 w ↦ absurd (w.if-text-end-eq41.false
-          (eqb-true (get_or c.args.text.now (c.args.mark + c.run_length-count.result) 0) 41
-          (sym w.closes-is ∙ c.if-closes-2.true)))
+          (eqb-true (get_or c.args.text.now (c.args.mark + (c.args.known + c.run_length.result)) 0) 41
+          (sym w.closes-is ∙ c.if-closes.true)))
     ] in
     subst (λ (x : ℕ). 0 < x) (sym same) deep
 
 pub returns-clause-goes : goal.returns-clause-goes
 returns-clause-goes c =
-    atom_kept (state_of c.args.self.now) c.args.token c.args.self.now.bytes.items
-    c.extend_from_slice.new.self.items c.args.text.now c.args.mark c.run_length-count.result
-    c.requires.begins c.requires.bytes (omega arith) (omega arith) c.run_length-count.ensures.kept
-    c.in_ok-extend_from_slice.ensures.items
-
-pub returns-then-closes-clause-goes : goal.returns-then-closes-clause-goes
-returns-then-closes-clause-goes c =
     let text = c.args.text.now in
     let mark = c.args.mark in
-    let n = c.run_length-count.result in
+    let n = c.args.known + c.run_length.result in
+    let kept = kept_on c.args.token text mark c.args.known c.run_length.result c.requires.kept
+    c.run_length.ensures.kept in
     let levels = levels_of c.args.self.now.builder in
     let mid = c.add_atom.new.self in
     let token = c.in_ok-add_atom.ensures.token ∙ c.requires.token in
@@ -55,24 +49,29 @@ returns-then-closes-clause-goes c =
       | else-text-end-eq41 w ↦ absurd
           (w.if-text-end-eq41.false (eqb-true (get_or text (mark + n) 0) 41 (sym w.closes-is ∙ h)))
     ] in
-    elim c.if-closes-2.branch [
-      | then-closes-2+in_ok-end_list w ↦ subst
-          (λ (s : Reader). Over MAX_DEPTH (state_of c.args.self.now) text (mark + n + 1) (state_of s))
+    elim c.if-closes.branch [
+      | then-closes+in_ok-end_list w ↦ subst
+          (λ (s : Reader). GoesOn c.args.self.now text (mark + n + 1) s)
           (sym w.self-is)
+          (over_goes c.args.self.now _ text (mark + n + 1)
           (atom_close (state_of c.args.self.now) (levels_of mid.builder) (levels_of w.end_list.new.self)
           c.args.token mid.token mid.bytes.items text mark n c.requires.begins token left
-          (omega arith) c.if-end-text.true c.run_length-count.ensures.kept
-          (closes w.if-closes-2.true).0
-          (closes w.if-closes-2.true).1 c.in_ok-add_atom.ensures.added w.in_ok-end_list.ensures)
-      | else-closes-2 w ↦
-          let white : is_white (get_or text (mark + n) 0) ≡ true = elim c.then-closes.branch [
-            | then-closes-via-then-closes v ↦ absurd (false≢true (sym w.if-closes-2.false ∙ v.if-closes.true))
-            | then-closes-via-else-closes+then-is_white v ↦ sym v.is_white.ensures ∙ v.if-is_white.true
+          (omega arith) (omega arith) kept
+          (closes w.if-closes.true).0
+          (closes w.if-closes.true).1 c.in_ok-add_atom.ensures.added w.in_ok-end_list.ensures)
+          c.in_ok-add_atom.ensures.token c.in_ok-add_atom.ensures.bytes)
+      | else-closes w ↦
+          let white : is_white (get_or text (mark + n) 0) ≡ true = elim c.else-not-closes.branch [
+            | else-not-closes-via-else-not-closes v ↦ absurd
+                (false≢true (sym w.if-closes.false ∙ v.if-not-closes.false))
+            | else-not-closes-via-then-not-closes+else-not-is_white v ↦ sym v.is_white.ensures ∙ v.if-not-is_white.false
           ] in
-          subst (λ (s : Reader). Over MAX_DEPTH (state_of c.args.self.now) text (mark + n + 1) (state_of s))
+          subst (λ (s : Reader). GoesOn c.args.self.now text (mark + n + 1) s)
           (sym w.self-is)
+          (over_goes c.args.self.now _ text (mark + n + 1)
           (atom_white (state_of c.args.self.now) (levels_of mid.builder) c.args.token mid.token mid.bytes.items
           text mark n c.requires.begins token left
-          (omega arith) c.if-end-text.true c.run_length-count.ensures.kept white
+          (omega arith) (omega arith) kept white
           c.in_ok-add_atom.ensures.added)
+          c.in_ok-add_atom.ensures.token c.in_ok-add_atom.ensures.bytes)
     ]
