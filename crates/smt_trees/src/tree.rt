@@ -33,7 +33,6 @@ pub enum Tree {
 }
 
 /// S-expressions side by side. A contract sees them as the list of S-expressions that they are.
-#[derive(Drop)]
 #[cycle(tree)]
 pub struct Trees {
     items: Vec<Tree>,
@@ -60,6 +59,15 @@ impl Model for Trees {
     ghost size_decreases = { λ a h. Prim.omega (arith, most-weight a.items.items) };
 }
 
+impl Drop for Trees {
+    // Apart from the drop of a tree, which an atom goes through in a few steps.
+    #[inline(never)]
+    #[cycle(tree)]
+    fn drop(self) {
+        let Trees { items: _ } = self;
+    }
+}
+
 impl Trees {
     /// The trees of a vector; nothing is allocated.
     pub fn new(items: Vec<Tree>) -> Self
@@ -79,7 +87,8 @@ impl Trees {
     pub fn into_vec(self) -> Vec<Tree>
         ensures { sexps_of result.items ≡ self }
     {
-        self.items
+        let Trees { items } = self;
+        items
     }
 
     /// A copy of the trees, of its own memory.
