@@ -2,12 +2,14 @@
 
 ghost use Rattle.std.specs.Prelude.{◌≡◌, ◌+◌, option_map, slice_get, unwrap_or};
 ghost use Rattle.smt_machine.specs.Costs.{around_at};
-ghost use Rattle.smt_machine.specs.Internal.Parts.{found, found_around, meaning, number_of, numbers_of};
+ghost use Rattle.smt_nodes.specs.PartsView.{parts_view};
+ghost use Rattle.smt_machine.specs.Internal.Parts.{found, found_around, found_parts, meaning, number_of};
+ghost use Rattle.smt_machine.specs.Internal.Parts.{numbers_of};
 ghost use Rattle.smt_machine.specs.Tables.{arounds_of, model_count, nodes_of, shifted};
 
 use crate::items::item_at;
 use crate::parts::{Part, Parts};
-use smt_nodes::{Node, Nodes, TermId};
+use smt_nodes::{Node, NodeParts, Nodes, TermId};
 
 /// The nodes of a model and of a script, and the bodies of their definitions. Any will do: a part whose
 /// number is not below its node's is open, and so is a name at a place that is not there.
@@ -89,6 +91,15 @@ impl<'a> Place<'a> {
         ensures around { unwrap_or (option_map (λ p. p.1) result) 0 ≡ found_around self.now }
     {
         self.nodes.get_annotated(self.number)
+    }
+
+    /// The parts of the node, with how many annotations stand round it, if one is there.
+    #[inline(always)]
+    pub(crate) fn annotated_parts(&self) -> Option<(NodeParts<'a>, usize)>
+        ensures parts { option_map (λ p. parts_view p.0) result ≡ found_parts self.now }
+        ensures around { unwrap_or (option_map (λ p. p.1) result) 0 ≡ found_around self.now }
+    {
+        self.nodes.get_parts(self.number)
     }
 
     /// How many annotations stand round it; none where no node is.
