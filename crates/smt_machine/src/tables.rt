@@ -84,15 +84,6 @@ impl<'a> Place<'a> {
         self.nodes.get(self.number)
     }
 
-    /// The node, with how many annotations stand round it, if one is there.
-    #[inline(always)]
-    pub(crate) fn annotated(&self) -> Option<(Node<'a>, usize)>
-        ensures node { option_map (λ p. meaning self.now p.0) result ≡ found self.now }
-        ensures around { unwrap_or (option_map (λ p. p.1) result) 0 ≡ found_around self.now }
-    {
-        self.nodes.get_annotated(self.number)
-    }
-
     /// The parts of the node, with how many annotations stand round it, if one is there.
     #[inline(always)]
     pub(crate) fn annotated_parts(&self) -> Option<(NodeParts<'a>, usize)>
