@@ -18,14 +18,19 @@ use std::alloc::Global;
 pub fn costs(alloc: Global, tables: Tables<'_>) -> Result<Vec<u64>, Memory>
     ensures { IfOk result (λ costs. AreCosts (nodes_of tables.entry) (arounds_of tables.entry) costs.items) }
 {
-    let Some(count) = tables.shift().checked_add(tables.script.len()) else {
+    let shift = tables.shift();
+    let Some(count) = shift.checked_add(tables.script.len()) else {
         // So many nodes have no place in memory.
         return Err(Memory);
     };
     let mut costs = Vec::with_capacity(alloc, count)?;
-    for number in 0..count {
-        let cost = cost_at(costs.as_slice(), &tables.place(number));
+    for number in 0..shift {
+        let cost = cost_at(costs.as_slice(), &tables.model_place(number));
         costs.push(cost)?;
+    }
+    for number in shift..count {
+        let next = cost_at(costs.as_slice(), &tables.script_place(shift, number));
+        costs.push(next)?;
     }
     Ok(costs)
 }
@@ -43,6 +48,7 @@ pub fn cost_of_term(costs: &[u64], tables: Tables<'_>, term: TermId) -> u64
 }
 
 // What the node at a place costs, by the costs of those below it.
+#[inline(always)]
 fn cost_at(kept: &[u64], from: &Place<'_>) -> u64
     ensures { (c : ℕ → ℕ) → AreKept c kept.now
         → result ≡ capped (node_cost (length kept.now) c (found_around from.now) (found from.now)) }
@@ -56,6 +62,7 @@ fn cost_at(kept: &[u64], from: &Place<'_>) -> u64
 }
 
 // What the parts of a node cost, and the body that it names.
+#[inline(always)]
 fn parts_of(kept: &[u64], from: &Place<'_>, parts: &NodeParts<'_>) -> u64
     ensures { (c : ℕ → ℕ) → AreKept c kept.now
         → result ≡ capped (made_cost (length kept.now) c from.now (parts_view parts.now)) }
@@ -79,6 +86,7 @@ fn parts_of(kept: &[u64], from: &Place<'_>, parts: &NodeParts<'_>) -> u64
 }
 
 // What a body costs with arguments, if there is one.
+#[inline(always)]
 fn cost_of_call(kept: &[u64], body: Option<Part>, args: Parts<'_>) -> u64
     ensures { (c : ℕ → ℕ) → AreKept c kept.now
         → result ≡ capped (call_cost (length kept.now) c (option_map number_of body) (numbers_of args.entry)) }
@@ -90,6 +98,7 @@ fn cost_of_call(kept: &[u64], body: Option<Part>, args: Parts<'_>) -> u64
 }
 
 // What parts cost.
+#[inline(always)]
 fn sum_of(kept: &[u64], parts: Parts<'_>) -> u64
     ensures { (c : ℕ → ℕ) → AreKept c kept.now
         → result ≡ capped (parts_cost (length kept.now) c (numbers_of parts.entry)) }
@@ -106,6 +115,7 @@ fn sum_of(kept: &[u64], parts: Parts<'_>) -> u64
 }
 
 // What a part costs: one of no lower number is open, and costs 1.
+#[inline(always)]
 fn cost_of(kept: &[u64], part: Part) -> u64
     ensures { (c : ℕ → ℕ) → AreKept c kept.now
         → result ≡ capped (part_cost (length kept.now) c (number_of part)) }

@@ -1,6 +1,6 @@
 //! The nodes of a model and of a script as one table, and what names lead to. This file evaluates nothing.
 
-ghost use Rattle.std.specs.Prelude.{◌≡◌, ◌+◌, option_map, slice_get, unwrap_or};
+ghost use Rattle.std.specs.Prelude.{◌≡◌, ◌+◌, ◌<◌, ◌≤◌, option_map, slice_get, unwrap_or};
 ghost use Rattle.smt_machine.specs.Costs.{around_at};
 ghost use Rattle.smt_nodes.specs.PartsView.{parts_view};
 ghost use Rattle.smt_machine.specs.Internal.Parts.{found, found_around, found_parts, meaning, number_of};
@@ -56,21 +56,42 @@ impl<'a> Tables<'a> {
     {
         let shift = self.shift();
         if number < shift {
-            Place {
-                nodes: self.model,
-                number,
-                shift: 0,
-                bodies: self.model_bodies,
-                declared: &[],
-            }
+            self.model_place(number)
         } else {
-            Place {
-                nodes: self.script,
-                number: number - shift,
-                shift,
-                bodies: self.script_bodies,
-                declared: self.declared,
-            }
+            self.script_place(shift, number)
+        }
+    }
+
+    /// The same of a node of the model.
+    #[inline(always)]
+    pub(crate) fn model_place(&self, number: usize) -> Place<'a>
+        requires { number < model_count self.now }
+        ensures node { found result ≡ slice_get (nodes_of self.now) number }
+        ensures around { found_around result ≡ around_at (arounds_of self.now) number }
+    {
+        Place {
+            nodes: self.model,
+            number,
+            shift: 0,
+            bodies: self.model_bodies,
+            declared: &[],
+        }
+    }
+
+    /// The same of a node of the script, before which the `shift` nodes of the model stand.
+    #[inline(always)]
+    pub(crate) fn script_place(&self, shift: usize, number: usize) -> Place<'a>
+        requires shift { shift ≡ model_count self.now }
+        requires behind { shift ≤ number }
+        ensures node { found result ≡ slice_get (nodes_of self.now) number }
+        ensures around { found_around result ≡ around_at (arounds_of self.now) number }
+    {
+        Place {
+            nodes: self.script,
+            number: number - shift,
+            shift,
+            bodies: self.script_bodies,
+            declared: self.declared,
         }
     }
 }
