@@ -1,17 +1,21 @@
 -- Sums of costs that stop at the greatest number, and costs that are kept one behind another.
 use Rattle.std.proofs.Common.{◌≡◌, ℕ, zero, suc, ◌+◌, ◌-◌, ◌^◌, ◌<◌, ◌≤◌, List, [], ◌∷◌, ◌++◌, length, map, min, take}
-use Rattle.std.proofs.Common.{slice_get, slice_index_or, Option, Some, ap, sym, ◌∙◌, arith, length-append}
+use Rattle.std.proofs.Common.{slice_get, slice_index_or, Option, Some, None, option_map, refl, ap, sym, ◌∙◌, arith, length-append}
 use Rattle.std.proofs.Math.Seq.{take-suc}
 use Rattle.std.proofs.lemmas.List.{length-map, map-append}
 use Rattle.std.proofs.lemmas.Option.{slice_get_past}
 use Rattle.std.specs.Prelude.{unwrap_or}
+use Rattle.smt_nodes.specs.Node as node
 use Rattle.smt_nodes.specs.Node.{Row}
+use Rattle.smt_nodes.specs.NodeParts.{NodeParts, parts_of}
 use Rattle.smt_nodes.specs.Nodes.{rows_of}
 use Rattle.smt_machine.proofs.GivenLemmas.{cost_law}
-use Rattle.smt_machine.specs.Costs.{AreCosts, around_at, capped, cost, node_cost, part_cost, parts_cost}
-use Rattle.smt_machine.specs.Internal.Sums.{AreKept}
+use Rattle.smt_machine.specs.Costs.{AreCosts, around_at, capped, cost, first_cost, last_cost, node_cost}
+use Rattle.smt_machine.specs.Costs.{part_cost, parts_cost}
+use Rattle.smt_machine.specs.Internal.Sums.{AreKept, made_cost}
 use Rattle.smt_machine.specs.Nodes.{Node}
 use Rattle.smt_machine.specs.Tables.{arounds_of, model_count, nodes_of, resolved}
+use Rattle.smt_machine.specs.declared.tables.Place.{Place}
 use Rattle.smt_machine.specs.declared.tables.Tables.{Tables}
 
 parts_cost-last : (n : ℕ) (c : ℕ → ℕ) (js : List ℕ) (j : ℕ)
@@ -37,6 +41,36 @@ sum_next n c f ids k id before part after within at so_far here both =
     ∙ ap (λ j. map f (take k ids) ++ f j ∷ []) (sym at) in
     capped_sum (parts_cost n c (map f (take k ids))) (part_cost n c (f id)) before part after so_far here both
     ∙ ap capped (sym (ap (parts_cost n c) longer ∙ parts_cost-last n c (map f (take k ids)) (f id)))
+
+-- what a node costs is what its parts cost, and the body that it names
+parts_counted : (i : ℕ) (c : ℕ → ℕ) (at : Place) (n : node.Node)
+    → made_cost i c at (parts_of n)
+    ≡ first_cost i c (Some (resolved at.shift at.bodies.now at.declared.now n))
+    + last_cost i c (Some (resolved at.shift at.bodies.now at.declared.now n))
+parts_counted i c at (node.Numeral digits) = refl
+parts_counted i c at (node.Hexadecimal digits) = refl
+parts_counted i c at (node.Binary digits) = refl
+parts_counted i c at (node.Slot place) = refl
+parts_counted i c at (node.Apply op args) = omega arith
+parts_counted i c at (node.Declared place args) = refl
+parts_counted i c at (node.Defined place args) = refl
+parts_counted i c at (node.Let values body) = refl
+
+-- one node, by its parts and the annotations round it
+pub node_counted : (i : ℕ) (c : ℕ → ℕ) (at : Place) (row : Option Row) (parts : NodeParts)
+    (around first both sum : ℕ) → Some parts ≡ option_map (λ (r : Row). parts_of r.node) row
+    → first ≡ min (1 + around) (2 ^ 64 - 1) → both ≡ capped (made_cost i c at parts)
+    → sum ≡ min (first + both) (2 ^ 64 - 1)
+    → sum ≡ capped (node_cost i c around
+    (option_map (λ (r : Row). resolved at.shift at.bodies.now at.declared.now r.node) row))
+node_counted i c at None parts around first both sum is one last all = cc
+node_counted i c at (Some row) parts around first both sum is one last all =
+    let here : parts ≡ parts_of row.node = cc in
+    let made : made_cost i c at parts
+    ≡ first_cost i c (Some (resolved at.shift at.bodies.now at.declared.now row.node))
+    + last_cost i c (Some (resolved at.shift at.bodies.now at.declared.now row.node)) =
+    ap (made_cost i c at) here ∙ parts_counted i c at row.node in
+    omega (arith, one, last, all, made)
 
 last_at : (xs : List ℕ) (x j k n : ℕ) → n ≡ length xs → slice_get (xs ++ x ∷ []) j ≡ Some k
     → (c : ℕ → ℕ) → ((i m : ℕ) → slice_get xs i ≡ Some m → m ≡ c i) → x ≡ c n → k ≡ c j

@@ -1,30 +1,36 @@
 //! What nodes cost, by one pass over both tables. This file evaluates nothing.
 
 ghost use Rattle.std.specs.Prelude.{◌≡◌, ◌+◌, ◌<◌, ℕ, IfOk, length, option_map, slice_get, slice_index, Some};
-ghost use Rattle.smt_machine.specs.Costs.{AreCosts, capped, first_cost, last_cost, node_cost, part_cost, parts_cost};
-ghost use Rattle.smt_machine.specs.Internal.Sums.{AreKept};
-ghost use Rattle.smt_machine.specs.Internal.Parts.{found, found_around, meaning, number_of, numbers_of};
-ghost use Rattle.smt_machine.specs.Nodes.{Node as MachineNode};
-ghost use Rattle.smt_machine.specs.Tables.{arounds_of, call, nodes_of, term_cost};
+ghost use Rattle.smt_nodes.specs.PartsView.{parts_view};
+ghost use Rattle.smt_machine.specs.Costs.{AreCosts, capped, node_cost, part_cost, parts_cost};
+ghost use Rattle.smt_machine.specs.Internal.Sums.{AreKept, call_cost, made_cost};
+ghost use Rattle.smt_machine.specs.Internal.Parts.{found, found_around, number_of, numbers_of};
+ghost use Rattle.smt_machine.specs.Tables.{arounds_of, nodes_of, term_cost};
 
 use crate::parts::{Part, Parts};
 use crate::tables::{Place, Tables};
 use smt_faults::Memory;
-use smt_nodes::{Node, TermId};
+use smt_nodes::{NodeParts, TermId};
 use std::alloc::Global;
 
 /// What each node of both tables costs, by its number, the model's first; 2^64 - 1 for that and more.
+#[inline(never)]
 pub fn costs(alloc: Global, tables: Tables<'_>) -> Result<Vec<u64>, Memory>
     ensures { IfOk result (λ costs. AreCosts (nodes_of tables.entry) (arounds_of tables.entry) costs.items) }
 {
-    let Some(count) = tables.shift().checked_add(tables.script.len()) else {
+    let shift = tables.shift();
+    let Some(count) = shift.checked_add(tables.script.len()) else {
         // So many nodes have no place in memory.
         return Err(Memory);
     };
     let mut costs = Vec::with_capacity(alloc, count)?;
-    for number in 0..count {
-        let cost = cost_at(costs.as_slice(), &tables.place(number));
+    for number in 0..shift {
+        let cost = cost_at(costs.as_slice(), &tables.model_place(number));
         costs.push(cost)?;
+    }
+    for number in shift..count {
+        let next = cost_at(costs.as_slice(), &tables.script_place(shift, number));
+        costs.push(next)?;
     }
     Ok(costs)
 }
@@ -42,34 +48,34 @@ pub fn cost_of_term(costs: &[u64], tables: Tables<'_>, term: TermId) -> u64
 }
 
 // What the node at a place costs, by the costs of those below it.
+#[inline(always)]
 fn cost_at(kept: &[u64], from: &Place<'_>) -> u64
     ensures { (c : ℕ → ℕ) → AreKept c kept.now
         → result ≡ capped (node_cost (length kept.now) c (found_around from.now) (found from.now)) }
 {
-    match from.annotated() {
-        Some((node, around)) => 1u64
+    match from.annotated_parts() {
+        Some((parts, around)) => 1u64
             .saturating_add(around as u64)
-            .saturating_add(parts_of(kept, from, &node)),
+            .saturating_add(parts_of(kept, from, &parts)),
         None => 1,
     }
 }
 
 // What the parts of a node cost, and the body that it names.
-fn parts_of(kept: &[u64], from: &Place<'_>, node: &Node<'_>) -> u64
+#[inline(always)]
+fn parts_of(kept: &[u64], from: &Place<'_>, parts: &NodeParts<'_>) -> u64
     ensures { (c : ℕ → ℕ) → AreKept c kept.now
-        → result ≡ capped (first_cost (length kept.now) c (Some (meaning from.now node.now))
-        + last_cost (length kept.now) c (Some (meaning from.now node.now))) }
+        → result ≡ capped (made_cost (length kept.now) c from.now (parts_view parts.now)) }
 {
-    match node {
-        Node::Numeral(_) | Node::Hex(_) | Node::Bin(_) | Node::Slot(_) => 0,
-        Node::Apply { args, .. } => sum_of(kept, from.parts(*args)),
-        Node::Declared { place, args } => {
+    match parts {
+        NodeParts::Args(args) => sum_of(kept, from.parts(*args)),
+        NodeParts::Declared { place, args } => {
             cost_of_call(kept, from.declared(*place), from.parts(*args))
         }
-        Node::Defined { place, args } => {
+        NodeParts::Defined { place, args } => {
             cost_of_call(kept, from.defined(*place), from.parts(*args))
         }
-        Node::Let { values, body } => {
+        NodeParts::Let { values, body } => {
             let body = Part {
                 id: *body,
                 shift: from.shift,
@@ -80,11 +86,10 @@ fn parts_of(kept: &[u64], from: &Place<'_>, node: &Node<'_>) -> u64
 }
 
 // What a body costs with arguments, if there is one.
+#[inline(always)]
 fn cost_of_call(kept: &[u64], body: Option<Part>, args: Parts<'_>) -> u64
     ensures { (c : ℕ → ℕ) → AreKept c kept.now
-        → result ≡ capped (first_cost (length kept.now) c
-        (Some (call (option_map number_of body) (numbers_of args.entry)))
-        + last_cost (length kept.now) c (Some (call (option_map number_of body) (numbers_of args.entry)))) }
+        → result ≡ capped (call_cost (length kept.now) c (option_map number_of body) (numbers_of args.entry)) }
 {
     match body {
         Some(body) => sum_of(kept, args).saturating_add(cost_of(kept, body)),
@@ -93,6 +98,7 @@ fn cost_of_call(kept: &[u64], body: Option<Part>, args: Parts<'_>) -> u64
 }
 
 // What parts cost.
+#[inline(always)]
 fn sum_of(kept: &[u64], parts: Parts<'_>) -> u64
     ensures { (c : ℕ → ℕ) → AreKept c kept.now
         → result ≡ capped (parts_cost (length kept.now) c (numbers_of parts.entry)) }
@@ -109,6 +115,7 @@ fn sum_of(kept: &[u64], parts: Parts<'_>) -> u64
 }
 
 // What a part costs: one of no lower number is open, and costs 1.
+#[inline(always)]
 fn cost_of(kept: &[u64], part: Part) -> u64
     ensures { (c : ℕ → ℕ) → AreKept c kept.now
         → result ≡ capped (part_cost (length kept.now) c (number_of part)) }

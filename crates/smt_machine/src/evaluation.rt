@@ -1,17 +1,18 @@
 //! Evaluation of nodes, one task after another. This file knows no stack.
 
 ghost use Rattle.std.specs.Prelude.{◌≡◌, ◌≤◌, ◌<◌, ◌+◌, ℕ, [], IfOk, OnOk, IfSome, IsTrue, List, None, Option};
-ghost use Rattle.std.specs.Prelude.{Some, nat_lt};
+ghost use Rattle.std.specs.Prelude.{Some, ◌==◌, false, length, nat_lt};
 ghost use Rattle.std.specs.Prelude.{if◌then◌else◌, option_map, slice_get};
 ghost use Rattle.smt_theory.specs.declared.op.CoreOp.TheVariants.{Ite};
 ghost use Rattle.smt_theory.specs.declared.op.Op.{Op};
 ghost use Rattle.smt_theory.specs.declared.op.Op.TheVariants.{Core};
+ghost use Rattle.smt_nodes.specs.PartsView.{parts_view};
 ghost use Rattle.smt_values.specs.Element.{known_element};
 ghost use Rattle.smt_values.specs.KnownOperations.{known_truth};
 ghost use Rattle.smt_machine.specs.Costs.{cost};
 ghost use Rattle.smt_machine.specs.Given.{given};
 ghost use Rattle.smt_machine.specs.Internal.States.{state_of};
-ghost use Rattle.smt_machine.specs.Internal.Parts.{meaning, number_of, numbers_of};
+ghost use Rattle.smt_machine.specs.Internal.Parts.{found, found_parts, meaning, number_of, numbers_of};
 ghost use Rattle.smt_machine.specs.Internal.Tasks.{IsBased, IsChoice, IsStep, branches_of, charge};
 ghost use Rattle.smt_machine.specs.Memory.{Remembers};
 ghost use Rattle.smt_machine.specs.Nodes.{Apply, Call, Node as MachineNode};
@@ -23,7 +24,7 @@ use crate::parts::{Part, Parts};
 use crate::tables::{Place, Tables};
 use crate::task::{Task, task_of};
 use smt_faults::Memory;
-use smt_nodes::{Node, TermId};
+use smt_nodes::{Node, NodeParts, TermId};
 use smt_theory::{CoreOp, Op};
 use smt_values::{Value, bin, hex, numeral};
 
@@ -109,11 +110,71 @@ impl Machine {
     {
         let place = tables.place(number);
         *left -= 1;
-        match place.annotated() {
-            Some((node, around)) => {
+        match place.annotated_parts() {
+            Some((parts, around)) => {
                 *left -= around as u64;
-                self.visit_node(number, &place, &node)
+                self.visit_parts(tables, number, &place, &parts)
             }
+            None => self.leave(None),
+        }
+    }
+
+    // Plans a node behind its parts, or has it looked at whole where these do not tell what it is.
+    #[inline(always)]
+    fn visit_parts(
+        &mut self,
+        tables: &Tables<'_>,
+        number: usize,
+        from: &Place<'_>,
+        parts: &NodeParts<'_>,
+    ) -> Result<(), Memory>
+        requires { IsBased (state_of self.old) }
+        ensures { IfOk result (λ _. found_parts from.now ≡ Some (parts_view parts.now)
+            → found from.now ≡ slice_get (nodes_of tables.now) number
+            → IsStep (nodes_of tables.now) (Visit number) self.old self.new) }
+    {
+        match parts {
+            NodeParts::Args(args) => self.visit_operator(tables, number, from.parts(*args)),
+            NodeParts::Declared { place, args } => {
+                self.visit_call(number, from.declared(*place), from.parts(*args))
+            }
+            NodeParts::Defined { place, args } => {
+                self.visit_call(number, from.defined(*place), from.parts(*args))
+            }
+            NodeParts::Let { values, .. } => {
+                self.plan(Task::Finish(number), number, from.parts(*values))
+            }
+        }
+    }
+
+    // Plans an operator behind its arguments, where there are some, and not as many as a choice has.
+    #[inline(always)]
+    fn visit_operator(
+        &mut self,
+        tables: &Tables<'_>,
+        number: usize,
+        args: Parts<'_>,
+    ) -> Result<(), Memory>
+        requires { IsBased (state_of self.old) }
+        ensures { IfOk result (λ _. ((length (numbers_of args.entry) == 0) ≡ false
+            → (op : Op) × (Some (Apply op (numbers_of args.entry)) ≡ slice_get (nodes_of tables.now) number))
+            → IsStep (nodes_of tables.now) (Visit number) self.old self.new) }
+    {
+        if args.ids.is_empty() || args.ids.len() == 3 {
+            return self.visit_whole(tables, number);
+        }
+        self.plan(Task::Finish(number), number, args)
+    }
+
+    // Leaves the value of a node, or plans what has to come before, by all that the node has.
+    #[inline(never)]
+    fn visit_whole(&mut self, tables: &Tables<'_>, number: usize) -> Result<(), Memory>
+        requires { IsBased (state_of self.old) }
+        ensures { IfOk result (λ _. IsStep (nodes_of tables.now) (Visit number) self.old self.new) }
+    {
+        let place = tables.place(number);
+        match place.node() {
+            Some(node) => self.visit_node(number, &place, &node),
             None => self.leave(None),
         }
     }

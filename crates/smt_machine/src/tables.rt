@@ -1,13 +1,15 @@
 //! The nodes of a model and of a script as one table, and what names lead to. This file evaluates nothing.
 
-ghost use Rattle.std.specs.Prelude.{◌≡◌, ◌+◌, option_map, slice_get, unwrap_or};
+ghost use Rattle.std.specs.Prelude.{◌≡◌, ◌+◌, ◌<◌, ◌≤◌, option_map, slice_get, unwrap_or};
 ghost use Rattle.smt_machine.specs.Costs.{around_at};
-ghost use Rattle.smt_machine.specs.Internal.Parts.{found, found_around, meaning, number_of, numbers_of};
+ghost use Rattle.smt_nodes.specs.PartsView.{parts_view};
+ghost use Rattle.smt_machine.specs.Internal.Parts.{found, found_around, found_parts, meaning, number_of};
+ghost use Rattle.smt_machine.specs.Internal.Parts.{numbers_of};
 ghost use Rattle.smt_machine.specs.Tables.{arounds_of, model_count, nodes_of, shifted};
 
 use crate::items::item_at;
 use crate::parts::{Part, Parts};
-use smt_nodes::{Node, Nodes, TermId};
+use smt_nodes::{Node, NodeParts, Nodes, TermId};
 
 /// The nodes of a model and of a script, and the bodies of their definitions. Any will do: a part whose
 /// number is not below its node's is open, and so is a name at a place that is not there.
@@ -54,21 +56,42 @@ impl<'a> Tables<'a> {
     {
         let shift = self.shift();
         if number < shift {
-            Place {
-                nodes: self.model,
-                number,
-                shift: 0,
-                bodies: self.model_bodies,
-                declared: &[],
-            }
+            self.model_place(number)
         } else {
-            Place {
-                nodes: self.script,
-                number: number - shift,
-                shift,
-                bodies: self.script_bodies,
-                declared: self.declared,
-            }
+            self.script_place(shift, number)
+        }
+    }
+
+    /// The same of a node of the model.
+    #[inline(always)]
+    pub(crate) fn model_place(&self, number: usize) -> Place<'a>
+        requires { number < model_count self.now }
+        ensures node { found result ≡ slice_get (nodes_of self.now) number }
+        ensures around { found_around result ≡ around_at (arounds_of self.now) number }
+    {
+        Place {
+            nodes: self.model,
+            number,
+            shift: 0,
+            bodies: self.model_bodies,
+            declared: &[],
+        }
+    }
+
+    /// The same of a node of the script, before which the `shift` nodes of the model stand.
+    #[inline(always)]
+    pub(crate) fn script_place(&self, shift: usize, number: usize) -> Place<'a>
+        requires shift { shift ≡ model_count self.now }
+        requires behind { shift ≤ number }
+        ensures node { found result ≡ slice_get (nodes_of self.now) number }
+        ensures around { found_around result ≡ around_at (arounds_of self.now) number }
+    {
+        Place {
+            nodes: self.script,
+            number: number - shift,
+            shift,
+            bodies: self.script_bodies,
+            declared: self.declared,
         }
     }
 }
@@ -82,13 +105,13 @@ impl<'a> Place<'a> {
         self.nodes.get(self.number)
     }
 
-    /// The node, with how many annotations stand round it, if one is there.
+    /// The parts of the node, with how many annotations stand round it, if one is there.
     #[inline(always)]
-    pub(crate) fn annotated(&self) -> Option<(Node<'a>, usize)>
-        ensures node { option_map (λ p. meaning self.now p.0) result ≡ found self.now }
+    pub(crate) fn annotated_parts(&self) -> Option<(NodeParts<'a>, usize)>
+        ensures parts { option_map (λ p. parts_view p.0) result ≡ found_parts self.now }
         ensures around { unwrap_or (option_map (λ p. p.1) result) 0 ≡ found_around self.now }
     {
-        self.nodes.get_annotated(self.number)
+        self.nodes.get_parts(self.number)
     }
 
     /// How many annotations stand round it; none where no node is.

@@ -1,4 +1,6 @@
 pub mod Node
 pub mod NodeView
+pub mod NodeParts
+pub mod PartsView
 pub mod Nodes
 pub mod Internal

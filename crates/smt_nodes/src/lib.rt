@@ -21,6 +21,6 @@ mod term_id;
 #[cfg(test)]
 mod tests;
 
-pub use node::Node;
+pub use node::{Node, NodeParts};
 pub use table::Nodes;
 pub use term_id::TermId;

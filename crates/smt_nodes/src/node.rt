@@ -23,3 +23,16 @@ pub enum Node<'a> {
     /// A `let`: the values of its variables, and its body.
     Let { values: &'a [TermId], body: TermId },
 }
+
+/// The parts of a node, by their numbers, without its operator, digits or variable.
+#[derive(Clone, Copy)]
+pub enum NodeParts<'a> {
+    /// The arguments of an operator; none of a literal and a variable.
+    Args(&'a [TermId]),
+    /// The arguments of a declared name, by its place among these, from 0.
+    Declared { place: usize, args: &'a [TermId] },
+    /// The arguments of a defined name, by its place among these, from 0.
+    Defined { place: usize, args: &'a [TermId] },
+    /// Of a `let`: the values of its variables, and its body.
+    Let { values: &'a [TermId], body: TermId },
+}

@@ -5,7 +5,7 @@ ghost use Rattle.std.specs.Prelude.{◌≡◌, IfOk};
 ghost use Rattle.smt_nodes.specs.Internal.Lists.{lists_of};
 ghost use Rattle.smt_nodes.specs.Internal.Rows.{IsSound, annotated, around_of, last_ends};
 
-use crate::node::Node;
+use crate::node::{Node, NodeParts};
 use crate::rows::{Ends, Stored, StoredRow};
 use crate::tables::{Tables, narrow};
 use crate::term_id::TermId;
@@ -28,6 +28,8 @@ impl Nodes {
     ghost use Rattle.std.specs.Prelude.{Some, option_map, IfOk, OnOk, OnErr};
     ghost use Rattle.smt_nodes.specs.Node.{Row};
     ghost use Rattle.smt_nodes.specs.NodeView.{node_view};
+    ghost use Rattle.smt_nodes.specs.NodeParts.{parts_of};
+    ghost use Rattle.smt_nodes.specs.PartsView.{parts_view};
     ghost use Rattle.smt_nodes.specs.Nodes.{rows_of};
     ghost use Rattle.smt_nodes.specs.Internal.Lists.{IsHeld, lengths, rows_in};
     ghost use Rattle.smt_nodes.specs.Internal.Rows.{row_view, source};
@@ -76,6 +78,25 @@ impl Nodes {
                 let around = around(row.stored) as usize;
                 let node = self.node(row);
                 Some((node, around))
+            }
+            None => None,
+        }
+    }
+
+    /// The parts of the node of a number, and how many annotations stand round it as `around` has them; `None`
+    /// from the length on. It takes less time than `get_annotated`.
+    #[inline(always)]
+    pub fn get_parts(&self, number: usize) -> Option<(NodeParts<'_>, usize)>
+        ensures parts { option_map (λ p. parts_view p.0) result
+            ≡ option_map (λ row. parts_of row.node) (slice_get (rows_of self.now) number) }
+        ensures around { option_map (λ p. p.1) result
+            ≡ option_map (λ row. row.around) (slice_get (rows_of self.now) number) }
+    {
+        match self.row(number) {
+            Some(row) => {
+                let count = around(row.stored) as usize;
+                let parts = self.parts(row);
+                Some((parts, count))
             }
             None => None,
         }
@@ -189,6 +210,17 @@ impl Nodes {
     {
         let source = self.source(row);
         self.tables.node(source.ends, source.stored)
+    }
+
+    // The parts of the node of a row.
+    #[inline(always)]
+    fn parts(&self, row: StoredRow) -> NodeParts<'_>
+        requires { (i : ℕ) × (slice_get self.now.rows.items i ≡ Some row) }
+        ensures { parts_view result
+            ≡ parts_of (row_view self.now.rows.items (lists_of self.now.tables) row).node }
+    {
+        let held = self.source(row);
+        self.tables.node_parts(held.ends, held.stored)
     }
 }
 

@@ -6,10 +6,12 @@ ghost use Rattle.smt_theory.specs.declared.op.CoreOp.{CoreOp};
 ghost use Rattle.smt_theory.specs.declared.op.Op.{Op};
 ghost use Rattle.smt_nodes.specs.Node as spec;
 ghost use Rattle.smt_nodes.specs.NodeView.{node_view};
+ghost use Rattle.smt_nodes.specs.NodeParts.{parts_of};
+ghost use Rattle.smt_nodes.specs.PartsView.{parts_view};
 ghost use Rattle.smt_nodes.specs.Internal.Lists.{Grows, IsHeld, IsStored, IsUpTo, before, first_of, lengths};
 ghost use Rattle.smt_nodes.specs.Internal.Lists.{lists_of, node_of, no_lists};
 
-use crate::node::Node;
+use crate::node::{Node, NodeParts};
 use crate::op::{NumberedOp, PlainOp};
 use crate::rows::{Ends, Stored};
 use crate::term_id::TermId;
@@ -100,6 +102,34 @@ impl Tables {
                 body,
             },
             Stored::Same(number, _) => Node::Slot(number as usize),
+        }
+    }
+
+    /// The parts of the node of a row.
+    #[inline(always)]
+    pub(crate) fn node_parts(&self, ends: Ends, stored: Stored) -> NodeParts<'_>
+        requires held { IsHeld ends stored }
+        requires within { IsUpTo ends (lengths (lists_of self.now)) }
+        ensures { parts_view result ≡ parts_of (node_of (lists_of self.now) ends stored) }
+    {
+        match stored {
+            Stored::Numeral(_) | Stored::Hex(_) | Stored::Bin(_) => NodeParts::Args(&[]),
+            Stored::Slot(_) | Stored::Same(_, _) => NodeParts::Args(&[]),
+            Stored::Plain(_, count) | Stored::Numbered(_, count) => {
+                NodeParts::Args(self.parts(count, ends.parts))
+            }
+            Stored::Declared(place, count) => NodeParts::Declared {
+                place: place as usize,
+                args: self.parts(count, ends.parts),
+            },
+            Stored::Defined(place, count) => NodeParts::Defined {
+                place: place as usize,
+                args: self.parts(count, ends.parts),
+            },
+            Stored::Let(count, body) => NodeParts::Let {
+                values: self.parts(count, ends.parts),
+                body,
+            },
         }
     }
 

@@ -1,6 +1,6 @@
 //! A small table, built and read twice, of which memory may be refused once (`rt try --test --fail-alloc N`).
 
-use crate::{Node, Nodes};
+use crate::{Node, NodeParts, Nodes};
 use smt_faults::Memory;
 use smt_theory::{Arithmetic, BitsOp, IntsOp, Op, Sort};
 use std::alloc::Global;
@@ -32,6 +32,14 @@ fn arity(nodes: &Nodes, number: usize) -> usize {
     }
 }
 
+// How many arguments it has there by its parts alone.
+fn arity_by_parts(nodes: &Nodes, number: usize) -> usize {
+    match nodes.get_parts(number) {
+        Some((NodeParts::Args(args), _)) => args.len(),
+        _ => 99,
+    }
+}
+
 #[test]
 fn a_sum_is_read(rt: HostRuntime) {
     let mut built = false;
@@ -40,6 +48,7 @@ fn a_sum_is_read(rt: HostRuntime) {
             assert_eq!(rt; nodes.len(), 5);
             assert_eq!(rt; arity(&nodes, 3), 2);
             assert_eq!(rt; arity(&nodes, 4), 1);
+            assert_eq!(rt; arity_by_parts(&nodes, 3), 2);
             assert_eq!(rt; nodes.around(2), Some(1));
             nodes.cut(4);
             assert_eq!(rt; nodes.len(), 4);

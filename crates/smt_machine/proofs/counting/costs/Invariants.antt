@@ -9,3 +9,9 @@ invariant-loop-number l = record {
   count : length l.costs.items ≡ l.number;
   costs : AreKept (cost (nodes_of l.tables) (arounds_of l.tables)) l.costs.items;
 }
+
+abbrev pub invariant-loop-number-2 : goal.invariant-loop-number-2
+invariant-loop-number-2 l = record {
+  count : length l.costs.items ≡ l.number;
+  costs : AreKept (cost (nodes_of l.tables) (arounds_of l.tables)) l.costs.items;
+}
