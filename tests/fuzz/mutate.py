@@ -20,7 +20,7 @@ class Corpus:
     def mutated(self, seed, with_steps):
         """The dialogue of a seed."""
         rng = random.Random(seed)
-        script, answers, print_success, steps = rng.choice(self.dialogues)
+        script, answers, print_success, steps, _ = rng.choice(self.dialogues)
         if rng.random() < 0.05:
             print_success = not print_success
         other = rng.choice(self.dialogues)
@@ -33,6 +33,19 @@ class Corpus:
                 else:
                     answers = self.changed_bytes(rng, answers, other[1])
         return Dialogue(script, answers, print_success, steps if with_steps else None)
+
+    def with_changed_bytes(self, seed, with_steps):
+        """The dialogue of a seed where nothing but bytes is changed, the number of the one that it was, and how many texts are changed."""
+        rng = random.Random(seed)
+        number = rng.randrange(len(self.dialogues))
+        stored, other = self.dialogues[number], rng.choice(self.dialogues)
+        texts = list(stored[:2])
+        sides = rng.choice(((0,), (1,), (0, 1), (0, 1)))
+        for side in sides:
+            while texts[side] == stored[side]:
+                for _ in range(rng.choice((1, 1, 2))):
+                    texts[side] = self.changed_bytes(rng, texts[side], other[side])
+        return Dialogue(*texts, stored.print_success, stored.steps if with_steps else None), number, len(sides)
 
     def changed_trees(self, rng, script, answers, other):
         """Both texts with changes of their trees."""

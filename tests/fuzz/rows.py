@@ -1,6 +1,10 @@
 """Reads files of rows, as docs/DEVELOPING.md describes them under 'A row': each row is a list of pairs of a key and its text in bytes."""
 import os
 import re
+from collections import namedtuple
+
+# A dialogue: the two texts, whether print-success is on, the limit on steps or None, and the name of the file that it stands in.
+Stored = namedtuple("Stored", "script answers print_success steps file")
 
 STEP = re.compile(rb"\\(?:([ntr\\{}#\-])|x([0-9A-Fa-f]{2})|\*([0-9]+|#)\{)|([{}])|([^\\{}]+)|(\\)")
 SIGNS = {b"n": b"\n", b"t": b"\t", b"r": b"\r", b"\\": b"\\", b"{": b"{", b"}": b"}"}
@@ -55,7 +59,7 @@ def rows_of(path):
 
 
 def dialogues_of(folder):
-    """The dialogues among the rows of all files of a folder: the two texts, whether print-success is on, and the limit on steps or None."""
+    """The dialogues among the rows of all files of a folder."""
     found = []
     for name in sorted(os.listdir(folder)):
         if not name.endswith(".txt"):
@@ -64,5 +68,6 @@ def dialogues_of(folder):
             if row[0][0] == "dialogue":
                 fields = dict(row)
                 steps = int(fields["steps"]) if "steps" in fields else None
-                found.append((fields.get("script", b""), fields.get("answers", b""), fields.get("start") != b"off", steps))
+                texts = fields.get("script", b""), fields.get("answers", b"")
+                found.append(Stored(*texts, fields.get("start") != b"off", steps, name))
     return found

@@ -2,9 +2,11 @@
 
 Each seed has its dialogue, so `run.py 1 SEED` runs one alone. A difference is told with the seed, and written to a folder with both reports
 and a smaller dialogue that differs too. What is reached is counted, and the counts are printed at the end: the status is 1 where there was
-a difference, and where 2,000 seeds or more leave some kind out.
+a difference, and where 2,000 seeds or more leave some kind out. With --mutated every dialogue is a stored one with changed bytes; nothing
+has to be reached then.
 """
 import argparse
+import ctypes
 import faulthandler
 import multiprocessing
 import os
@@ -31,12 +33,16 @@ from validator import STATUS, STEPS, report, with_deep_stack
 HERE = os.path.dirname(os.path.abspath(__file__))
 TOP = os.path.dirname(os.path.dirname(HERE))
 PATIENCE = 5.0
+# In units of 1,024 bytes, as the kernel counts memory.
+MOST_MEMORY = 200 * 1024
 STUCK = 1000
 ENOUGH = 2000
+# The request of `prctl` by which a process gets the children of its children that end, as in <linux/prctl.h>.
+SET_CHILD_SUBREAPER = 36
 
-# What a run of the program gave: its standard output, its status, or a word in its place for one that was ended by a signal or by us, and
-# its standard error.
-Run = namedtuple("Run", "output status complaint")
+# What a run of the program gave: its standard output, its status, or a word in its place for one that was ended by a signal or by us, its
+# standard error, and the most memory that it had, or None where that can't be measured.
+Run = namedtuple("Run", "output status complaint memory")
 
 LETTERS = ["F%d" % number for number in range(1, 9)]
 LINES = (
@@ -120,12 +126,79 @@ def kind_of(line):
     return "verdict " + line.split(",")[0].split(": ")[-1]
 
 
+def spawn(command, streams):
+    """Starts a command with other standard streams, by their numbers; gives its process."""
+    if hasattr(os, "posix_spawn"):
+        actions = [(os.POSIX_SPAWN_DUP2, end, standard) for standard, end in streams.items()]
+        return os.posix_spawn(command[0], command, os.environ, file_actions=actions)
+    # PyPy has no such call, and to copy its process takes longer than all else.
+    library = ctypes.CDLL(None)
+    # Larger than what the C library keeps in it.
+    actions = ctypes.create_string_buffer(1024)
+    library.posix_spawn_file_actions_init(actions)
+    for standard, end in streams.items():
+        library.posix_spawn_file_actions_adddup2(actions, end, standard)
+    words = [os.fsencode(word) for word in command]
+    settings = [b"%s=%s" % setting for setting in os.environb.items()]
+    arguments = (ctypes.c_char_p * (len(words) + 1))(*words, None)
+    environment = (ctypes.c_char_p * (len(settings) + 1))(*settings, None)
+    process = ctypes.c_int()
+    fault = library.posix_spawn(ctypes.byref(process), words[0], actions, None, arguments, environment)
+    library.posix_spawn_file_actions_destroy(actions)
+    if fault:
+        raise OSError(fault, os.strerror(fault), command[0])
+    return process.value
+
+
+def reap(launched):
+    """Waits for all children; gives the status of the first but the one launched, or None, and the most memory of all but that one."""
+    ended, memory = None, 0
+    while True:
+        try:
+            number, status, used = os.wait4(-1, 0)
+        except ChildProcessError:
+            return ended, memory
+        if number != launched:
+            ended = status if ended is None else ended
+            memory = max(memory, used.ru_maxrss)
+
+
+def launcher():
+    """What the program is started by, that its memory can be measured; nothing where it can't be.
+
+    The kernel counts to a program's memory what the process had that started it: some 100 MB here. So `setsid` starts it, which has less
+    than any program, and which ends at once: the program becomes a child of this process.
+    """
+    setsid = shutil.which("setsid")
+    try:
+        if setsid is None or ctypes.CDLL(None).prctl(SET_CHILD_SUBREAPER, 1, 0, 0, 0):
+            return []
+    except AttributeError:
+        return []
+    with open(os.devnull, "wb") as nowhere:
+        launched = spawn([setsid, "-f", "true"], {1: nowhere.fileno(), 2: nowhere.fileno()})
+    return [setsid, "-f"] if reap(launched)[0] == 0 else []
+
+
+def children():
+    """The processes that this one is the parent of."""
+    for name in filter(str.isdigit, os.listdir("/proc")):
+        try:
+            with open("/proc/%s/stat" % name, "rb") as file:
+                parent = int(file.read().rpartition(b")")[2].split()[1])
+        except OSError:
+            continue
+        if parent == os.getpid():
+            yield int(name)
+
+
 class Program:
     """The built program, and a folder for what it reads."""
 
     def __init__(self, path, work):
         self.path = path
         self.work = work
+        self.launcher = launcher()
         self.files = os.path.join(work, "script"), os.path.join(work, "answers")
         self.pipes = os.path.join(work, "script.pipe"), os.path.join(work, "answers.pipe")
         for pipe in self.pipes:
@@ -133,29 +206,48 @@ class Program:
         self.complaints = os.open(os.path.join(work, "complaints"), os.O_RDWR | os.O_CREAT)
 
     def start(self, arguments, redirections=()):
-        """Starts the program; gives its number, and the end of a pipe that it prints to."""
+        """Starts the program; gives its number, or that of what starts it, and the end of a pipe that it prints to."""
         out, into = os.pipe()
-        actions = [(os.POSIX_SPAWN_DUP2, into, 1), (os.POSIX_SPAWN_DUP2, self.complaints, 2)]
-        actions.extend((os.POSIX_SPAWN_DUP2, end, standard) for end, standard in redirections)
-        process = os.posix_spawn(self.path, [self.path] + arguments, os.environ, file_actions=actions)
+        streams = {1: into, 2: self.complaints}
+        streams.update((standard, end) for end, standard in redirections)
+        process = spawn(self.launcher + [self.path] + arguments, streams)
         os.close(into)
         return process, out
+
+    def kill(self, process):
+        """Ends what was started."""
+        for number in children() if self.launcher else [process]:
+            try:
+                os.kill(number, signal.SIGKILL)
+            except ProcessLookupError:
+                pass
+
+    def reap(self, process):
+        """Waits for what was started; gives the program's status, and the most memory that it had."""
+        if not self.launcher:
+            return os.waitpid(process, 0)[1], None
+        return reap(process)
 
     def end(self, process, out, output, deadline):
         """Reads to the end of what the program prints, and gives the whole run; past the deadline it is ended."""
         late = False
         while True:
-            if not late and not select.select([out], [], [], max(0, deadline - time.monotonic()))[0]:
+            if not select.select([out], [], [], max(0, deadline - time.monotonic()))[0]:
                 late = True
-                os.kill(process, signal.SIGKILL)
+                self.kill(process)
+                # What it started may hold the pipe: that is ended then.
+                deadline = time.monotonic() + 1
+                continue
             piece = os.read(out, 65536)
             if not piece:
                 break
             output += piece
         os.close(out)
-        _, status = os.waitpid(process, 0)
+        status, memory = self.reap(process)
         if late:
             ended = "not ended after %g seconds" % PATIENCE
+        elif status is None:
+            ended = "none, it was not started,"
         elif os.WIFSIGNALED(status):
             ended = "signal %d" % os.WTERMSIG(status)
         else:
@@ -165,7 +257,7 @@ class Program:
             complaint = os.pread(self.complaints, 1000, 0)
             os.ftruncate(self.complaints, 0)
             os.lseek(self.complaints, 0, os.SEEK_SET)
-        return Run(output, ended, complaint)
+        return Run(output, ended, complaint, memory)
 
     def write(self, texts):
         """Writes both files."""
@@ -308,7 +400,7 @@ class Streams:
 class Fuzzer:
     """Runs seeds, and counts what they reach."""
 
-    def __init__(self, program, with_steps, corpus, folder):
+    def __init__(self, program, with_steps, corpus, folder, mutated):
         # Files in memory, where there are such, are written ten times as fast.
         memory = "/dev/shm" if os.access("/dev/shm", os.W_OK) else None
         self.work = tempfile.mkdtemp(prefix="smtcheck-fuzz-", dir=memory)
@@ -316,9 +408,13 @@ class Fuzzer:
         self.with_steps = with_steps
         self.corpus = corpus
         self.folder = folder
+        self.mutated = mutated
         self.counts = Counter()
         self.differences = 0
         self.slowest = (0.0, None)
+        self.largest = (0, None)
+        # Which stored dialogues were changed, where nothing else is done: their files, and their numbers.
+        self.sources = set()
 
     def close(self):
         """Removes what was made for the runs."""
@@ -326,6 +422,15 @@ class Fuzzer:
 
     def dialogue_of(self, seed, rng):
         """The dialogue of a seed."""
+        if self.mutated:
+            dialogue, number, texts = self.corpus.with_changed_bytes(seed, self.with_steps)
+            source = self.corpus.dialogues[number].file, number
+            self.counts["dialogue mutated"] += 1
+            self.counts["dialogue of a solver mutated"] += of_solver(source)
+            self.counts["text with changed bytes"] += texts
+            self.counts["both texts with changed bytes"] += texts == 2
+            self.sources.add(source)
+            return dialogue
         if self.corpus.dialogues and rng.random() < 0.2:
             self.counts["dialogue mutated"] += 1
             return self.corpus.mutated(seed, self.with_steps)
@@ -380,11 +485,17 @@ class Fuzzer:
         else:
             run = self.program.run(options, dialogue)
         trouble = trouble or self.trouble(run, lines, verdict)
+        self.measure(seed, run)
         if trouble:
             self.tell(seed, dialogue, options, lines, verdict, run, trouble)
         took = time.monotonic() - begun
         if took > self.slowest[0]:
             self.slowest = took, seed
+
+    def measure(self, seed, run):
+        """Keeps the most memory that a run had."""
+        if run.memory is not None and run.memory > self.largest[0]:
+            self.largest = run.memory, seed
 
     @staticmethod
     def trouble(run, lines, verdict):
@@ -393,7 +504,7 @@ class Fuzzer:
             return "status %s for %s" % (run.status, verdict)
         if run.output != "".join(line + "\n" for line in lines).encode():
             return "another report"
-        return "words on standard error" if run.complaint else None
+        return "words on standard error" if run.complaint else too_large(run)
 
     def run_refused(self, seed, rng, choice):
         """A run that has no report: one of four kinds."""
@@ -410,7 +521,8 @@ class Fuzzer:
             arguments, status, complaint, kind = rng.choice(wrong), 5, None, "command line: status 5"
         run = self.program.run_as_is(arguments)
         self.counts[kind] += 1
-        if run.status != status or complaint is not None and (run.complaint != complaint or run.output):
+        self.measure(seed, run)
+        if run.status != status or complaint is not None and (run.complaint != complaint or run.output) or too_large(run):
             self.differences += 1
             print("difference at seed %d: %s: %s" % (seed, " ".join(arguments), run), flush=True)
 
@@ -436,10 +548,23 @@ class Fuzzer:
             with open(os.path.join(folder, name), "wb") as file:
                 file.write(text)
         print(
-            "difference at seed %d: %s\n  alone: tests/fuzz.sh 1 %d, or in %s: %s %s script answers\nexpected:\n%sfound:\n%s%s"
-            % (seed, trouble, seed, folder, self.program.path, " ".join(options), expected, found, small.strip("\n")),
+            "difference at seed %d: %s\n  alone: tests/fuzz.sh 1 %d%s, or in %s: %s %s script answers\nexpected:\n%sfound:\n%s%s"
+            % (
+                seed, trouble, seed, " --mutated" * self.mutated, folder, self.program.path, " ".join(options), expected, found,
+                small.strip("\n"),
+            ),
             flush=True,
         )
+
+
+def too_large(run):
+    """That a run had too much memory, in words, or None."""
+    return "took %d MB" % (run.memory // 1024) if run.memory is not None and run.memory > MOST_MEMORY else None
+
+
+def of_solver(source):
+    """Whether a stored dialogue is one of a real solver, by its file."""
+    return source[0].startswith("solver")
 
 
 def shrunk(dialogue, differs, tries=1500):
@@ -507,13 +632,13 @@ def knows_steps(program):
 
 
 def run_some(settings, seeds):
-    """Runs some seeds: the counts, how many differences there were, and the slowest seed."""
-    program, with_steps, rows, folder = settings
-    fuzzer = Fuzzer(program, with_steps, Corpus(rows), folder)
+    """Runs some seeds; gives what was counted and measured."""
+    program, with_steps, rows, folder, mutated = settings
+    fuzzer = Fuzzer(program, with_steps, Corpus(rows), folder, mutated)
     try:
-        for seed in seeds:
+        for count, seed in enumerate(seeds):
             # A mistake in here may go round for ever: then the run ends, and shows where.
-            if seed % 16 == 0:
+            if count % 16 == 0:
                 faulthandler.dump_traceback_later(STUCK, exit=True)
             try:
                 fuzzer.run_seed(seed)
@@ -524,7 +649,7 @@ def run_some(settings, seeds):
     finally:
         faulthandler.cancel_dump_traceback_later()
         fuzzer.close()
-    return fuzzer.counts, fuzzer.differences, fuzzer.slowest
+    return fuzzer.counts, fuzzer.differences, fuzzer.slowest, fuzzer.largest, fuzzer.sources
 
 
 def run_deep(work):
@@ -552,26 +677,39 @@ def main():
     parser.add_argument("--steps-option", choices=("on", "off", "ask"), default="ask", help="whether the program has --steps: by its help")
     parser.add_argument("--rows", default=os.path.join(TOP, "crates/dialogue_rows/data"), help="the folder of rows whose dialogues are mutated")
     parser.add_argument("--folder", default=None, help="where differences are written: a new folder in the one for temporary files")
+    parser.add_argument(
+        "--mutated",
+        action="store_true",
+        help="nothing but dialogues of these rows with changed bytes, in one text or in both; no kind has to be reached: the status is 1 for "
+        "differences alone",
+    )
     parser.add_argument("-j", dest="jobs", type=int, default=1, help="how many run side by side")
     chosen = parser.parse_args()
     if not os.access(chosen.program, os.X_OK) or not stat.S_ISREG(os.stat(chosen.program).st_mode):
         sys.exit("fuzz: no program: " + chosen.program)
     with_steps = knows_steps(chosen.program) if chosen.steps_option == "ask" else chosen.steps_option == "on"
     folder = chosen.folder or os.path.join(tempfile.gettempdir(), "smtcheck-differences")
-    settings = os.path.abspath(chosen.program), with_steps, chosen.rows, folder
+    settings = os.path.abspath(chosen.program), with_steps, chosen.rows, folder, chosen.mutated
     seeds = range(chosen.seed, chosen.seed + chosen.number)
     size = max(1, min(2000, -(-len(seeds) // max(1, chosen.jobs))))
     works = [(settings, seeds[begin : begin + size]) for begin in range(0, len(seeds), size)]
-    counts, differences, slowest = Counter(), 0, (0.0, None)
+    counts, differences, slowest, largest, sources = Counter(), 0, (0.0, None), (0, None), set()
     pool = multiprocessing.Pool(chosen.jobs) if chosen.jobs > 1 else None
-    for some, differ, slow in pool.imap_unordered(run_deep, works) if pool else map(run_deep, works):
+    for some, differ, slow, large, stored in pool.imap_unordered(run_deep, works) if pool else map(run_deep, works):
         counts.update(some)
         differences += differ
         slowest = max(slowest, slow, key=lambda found: found[0])
-    required = REQUIRED + WITH_STEPS * with_steps
+        largest = max(largest, large, key=lambda found: found[0])
+        sources |= stored
+    if chosen.mutated:
+        counts["different stored dialogues"] = len(sources)
+        counts["different stored dialogues of solvers"] = sum(map(of_solver, sources))
+    required = [] if chosen.mutated else REQUIRED + WITH_STEPS * with_steps
     table(counts, required)
     missing = [name for name in required if not counts[name]]
-    print("%d seeds from %d, %d differences, the slowest took %.2f s: %s" % (chosen.number, chosen.seed, differences, *slowest))
+    memory = "the largest had %.1f MB: %s" % (largest[0] / 1024, largest[1]) if largest[0] else "memory was not measured"
+    totals = chosen.number, chosen.seed, differences
+    print("%d seeds from %d, %d differences, the slowest took %.2f s: %s, %s" % (*totals, *slowest, memory))
     if chosen.number >= ENOUGH and missing:
         print("fuzz: not reached: " + "; ".join(missing))
         return 1

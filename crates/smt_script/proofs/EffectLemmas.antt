@@ -1,14 +1,11 @@
 -- What each command does to a stack.
 use Rattle.std.proofs.Common.{◌≡◌, ◌≤◌, ℕ, ◌+◌, zero, suc, List, [], ◌∷◌, ◌++◌, inl, inr, Bool, false}
 use Rattle.std.proofs.Common.{true, cond, ◌||◌, Option, None, Some, Result, Ok, length, slice_get, take, refl, ap}
-use Rattle.std.proofs.Common.{append_assoc, sym, subst, ◌∙◌, arith}
+use Rattle.std.proofs.Common.{sym, subst, ◌∙◌, arith}
 use Rattle.std.proofs.lemmas.List.{append-nil, length-append}
 use Rattle.std.specs.Prelude.{nat_le}
-use Rattle.std.proofs.lemmas.List.Sums.{fold-append}
 use Rattle.std.specs.Global.{Vec}
-use Rattle.std.specs.Option.{option_or}
-use Rattle.smt_trees.specs.Sexp.{Sexp, Sexps, Nil, Cons}
-use Rattle.smt_terms.specs.Checking.{sort_in}
+use Rattle.smt_trees.specs.Sexp.{Sexp, Sexps, Nil}
 use Rattle.smt_theory.specs.Theories.{theories_named}
 use Rattle.smt_theory.specs.declared.sort.Sort.{Sort}
 use Rattle.smt_theory.specs.declared.theories.Theories.{Theories}
@@ -18,34 +15,30 @@ use Rattle.smt_terms.specs.Definitions.{defined_in}
 use Rattle.smt_terms.specs.Library as library
 use Rattle.smt_terms.specs.Library.{Holds, IsTermOf}
 use Rattle.smt_terms.specs.Declarations.{abbreviated_in, declared_in}
-use Rattle.smt_terms.specs.Signature.{Entry, Names, Signature, names_of, no_names, sort_names_of, with_abbreviation}
+use Rattle.smt_terms.specs.Signature.{Entry, Signature, names_of, no_names, sort_names_of, with_abbreviation}
 use Rattle.smt_terms.specs.Signature.{with_entries, with_entry}
 use Rattle.smt_faults.specs.Faults.{fault_by_term}
 use Rattle.smt_faults.specs.declared.term_flaw.TermFlaw.{TermFlaw}
 use Rattle.smt_terms.specs.declared.library.Library.{Library}
 use Rattle.smt_script.specs.Command.{Command, Effect, Addition, SetLogic, DeclareConst, DeclareFun, DefineFun}
 use Rattle.smt_script.specs.Command.{DefineSort, Assert, Brings, Removing, Nothing, effect_of}
-use Rattle.smt_script.specs.Command.{SetPrintSuccess, SetGlobalDeclarations, SetOption, SetInfo, Push, Pop, Reset}
-use Rattle.smt_script.specs.Command.{ResetAssertions, Exit, CheckSat, CheckSatAssuming, GetModel, Echo, Get}
 use Rattle.smt_script.specs.Stack as spec
 use Rattle.smt_script.specs.Stack.{Brought, Numbered, abbreviations_by, abbreviations_of_effect}
 use Rattle.smt_script.specs.Stack.{assertions_of_effect, depth_by, entries_of_effect, flaw_by}
 use Rattle.smt_script.specs.Stack.{removed_of_effect, resets, theories_by, abbreviations_of, assertions_by}
 use Rattle.smt_script.specs.Stack.{assertions_in_force, assertions_of, brought_by, depth_after}
 use Rattle.smt_script.specs.Stack.{depth_in_force, entries_by, entries_of, flaw_of, flaw_of_effect}
-use Rattle.smt_script.specs.Stack.{has_exited, history, in_force, names_stand, is_exit, is_reset, one_or_none}
+use Rattle.smt_script.specs.Stack.{history, in_force, names_stand, is_exit, is_reset, one_or_none}
 use Rattle.smt_script.specs.Stack.{print_success_after, print_success_in_force, signature_in_force}
 use Rattle.smt_script.specs.Stack.{signature_of, theories_after, theories_in_force, theories_or}
-use Rattle.smt_script.specs.Stack.{flaw_of_global, global_after, global_by, global_in_force, name_stands_after}
-use Rattle.smt_script.specs.Stack.{assertions_stand, is_logic_set, is_too_late, assumptions_after}
-use Rattle.smt_script.specs.Stack.{assumptions_in_force, flaw_of_formula, flaw_of_literals, trees_of}
-use Rattle.smt_script.specs.StackView.{AreAs, AreAssertions, AreNamesAlike, AreTerms, HasInForce, IsLevel, StandsFor}
+use Rattle.smt_script.specs.Stack.{global_after, global_by, global_in_force, name_stands_after}
+use Rattle.smt_script.specs.Stack.{assertions_stand, is_logic_set, is_too_late}
+use Rattle.smt_script.specs.StackView.{AreAs, AreAssertions, AreNamesAlike, AreTerms, HasInForce, IsLevel}
 use Rattle.smt_script.specs.StackView.{assertions_to_level, names_level, names_to_level, signature_to_level, to_level}
-use Rattle.smt_script.specs.Internal.Effect.{ContentsAreKept, HasAssumed, HasEffect, IsEnded, IsUnchanged}
-use Rattle.smt_script.specs.Internal.Effect.{assumptions_left, logic_after, with_notes}
+use Rattle.smt_script.specs.Internal.Effect.{ContentsAreKept, HasEffect, IsUnchanged, logic_after, with_notes}
 use Rattle.smt_faults.specs.declared.command_fault.CommandFault.{CommandFault}
 use Rattle.smt_faults.specs.declared.command_flaw.CommandFlaw.{CommandFlaw}
-use Rattle.smt_faults.specs.declared.command_flaw.CommandFlaw.TheVariants.{Logic, Term}
+use Rattle.smt_faults.specs.declared.command_flaw.CommandFlaw.TheVariants.{Term}
 use Rattle.smt_faults.specs.Outcome.{Tells, TellsCommand, flaw_told}
 use Rattle.smt_faults.specs.declared.term_fault.TermFault.{TermFault}
 use Rattle.smt_faults.specs.declared.term_fault.TermFault.TheVariants as terms
@@ -53,7 +46,7 @@ use Rattle.smt_script.specs.declared.stack.Assertion.{Assertion}
 use Rattle.smt_script.specs.declared.stack.LogicState.{LogicState}
 use Rattle.smt_script.specs.declared.stack.levels.Level.{Level}
 use Rattle.smt_script.specs.declared.stack.Stack.{Stack}
-use Rattle.smt_script.proofs.HistoryLemmas.{abbreviations-push, alike-append, alike_step, assertion_stands_after}
+use Rattle.smt_script.proofs.HistoryLemmas.{abbreviations-push, alike-append, assertion_stands_after}
 use Rattle.smt_script.proofs.HistoryLemmas.{assertions-push, assertions_rule, entries-push, exited-push, global-push}
 use Rattle.smt_script.proofs.HistoryLemmas.{global_to_level, in_force-grow, level_of, levels_to-push, logic-push}
 use Rattle.smt_script.proofs.HistoryLemmas.{names_rule, print-push, theories-push, to_level-push, unfixed_is_empty}
@@ -61,7 +54,7 @@ use Rattle.smt_script.proofs.StandingLemmas.{depth-push}
 
 -- ---- assertions
 
-assertions_stay : ContentsAreKept → (c d : Contents) → Extends c d
+pub assertions_stay : ContentsAreKept → (c d : Contents) → Extends c d
     → (as' : List Assertion) (bs : List spec.Assertion) → AreAssertions c as' bs → AreAssertions d as' bs
 assertions_stay law c d more [] [] h = tt
 assertions_stay law c d more (a ∷ as') (b ∷ bs) h =
@@ -671,7 +664,7 @@ unchanged_by law old l as' names grown same = record {
 
 -- ---- logics
 
-no_levels : (old : Stack) (cs : List Numbered) → HasInForce old cs → depth_in_force cs ≡ 0
+pub no_levels : (old : Stack) (cs : List Numbered) → HasInForce old cs → depth_in_force cs ≡ 0
     → (k : ℕ) (level : Level) → slice_get old.levels.items k ≡ Some level → ⊥
 no_levels old cs h zero_deep k level at = let m = within old.levels.items k level at in let e =
     h.depth in absurd (omega arith)
@@ -731,227 +724,6 @@ logic_effect old l theories name free named fresh n = record {
       };
   start = refl;
 }
-
--- ---- global declarations
-
-flaw_early : (late global on : Bool) → late ≡ false → flaw_of_global late global on ≡ None
-flaw_early true global on h = absurd (cc)
-flaw_early false global on h = refl
-
-flaw_same : (late global on : Bool) → global ≡ on → flaw_of_global late global on ≡ None
-flaw_same false global on h = refl
-flaw_same true true true h = refl
-flaw_same true true false h = absurd (cc)
-flaw_same true false true h = absurd (cc)
-flaw_same true false false h = refl
-
-flaw_late : (late global on : Bool) → late ≡ true → (global ≡ on → ⊥) → flaw_of_global late global on ≡ Some Logic
-flaw_late false global on h other = absurd (cc)
-flaw_late true true true h other = absurd (other refl)
-flaw_late true true false h other = refl
-flaw_late true false true h other = refl
-flaw_late true false false h other = absurd (other refl)
-
-global_adds : (on : Bool) → Adds (SetGlobalDeclarations on)
-global_adds on = record { no_reset = refl; level = λ d. refl; theories = λ t. refl }
-
--- while it is early, there is no level and nothing in force
-pub early_global : (s : Stack) (n : ℕ) (on : Bool) → s.logic.late ≡ false
-    → HasEffect s s n (SetGlobalDeclarations on)
-early_global s n on early = record {
-  faultless = λ cs h. flaw_early (is_too_late cs) (global_in_force cs) on
-      (sym (ap (λ (l : LogicState). l.late) h.logic) ∙ early);
-  stands = λ cs h alike.
-      let command = SetGlobalDeclarations on in
-      let c : Numbered = record { number = n; command = command } in
-      let empty = unfixed_is_empty cs (sym (ap (λ (l : LogicState). l.late) h.logic) ∙ early) in
-      let keeps = adds_keeps command (global_adds on) in
-      record {
-        library = subst (λ (x : Signature). library.StandsFor s.library x) (sym (signature-add cs c keeps))
-            (nothing_brought s.library (signature_in_force cs) n command refl refl h.library);
-        assertions = subst (λ (bs : List spec.Assertion). AreAssertions (contents_of s.library)
-            s.assertions.items bs) (sym (assertions-add cs c keeps ∙ append-nil (assertions_in_force cs)))
-            h.assertions;
-        depth = h.depth ∙ sym (depth-push cs c);
-        levels = λ k level at. absurd (no_levels s cs h empty.1 k level at);
-        ordered = h.ordered;
-        logic = ap (λ (x : LogicState). logic_after x command) h.logic ∙ sym (logic-push cs c);
-        global = sym (global-push cs c);
-        print_success = h.print_success ∙ sym (print-push s.initial_print_success cs c);
-        exited = ap (λ (x : Bool). x || false) h.exited ∙ sym (exited-push cs c);
-      };
-  start = refl;
-}
-
--- setting the value that there is changes nothing
-pub same_global : ContentsAreKept → (s : Stack) (n : ℕ) (on : Bool) → s.global ≡ on
-    → HasEffect s s n (SetGlobalDeclarations on)
-same_global law s n on same = record {
-  faultless = λ cs h. flaw_same (is_too_late cs) (global_in_force cs) on (sym h.global ∙ same);
-  stands = λ cs h alike.
-      added law s s [] cs n (SetGlobalDeclarations on) h alike (global_adds on) (sym same ∙ h.global)
-      refl refl refl refl refl refl
-      (extends_itself (contents_of s.library)) (sym (append-nil s.assertions.items))
-      (nothing_brought s.library (signature_in_force cs) n (SetGlobalDeclarations on) refl refl h.library)
-      (subst (λ (bs : List spec.Assertion). AreAssertions (contents_of s.library) s.assertions.items bs)
-      (sym (append-nil (assertions_in_force cs))) h.assertions);
-  start = refl;
-}
-
-pub late_global : (s : Stack) (on : Bool) → s.logic.late ≡ true → (s.global ≡ on → ⊥) → (cs : List Numbered)
-    → HasInForce s cs → (n : ℕ) → flaw_of_effect cs n (SetGlobalDeclarations on) ≡ Some Logic
-late_global s on late other cs h n =
-    flaw_late (is_too_late cs) (global_in_force cs) on (sym (ap (λ (l : LogicState). l.late) h.logic) ∙ late)
-    (λ same. other (h.global ∙ same))
-
--- ---- numbers
-
--- the number of the last command is no part of what is in force
-with_last : (s : Stack) (n : ℕ) (cs : List Numbered) → HasInForce s cs → HasInForce (record s { last = n }) cs
-with_last s n cs h = record {
-  library = h.library;
-  assertions = h.assertions;
-  depth = h.depth;
-  levels = h.levels;
-  ordered = h.ordered;
-  logic = h.logic;
-  global = h.global;
-  print_success = h.print_success;
-  exited = h.exited;
-}
-
--- ---- assumptions
-
--- the assumptions behind a command are those that it leaves or assumes
-left_assumptions : (old new : Stack) (command : Command) (s : Signature) (ts : List Sexp) (items : List ℕ)
-    → library.StandsFor old.library s → HasAssumed old new (effect_of command) → AreTerms (contents_of old.library) old.assumptions.items ts
-    → items ≡ assumptions_left command new.assumptions.items
-    → AreTerms (contents_of new.library) items (assumptions_after ts command)
-left_assumptions old new command s ts items names h are is = by command h is
-  where
-    none : items ≡ [] → AreTerms (contents_of new.library) items []
-    none e = subst (λ xs. AreTerms (contents_of new.library) xs []) (sym e) tt
-
-    same : (us : List Sexp) → items ≡ new.assumptions.items
-        → AreTerms (contents_of new.library) new.assumptions.items us → AreTerms (contents_of new.library) items us
-    same us e them = subst (λ xs. AreTerms (contents_of new.library) xs us) (sym e) them
-
-    by : (d : Command) → HasAssumed old new (effect_of d) → items ≡ assumptions_left d new.assumptions.items
-        → AreTerms (contents_of new.library) items (assumptions_after ts d)
-    by (SetLogic name) h is = none is
-    by (SetPrintSuccess on) h is = same ts is (h ts are)
-    by (SetGlobalDeclarations on) h is = same ts is (h ts are)
-    by (SetOption keyword value) h is = same ts is (h ts are)
-    by (SetInfo keyword value) h is = same ts is (h ts are)
-    by (DeclareConst x sort) h is = none is
-    by (DeclareFun x parameters sort) h is = none is
-    by (DefineFun x parameters sort body) h is = none is
-    by (DefineSort x sort) h is = none is
-    by (Assert term) h is = none is
-    by (Push levels) h is = none is
-    by (Pop levels) h is = none is
-    by Reset h is = none is
-    by ResetAssertions h is = none is
-    by Exit h is = same ts is (h ts are)
-    by CheckSat h is = none is
-    by (CheckSatAssuming literals) h is = same (trees_of literals) is (h s names)
-    by GetModel h is = same ts is (h ts are)
-    by (Echo text) h is = same ts is (h ts are)
-    by (Get query) h is = same ts is (h ts are)
-
-longer : {A : Type 0} (xs ys zs : List A) → (more : List A) × (ys ≡ xs ++ more)
-    → (more : List A) × (zs ≡ ys ++ more) → (more : List A) × (zs ≡ xs ++ more)
-longer {A} xs ys zs a b = (a.0 ++ b.0, b.1 ∙ ap (λ (l : List A). l ++ b.0) a.1 ∙ append_assoc xs a.0 b.0)
-
--- contents that are longer than longer ones
-pub extends_more : (c d e : Contents) → Extends c d → Extends d e → Extends c e
-extends_more c d e f g = record {
-  theories = g.theories ∙ f.theories;
-  abbreviations = longer c.abbreviations d.abbreviations e.abbreviations f.abbreviations g.abbreviations;
-  ranks = longer c.ranks d.ranks e.ranks f.ranks g.ranks;
-  heads = longer c.heads d.heads e.heads f.heads g.heads;
-  declared = longer c.declared d.declared e.declared f.declared g.declared;
-  definitions = longer c.definitions d.definitions e.definitions f.definitions g.definitions;
-  bodies = longer c.bodies d.bodies e.bodies f.bodies g.bodies;
-  rows = longer c.rows d.rows e.rows f.rows g.rows;
-}
-
-pub more_terms : (c : Contents) (ids : List ℕ) (ts : List Sexp) (i : ℕ) (t : Sexp) → AreTerms c ids ts
-    → IsTermOf c i t → AreTerms c (ids ++ i ∷ []) (ts ++ t ∷ [])
-more_terms c [] [] i t h one = (one, tt)
-more_terms c [] (u ∷ ts) i t h one = absurd h
-more_terms c (j ∷ ids) [] i t h one = absurd h
-more_terms c (j ∷ ids) (u ∷ ts) i t h one = (h.0, more_terms c ids ts i t h.1 one)
-
--- a literal that is a formula has no fault
-pub literal_next : (names : Names) (l : Sexp) (ls all : Sexps) → all ≡ Cons l ls
-    → flaw_of_formula (sort_in names [] l) ≡ None → flaw_of_literals names all ≡ flaw_of_literals names ls
-literal_next names l ls all e none =
-    ap (flaw_of_literals names) e
-    ∙ ap (λ (o : Option CommandFlaw). option_or o (flaw_of_literals names ls)) none
-
-assumes_adds : (literals : Sexps) → Adds (CheckSatAssuming literals)
-assumes_adds literals = record { no_reset = refl; level = λ d. refl; theories = λ t. refl }
-
--- literals that are formulas are assumed, and nothing else changes
-pub assume_effect : ContentsAreKept → (old : Stack) (l : Library) (v : Vec ℕ) (n : ℕ) (literals : Sexps)
-    → ((s : Signature) → library.StandsFor old.library s → library.StandsFor l s)
-    → Extends (contents_of old.library) (contents_of l)
-    → ((s : Signature) → library.StandsFor old.library s → flaw_of_literals (names_of s) literals ≡ None)
-    → HasEffect old (record old { library = l; assumptions = v }) n (CheckSatAssuming literals)
-assume_effect law old l v n literals names grown none = record {
-  faultless = λ cs h. none (signature_in_force cs) h.library;
-  stands = λ cs h alike.
-      added law old (record old { library = l; assumptions = v }) [] cs n (CheckSatAssuming literals) h alike
-      (assumes_adds literals) refl refl refl refl refl refl refl grown (sym (append-nil old.assertions.items))
-      (nothing_brought l (signature_in_force cs) n (CheckSatAssuming literals) refl refl
-      (names (signature_in_force cs) h.library))
-      (subst (λ (bs : List spec.Assertion). AreAssertions (contents_of l) old.assertions.items bs)
-      (sym (append-nil (assertions_in_force cs)))
-      (assertions_stay law (contents_of old.library) (contents_of l) grown old.assertions.items
-      (assertions_in_force cs) h.assertions));
-  start = refl;
-}
-
--- what is in force stays where the assumptions end
-ended_force : (command : Command) (old new : Stack) (cs : List Numbered) → IsEnded command old new
-    → HasInForce old cs → HasInForce new cs
-ended_force command old new cs ended h =
-    record {
-      library = subst (λ (l : Library). library.StandsFor l (signature_in_force cs)) (sym ended.library) h.library;
-      assertions = rw (ended.library, ended.assertions) h.assertions;
-      depth = rw ended.levels h.depth;
-      levels = rw (ended.library, ended.assertions, ended.levels, ended.notes.global) h.levels;
-      ordered = rw ended.levels h.ordered;
-      logic = ended.notes.logic ∙ h.logic;
-      global = ended.notes.global ∙ h.global;
-      print_success = ended.notes.print_success ∙ h.print_success
-          ∙ ap (λ (b : Bool). print_success_in_force b cs) (sym ended.notes.start);
-      exited = ended.notes.exited ∙ h.exited;
-    }
-
--- so a command that took effect, was noted, and ended what it ends stands under its number
-pub applied_stands : (old taken noted ended : Stack) (n : ℕ) (command : Command) → HasEffect old taken n command
-    → HasAssumed old taken (effect_of command) → noted ≡ with_notes command taken → IsEnded command noted ended
-    → (cs : List Numbered) → StandsFor old cs
-    → StandsFor (record ended { last = n }) (cs ++ record { number = n; command = command } ∷ [])
-applied_stands old taken noted ended n command effect assumed is gone cs h =
-    let all = cs ++ record { number = n; command = command } ∷ [] in
-    let force : HasInForce noted all = subst (λ (s : Stack). HasInForce s all) (sym is)
-    (effect.stands cs h.force h.alike) in
-    let items : ended.assumptions.items ≡ assumptions_left command taken.assumptions.items =
-    gone.assumptions ∙ ap (λ (s : Stack). assumptions_left command s.assumptions.items) is in
-    let same_library : ended.library ≡ taken.library = gone.library ∙ ap (λ (s : Stack). s.library) is in
-    let pushed : assumptions_in_force all ≡ assumptions_after (assumptions_in_force cs) command =
-    fold-append (λ (before : List Sexp) (x : Numbered). assumptions_after before x.command) [] cs
-    (record { number = n; command = command } ∷ []) in
-    record {
-      force = with_last ended n all (ended_force command noted ended all gone force);
-      alike = alike_step cs (record { number = n; command = command }) (effect.faultless cs h.force) h.alike;
-      assumptions = rw (same_library, pushed)
-          (left_assumptions old taken command (signature_in_force cs) (assumptions_in_force cs)
-          ended.assumptions.items h.force.library assumed h.assumptions items);
-    }
 
 -- ---- faults
 

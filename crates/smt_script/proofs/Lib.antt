@@ -3,5 +3,8 @@ pub mod HistoryLemmas
 pub mod BroughtLemmas
 pub mod SinceLemmas
 pub mod EffectLemmas
+pub mod GlobalLemmas
+pub mod AssumptionLemmas
+pub mod AppliedLemmas
 pub mod LevelLemmas
 pub mod IntroducedLemmas

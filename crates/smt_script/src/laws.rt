@@ -127,8 +127,8 @@ pub fn global_declarations_are_the_last()
 {}
 
 /// Names and abbreviations that are global never stand beside others: behind commands without a fault each
-/// that brought some was looked at while declarations were as global as they are at the end (SMT-LIB 2.6,
-/// section 4.1.7).
+/// that brought some came while declarations were as global as they are at the end (SMT-LIB 2.6, section
+/// 4.1.7).
 pub fn declarations_are_alike()
     ensures { (commands : List Numbered) → HaveNoFlaw [] commands → AreNamesAlike commands }
 {}

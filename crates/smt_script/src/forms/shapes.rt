@@ -6,7 +6,7 @@ ghost use Rattle.std.specs.Str.Parse.{digits_value};
 ghost use Rattle.smt_trees.specs.Tree.{sexp_of, sexps_of};
 ghost use Rattle.smt_forms.specs.Bindings.{named_trees};
 ghost use Rattle.smt_script.specs.Command as commands;
-ghost use Rattle.smt_script.specs.Internal.PartsView.{one_value, parts_view};
+ghost use Rattle.smt_script.specs.Internal.PartsView.{parts_view};
 ghost use Rattle.smt_script.specs.Parts as shapes;
 
 use crate::forms::parts::Parts;

@@ -1,5 +1,5 @@
 use Rattle.smt_script.specs.CommandView.{command_view}
-use Rattle.smt_script.proofs.EffectLemmas.{applied_stands}
+use Rattle.smt_script.proofs.AppliedLemmas.{applied_stands}
 use Rattle.smt_script.proofs.stack.Stack.apply.Goals as goal
 
 pub returns-clause-applied : goal.returns-clause-applied

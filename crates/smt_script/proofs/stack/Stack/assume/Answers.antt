@@ -1,7 +1,8 @@
 use Rattle.std.proofs.Common.{refl}
 use Rattle.smt_trees.specs.Tree.{sexps_of}
 use Rattle.smt_script.specs.Stack.{signature_in_force}
-use Rattle.smt_script.proofs.EffectLemmas.{assume_effect, unchanged_by}
+use Rattle.smt_script.proofs.AssumptionLemmas.{assume_effect}
+use Rattle.smt_script.proofs.EffectLemmas.{unchanged_by}
 use Rattle.smt_script.proofs.stack.Stack.assume.Goals as goal
 
 pub returns-in-Ok-clause-effect : goal.returns-in-Ok-clause-effect

@@ -1,6 +1,6 @@
 use Rattle.std.proofs.Common.{◌≡◌, Bool, true, false, inr, refl}
 use Rattle.std.specs.Bool.{beq}
-use Rattle.smt_script.proofs.EffectLemmas.{early_global, late_global, same_global}
+use Rattle.smt_script.proofs.GlobalLemmas.{early_global, late_global, same_global}
 use Rattle.smt_script.proofs.stack.Stack.set_global.Goals as goal
 
 are_same : (a b : Bool) → beq a b ≡ true → a ≡ b

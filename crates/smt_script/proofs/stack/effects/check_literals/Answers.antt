@@ -5,7 +5,8 @@ use Rattle.smt_terms.specs.Contents.{contents_of}
 use Rattle.smt_terms.specs.Signature.{names_of}
 use Rattle.smt_script.specs.Stack.{trees_of}
 use Rattle.smt_script.specs.StackView.{AreTerms}
-use Rattle.smt_script.proofs.EffectLemmas.{extends_more, literal_next, more_terms, terms_stay}
+use Rattle.smt_script.proofs.AssumptionLemmas.{extends_more, literal_next, more_terms}
+use Rattle.smt_script.proofs.EffectLemmas.{terms_stay}
 use Rattle.smt_script.proofs.stack.effects.check_literals.Goals as goal
 
 pub loop-literal-preserved : goal.loop-literal-preserved
