@@ -64,27 +64,8 @@ impl Nodes {
         }
     }
 
-    /// The node of a number, and how many annotations stand round it as `around` has them; `None` from the
-    /// length on.
-    #[inline(always)]
-    pub fn get_annotated(&self, number: usize) -> Option<(Node<'_>, usize)>
-        ensures node { option_map (λ p. node_view p.0) result
-            ≡ option_map (λ row. row.node) (slice_get (rows_of self.now) number) }
-        ensures around { option_map (λ p. p.1) result
-            ≡ option_map (λ row. row.around) (slice_get (rows_of self.now) number) }
-    {
-        match self.row(number) {
-            Some(row) => {
-                let around = around(row.stored) as usize;
-                let node = self.node(row);
-                Some((node, around))
-            }
-            None => None,
-        }
-    }
-
     /// The parts of the node of a number, and how many annotations stand round it as `around` has them; `None`
-    /// from the length on. It takes less time than `get_annotated`.
+    /// from the length on. It takes less time than `get`.
     #[inline(always)]
     pub fn get_parts(&self, number: usize) -> Option<(NodeParts<'_>, usize)>
         ensures parts { option_map (λ p. parts_view p.0) result
