@@ -8,6 +8,7 @@ has to be reached then.
 import argparse
 import ctypes
 import faulthandler
+import functools
 import multiprocessing
 import os
 import random
@@ -631,10 +632,14 @@ def knows_steps(program):
     return b"--steps" in shown.stdout
 
 
+# It takes a second, and a process runs seeds many times.
+corpus_of = functools.lru_cache(maxsize=1)(Corpus)
+
+
 def run_some(settings, seeds):
     """Runs some seeds; gives what was counted and measured."""
     program, with_steps, rows, folder, mutated = settings
-    fuzzer = Fuzzer(program, with_steps, Corpus(rows), folder, mutated)
+    fuzzer = Fuzzer(program, with_steps, corpus_of(rows), folder, mutated)
     try:
         for count, seed in enumerate(seeds):
             # A mistake in here may go round for ever: then the run ends, and shows where.
