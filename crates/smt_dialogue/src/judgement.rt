@@ -1,6 +1,6 @@
 //! What is found of a model under what is in force. This file knows no windows, and no lines of a report.
 
-ghost use Rattle.std.specs.Prelude.{◌≡◌, ◌≤◌, List, Some, true, false, IfOk, MatchOption};
+ghost use Rattle.std.specs.Prelude.{◌≡◌, ◌≤◌, List, Some, true, false, IfOk, IsTrue, MatchOption};
 ghost use Rattle.smt_values.specs.Element.{Truth, known_element};
 ghost use Rattle.smt_values.specs.KnownOperations.{is_known};
 ghost use Rattle.smt_machine.specs.Costs.{within};
@@ -15,6 +15,7 @@ ghost use Rattle.smt_dialogue.specs.Internal.Claims.{AreClaimed, claims_in_force
 ghost use Rattle.smt_dialogue.specs.Judgement as spec;
 ghost use Rattle.smt_dialogue.specs.Judgement.{Claimed, claims_cost, judged_over, judged_within};
 ghost use Rattle.smt_dialogue.specs.Judgement.{judgement_of};
+ghost use Rattle.smt_dialogue.specs.declared.judgement.Judgement.TheVariants.{TooLong};
 
 use crate::claims::Claims;
 use crate::options::Limit;
@@ -25,6 +26,9 @@ use smt_script::Stack;
 use smt_terms::Library;
 use smt_trees::Trees;
 use smt_values::Value;
+
+// How many nodes a pass over all counts in the time that one step of a walk takes.
+const NODES_A_STEP: u64 = 16;
 
 /// What is found of a model. Commands, and items of a model, count from 1.
 #[derive(Clone, Copy)]
@@ -43,8 +47,14 @@ pub enum Judgement {
     Confirmed,
 }
 
-/// Judges a model under what is in force, which is evaluated where it costs as much as the limit or less.
-pub(crate) fn judge(stack: &Stack, model: &Trees, limit: Limit) -> Result<Judgement, Memory>
+/// Judges a model under what is in force, which is evaluated where it costs as much as the limit or less. The
+/// machine keeps nothing of what it evaluated before but its memory.
+pub(crate) fn judge(
+    machine: &mut Machine,
+    stack: &Stack,
+    model: &Trees,
+    limit: Limit,
+) -> Result<Judgement, Memory>
     requires { (commands : List Numbered) × StandsFor stack.now commands }
     ensures { (commands : List Numbered) → StandsFor stack.now commands
         → IfOk result (λ j. j ≡ judgement_of limit.steps (signature_in_force commands)
@@ -53,7 +63,8 @@ pub(crate) fn judge(stack: &Stack, model: &Trees, limit: Limit) -> Result<Judgem
     let library = stack.library();
     match Interpretation::read(library, model) {
         Ok(mut interpretation) => {
-            let judgement = judge_read(library, &mut interpretation, Claims::new(stack), limit);
+            let claims = Claims::new(stack);
+            let judgement = judge_read(machine, library, &mut interpretation, claims, limit);
             drop(interpretation);
             judgement
         }
@@ -75,9 +86,10 @@ fn judgement_of_flaw(flaw: ModelFlaw) -> Judgement
     }
 }
 
-// The same of a model that was read. All nodes are counted at once where that takes no longer than the limit
-// lets a walk take: else a model of few words could be made to cost a pass over a large script.
+// The same of a model that was read. What costs little is found from the claims down, whatever else stands in
+// the script. Else all nodes are counted at once, where that takes no longer than the limit lets a walk take.
 fn judge_read(
+    machine: &mut Machine,
     library: &Library,
     interpretation: &mut Interpretation,
     claims: Claims<'_>,
@@ -92,16 +104,41 @@ fn judge_read(
         → IfOk result (λ j. j
         ≡ judged_within limit.steps all (structure_of script definitions)) }
 {
-    if library.nodes().len() as u64 > limit.steps {
-        return judge_within(library, interpretation, claims, limit);
+    let nodes = library.nodes().len() as u64;
+    let few = few_of(limit, nodes);
+    let judgement = judge_within(machine, library, interpretation, claims, few)?;
+    if is_decided(&judgement) || limit.steps <= few.steps {
+        return Ok(judgement);
     }
-    interpretation.count(library)?;
-    judge_within(library, interpretation, claims, limit)
+    if nodes <= limit.steps {
+        interpretation.count(library)?;
+    }
+    judge_within(machine, library, interpretation, claims, limit)
+}
+
+// Of the steps of a limit no more than a pass over so many nodes takes the time of.
+fn few_of(limit: Limit, nodes: u64) -> Limit
+    ensures { result.steps ≤ limit.steps }
+{
+    let steps = nodes / NODES_A_STEP;
+    if steps < limit.steps {
+        Limit { steps }
+    } else {
+        limit
+    }
+}
+
+// Whether a judgement is another than that the limit is not enough.
+fn is_decided(judgement: &Judgement) -> bool
+    ensures { IsTrue result → judgement.now ≡ TooLong → ⊥ }
+{
+    !matches!(judgement, Judgement::TooLong)
 }
 
 // What is found of claims over the definitions of a model and the script's own: nothing is evaluated
 // before it is known that the limit is enough for all.
 fn judge_within(
+    machine: &mut Machine,
     library: &Library,
     interpretation: &Interpretation,
     claims: Claims<'_>,
@@ -119,10 +156,8 @@ fn judge_within(
     let Some(mut steps) = cost_of_all(library, interpretation, claims, limit)? else {
         return Ok(Judgement::TooLong);
     };
-    let mut machine = Machine::new(library.alloc());
-    let judgement = judge_claims(&mut machine, library, interpretation, claims, &mut steps);
-    drop(machine);
-    judgement
+    machine.forget();
+    judge_claims(machine, library, interpretation, claims, &mut steps)
 }
 
 // What the evaluation of all claims costs, if it is no more than the limit.

@@ -17,7 +17,7 @@ ghost use Rattle.smt_dialogue.specs.Judgement.{judgement_of};
 use crate::answer::is_error;
 use crate::judgement::{Judgement, judge};
 use crate::options::Limit;
-use smt_eval::Memory;
+use smt_eval::{Machine, Memory};
 use smt_report::{CheckAnswer, Line};
 use smt_script::{Command, Kind, Stack};
 use smt_trees::{Tree, Trees};
@@ -55,6 +55,8 @@ pub struct Checks {
     pub count: u64,
     pub pending: Option<PendingCheck>,
     pub lines: Vec<Line>,
+    /// What evaluates models, one after another.
+    pub machine: Machine,
 }
 
 impl Checks {
@@ -69,6 +71,7 @@ impl Checks {
             count: 0,
             pending: None,
             lines: Vec::new(alloc),
+            machine: Machine::new(alloc),
         }
     }
 
@@ -167,7 +170,9 @@ impl Checks {
             (judgement_of self.old.limit.steps (signature_in_force commands) (claims_in_force commands)
             model.now))) }
     {
-        let judgement = judge(stack, model, self.limit)?;
+        let judgement = judge(&mut self.machine, stack, model, self.limit)?;
+        // What was large is not kept until the next model comes.
+        self.machine.forget();
         match line_of_judgement(pending, number, judgement) {
             Some(line) => {
                 self.lines.push(line)?;

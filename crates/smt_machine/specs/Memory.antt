@@ -9,7 +9,7 @@ use Rattle.smt_machine.specs.declared.machine.Machine.{Machine}
 -- none
 abbrev pub HasNoMemory : Machine → Type 0
 HasNoMemory m = (vec_capacity m.values ≡ 0) × (vec_capacity m.frames ≡ 0) × (vec_capacity m.tasks ≡ 0)
-    × (vec_capacity m.kept.values ≡ 0)
+    × (vec_capacity m.kept.found ≡ 0) × (vec_capacity m.kept.places ≡ 0)
 
 -- the values that a machine keeps of closed nodes are what is known of these
 abbrev pub Remembers : Machine → List Node → Type 0

@@ -1,39 +1,79 @@
 //! What was found of closed nodes, by their numbers. This file knows no node.
 
-ghost use Rattle.std.specs.Prelude.{◌≡◌, ℕ, ◌<◌, ◌==◌, None, Some, IfOk, length, option_map};
-ghost use Rattle.std.specs.Prelude.{if◌then◌else◌, vec_capacity};
+ghost use Rattle.std.specs.Prelude.{◌≡◌, ℕ, ◌<◌, ◌==◌, ◌∷◌, ◌++◌, [], None, Some, IfOk, OnErr, OnOk, length};
+ghost use Rattle.std.specs.Prelude.{if◌then◌else◌, option_map, vec_capacity};
 ghost use Rattle.smt_values.specs.Element.{known_element};
-ghost use Rattle.smt_machine.specs.Internal.KeptView.{kept_at};
+ghost use Rattle.smt_machine.specs.Internal.KeptView.{found_at, kept_at};
 
 use smt_faults::Memory;
 use smt_values::Value;
 use std::alloc::Global;
 
-/// For the number of each node its value, if one is kept; a value that is kept may be open.
+/// For how many values memory stays that is not in use.
+pub(crate) const FEW: usize = 4096;
+
+/// The value that was found for the node of a number; it may be open.
+#[derive(Clone, Copy)]
+pub(crate) struct Found {
+    number: usize,
+    value: Option<Value>,
+}
+
+/// The values that are kept, in the order in which they came, and for the number of each node the place where its
+/// value stands among them, if that is the value of this number. So all are forgotten in one step, and nothing is
+/// done for a node without a value.
 #[derive(Drop)]
 pub(crate) struct Kept {
-    values: Vec<Option<Option<Value>>>,
+    alloc: Global,
+    found: Vec<Found>,
+    places: Vec<usize>,
 }
 
 impl Kept {
     /// Nothing is kept yet.
+    #[tactic(auto, unfolding(crate::specs::Internal::KeptView::kept_at))]
     pub(crate) fn new(alloc: Global) -> Kept
         ensures nothing { (number : ℕ) → kept_at result number ≡ None }
-        ensures memory { vec_capacity result.values ≡ 0 }
+        ensures memory { (vec_capacity result.found ≡ 0) × (vec_capacity result.places ≡ 0) }
     {
         Kept {
-            values: Vec::new(alloc),
+            alloc,
+            found: Vec::new(alloc),
+            places: Vec::new(alloc),
+        }
+    }
+
+    /// Keeps nothing any more, but memory: that of a few values, and the places.
+    #[tactic(auto, unfolding(crate::specs::Internal::KeptView::kept_at))]
+    pub(crate) fn forget(&mut self)
+        ensures { (number : ℕ) → kept_at self.new number ≡ None }
+    {
+        self.found.clear();
+        if self.found.capacity() > FEW {
+            self.found = Vec::new(self.alloc);
         }
     }
 
     /// What is kept for a number.
+    #[tactic(auto, unfolding(crate::specs::Internal::KeptView::kept_at))]
     #[inline(always)]
     pub(crate) fn get(&self, number: usize) -> Option<Option<Value>>
         ensures { option_map known_element result ≡ kept_at self.now number }
     {
-        match self.values.get(number) {
-            Some(value) => *value,
+        match self.places.get(number) {
+            Some(place) => self.get_at(*place, number),
             None => None,
+        }
+    }
+
+    // The value at a place, if it is that of this number.
+    #[inline(always)]
+    fn get_at(&self, place: usize, number: usize) -> Option<Option<Value>>
+        ensures { option_map known_element result ≡ found_at self.now.found.items place number }
+    {
+        match self.found.get(place) {
+            Some(found) if found.number == number => Some(found.value),
+            _ => None,
         }
     }
 
@@ -43,21 +83,27 @@ impl Kept {
             ≡ (if other == number then Some (known_element value) else kept_at self.old other)) }
     {
         self.make_room(number)?;
-        self.values.as_mut_slice()[number] = Some(value);
+        let place = self.found.len();
+        self.found.push(Found { number, value })?;
+        self.places.as_mut_slice()[number] = place;
         Ok(())
     }
 
     // Has a place for a number.
+    #[tactic(auto, unfolding(crate::specs::Internal::KeptView::kept_at))]
     fn make_room(&mut self, number: usize) -> Result<(), Memory>
-        ensures room { IfOk result (λ _. number < length self.new.values.items) }
+        ensures room { IfOk result (λ _. number < length self.new.places.items) }
         ensures kept { IfOk result (λ _. (other : ℕ) → kept_at self.new other ≡ kept_at self.old other) }
+        ensures found { self.new.found ≡ self.old.found }
     {
         let Some(len) = number.checked_add(1) else {
             // So many nodes have no place in memory.
             return Err(Memory);
         };
-        if self.values.len() < len {
-            self.values.resize(len, None)?;
+        if self.places.len() < len {
+            // No value stands at this place yet, and the one that will is of the number it is kept for.
+            let none = self.found.len();
+            self.places.resize(len, none)?;
         }
         Ok(())
     }

@@ -14,7 +14,7 @@ ghost use Rattle.smt_machine.specs.Nodes.{Node, at_place};
 ghost use Rattle.smt_machine.specs.declared.task.Task.TheVariants.{Keep, Return, Unbind, Visit};
 
 use crate::items::{items_from, lesser};
-use crate::kept::Kept;
+use crate::kept::{FEW, Kept};
 use crate::parts::{Part, Parts};
 use crate::task::{Task, task_of};
 use smt_faults::Memory;
@@ -26,6 +26,7 @@ use std::alloc::Global;
 /// have. One machine serves many evaluations over the same tables, and keeps its memory from one to the next.
 #[derive(Drop)]
 pub struct Machine {
+    alloc: Global,
     values: Vec<Option<Value>>,
     frames: Vec<Option<Value>>,
     base: usize,
@@ -40,11 +41,28 @@ impl Machine {
         ensures serves { (nodes : List Node) → Remembers result nodes }
     {
         Machine {
+            alloc,
             values: Vec::new(alloc),
             frames: Vec::new(alloc),
             base: 0,
             tasks: Vec::new(alloc),
             kept: Kept::new(alloc),
+        }
+    }
+
+    /// Serves any tables again, as a new one. Memory that is not large stays.
+    pub fn forget(&mut self)
+        ensures { (nodes : List Node) → Remembers self.new nodes }
+    {
+        self.kept.forget();
+        if self.values.capacity() > FEW {
+            self.values = Vec::new(self.alloc);
+        }
+        if self.frames.capacity() > FEW {
+            self.frames = Vec::new(self.alloc);
+        }
+        if self.tasks.capacity() > FEW {
+            self.tasks = Vec::new(self.alloc);
         }
     }
 

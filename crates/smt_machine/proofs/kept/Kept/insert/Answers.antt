@@ -1,20 +1,31 @@
-use Rattle.std.proofs.Common.{◌∙◌, ◌<◌, List, Option, Some, ap, length, length-set, slice_get, slice_set, subst}
-use Rattle.std.proofs.Common.{sym}
+use Rattle.std.proofs.Common.{◌≡◌, ◌∙◌, ◌<◌, ℕ, List, Option, Some, ap, arith, cond, length, length-set, nat_eq, refl}
+use Rattle.std.proofs.Common.{slice_get, slice_set, subst, sym}
 use Rattle.std.proofs.lemmas.List.{with_items_is}
-use Rattle.smt_values.specs.declared.value.Value.{Value}
-use Rattle.smt_machine.specs.Internal.KeptView.{kept_at, kept_in}
-use Rattle.smt_machine.proofs.KeptLemmas.{kept_set}
+use Rattle.smt_values.specs.Element.{known_element}
+use Rattle.smt_machine.specs.Internal.KeptView.{found_by, kept_at}
+use Rattle.smt_machine.specs.declared.kept.Found.{Found}
+use Rattle.smt_machine.proofs.KeptLemmas.{kept_more}
 use Rattle.smt_machine.proofs.kept.Kept.insert.Goals as goal
 
 pub returns : goal.returns
+unfolding kept_at
 returns c = λ other.
-    let P : List (Option (Option Value)) → Type 0 = λ xs. c.args.number < length xs in
+    let number = c.args.number in
+    let found : List Found = c.make_room.new.self.found.items in
+    let places : List ℕ = c.make_room.new.self.places.items in
     let before = c.as_mut_slice.result.now in
-    let after = slice_set before c.args.number (Some c.args.value) in
-    ap (λ xs. kept_in (slice_get xs other))
-    (with_items_is c.make_room.new.self.values after
-    (length-set before c.args.number (Some c.args.value) ∙ c.as_mut_slice.ensures.len))
-    ∙ kept_set before c.args.number other c.args.value (kept_at c.args.self.now other)
-    (subst P (sym c.as_mut_slice.ensures.value) c.in_ok-make_room.ensures.room)
-    (ap (λ xs. kept_in (slice_get xs other)) c.as_mut_slice.ensures.value
-    ∙ c.in_ok-make_room.ensures.kept other)
+    let after = slice_set before number c.len-place.result in
+    ap (λ ps. found_by c.push.new.self.items (slice_get ps other) other)
+    (with_items_is c.make_room.new.self.places after
+    (length-set before number c.len-place.result ∙ c.as_mut_slice.ensures.len))
+    ∙ ap (λ ps. found_by c.push.new.self.items (slice_get (slice_set ps number c.len-place.result) other) other)
+    c.as_mut_slice.ensures.value
+    ∙ ap (λ n. found_by c.push.new.self.items (slice_get (slice_set places number n) other) other)
+    (let v = c.make_room.new.self.found in
+    let long : c.len-place.result ≡ length v.items = omega (arith, c.len-place.ensures) in long)
+    ∙ ap (λ fs. found_by fs (slice_get (slice_set places number (length found)) other) other)
+    c.in_ok-push.ensures.items
+    ∙ kept_more found places number other c.args.value (nat_eq other number) refl
+    c.in_ok-make_room.ensures.room
+    ∙ ap (λ k. cond (nat_eq other number) (Some (known_element c.args.value)) k)
+    (c.in_ok-make_room.ensures.kept other)
