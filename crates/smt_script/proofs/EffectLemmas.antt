@@ -263,7 +263,7 @@ pub added : ContentsAreKept
     → (old new : Stack) (more : List Assertion) (cs : List Numbered) (n : ℕ) (command : Command)
     → HasInForce old cs → AreNamesAlike cs → Adds command
     → global_after (global_in_force cs) command ≡ global_in_force cs → new.global ≡ old.global
-    → new.levels.items ≡ old.levels.items → new.logic ≡ old.logic → new.print_success ≡ old.print_success
+    → new.levels ≡ old.levels → new.logic ≡ old.logic → new.print_success ≡ old.print_success
     → new.exited ≡ old.exited → new.initial_print_success ≡ old.initial_print_success
     → Extends (contents_of old.library) (contents_of new.library)
     → new.assertions.items ≡ old.assertions.items ++ more
@@ -286,10 +286,10 @@ added law old new more cs n command h alike adds same_global global levels logic
           new.assertions.items l) (sym (assertions-add cs c keeps)) assertions;
       depth = ap length levels ∙ h.depth ∙ sym (depth-push cs c ∙ adds.level (depth_in_force cs));
       levels = λ k l at.
-          let there : slice_get old.levels.items k ≡ Some l =
+          let there : slice_get old.levels k ≡ Some l =
           ap (λ (xs : List Level). slice_get xs k) (sym levels) ∙ at in
           let inside : k + 1 ≤ b.level =
-          (let m = within old.levels.items k l there in let e = h.depth in let f =
+          (let m = within old.levels k l there in let e = h.depth in let f =
           adds.level (depth_in_force cs) in omega arith) in
           let more_global : AreAs (global_in_force cs) (in_force names_stand (history all)) =
           subst (AreAs (global_in_force cs))
@@ -665,8 +665,8 @@ unchanged_by law old l as' names grown same = record {
 -- ---- logics
 
 pub no_levels : (old : Stack) (cs : List Numbered) → HasInForce old cs → depth_in_force cs ≡ 0
-    → (k : ℕ) (level : Level) → slice_get old.levels.items k ≡ Some level → ⊥
-no_levels old cs h zero_deep k level at = let m = within old.levels.items k level at in let e =
+    → (k : ℕ) (level : Level) → slice_get old.levels k ≡ Some level → ⊥
+no_levels old cs h zero_deep k level at = let m = within old.levels k level at in let e =
     h.depth in absurd (omega arith)
 
 pub none_of_any : (c d : Contents) (as' : List Assertion) → AreAssertions c as' [] → AreAssertions d as' []

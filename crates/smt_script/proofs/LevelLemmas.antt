@@ -22,7 +22,8 @@ use Rattle.smt_script.specs.Stack.{theories_in_force}
 use Rattle.smt_script.specs.StackView.{AreAs, AreAssertions, HasInForce, IsAs, IsLevel, IsOuter, assertions_to_level}
 use Rattle.smt_script.specs.StackView.{contents_left, names_level, names_to_level, signature_to_level, to_level}
 use Rattle.smt_script.specs.Internal.Effect.{HasEffect, HasNoAssertions, HasNotesOf, IsCut, IsEmpty, IsUnchanged}
-use Rattle.smt_script.specs.Internal.Effect.{NotesAll, copies, logic_after, with_notes}
+use Rattle.smt_script.specs.Internal.Runs.{copies}
+use Rattle.smt_script.specs.Internal.Effect.{NotesAll, logic_after, with_notes}
 use Rattle.smt_faults.specs.declared.command_flaw.CommandFlaw.TheVariants.{TooDeep, NoLevel}
 use Rattle.smt_script.specs.declared.stack.Assertion.{Assertion}
 use Rattle.smt_script.specs.declared.stack.LogicState.{LogicState}
@@ -128,7 +129,7 @@ note_is_level s l cs k h notes le =
     }
 
 push_level : (s : Stack) (l : Level) (cs : List Numbered) (k : ℕ) (x : Level) → HasInForce s cs → NotesAll s l
-    → Behind s.levels.items l k x
+    → Behind s.levels l k x
     → IsLevel s.global (contents_of s.library) s.assertions.items x (signature_to_level k cs)
     (assertions_to_level k cs)
 push_level s l cs k x h notes (Before at) = h.levels k x at
@@ -138,7 +139,7 @@ push_level s l cs k x h notes (Copy is le) =
     (note_is_level s l cs k h notes (let e = h.depth in omega arith))
 
 push_ordered : (s : Stack) (l : Level) (cs : List Numbered) (j k : ℕ) (x y : Level) → HasInForce s cs
-    → NotesAll s l → j ≤ k → Behind s.levels.items l j x → Behind s.levels.items l k y → IsOuter x y
+    → NotesAll s l → j ≤ k → Behind s.levels l j x → Behind s.levels l k y → IsOuter x y
 push_ordered s l cs j k x y h notes le (Before at) (Before there) = h.ordered j k x y le at there
 push_ordered s l cs j k x y h notes le (Before at) (Copy is far) =
     let level = h.levels j x at in
@@ -149,14 +150,14 @@ push_ordered s l cs j k x y h notes le (Before at) (Copy is far) =
           (let e = notes.assertions in let m = level.count in omega arith);
     })
 push_ordered s l cs j k x y h notes le (Copy same near) (Before there) = let m =
-    within s.levels.items k y there in absurd (omega arith)
+    within s.levels k y there in absurd (omega arith)
 push_ordered s l cs j k x y h notes le (Copy same near) (Copy is far) =
     subst (λ (z : Level). IsOuter z y) (sym same)
     (subst (IsOuter l) (sym is)
     (record { mark = notes.last l.mark notes.within; assertions = omega arith }))
 
-pub push_effect : (old : Stack) (v : Vec Level) (l : Level) (m : ℕ) → NotesAll old l
-    → v.items ≡ old.levels.items ++ copies m l → length old.levels.items + m ≤ limit
+pub push_effect : (old : Stack) (v : List Level) (l : Level) (m : ℕ) → NotesAll old l
+    → v ≡ old.levels ++ copies m l → length old.levels + m ≤ limit
     → (n : ℕ) → HasEffect old (record old { levels = v }) n (Push m)
 push_effect old v l m notes pushed fits n = record {
   faultless = λ cs h.
@@ -167,9 +168,9 @@ push_effect old v l m notes pushed fits n = record {
       let b = brought_by cs (history cs) c in
       let P : List spec.Assertion → Type 0 =
       λ bs. AreAssertions (contents_of old.library) old.assertions.items bs in
-      let deep : length v.items ≡ depth_in_force cs + m =
-      ap length pushed ∙ length-append old.levels.items (copies m l)
-      ∙ ap (λ (x : ℕ). length old.levels.items + x) (copies_length m l) ∙ ap (λ (x : ℕ). x + m) h.depth in
+      let deep : length v ≡ depth_in_force cs + m =
+      ap length pushed ∙ length-append old.levels (copies m l)
+      ∙ ap (λ (x : ℕ). length old.levels + x) (copies_length m l) ∙ ap (λ (x : ℕ). x + m) h.depth in
       record {
         library = subst (λ (s : Signature). library.StandsFor old.library s)
             (sym (signature-add cs c (push_keeps m)))
@@ -178,9 +179,9 @@ push_effect old v l m notes pushed fits n = record {
             h.assertions;
         depth = deep ∙ sym (depth-push cs c);
         levels = λ k x at.
-            let behind = one_behind old.levels.items m l k x
+            let behind = one_behind old.levels m l k x
             (ap (λ (xs : List Level). slice_get xs k) (sym pushed) ∙ at) in
-            let inside : k + 1 ≤ b.level = (let i = within v.items k x at in omega arith) in
+            let inside : k + 1 ≤ b.level = (let i = within v k x at in omega arith) in
             subst (λ (y : Signature). IsLevel old.global (contents_of old.library) old.assertions.items x y
             (assertions_to_level k (cs ++ c ∷ []))) (sym (no_names_left k cs c (push_keeps m) refl refl))
             (subst (IsLevel old.global (contents_of old.library) old.assertions.items x (signature_to_level k cs))
@@ -188,9 +189,9 @@ push_effect old v l m notes pushed fits n = record {
             (push_level old l cs k x h notes behind));
         ordered = λ j k x y le at there.
             push_ordered old l cs j k x y h notes le
-            (one_behind old.levels.items m l j x
+            (one_behind old.levels m l j x
             (ap (λ (xs : List Level). slice_get xs j) (sym pushed) ∙ at))
-            (one_behind old.levels.items m l k y
+            (one_behind old.levels m l k y
             (ap (λ (xs : List Level). slice_get xs k) (sym pushed) ∙ there));
         logic = ap (λ (x : LogicState). logic_after x (Push m)) h.logic ∙ sym (logic-push cs c);
         global = h.global ∙ sym (global-push cs c);
@@ -200,7 +201,7 @@ push_effect old v l m notes pushed fits n = record {
   start = refl;
 }
 
-pub push_refused : (s : Stack) (m : ℕ) → (length s.levels.items + m ≤ limit → ⊥) → (cs : List Numbered)
+pub push_refused : (s : Stack) (m : ℕ) → (length s.levels + m ≤ limit → ⊥) → (cs : List Numbered)
     → HasInForce s cs → (n : ℕ) → flaw_of_effect cs n (Push m) ≡ Some TooDeep
 push_refused s m over cs h n =
     rw (too_many (depth_in_force cs + m) (λ le. over (let e = h.depth in omega arith))) refl
@@ -229,11 +230,11 @@ within_left law true mark later c h inner outer = inner
 within_left law false mark later c h inner outer = law.within mark later c h outer
 
 cut_level : CutsAreKept → (old new : Stack) (d : ℕ) (cs : List Numbered) → HasInForce old cs
-    → (cut : IsCut old new d) → (k : ℕ) (x : Level) → slice_get new.levels.items k ≡ Some x
+    → (cut : IsCut old new d) → (k : ℕ) (x : Level) → slice_get new.levels k ≡ Some x
     → IsLevel old.global (contents_of new.library) new.assertions.items x (signature_to_level k cs)
     (assertions_to_level k cs)
 cut_level law old new d cs h cut k x at =
-    let there = taken d old.levels.items k x (ap (λ (xs : List Level). slice_get xs k) (sym cut.levels) ∙ at)
+    let there = taken d old.levels k x (ap (λ (xs : List Level). slice_get xs k) (sym cut.levels) ∙ at)
     in
     let outer = h.ordered k d x cut.level (let m = there.1 in omega arith) there.0 cut.at in
     let level = h.levels k x there.0 in
@@ -302,7 +303,7 @@ assertions_popped k cs c keeps inside =
     ∙ to_level-push level_of k (to_level b.level A) b inside
     ∙ to_fewer level_of k b.level A (omega arith))
 
-pub pop_effect : CutsAreKept → (old new : Stack) (m d : ℕ) → IsCut old new d → d + m ≡ length old.levels.items
+pub pop_effect : CutsAreKept → (old new : Stack) (m d : ℕ) → IsCut old new d → d + m ≡ length old.levels
     → HasNotesOf old new → (n : ℕ) → HasEffect old new n (Pop m)
 pop_effect law old new m d cut sum notes n = record {
   faultless = λ cs h. rw (enough cs h) refl;
@@ -332,11 +333,11 @@ pop_effect law old new m d cut sum notes n = record {
             (contents_left g cut.level.mark (contents_of old.library)) xs (assertions_to_level d cs))
             (sym cut.assertions) whole.assertions_are));
         depth = ap length cut.levels
-            ∙ take_length d old.levels.items
-            (let i = within old.levels.items d cut.level cut.at in omega arith) ∙ sym deep
+            ∙ take_length d old.levels
+            (let i = within old.levels d cut.level cut.at in omega arith) ∙ sym deep
             ∙ sym (depth-push cs c);
         levels = λ k x at.
-            let there = taken d old.levels.items k x
+            let there = taken d old.levels k x
             (ap (λ (xs : List Level). slice_get xs k) (sym cut.levels) ∙ at) in
             let inside : k + 1 ≤ b.level = (let i = there.1 in let e = deep in omega arith) in
             subst (λ (g : Bool). IsLevel g (contents_of new.library) new.assertions.items x
@@ -346,9 +347,9 @@ pop_effect law old new m d cut sum notes n = record {
             (subst (IsLevel g (contents_of new.library) new.assertions.items x (signature_to_level k cs))
             (sym (assertions_popped k cs c refl inside)) (cut_level law old new d cs h cut k x at)));
         ordered = λ j k x y le at there.
-            h.ordered j k x y le (taken d old.levels.items j x
+            h.ordered j k x y le (taken d old.levels j x
             (ap (λ (xs : List Level). slice_get xs j) (sym cut.levels) ∙ at)).0
-            (taken d old.levels.items k y
+            (taken d old.levels k y
             (ap (λ (xs : List Level). slice_get xs k) (sym cut.levels) ∙ there)).0;
         logic = ap (λ (x : LogicState). logic_after x (Pop m)) (notes.logic ∙ h.logic) ∙ sym (logic-push cs c);
         global = notes.global ∙ h.global ∙ sym (global-push cs c);
@@ -384,7 +385,7 @@ pop_none s n = record {
         depth = h.depth ∙ sym same ∙ sym (depth-push cs c);
         levels = λ k x at.
             let inside : k + 1 ≤ depth_in_force cs - 0 =
-            (let i = within s.levels.items k x at in let e = h.depth in omega arith) in
+            (let i = within s.levels k x at in let e = h.depth in omega arith) in
             subst (λ (y : Signature). IsLevel s.global (contents_of s.library) s.assertions.items x y
             (assertions_to_level k all)) (sym (no_names_left k cs c pop_keeps refl refl))
             (subst (IsLevel s.global (contents_of s.library) s.assertions.items x (signature_to_level k cs))
@@ -401,7 +402,7 @@ pop_none s n = record {
     none_over : (d : ℕ) → nat_lt d 0 ≡ false
     none_over d = grind (arith)
 
-pub pop_refused : (s : Stack) (m : ℕ) → (m ≤ length s.levels.items → ⊥) → (cs : List Numbered)
+pub pop_refused : (s : Stack) (m : ℕ) → (m ≤ length s.levels → ⊥) → (cs : List Numbered)
     → HasInForce s cs → (n : ℕ) → flaw_of_effect cs n (Pop m) ≡ Some NoLevel
 pop_refused s m over cs h n =
     rw (too_many (depth_in_force cs) (λ le. over (let e = h.depth in omega arith))) refl
@@ -418,7 +419,7 @@ nothing_at k x at = absurd (cc)
 without_assertions : (old new : Stack) (cs : List Numbered) (n : ℕ) (command : Command) → HasInForce old cs
     → library.StandsFor new.library (signature_in_force (cs ++ record { number = n; command = command } ∷ []))
     → is_reset command ≡ true → ((d : ℕ) → depth_after d command ≡ 0) → ((n : ℕ) → assertions_by n command ≡ [])
-    → new.assertions.items ≡ [] → new.levels.items ≡ [] → HasNotesOf old new
+    → new.assertions.items ≡ [] → new.levels ≡ [] → HasNotesOf old new
     → HasInForce (with_notes command new) (cs ++ record { number = n; command = command } ∷ [])
 without_assertions old new cs n command h names resets no_depth brings none no_levels notes =
     let c : Numbered = record { number = n; command = command } in
@@ -593,7 +594,7 @@ take_old [] n l = refl
 take_old (x ∷ xs) n l = ap (λ (ys : List Level). x ∷ ys) (take_old xs n l)
 
 -- as many levels as before change nothing
-pub levels_unchanged : (old : Stack) (v : Vec Level) → v.items ≡ old.levels.items
+pub levels_unchanged : (old : Stack) (v : List Level) → v ≡ old.levels
     → IsUnchanged old (record old { levels = v })
 levels_unchanged old v same = record {
   stands = λ cs h. record {

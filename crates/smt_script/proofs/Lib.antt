@@ -7,4 +7,5 @@ pub mod GlobalLemmas
 pub mod AssumptionLemmas
 pub mod AppliedLemmas
 pub mod LevelLemmas
+pub mod RunLemmas
 pub mod IntroducedLemmas

@@ -94,12 +94,12 @@ pub record HasInForce (stack : Stack) (commands : List Numbered) : Type 0 where
   pub library : library.StandsFor (library_of stack) (signature_in_force commands)
   pub assertions : AreAssertions (contents_of (library_of stack)) stack.assertions.items
       (assertions_in_force commands)
-  pub depth : length stack.levels.items ≡ depth_in_force commands
-  pub levels : (k : ℕ) (level : Level) → slice_get stack.levels.items k ≡ Some level
+  pub depth : length stack.levels ≡ depth_in_force commands
+  pub levels : (k : ℕ) (level : Level) → slice_get stack.levels k ≡ Some level
       → IsLevel stack.global (contents_of (library_of stack)) stack.assertions.items level
       (signature_to_level k commands) (assertions_to_level k commands)
-  pub ordered : (j k : ℕ) (level inner : Level) → j ≤ k → slice_get stack.levels.items j ≡ Some level
-      → slice_get stack.levels.items k ≡ Some inner → IsOuter level inner
+  pub ordered : (j k : ℕ) (level inner : Level) → j ≤ k → slice_get stack.levels j ≡ Some level
+      → slice_get stack.levels k ≡ Some inner → IsOuter level inner
   pub logic : stack.logic ≡ logic_state commands
   pub global : stack.global ≡ global_in_force commands
   pub print_success : stack.print_success ≡ print_success_in_force stack.initial_print_success commands

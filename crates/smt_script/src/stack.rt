@@ -15,9 +15,11 @@ ghost use Rattle.smt_script.specs.StackView.{initial_print_success_of};
 ghost use Rattle.smt_faults.specs.Outcome.{TellsCommand};
 
 mod effects;
+mod level_runs;
 mod levels;
 
 use crate::command::Command;
+pub use level_runs::Levels;
 pub use levels::Level;
 use smt_faults::CommandFault;
 use smt_terms::{Library, TermId};
@@ -60,7 +62,7 @@ pub struct Stack {
     /// The literals of the last check, if nothing in force has changed since.
     assumptions: Vec<TermId>,
     /// For each level, what came outside it.
-    levels: Vec<Level>,
+    levels: Levels,
     logic: LogicState,
     /// Whether declarations are global.
     global: bool,
@@ -95,7 +97,7 @@ impl Stack {
             library: Library::new(alloc, all_theories()),
             assertions: Vec::new(alloc),
             assumptions: Vec::new(alloc),
-            levels: Vec::new(alloc),
+            levels: Levels::new(alloc),
             logic: LogicState {
                 set: false,
                 late: false,

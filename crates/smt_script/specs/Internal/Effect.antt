@@ -104,11 +104,6 @@ pub record IsEnded (command : Command) (old new : Stack) : Type 0 where
   pub levels : new.levels ≡ old.levels
   pub notes : HasNotesOf old new
 
--- so many of one level
-abbrev pub copies : ℕ → Level → List Level
-copies zero level = []
-copies (suc n) level = level ∷ copies n level
-
 -- the level that notes all that there is
 pub record NotesAll (stack : Stack) (level : Level) : Type 0 where
   pub all : first_of level.mark (contents_of stack.library) ≡ contents_of stack.library
@@ -119,10 +114,10 @@ pub record NotesAll (stack : Stack) (level : Level) : Type 0 where
 -- the stack that is left of another at one of its levels
 pub record IsCut (old new : Stack) (depth : ℕ) : Type 0 where
   pub level : Level
-  pub at : slice_get old.levels.items depth ≡ Some level
+  pub at : slice_get old.levels depth ≡ Some level
   pub library : contents_of new.library ≡ contents_left old.global level.mark (contents_of old.library)
   pub assertions : new.assertions.items ≡ take level.assertions old.assertions.items
-  pub levels : new.levels.items ≡ take depth old.levels.items
+  pub levels : new.levels ≡ take depth old.levels
 
 -- the names are those of before, if declarations are global, or none
 abbrev pub HasNamesLeft : (old new : Stack) → Type 0
@@ -143,10 +138,10 @@ pub record NamesAreDropped (old new : Stack) : Type 0 where
 pub record HasNoAssertions (old new : Stack) : Type 0 where
   pub library : HasNamesLeft old new
   pub assertions : new.assertions.items ≡ []
-  pub levels : new.levels.items ≡ []
+  pub levels : new.levels ≡ []
 
 -- nothing is in force, in these theories
 pub record IsEmpty (new : Stack) (theories : Theories) : Type 0 where
   pub library : library.StandsFor new.library (no_names theories)
   pub assertions : new.assertions.items ≡ []
-  pub levels : new.levels.items ≡ []
+  pub levels : new.levels ≡ []

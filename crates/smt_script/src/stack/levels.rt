@@ -1,10 +1,8 @@
 //! Assertion levels (SMT-LIB 2.6, sections 4.1.4 and 4.2.2), and what goes with them. This file knows no
 //! names: the library is cut to what it held.
 
-ghost use Rattle.std.specs.Prelude.{◌≡◌, ◌≤◌, ◌++◌, IfErr, MatchOption, OnErr, OnOk};
+ghost use Rattle.std.specs.Prelude.{◌≡◌, ◌≤◌, IfErr, MatchOption, OnErr, OnOk};
 ghost use Rattle.std.specs.Str.Parse.{digits_value};
-ghost use Rattle.smt_script.specs.Internal.Effect.{copies};
-ghost use Rattle.smt_faults.specs.declared.command_fault.CommandFault.TheVariants.{Memory};
 
 use crate::stack::{Stack, all_theories};
 use smt_faults::CommandFault;
@@ -44,10 +42,7 @@ impl Stack {
             return Err(CommandFault::TooDeep);
         };
         let level = self.level();
-        let Ok(()) = add_levels(&mut self.levels, count, level) else {
-            return Err(CommandFault::Memory);
-        };
-        Ok(())
+        Ok(self.levels.push(level, count)?)
     }
 
     // The level that begins now.
@@ -81,16 +76,15 @@ impl Stack {
 
     // Leaves so many levels, and what came outside the others; of names all, if declarations are global.
     fn cut_to(&mut self, depth: usize)
-        requires { depth < length self.old.levels.items }
+        requires { depth < length self.old.levels }
         ensures cut { IsCut self.old self.new depth }
         ensures notes { HasNotesOf self.old self.new }
     {
-        let level = self.levels.as_slice()[depth];
+        let level = self.levels.cut(depth);
         if !self.global {
             self.library.cut(level.mark);
         }
         self.assertions.truncate(level.assertions);
-        self.levels.truncate(depth);
     }
 
     // Removes all, the logic too.
@@ -101,7 +95,7 @@ impl Stack {
     {
         self.library = Library::new(self.alloc, all_theories());
         self.assertions.truncate(0);
-        self.levels.truncate(0);
+        self.levels.clear();
         Ok(())
     }
 
@@ -114,7 +108,7 @@ impl Stack {
     {
         self.drop_names();
         self.assertions.truncate(0);
-        self.levels.truncate(0);
+        self.levels.clear();
         Ok(())
     }
 
@@ -126,24 +120,6 @@ impl Stack {
             self.library = Library::new(self.alloc, self.library.theories());
         }
     }
-}
-
-// Adds so many levels, or none where memory is refused.
-fn add_levels(levels: &mut Vec<Level>, count: usize, level: Level) -> Result<(), CommandFault>
-    ensures added { OnOk result (levels.new.items ≡ levels.old.items ++ copies count level) }
-    ensures refused { IfErr result (λ fault. fault ≡ Memory) }
-    ensures unchanged { OnErr result (levels.new.items ≡ levels.old.items) }
-{
-    let depth = levels.len();
-    let mut left = count;
-    while left > 0 {
-        let Ok(()) = levels.push(level) else {
-            levels.truncate(depth);
-            return Err(CommandFault::Memory);
-        };
-        left -= 1;
-    }
-    Ok(())
 }
 
 // The number that digits are, where it is no more than this.

@@ -11,7 +11,7 @@ returns-then-count-gt0-clause-effect c =
     let most = c.in-Some.ensures.1 in
     let depth = c.len-depth.ensures in
     let sum : (c.len-depth.result - c.in-Some.count) + digits_value 10 c.args.digits.now
-    ≡ length c.args.self.now.levels.items = omega arith in
+    ≡ length c.args.self.now.levels = omega arith in
     let law = c.earlier_marks_are_kept.ensures in
     pop_effect (record { first = law.first; within = law.within }) c.args.self.now c.cut_to.new.self
     (digits_value 10 c.args.digits.now) (c.len-depth.result - c.in-Some.count)

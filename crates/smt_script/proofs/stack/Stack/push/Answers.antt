@@ -1,22 +1,18 @@
 use Rattle.std.proofs.Common.{◌≤◌, ◌+◌, ℕ, ◌++◌, length, ap, ◌∙◌, arith}
 use Rattle.std.specs.Str.Parse.{digits_value}
-use Rattle.smt_script.specs.Internal.Effect.{copies}
+use Rattle.smt_script.specs.Internal.Runs.{copies}
 use Rattle.smt_script.specs.Stack.{limit}
 use Rattle.smt_script.proofs.LevelLemmas.{levels_unchanged, push_effect}
 use Rattle.smt_script.proofs.stack.Stack.push.Goals as goal
 
-pub returns-in_default-add_levels-clause-unchanged : goal.returns-in_default-add_levels-clause-unchanged
-returns-in_default-add_levels-clause-unchanged c =
-    levels_unchanged c.args.self.now c.add_levels.new.levels c.in_default-add_levels.ensures.unchanged
-
 pub returns-clause-effect : goal.returns-clause-effect
 returns-clause-effect c =
-    let old = c.args.self.now.levels.items in
+    let old = c.args.self.now.levels in
     let same = c.in-Some-count_to.ensures.0 in
     let most = c.in-Some-count_to.ensures.1 in
     let room = c.in-Some.ensures in
     let len = c.len.ensures in
     let fits : length old + digits_value 10 c.args.digits.now ≤ limit = omega arith in
-    push_effect c.args.self.now c.add_levels.new.levels c.level-level.result
+    push_effect c.args.self.now c.push.new.self c.level-level.result
     (digits_value 10 c.args.digits.now) c.level-level.ensures
-    (c.in-Ok.ensures.added ∙ ap (λ (n : ℕ). old ++ copies n c.level-level.result) same) fits
+    (c.in_ok-push.ensures.added ∙ ap (λ (n : ℕ). old ++ copies n c.level-level.result) same) fits

@@ -12,12 +12,12 @@ returns-clause-effect c =
       library = c.new.result;
       assertions = c.truncate.new.self;
       levels =
-          c.truncate-2.new.self;
+          c.clear.new.self;
     })
     (record {
       library = subst (λ (t : Theories). library.StandsFor c.new.result (no_names t))
           c.all_theories.ensures c.new.ensures;
       assertions = c.truncate.ensures.items;
-      levels = c.truncate-2.ensures.items;
+      levels = c.clear.ensures;
     })
     (record { logic = refl; global = refl; print_success = refl; start = refl; exited = refl; last = refl })

@@ -7,11 +7,11 @@ returns-clause-effect c =
     let notes = dropped.notes in
     let before = c.drop_names.new.self in
     reset_assertions_effect c.args.self.now
-    (record before { assertions = c.truncate.new.self; levels = c.truncate-2.new.self })
+    (record before { assertions = c.truncate.new.self; levels = c.clear.new.self })
     (record {
       library = dropped.library;
       assertions = c.truncate.ensures.items;
-      levels = c.truncate-2.ensures.items;
+      levels = c.clear.ensures;
     })
     (record {
       logic = notes.logic;
