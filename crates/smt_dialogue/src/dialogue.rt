@@ -63,11 +63,11 @@ impl Dialogue {
     }
 
     /// Accepts one more command with what it takes of the answers. At a fault of its effect the dialogue
-    /// stays as it is.
+    /// stays as it is. Of an answer that is a model nothing may be left.
     pub(crate) fn accept(
         &mut self,
         command: &Command,
-        answer: &Option<Tree>,
+        answer: &mut Option<Tree>,
     ) -> Result<(), CommandFault>
         requires commands { self.old.commands + 1 < 2 ^ 64 }
         requires answers { self.old.answers + 1 < 2 ^ 64 }
@@ -76,17 +76,17 @@ impl Dialogue {
         requires stands { (taken : List ReportLine) × (early : Bool) × (pairs : List Pair)
             × Stands early (state_behind taken self.old) pairs
             × (early ≡ true → is_check (command_view command.now) ≡ true) }
-        requires answered { IsAnswered (role_of (command_view command.now)) (option_map sexp_of answer.now) }
+        requires answered { IsAnswered (role_of (command_view command.now)) (option_map sexp_of answer.old) }
         ensures accepted { OnOk result ((taken : List ReportLine) (early : Bool) (pairs : List Pair)
             → Stands early (state_behind taken self.old) pairs
             → (early ≡ true → is_check (command_view command.now) ≡ true)
-            → (flaw_of_pair pairs (answered command.now answer.now) ≡ None)
-            × StandsFor (state_behind taken self.new) (pairs ++ answered command.now answer.now ∷ [])) }
+            → (flaw_of_pair pairs (answered command.now answer.old) ≡ None)
+            × StandsFor (state_behind taken self.new) (pairs ++ answered command.now answer.old ∷ [])) }
         ensures refused { IfErr result
             (λ fault. (flaw : CommandFlaw) → flaw_of_command_fault fault ≡ Some flaw
             → (taken : List ReportLine) (early : Bool) (pairs : List Pair)
             → Stands early (state_behind taken self.old) pairs
-            → (flaw_of_pair pairs (answered command.now answer.now) ≡ Some flaw)
+            → (flaw_of_pair pairs (answered command.now answer.old) ≡ Some flaw)
             × Stands early (state_behind taken self.new) pairs) }
         ensures decided { self.new.decided ≡ self.old.decided }
         ensures start { options_of self.new ≡ options_of self.old }
@@ -94,6 +94,7 @@ impl Dialogue {
     {
         let number = self.commands + 1;
         let effective = is_effective(answer);
+        let count = count_of(answer);
         let role = role_of(command);
         if let Err(fault) = apply_if(effective, &mut self.stack, number, command) {
             return Err(fault);
@@ -105,7 +106,7 @@ impl Dialogue {
             return Err(CommandFault::Memory);
         };
         self.commands = number;
-        self.answers += count_of(answer);
+        self.answers += count;
         Ok(())
     }
 

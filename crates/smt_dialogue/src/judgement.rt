@@ -52,16 +52,19 @@ pub enum Judgement {
 pub(crate) fn judge(
     machine: &mut Machine,
     stack: &Stack,
-    model: &Trees,
+    model: &mut Trees,
     limit: Limit,
 ) -> Result<Judgement, Memory>
     requires { (commands : List Numbered) × StandsFor stack.now commands }
     ensures { (commands : List Numbered) → StandsFor stack.now commands
         → IfOk result (λ j. j ≡ judgement_of limit.steps (signature_in_force commands)
-        (claims_in_force commands) model.now) }
+        (claims_in_force commands) model.old) }
 {
     let library = stack.library();
-    match Interpretation::read(library, model) {
+    let read = Interpretation::read(library, model);
+    // Its trees are gone before it is evaluated.
+    *model = Trees::new(Vec::new(library.alloc()));
+    match read {
         Ok(mut interpretation) => {
             let claims = Claims::new(stack);
             let judgement = judge_read(machine, library, &mut interpretation, claims, limit);
@@ -87,7 +90,7 @@ fn judgement_of_flaw(flaw: ModelFlaw) -> Judgement
 }
 
 // The same of a model that was read. What costs little is found from the claims down, whatever else stands in
-// the script. Else all nodes are counted at once, where that takes no longer than the limit lets a walk take.
+// the script.
 fn judge_read(
     machine: &mut Machine,
     library: &Library,
@@ -104,15 +107,35 @@ fn judge_read(
         → IfOk result (λ j. j
         ≡ judged_within limit.steps all (structure_of script definitions)) }
 {
-    let nodes = library.nodes().len() as u64;
-    let few = few_of(limit, nodes);
+    let few = few_of(limit, library.nodes().len() as u64);
     let judgement = judge_within(machine, library, interpretation, claims, few)?;
     if is_decided(&judgement) || limit.steps <= few.steps {
         return Ok(judgement);
     }
-    if nodes <= limit.steps {
-        interpretation.count(library)?;
+    judge_over(machine, library, interpretation, claims, limit)
+}
+
+// The same, where all nodes are counted at once if that takes no longer than the limit lets a walk take.
+fn judge_over(
+    machine: &mut Machine,
+    library: &Library,
+    interpretation: &mut Interpretation,
+    claims: Claims<'_>,
+    limit: Limit,
+) -> Result<Judgement, Memory>
+    requires terms { (all : List Claimed) × AreClaimed (contents_of library.now) (claims_left claims) all }
+    requires fits { Fits interpretation.old library.now }
+    requires costs { KeepsCosts interpretation.old library.now }
+    ensures { (script definitions : Signature) (all : List Claimed)
+        → libraries.StandsFor library.now script → IsInterpretation interpretation.old script definitions
+        → AreClaimed (contents_of library.now) (claims_left claims.entry) all
+        → IfOk result (λ j. j
+        ≡ judged_within limit.steps all (structure_of script definitions)) }
+{
+    if library.nodes().len() as u64 > limit.steps {
+        return judge_within(machine, library, interpretation, claims, limit);
     }
+    interpretation.count(library)?;
     judge_within(machine, library, interpretation, claims, limit)
 }
 

@@ -69,7 +69,7 @@ pub(crate) fn take_up(
     let number = dialogue.commands + 1;
     let need = need_of(dialogue.stack.print_success(), command);
     match take_answer(need, answers)? {
-        Answering::Takes(answer) => take_up_with(dialogue, command, &answer),
+        Answering::Takes(mut answer) => take_up_with(dialogue, command, &mut answer),
         Answering::Waits => Ok(Turn::Waits {
             closed: is_check(command),
         }),
@@ -85,7 +85,7 @@ pub(crate) fn take_up(
 fn take_up_with(
     dialogue: &mut Dialogue,
     command: &Command,
-    answer: &Option<Tree>,
+    answer: &mut Option<Tree>,
 ) -> Result<Turn, Memory>
     requires commands { dialogue.old.commands + 1 < 2 ^ 64 }
     requires answers { dialogue.old.answers + 1 < 2 ^ 64 }
@@ -94,12 +94,12 @@ fn take_up_with(
     requires stands { (taken : List ReportLine) × (early : Bool) × (pairs : List Pair)
         × Stands early (state_behind taken dialogue.old) pairs
         × (early ≡ true → commands.is_check (command_view command.now) ≡ true) }
-    requires answered { IsAnswered (role_of (command_view command.now)) (option_map sexp_of answer.now) }
+    requires answered { IsAnswered (role_of (command_view command.now)) (option_map sexp_of answer.old) }
     ensures turn { IfOk result (λ turn. (taken : List ReportLine) (early : Bool) (pairs : List Pair)
         → Stands early (state_behind taken dialogue.old) pairs
         → (early ≡ true → commands.is_check (command_view command.now) ≡ true)
         → (line : Option ReportLine) × (turn ≡ turn_of_line line)
-        × IsDone line early pairs (answered command.now answer.now) (state_behind taken dialogue.new)) }
+        × IsDone line early pairs (answered command.now answer.old) (state_behind taken dialogue.new)) }
     ensures start { IfOk result
         (λ _. options_of dialogue.new ≡ options_of dialogue.old) }
     ensures decided { dialogue.new.decided ≡ dialogue.old.decided }

@@ -2,7 +2,7 @@
 //! makes a model true.
 
 ghost use Rattle.std.specs.Prelude.{◌≡◌, ◌<◌, ◌+◌, ◌^◌, ◌++◌, List, [], None, IfOk, OnOk, if◌then◌else◌};
-ghost use Rattle.std.specs.Prelude.{option_map};
+ghost use Rattle.std.specs.Prelude.{Some, option_map, true};
 ghost use Rattle.smt_trees.specs.Tree.{sexp_of};
 ghost use Rattle.smt_script.specs.CommandView.{command_view};
 ghost use Rattle.smt_script.specs.Stack.{Numbered, signature_in_force};
@@ -82,17 +82,17 @@ impl Checks {
         effective: bool,
         number: u64,
         role: Role,
-        answer: &Option<Tree>,
+        answer: &mut Option<Tree>,
         stack: &Stack,
     ) -> Result<(), Memory>
         requires count { self.old.count + 1 < 2 ^ 64 }
         requires stands { (commands : List Numbered) × StandsFor stack.now commands }
-        requires answered { IsAnswered role (option_map sexp_of answer.now) }
+        requires answered { IsAnswered role (option_map sexp_of answer.old) }
         ensures limit { self.new.limit ≡ self.old.limit }
         ensures checks { OnOk result ((commands : List Numbered) → StandsFor stack.now commands
             → checks_state self.new
             ≡ checks_after effective (checks_state self.old) (signature_in_force commands)
-            (claims_in_force commands) number role (option_map sexp_of answer.now)) }
+            (claims_in_force commands) number role (option_map sexp_of answer.old)) }
     {
         match role {
             Role::Check => match answer {
@@ -135,7 +135,7 @@ impl Checks {
         &mut self,
         effective: bool,
         number: u64,
-        answer: &Option<Tree>,
+        answer: &mut Option<Tree>,
         stack: &Stack,
     ) -> Result<(), Memory>
         requires { (commands : List Numbered) × StandsFor stack.now commands }
@@ -143,12 +143,32 @@ impl Checks {
         ensures checks { OnOk result ((commands : List Numbered) → StandsFor stack.now commands
             → checks_state self.new ≡ with_models (checks_state self.old) self.old.pending
             (signature_in_force commands) (claims_in_force commands) number effective
-            (option_map sexp_of answer.now)) }
+            (option_map sexp_of answer.old)) }
     {
-        match (self.pending, answer) {
-            (Some(pending), Some(Tree::List(model))) if effective => {
-                self.judge_model(pending, number, model, stack)
-            }
+        match self.pending {
+            Some(pending) if effective => self.judge_answer(pending, number, answer, stack),
+            _ => Ok(()),
+        }
+    }
+
+    // Judges an answer in the window of a check, if it is a model.
+    fn judge_answer(
+        &mut self,
+        pending: PendingCheck,
+        number: u64,
+        answer: &mut Option<Tree>,
+        stack: &Stack,
+    ) -> Result<(), Memory>
+        requires pending { self.old.pending ≡ Some pending }
+        requires stands { (commands : List Numbered) × StandsFor stack.now commands }
+        ensures limit { self.new.limit ≡ self.old.limit }
+        ensures checks { OnOk result ((commands : List Numbered) → StandsFor stack.now commands
+            → checks_state self.new ≡ with_models (checks_state self.old) self.old.pending
+            (signature_in_force commands) (claims_in_force commands) number true
+            (option_map sexp_of answer.old)) }
+    {
+        match answer {
+            Some(Tree::List(model)) => self.judge_model(pending, number, model, stack),
             _ => Ok(()),
         }
     }
@@ -158,7 +178,7 @@ impl Checks {
         &mut self,
         pending: PendingCheck,
         number: u64,
-        model: &Trees,
+        model: &mut Trees,
         stack: &Stack,
     ) -> Result<(), Memory>
         requires { (commands : List Numbered) × StandsFor stack.now commands }
@@ -168,7 +188,7 @@ impl Checks {
             ≡ with_line (checks_state self.old) pending
             (check_lines.line_of_judgement pending.check pending.command number
             (judgement_of self.old.limit.steps (signature_in_force commands) (claims_in_force commands)
-            model.now))) }
+            model.old))) }
     {
         let judgement = judge(&mut self.machine, stack, model, self.limit)?;
         // What was large is not kept until the next model comes.

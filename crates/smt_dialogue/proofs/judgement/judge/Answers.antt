@@ -12,8 +12,8 @@ returns-in-Ok c = λ commands stands.
     let all = claims_in_force commands in
     let names = c.library-library.ensures.stands commands stands in
     let read = c.in-Ok.ensures.model script names in
-    let terms = subst (λ l. AreClaimed (contents_of l) (claims_left c.new.result) all)
-    (sym c.library-library.ensures.view) (c.new.ensures commands stands) in
+    let terms = subst (λ l. AreClaimed (contents_of l) (claims_left c.new-claims.result) all)
+    (sym c.library-library.ensures.view) (c.new-claims.ensures commands stands) in
     IfOk-weaker c.judge_read-judgement.result _
     (λ j. j ≡ judgement_of c.args.limit.steps script all c.args.model.now)
     (λ j h. h ∙ ap (judged_in c.args.limit.steps script all) (sym read.1))
