@@ -1,8 +1,8 @@
 #!/bin/sh
 # Builds the examples of the C library and runs them: a program in C and one in Python on the dialogues of solvers, whose reports have to be
-# those of the program, one in C++ with an embedded solver, and 10,000 calls that are watched for memory. Needs what `rt ci` has built, or
-# `rt lib` in crates/smtcheck_c, which builds no program to compare with: a word on standard error says so. Needs a C compiler; a C++
-# compiler, Python and valgrind are used where they are installed. Says nothing else where all is well.
+# those of the program, one in C++ with an embedded solver, the deepest lists on a small stack, and 10,000 calls that are watched for
+# memory. Needs what `rt ci` has built, or `rt lib` in crates/smtcheck_c, which builds no program to compare with: a word on standard error
+# says so. Needs a C compiler; a C++ compiler, Python and valgrind are used where they are installed. Says nothing else where all is well.
 set -e
 cd "$(dirname "$0")/.."
 top=$PWD
@@ -66,6 +66,12 @@ end:
 verdict: valid, confirmed 1, refuted 0, undecided 0, unchecked 1
 END
 cmp -s "$work/printed" "$work/shown" || fail "a session in C prints $(cat "$work/printed")"
+
+# the deepest lists, on a thread of the stack that smtcheck.h says is enough
+"${CC:-cc}" $strict -pthread -I"$work" -o "$work/small_stack" tests/small_stack.c "$work/libsmtcheck.a"
+status=0
+"$work/small_stack" 3145728 >"$work/printed" 2>&1 || status=$?
+[ "$status" = 0 ] || fail "3 MB of stack: status $status, $(cat "$work/printed")"
 
 # 10,000 calls in buffers with no byte to spare: under -fsanitize=address, and fewer under valgrind, which sees the library's own reads too
 "${CC:-cc}" $strict -g -fsanitize=address -I"$work" -o "$work/loop" "$examples/loop.c" "$work/libsmtcheck.a"

@@ -15,8 +15,8 @@
  *    its size.
  *
  * A call keeps no pointer that it is given, so any number of threads may call at a time; a session stays on the thread
- * that began it. A call uses the machine's stack for lists that stand in another, which may be 1,000 deep: 1 MB of stack
- * is enough.
+ * that began it. A call uses the machine's stack for lists that stand in another, which may be 1,000 deep: 3 MB of stack
+ * are enough. Nothing checks it, and a stack that is too small ends the process by a signal.
  */
 #ifndef SMTCHECK_H
 #define SMTCHECK_H

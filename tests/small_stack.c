@@ -1,0 +1,123 @@
+/* small_stack BYTES: checks dialogues whose lists stand in one another to the limit of 1,000, on a thread with so many bytes of stack,
+   through smtcheck_validate and through a session. Prints each dialogue whose verdict is another than the right one, and nothing where all
+   is well. A stack that is too small ends it by a signal. */
+#include "smtcheck.h"
+#include <pthread.h>
+#include <stdio.h>
+#include <stdlib.h>
+#include <string.h>
+
+/* A text in which `open` and `close` stand `times` times around a middle. */
+struct text {
+    const char *head, *open;
+    int times;
+    const char *middle, *close, *tail;
+};
+
+struct dialogue {
+    const char *name;
+    struct text script, answers;
+    uint32_t outcome;
+};
+
+#define PLAIN(text) {text, "", 0, "", "", ""}
+#define ASK "(check-sat)(get-model)"
+#define ASKED PLAIN("(declare-const p Bool)(assert p)" ASK)
+#define CHECKED(open, times, middle, close, outcome) \
+    {"a term of " open, {"(assert ", open, times, middle, close, ")" ASK}, PLAIN("sat ()"), outcome}
+#define MODEL(open, times, middle, close, outcome) \
+    {"a model's " open, ASKED, {"sat ((define-fun p () Bool ", open, times, middle, close, "))"}, outcome}
+
+static const struct dialogue dialogues[] = {
+    CHECKED("(not ", 998, "true", ")", SMTCHECK_VALID),
+    CHECKED("(not ", 999, "true", ")", SMTCHECK_INVALID),
+    CHECKED("(and true ", 999, "true", ")", SMTCHECK_VALID),
+    CHECKED("(ite true ", 999, "true", " false)", SMTCHECK_VALID),
+    CHECKED("(! ", 999, "true", " :a)", SMTCHECK_VALID),
+    CHECKED("(let ((x true)) ", 997, "x", ")", SMTCHECK_VALID),
+    {"a let's value", {"(assert ", "(let ((x ", 333, "true", ")) x)", ")" ASK}, PLAIN("sat ()"), SMTCHECK_VALID},
+    {"numbers", {"(assert (= 0 ", "(- ", 998, "0", ")", "))" ASK}, PLAIN("sat ()"), SMTCHECK_VALID},
+    {"vectors", {"(assert (= #b0 ", "(bvnot ", 998, "#b0", ")", "))" ASK}, PLAIN("sat ()"), SMTCHECK_VALID},
+    {"a body", {"(define-fun f ((x Bool)) Bool ", "(not ", 999, "x", ")", ")(assert (f false))" ASK}, PLAIN("sat ()"), SMTCHECK_VALID},
+    {"calls", {"(define-fun f ((x Bool)) Bool x)(assert ", "(f ", 999, "true", ")", ")" ASK}, PLAIN("sat ()"), SMTCHECK_VALID},
+    {"a term that is wrong at its end", {"(assert ", "(not ", 999, "1", ")", ")"}, PLAIN(""), SMTCHECK_REFUSED},
+    {"a sort", {"(declare-const x ", "(", 999, "Bool", ")", ")"}, PLAIN(""), SMTCHECK_REFUSED},
+    {"a sort's arguments", {"(declare-const x ", "(Array Int ", 999, "Bool", ")", ")"}, PLAIN(""), SMTCHECK_REFUSED},
+    {"an abbreviation", {"(define-sort A () ", "(A ", 999, "Bool", ")", ")"}, PLAIN(""), SMTCHECK_REFUSED},
+    {"assumptions", {"(check-sat-assuming (", "(not ", 998, "true", ")", "))"}, PLAIN("sat"), SMTCHECK_REFUSED},
+    {"information", {"(set-info :a ", "(", 999, "", ")", ")"}, PLAIN(""), SMTCHECK_VALID},
+    {"lists that are too deep", {"", "(", 1001, "", ")", ""}, PLAIN(""), SMTCHECK_REFUSED},
+    {"lists that do not end", {"(assert ", "(not ", 999, "", "", ""}, PLAIN(""), SMTCHECK_REFUSED},
+    MODEL("(not ", 998, "true", ")", SMTCHECK_VALID),
+    MODEL("(and true ", 998, "true", ")", SMTCHECK_VALID),
+    MODEL("(let ((x true)) ", 996, "x", ")", SMTCHECK_VALID),
+    MODEL("(ite true ", 998, "true", " false)", SMTCHECK_VALID),
+    MODEL("(not ", 998, "1", ")", SMTCHECK_NOT_DECIDED),
+    {"a model's sort", ASKED, {"sat ((define-fun p () ", "(", 997, "Bool", ")", " true))"}, SMTCHECK_NOT_DECIDED},
+    {"a model's name", ASKED, {"sat ((define-fun ", "(", 997, "p", ")", " () Bool true))"}, SMTCHECK_NOT_DECIDED},
+    {"an answer", PLAIN("(set-option :produce-unsat-cores true)(check-sat)(get-unsat-core)"), {"unsat ", "(", 1000, "", ")", ""}, SMTCHECK_VALID},
+    {"an answer to a check", PLAIN("(check-sat)"), {"", "(", 1000, "", ")", ""}, SMTCHECK_REFUSED},
+    {"answers that are left over", PLAIN(""), {"", "(", 1000, "", ")", ""}, SMTCHECK_REFUSED},
+};
+
+/* The text's bytes. */
+static char *written(const struct text *text) {
+    size_t most = 1 + strlen(text->head) + text->times * (strlen(text->open) + strlen(text->close)) + strlen(text->middle) +
+                  strlen(text->tail ? text->tail : "");
+    char *bytes = malloc(most), *end = bytes;
+    if (!bytes) exit(SMTCHECK_MEMORY);
+    end += sprintf(end, "%s", text->head);
+    for (int i = 0; i < text->times; i++) end += sprintf(end, "%s", text->open);
+    end += sprintf(end, "%s", text->middle);
+    for (int i = 0; i < text->times; i++) end += sprintf(end, "%s", text->close);
+    sprintf(end, "%s", text->tail ? text->tail : "");
+    return bytes;
+}
+
+static const struct smtcheck_options options = {SMTCHECK_STEPS, false};
+
+/* The verdict on two whole texts. */
+static uint32_t whole(const char *script, const char *answers) {
+    struct smtcheck_summary summary;
+    char text[4096] = {0};
+    size_t wanted = 0;
+    return smtcheck_validate(script, strlen(script), answers, strlen(answers), &options, &summary, text, sizeof text, &wanted);
+}
+
+/* The verdict of a session that is told the script, and then the answers, in pieces of seven bytes. */
+static uint32_t in_pieces(const char *script, const char *answers) {
+    struct smtcheck_session session = {0};
+    if (smtcheck_session_new(&options, &session) != SMTCHECK_OPEN) return SMTCHECK_MEMORY;
+    for (size_t left; (left = strlen(script)) > 0; script += left < 7 ? left : 7)
+        smtcheck_session_script(&session, script, left < 7 ? left : 7);
+    smtcheck_session_end_script(&session);
+    for (size_t left; (left = strlen(answers)) > 0; answers += left < 7 ? left : 7)
+        smtcheck_session_answers(&session, answers, left < 7 ? left : 7);
+    uint32_t outcome = smtcheck_session_end_answers(&session);
+    smtcheck_session_free(&session);
+    return outcome;
+}
+
+static void *check_all(void *wrong) {
+    for (size_t i = 0; i < sizeof dialogues / sizeof *dialogues; i++) {
+        const struct dialogue *it = &dialogues[i];
+        char *script = written(&it->script), *answers = written(&it->answers);
+        uint32_t first = whole(script, answers), second = in_pieces(script, answers);
+        if (first != it->outcome || second != it->outcome) {
+            printf("%s: %u and %u, not %u\n", it->name, (unsigned)first, (unsigned)second, (unsigned)it->outcome);
+            *(int *)wrong = 1;
+        }
+        free(script), free(answers);
+    }
+    return wrong;
+}
+
+int main(int count, char **words) {
+    pthread_attr_t attributes;
+    pthread_t thread;
+    int wrong = 0;
+    if (count != 2 || pthread_attr_init(&attributes) || pthread_attr_setstacksize(&attributes, strtoul(words[1], NULL, 10)) ||
+        pthread_create(&thread, &attributes, check_all, &wrong) || pthread_join(thread, NULL))
+        return 64;
+    return wrong;
+}
