@@ -1,6 +1,7 @@
 #!/bin/sh
 # Runs the program on terms that are evaluated deep, with a small machine's stack, and on definitions that no term uses: evaluation takes
-# memory for each call that waits, no stack, and nothing for what isn't used. Needs what `rt ci` has built. Says nothing where all is well.
+# memory for each call that waits, no stack, and nothing for what isn't used. And on the deepest terms where the heap has taken nearly all
+# addresses. Needs what `rt ci` has built. Says nothing where all is well.
 set -e
 cd "$(dirname "$0")/.."
 program=${SMTCHECK:-$PWD/crates/smtcheck/out/smtcheck}
@@ -62,3 +63,28 @@ for limit in '-s 3072' '-v 8192'; do
     [ "$status" = 0 ] && [ "$(head -n 1 "$work/report")" = 'check 1 at command 2: sat, confirmed' ] ||
         { echo "deep terms: ulimit $limit: status $status, $(cat "$work/errors" "$work/report")"; exit 1; }
 done
+
+# A stack that can't grow any more would end it by a signal: the heap takes what the limit leaves, before the deepest term comes or with it.
+# At each limit it gives the report, or says that memory was refused.
+lets='for (k = 0; k < 990; k++) printf "(let ((x true)) "'
+awk "BEGIN { print \"(declare-const p Bool)\"
+    for (i = 0; i < 1500; i++) { printf \"(assert (and\"; for (k = 0; k < 100; k++) printf \" p\"; print \"))\" }
+    printf \"(assert \"; $lets; printf \"x\"; for (k = 0; k < 991; k++) printf \")\"; print \"(check-sat)\" }" >"$work/before"
+awk "BEGIN { printf \"(assert \"; $lets; printf \"(and\"; for (k = 0; k < 40000; k++) printf \" x\"
+    for (k = 0; k < 992; k++) printf \")\"; print \"(check-sat)\" }" >"$work/within"
+echo unsat >"$work/answers"
+reports=0
+for limit in $(seq 8192 200 16400); do
+    for script in before within; do
+        status=0
+        (ulimit -c 0 && ulimit -v "$limit" && exec "$program" --print-success off "$work/$script" "$work/answers") >"$work/report" \
+            2>"$work/errors" || status=$?
+        if [ "$status" = 0 ]; then
+            reports=$((reports + 1))
+        else
+            [ "$status" = 4 ] && [ ! -s "$work/report" ] && [ "$(cat "$work/errors")" = 'smtcheck: memory' ] ||
+                { echo "deep terms: ulimit -v $limit: status $status, $(cat "$work/errors")"; exit 1; }
+        fi
+    done
+done
+[ "$reports" -gt 0 ] || { echo "deep terms: no limit is enough"; exit 1; }

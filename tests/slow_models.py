@@ -1,9 +1,9 @@
 #!/usr/bin/env python3
-"""Writes a hundred dialogues of at most 1 MB that are made to be slow to check, and runs the program on each.
+"""Writes some hundred dialogues of at most 1 MB that are made to be slow to check, and runs the program on each.
 
 usage: slow_models.py FOLDER [--steps N]
 
-Writes FOLDER/NAME.smt2 and FOLDER/NAME.txt for each of 25 kinds at four sizes, with print-success off, and prints
+Writes FOLDER/NAME.smt2 and FOLDER/NAME.txt for each of 27 kinds at four sizes, with print-success off, and prints
 the ten that took the most processor time, in seconds. A run that ends without a report fails. Needs what `rt ci` has
 built."""
 import os
@@ -171,11 +171,24 @@ def rounds(room):
     return text, 'sat()' * n
 
 
+def deep_behind_large(room):
+    """The deepest term once the heap is large."""
+    deep = '(assert ' + '(let ((x true)) ' * 990 + 'x' + ')' * 991
+    text, _ = fill(room - len(deep), lambda i: '(assert (and' + ' p' * 100 + '))')
+    return f'(declare-const p Bool){text}{deep}{ASK}', 'sat ((define-fun p () Bool true))'
+
+
+def deep_around_wide(room):
+    """A wide term within the deepest one."""
+    uses, _ = fill(room - 18_000, lambda i: ' x')
+    return '(assert ' + '(let ((x true)) ' * 990 + f'(and{uses}{")" * 992}{ASK}', 'sat ()'
+
+
 KINDS = [functions_of_the_script, functions_of_the_model, constants_of_the_script, constants_of_the_model, wide_let,
          deep_lets, distinct_integers, distinct_vectors, labels_on_a_term, labels_over_labels, labels_in_lets,
          calls_of_a_wide_body, many_parameters, parameters_and_lets, models_over_an_unused_body,
          models_over_assertions, models_of_a_thousand_steps, checks_over_an_unused_body, models_with_many_names,
-         nested_choices, nested_functions, chains_of_functions, annotations, long_names, rounds]
+         nested_choices, nested_functions, chains_of_functions, annotations, long_names, rounds, deep_behind_large, deep_around_wide]
 
 
 def seconds():

@@ -4,14 +4,21 @@
 use std::fs;
 use std::rt::Files;
 
-/// The bytes of stack that are enough for every text: reading, checking and dropping a tree take 2 MB at most.
+/// The bytes of stack that are enough for every text, and for the words of the command line and the environment,
+/// which Linux keeps on it and which have a quarter of this limit at most.
 const STACK: u64 = 3 << 20;
 
 /// The bytes of addresses that are enough for the program and for that stack.
 const ADDRESSES: u64 = 8 << 20;
 
-/// Whether the limits of the process leave room for the stack that the deepest text takes. Linux tells them in
-/// a file; a system that tells none has none.
+/// The bytes of a block of stack, and how many blocks are more than every text takes: reading, checking and
+/// dropping a tree take 2 MB at most. They fit where the words have their quarter of the least stack.
+const BLOCK: usize = 4096;
+
+const BLOCKS: usize = 550;
+
+/// Whether the limits of the process leave room for the stack that the deepest text takes, which is taken then.
+/// Linux tells the limits in a file; a system that tells none has none.
 pub(crate) fn has_room<R: Files + AllocGlobal>(rt: &R) -> bool {
     let Ok(limits) = fs::read_to_string(rt, "/proc/self/limits") else {
         return true;
@@ -21,7 +28,21 @@ pub(crate) fn has_room<R: Files + AllocGlobal>(rt: &R) -> bool {
             return false;
         }
     }
-    true
+    takes_stack(BLOCKS, limits.as_str().as_bytes())
+}
+
+// Takes so many blocks of stack and one more, by writing the text to each, and answers whether each holds it. Linux
+// makes a stack larger when it is written to, if there are addresses left, and never smaller: so these are the
+// program's from here on, however many addresses its heap takes. The blocks are looked at behind the call, so that
+// no compiler makes a loop of this with one block.
+#[inline(never)]
+fn takes_stack(blocks: usize, text: &[u8]) -> bool {
+    let mut block = [0u8; BLOCK];
+    for (place, byte) in block.iter_mut().zip(text) {
+        *place = *byte;
+    }
+    (blocks == 0 || takes_stack(blocks - 1, text))
+        && block.iter().zip(text).all(|(held, byte)| held == byte)
 }
 
 // Whether a line that tells a limit, if it is the one of this name, allows so many bytes. The first word behind
