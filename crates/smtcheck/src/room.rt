@@ -28,21 +28,18 @@ pub(crate) fn has_room<R: Files + AllocGlobal>(rt: &R) -> bool {
             return false;
         }
     }
-    takes_stack(BLOCKS, limits.as_str().as_bytes())
+    let mark = limits.as_str().as_bytes().first().copied().unwrap_or(0);
+    takes_stack(BLOCKS, mark)
 }
 
-// Takes so many blocks of stack and one more, by writing the text to each, and answers whether each holds it. Linux
+// Takes so many blocks of stack and one more, by filling each with a mark, and answers whether each holds it. Linux
 // makes a stack larger when it is written to, if there are addresses left, and never smaller: so these are the
-// program's from here on, however many addresses its heap takes. The blocks are looked at behind the call, so that
-// no compiler makes a loop of this with one block.
+// program's from here on, however many addresses its heap takes. The blocks are looked at after the call, and the
+// mark is one that no compiler knows, so that none makes a loop of this or drops a block.
 #[inline(never)]
-fn takes_stack(blocks: usize, text: &[u8]) -> bool {
-    let mut block = [0u8; BLOCK];
-    for (place, byte) in block.iter_mut().zip(text) {
-        *place = *byte;
-    }
-    (blocks == 0 || takes_stack(blocks - 1, text))
-        && block.iter().zip(text).all(|(held, byte)| held == byte)
+fn takes_stack(blocks: usize, mark: u8) -> bool {
+    let block = [mark; BLOCK];
+    (blocks == 0 || takes_stack(blocks - 1, mark)) && block.get(blocks % BLOCK) == Some(&mark)
 }
 
 // Whether a line that tells a limit, if it is the one of this name, allows so many bytes. The first word behind
