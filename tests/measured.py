@@ -64,8 +64,8 @@ def reap(launched):
             found = os.waitstatus_to_exitcode(status), used
 
 
-def run(words, streams=()):
-    """Runs the words of a command, and behind them the names of pipes with these streams, each in turn."""
+def run(words, streams=(), patience=3600):
+    """Runs the words of a command, and behind them the names of pipes with these streams; a signal ends it after these seconds of the processor."""
     ends, writers, names = [], [], []
     for stream in streams:
         out, into = os.pipe()
@@ -77,7 +77,8 @@ def run(words, streams=()):
         names.append("/dev/fd/%d" % out)
         writers.append(threading.Thread(target=write, args=(into, stream)))
     launched = subprocess.Popen(
-        ["setsid", "-f", *words, *names], pass_fds=ends, stdin=subprocess.DEVNULL, stdout=subprocess.PIPE, stderr=subprocess.PIPE
+        ["sh", "-c", 'ulimit -c 0; ulimit -t "$0"; exec setsid -f "$@"', str(patience), *words, *names],
+        pass_fds=ends, stdin=subprocess.DEVNULL, stdout=subprocess.PIPE, stderr=subprocess.PIPE,
     )
     for end in ends:
         os.close(end)

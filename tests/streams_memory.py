@@ -8,6 +8,8 @@ import sys
 from measured import Stream, can_measure, length, run
 
 MOST = 10_000_000
+# Seconds of the processor for each megabyte.
+PATIENCE = 5
 DECLARED = b"(declare-const p Bool)"
 MODEL = b"((define-fun p () Bool true))"
 ASK = b"(check-sat)(get-model)"
@@ -38,7 +40,7 @@ SHAPES = {
     "models": (DECLARED + b"(assert (and p p))", ASK, b"sat((define-fun p () Bool true)" + HELPERS + b")", "valid"),
     "labels": (
         DECLARED,
-        b"(push 1)(assert (! (and (! p :named a) (! p :named b) a b) :named c))(assert (and a b c))" + ASK + b"(pop 1)",
+        b"(push 1)(assert (! (and (! p :named a) (! p :named b)) :named c))(assert (and a b c))" + ASK + b"(pop 1)",
         b"sat" + MODEL,
         "valid",
     ),
@@ -69,7 +71,7 @@ def main():
     wrong = 0
     for name in names:
         streams, verdict = streams_of(name, size)
-        took = run([program, "--print-success", "off"], streams)
+        took = run([program, "--print-success", "off"], streams, PATIENCE * max(1, size // 1_000_000))
         megabytes = sum(map(length, streams)) / 1e6
         print("%-27s %6.1f MB: %6.2f s, %6.1f MB of memory" % (name, megabytes, took.seconds, took.memory / 1e6))
         if took.status not in (0, 3) or not took.last.startswith("verdict: %s," % verdict):
