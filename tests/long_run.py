@@ -4,10 +4,10 @@ The dialogue has rounds of `push`, declarations, assertions, a check, its model 
 LONGER is `script` or `answers`: that text is four times as long as the other. No name comes twice.
 """
 import os
-import subprocess
 import sys
-import threading
 import time
+
+from measured import can_measure, run_with
 
 program, size, longer = sys.argv[1], int(sys.argv[2]), sys.argv[3]
 
@@ -70,37 +70,21 @@ def write(name, end, template):
     moved[name] = count
 
 
-script_end, script_start = os.pipe()
-answers_end, answers_start = os.pipe()
+if not can_measure():
+    sys.exit("long run: a program's memory can't be measured here")
 begun = time.time()
-run = subprocess.Popen(
-    [program, "--print-success", "off", "/dev/fd/%d" % script_end, "/dev/fd/%d" % answers_end],
-    pass_fds=(script_end, answers_end),
-    stdout=subprocess.PIPE,
+run = run_with(
+    [program, "--print-success", "off"],
+    [lambda end: write("script", end, script), lambda end: write("answers", end, answers)],
 )
-os.close(script_end)
-os.close(answers_end)
-writers = [
-    threading.Thread(target=write, args=("script", script_start, script)),
-    threading.Thread(target=write, args=("answers", answers_start, answers)),
-]
-for writer in writers:
-    writer.start()
-lines, last = 0, b""
-for line in run.stdout:
-    lines, last = lines + 1, line
-_, status, usage = os.wait4(run.pid, 0)
 taken = time.time() - begun
-for writer in writers:
-    writer.join()
-megabytes = usage.ru_maxrss * 1024 / 1e6
-processor = usage.ru_utime + usage.ru_stime
+megabytes = run.memory / 1e6
 print(
     "%s four times as long: script %d bytes, answers %d, %d checks, %.1f s (%.1f of the processor), %.1f MB"
-    % (longer, moved["script"], moved["answers"], rounds, taken, processor, megabytes)
+    % (longer, moved["script"], moved["answers"], rounds, taken, run.seconds, megabytes)
 )
-wanted = b"verdict: valid, confirmed %d, refuted 0, undecided 0, unchecked 0\n" % rounds
-if os.waitstatus_to_exitcode(status) != 0 or lines != rounds + 1 or last != wanted:
-    sys.exit("long run: status %d, %d lines, %s" % (status, lines, last.decode()))
-if megabytes > 20:
-    sys.exit("long run: more than 20 MB")
+wanted = "verdict: valid, confirmed %d, refuted 0, undecided 0, unchecked 0" % rounds
+if run.status != 0 or run.lines != rounds + 1 or run.last != wanted:
+    sys.exit("long run: status %d, %d lines, %s %s" % (run.status, run.lines, run.last, run.complaint))
+if megabytes > 10:
+    sys.exit("long run: more than 10 MB")

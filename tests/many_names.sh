@@ -1,17 +1,18 @@
 #!/bin/sh
 # Runs the program on terms with many variables, parameters and labels, whose check has to take time in proportion to their text (and the
 # logarithm of how many names there are): comparing each name with each would take minutes, and a copy of the term of each label gigabytes.
-# Needs what `rt ci` has built. Says nothing where all is well.
+# So have checks that assume many literals, and levels that are gone under global declarations. Needs what `rt ci` has built, or another
+# program: SMTCHECK names it. Says nothing where all is well.
 set -e
 cd "$(dirname "$0")/.."
-program=$PWD/crates/smtcheck/out/smtcheck
+program=${SMTCHECK:-$PWD/crates/smtcheck/out/smtcheck}
 work=$(mktemp -d)
 trap 'rm -rf "$work"' EXIT
-: >"$work/answers"
 
-# check WHAT LINE: the report on the script on standard input, which has no answers, begins with this line.
+# check WHAT LINE [ANSWER N]: the report on the script on standard input, and on so many answers or none, begins with this line.
 check() {
     cat >"$work/script"
+    yes "${3:-}" | head -n "${4:-0}" >"$work/answers"
     timeout 30 "$program" --print-success off "$work/script" "$work/answers" >"$work/report" || [ $? -lt 4 ] ||
         { echo "many names: $1: no report in 30 seconds"; exit 1; }
     [ "$(head -n 1 "$work/report")" = "$2" ] || { echo "many names: $1: $(head -n 1 "$work/report")"; exit 1; }
@@ -42,3 +43,14 @@ awk 'BEGIN { printf "(define-fun f () Bool (let ((y true)) "
 awk 'BEGIN { n = 100000
     printf "(define-fun f () Bool (let ("; for (i = 0; i < n; i++) printf "(v%d true)", i
     print "(v0 true)) v0))" }' | check 'a name bound twice in a let of 100,001 bindings' 'fault C7 F6 at command 1'
+
+# names that assumptions and assertions of other levels have, in models that name few of them
+awk 'BEGIN { n = 5000
+    for (i = 0; i < n; i++) printf "(declare-const x%d Bool)", i
+    for (k = 0; k < 100; k++) { printf "(check-sat-assuming ("; for (i = 0; i < n; i++) printf " x%d", i; print "))" } }' |
+    check '100 checks that assume 5,000 names' 'check 1 at command 5001: unsat' unsat 100
+awk 'BEGIN { n = 5000
+    print "(set-option :global-declarations true)"
+    for (k = 0; k < n; k++) { printf "(push 1)(declare-const x%d Bool)(assert (and", k; for (i = 0; i < 50; i++) printf " x%d", k
+        print "))(check-sat)(pop 1)" } }' |
+    check '5,000 levels under global declarations' 'check 1 at command 5: unsat' unsat 5000

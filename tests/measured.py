@@ -5,6 +5,7 @@ which has less than any program and ends at once: the program becomes a child of
 """
 import ctypes
 import fcntl
+import functools
 import os
 import shutil
 import subprocess
@@ -65,9 +66,14 @@ def reap(launched):
 
 
 def run(words, streams=(), patience=3600):
-    """Runs the words of a command, and behind them the names of pipes with these streams; a signal ends it after these seconds of the processor."""
+    """Runs the words of a command, and behind them the names of pipes with these streams; it is ended after these seconds of the processor."""
+    return run_with(words, [functools.partial(write, stream=stream) for stream in streams], patience)
+
+
+def run_with(words, makers, patience=3600):
+    """The same, where each pipe has what a function writes to its end, which that closes."""
     ends, writers, names = [], [], []
-    for stream in streams:
+    for maker in makers:
         out, into = os.pipe()
         try:
             fcntl.fcntl(into, fcntl.F_SETPIPE_SZ, PIPE_SIZE)
@@ -75,7 +81,7 @@ def run(words, streams=(), patience=3600):
             pass
         ends.append(out)
         names.append("/dev/fd/%d" % out)
-        writers.append(threading.Thread(target=write, args=(into, stream)))
+        writers.append(threading.Thread(target=maker, args=(into,)))
     launched = subprocess.Popen(
         ["sh", "-c", 'ulimit -c 0; ulimit -t "$0"; exec setsid -f "$@"', str(patience), *words, *names],
         pass_fds=ends, stdin=subprocess.DEVNULL, stdout=subprocess.PIPE, stderr=subprocess.PIPE,

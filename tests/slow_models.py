@@ -1,15 +1,17 @@
 #!/usr/bin/env python3
 """Writes some hundred dialogues of at most 1 MB that are made to be slow to check, and runs the program on each.
 
-usage: slow_models.py FOLDER [--steps N]
+usage: slow_models.py FOLDER [--most SECONDS] [--steps N]
 
-Writes FOLDER/NAME.smt2 and FOLDER/NAME.txt for each of 27 kinds at four sizes, with print-success off, and prints
-the ten that took the most processor time, in seconds. A run that ends without a report fails. Needs what `rt ci` has
-built."""
+Writes FOLDER/NAME.smt2 and FOLDER/NAME.txt for each of 37 kinds at four sizes, with print-success off, and prints
+the ten that took the most processor time, in seconds, and the memory of each. A run that ends without a report fails,
+and with --most one that takes more seconds. Needs what `rt ci` has
+built, or another program: SMTCHECK names it."""
 import os
-import resource
-import subprocess
 import sys
+
+import hostile
+from measured import can_measure, run
 
 MOST = 1_000_000
 ASK = '(check-sat)(get-model)'
@@ -184,33 +186,48 @@ def deep_around_wide(room):
     return '(assert ' + '(let ((x true)) ' * 990 + f'(and{uses}{")" * 992}{ASK}', 'sat ()'
 
 
+def hostile_shape(make):
+    """A shape of hostile.py, as large as there is room for."""
+    def kind(room):
+        size = 1
+        while sum(map(len, make(2 * size))) <= room:
+            size *= 2
+        step = size
+        while step > 1:
+            step //= 2
+            if sum(map(len, make(size + step))) <= room:
+                size += step
+        return make(size)
+    kind.__name__ = make.__name__
+    return kind
+
+
 KINDS = [functions_of_the_script, functions_of_the_model, constants_of_the_script, constants_of_the_model, wide_let,
          deep_lets, distinct_integers, distinct_vectors, labels_on_a_term, labels_over_labels, labels_in_lets,
          calls_of_a_wide_body, many_parameters, parameters_and_lets, models_over_an_unused_body,
          models_over_assertions, models_of_a_thousand_steps, checks_over_an_unused_body, models_with_many_names,
          nested_choices, nested_functions, chains_of_functions, annotations, long_names, rounds, deep_behind_large, deep_around_wide]
+KINDS += [hostile_shape(shape.make) for shape in hostile.SHAPES.values() if shape.size > 250]
 
 
-def seconds():
-    """The processor time of the programs that were run so far."""
-    used = resource.getrusage(resource.RUSAGE_CHILDREN)
-    return used.ru_utime + used.ru_stime
-
-
-def run(words):
-    """How long the program takes, and the last line of its report."""
-    before = seconds()
-    done = subprocess.run(words, capture_output=True, text=True, check=False)
-    if done.returncode > 2:
-        sys.exit(f'{words}: status {done.returncode}: {done.stdout[-200:]}{done.stderr}')
-    return seconds() - before, done.stdout.splitlines()[-1]
+def checked(words, patience):
+    """What the program takes, which has to end with a report."""
+    took = run(words, (), patience)
+    if took.status not in (0, 1, 2):
+        sys.exit(f'{words}: status {took.status} after {took.seconds:.1f} s: {took.last}{took.complaint}')
+    return took
 
 
 def main():
     folder, options = sys.argv[1], sys.argv[2:]
+    most = None
+    if options[:1] == ['--most']:
+        most, options = float(options[1]), options[2:]
+    if not can_measure():
+        sys.exit('slow models: memory can\'t be measured here')
     top = os.path.dirname(os.path.dirname(os.path.abspath(__file__)))
-    program = [f'{top}/crates/smtcheck/out/smtcheck', '--print-success', 'off', *options]
-    times = []
+    program = [os.environ.get('SMTCHECK', f'{top}/crates/smtcheck/out/smtcheck'), '--print-success', 'off', *options]
+    took = []
     for kind in KINDS:
         for part in (8, 4, 2, 1):
             script, answers = kind(MOST // part - 3000)
@@ -218,10 +235,12 @@ def main():
             for text, end in ((script, 'smt2'), (answers, 'txt')):
                 with open(f'{name}.{end}', 'w', encoding='ascii') as out:
                     out.write(text)
-            took, verdict = run([*program, f'{name}.smt2', f'{name}.txt'])
-            times.append((took, kind.__name__, len(script) + len(answers), verdict))
-    for took, kind, size, verdict in sorted(times, reverse=True)[:10]:
-        print(f'{took:7.2f} {kind}, {size} bytes: {verdict}')
+            took.append((checked([*program, f'{name}.smt2', f'{name}.txt'], 600), kind.__name__, len(script) + len(answers)))
+    took.sort(key=lambda found: -found[0].seconds)
+    for found, kind, size in took[:10]:
+        print(f'{found.seconds:7.2f} {found.memory / 1e6:6.1f} MB {kind}, {size} bytes: {found.last}')
+    if most is not None and took[0][0].seconds > most:
+        sys.exit(f'slow models: {took[0][1]} takes more than {most} seconds')
 
 
 if __name__ == '__main__':

@@ -1,0 +1,162 @@
+#!/usr/bin/env python3
+"""hostile.py [--steps N] [--part N] [--bound] [NAME ..]: runs the program on texts that are made to take much, or large and honest, and prints
+what each takes: seconds of the processor and memory, at a quarter, at half and at all of its size.
+
+--part N makes each N times smaller. With --bound the status is 1 where the whole takes more than its shape may: a second, or what stands
+beside the shape; or more than its memory. Needs what `rt ci` has built, or another program: SMTCHECK names it."""
+import argparse
+import os
+import random
+import sys
+import tempfile
+from collections import namedtuple
+
+from measured import can_measure, run
+
+TOP = os.path.dirname(os.path.dirname(os.path.abspath(__file__)))
+DECLARED = "(declare-const p Bool)"
+MODEL = "((define-fun p () Bool true))"
+ASK = "(check-sat)(get-model)"
+
+# A shape: what makes its texts from a size, that size, the most seconds where some are promised, and the most bytes of memory for each byte beside
+# those that any program has: none where nothing stays in force.
+Shape = namedtuple("Shape", "make size seconds memory")
+
+
+def models_over_an_unused_body(n):
+    """Models of a script whose only constant is evaluated once for each, beside a large body that nothing calls."""
+    models = n * 38 // 250
+    script = "(define-fun f ((x Bool)) Bool (and" + " x" * n + "))(define-fun c () Bool true)(assert c)(check-sat)" + "(get-model)" * models
+    return script, "sat" + "()" * models
+
+
+def assumptions_with_models(n):
+    """Checks that assume a hundred literals each, with a model."""
+    return DECLARED + ("(check-sat-assuming (" + "p " * 100 + "))(get-model)") * n, ("sat" + MODEL) * n
+
+
+def assumptions(n):
+    """Checks that assume a thousand literals each."""
+    return DECLARED + ("(check-sat-assuming (" + "p " * 1000 + "))") * n, "unsat " * n
+
+
+def honest_assumptions(n):
+    """An incremental script: each check assumes 100 of 200 constants."""
+    rng = random.Random(1)
+    names = ["c%d" % i for i in range(200)]
+    checks = ["(check-sat-assuming (%s))\n" % " ".join(rng.sample(names, 100)) for _ in range(1000)]
+    script = "".join("(declare-const %s Bool)\n" % name for name in names)
+    script += "(assert (or %s))\n" % " ".join(names) + "".join(checks[i % 1000] for i in range(n))
+    return script, "unsat\n" * n
+
+
+def global_declarations(n):
+    """Assertions of levels that are gone, under global declarations."""
+    begin = "(set-option :global-declarations true)" + DECLARED
+    return begin + ("(push 1)(assert (and " + "p " * 100 + "))" + ASK + "(pop 1)") * n, ("sat" + MODEL) * n
+
+
+def doubling_functions(n):
+    """Models of two million steps each."""
+    bodies = ["(+ x x)"] + ["(f%d (f%d x))" % (i - 1, i - 1) for i in range(1, 21)]
+    script = "".join("(define-fun f%d ((x Int)) Int %s)" % (i, body) for i, body in enumerate(bodies))
+    return script + "(assert (= (f20 0) 0))" + ASK * n, "sat ()\n" * n
+
+
+def wide_model(n):
+    """A model with one wide body of one-letter parts."""
+    return DECLARED + "(assert (not p))" + ASK, "sat ((define-fun p () Bool (distinct" + " 7" * n + ")))"
+
+
+def wide_script(n):
+    """An assertion with one-letter parts."""
+    return DECLARED + "(assert (and" + " p" * n + "))" + ASK, "sat" + MODEL
+
+
+def deep_and_wide(n):
+    """A wide term within the deepest one."""
+    return "(assert " + "(let ((x true)) " * 990 + "(and" + " x" * n + ")" + ")" * 991, ""
+
+
+def long_literals(n):
+    """Literals of 128 digits, which are evaluated many times."""
+    script = "(define-fun g0 ((b Bool)) Bool (=" + (" #b" + "1" * 128) * n + "))"
+    script += "".join("(define-fun g%d ((b Bool)) Bool (and (g%d b) (g%d b)))" % (i, i - 1, i - 1) for i in range(1, 16))
+    return script + "(assert (g15 true))" + ASK, "sat ()"
+
+
+def levels(n):
+    """Ten thousand levels, begun and ended at once."""
+    return "(push 10000)(pop 10000)" * n, ""
+
+
+def levels_beside_names(n):
+    """The same, where a name and an assertion stand before and within."""
+    return DECLARED + "(push 9999)(assert p)(push 1)(pop 10000)" * n, ""
+
+
+SHAPES = {
+    "unused body": Shape(models_over_an_unused_body, 250_000, 1, 200),
+    "assumptions, models": Shape(assumptions_with_models, 16_000, 1, 0),
+    "assumptions": Shape(assumptions, 2_500, 1, 0),
+    "honest assumptions": Shape(honest_assumptions, 135_000, 3, 0),
+    "global declarations": Shape(global_declarations, 16_000, 1, 0),
+    "doubling functions": Shape(doubling_functions, 100, None, 200),
+    "wide model": Shape(wide_model, 2_500_000, 1, 200),
+    "wide script": Shape(wide_script, 2_500_000, 1, 200),
+    "deep and wide": Shape(deep_and_wide, 40_000, 1, 200),
+    "long literals": Shape(long_literals, 250, None, 200),
+    "levels": Shape(levels, 45_000, 1, 0),
+    "levels beside names": Shape(levels_beside_names, 25_000, 1, 0),
+}
+# What any program has: bytes of memory that no text accounts for.
+OWN = 10_000_000
+# A run that takes so many seconds is ended.
+PATIENCE = 120
+
+
+def measured(words, shape, size, work, patience):
+    """How many bytes a shape of this size has, and what the program takes for it."""
+    texts = shape.make(max(1, size))
+    names = []
+    for text, name in zip(texts, ("script", "answers")):
+        names.append(os.path.join(work, name))
+        with open(names[-1], "w", encoding="ascii") as out:
+            out.write(text)
+    return sum(map(len, texts)), run(words + names, (), patience)
+
+
+def main():
+    parser = argparse.ArgumentParser(description=__doc__, formatter_class=argparse.RawDescriptionHelpFormatter)
+    parser.add_argument("names", nargs="*", choices=[[], *SHAPES], metavar="NAME", help="the shapes: " + "; ".join(SHAPES))
+    parser.add_argument("--steps")
+    parser.add_argument("--part", type=int, default=1)
+    parser.add_argument("--bound", action="store_true")
+    parser.add_argument("--patience", type=int, default=PATIENCE)
+    chosen = parser.parse_args()
+    if not can_measure():
+        print("hostile: skipped, a program's memory can't be measured here", file=sys.stderr)
+        return 0
+    words = [os.environ.get("SMTCHECK", TOP + "/crates/smtcheck/out/smtcheck"), "--print-success", "off"]
+    words += ["--steps", chosen.steps] if chosen.steps else []
+    wrong = 0
+    with tempfile.TemporaryDirectory() as work:
+        for name in chosen.names or SHAPES:
+            shape = SHAPES[name]
+            cells = []
+            for part in (1,) if chosen.bound else (4, 2, 1):
+                size, took = measured(words, shape, shape.size // part // chosen.part, work, chosen.patience)
+                cells.append("%6.2f s" % took.seconds)
+                if took.status not in (0, 1, 2):
+                    cells[-1] = "status %d after %.1f s" % (took.status, took.seconds)
+                    wrong |= chosen.bound
+            print("%-20s %5.1f MB: %s, %6.1f MB of memory, %5.1f bytes a byte: %s" % (
+                name, size / 1e6, " ".join(cells), took.memory / 1e6, took.memory / size, took.last), flush=True)
+            if chosen.bound and (took.seconds > (shape.seconds or chosen.patience) or took.memory > OWN + shape.memory * size):
+                print("hostile: %s: more than it may take" % name)
+                wrong = 1
+    return wrong
+
+
+if __name__ == "__main__":
+    sys.exit(main())
