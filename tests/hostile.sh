@@ -1,0 +1,10 @@
+#!/bin/sh
+# Runs the program on texts that are made to take much, or large and honest, of a quarter of the size that docs/SECURITY.md tells of, and looks
+# that none takes more seconds of the processor, or more memory, than its shape may: tests/hostile.py prints the whole table. Needs what
+# `rt ci` has built, or another program: SMTCHECK names it; and Python 3. Prints what is wrong.
+set -e
+cd "$(dirname "$0")/.."
+work=$(mktemp -d)
+trap 'rm -rf "$work"' EXIT
+command -v python3 >"$work/python" || { echo 'hostile: skipped, no python3' >&2; exit 0; }
+PYTHONDONTWRITEBYTECODE=1 python3 tests/hostile.py --part 4 --bound --patience 20 >"$work/table" || { cat "$work/table"; exit 1; }
