@@ -1,9 +1,9 @@
 #!/bin/sh
 # limits.sh [BYTES]: runs the program on dialogues of some 5 MB, or so many bytes, each of which needs much of something, under twenty
-# limits on its addresses (`ulimit -v`, in KB), and with a machine's stack of 256 KB; and on the deepest terms in texts of 50 to 400 KB under
-# a hundred limits that their heap takes nearly whole. Each run gives the report that it gives without a
-# limit, or status 4, the line `smtcheck: memory` and the first lines of that report. Takes some minutes, and stands in no gate. Needs what
-# `rt ci` has built, or another program: SMTCHECK names it; and Python 3. Prints each run that is wrong, and nothing where all is well.
+# limits on its addresses (`ulimit -v`, in KB), and with a machine's stack of 256 KB; and on the deepest terms, in texts of 50 to 400 KB,
+# under a hundred limits, some of which the heap takes nearly whole. Each run gives the report that it gives without a limit, or status 4,
+# the line `smtcheck: memory` and the first lines of that report. Takes some minutes, and stands in no gate. Needs what `rt ci` has built,
+# or another program: SMTCHECK names it; and Python 3. Prints each run that is wrong, and nothing where all is well.
 set -e
 cd "$(dirname "$0")/.."
 program=${SMTCHECK:-$PWD/crates/smtcheck/out/smtcheck}
