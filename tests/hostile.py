@@ -18,8 +18,8 @@ DECLARED = "(declare-const p Bool)"
 MODEL = "((define-fun p () Bool true))"
 ASK = "(check-sat)(get-model)"
 
-# A shape: what makes its texts from a size, that size, the most seconds where some are promised, and the most bytes of memory for each byte beside
-# those that any program has: none where nothing stays in force.
+# A shape: what makes its texts from a size, that size, the most seconds where some are promised, and the most bytes of memory for each byte
+# beside those that any program has: none where nothing stays in force.
 Shape = namedtuple("Shape", "make size seconds memory")
 
 
@@ -48,6 +48,20 @@ def honest_assumptions(n):
     script = "".join("(declare-const %s Bool)\n" % name for name in names)
     script += "(assert (or %s))\n" % " ".join(names) + "".join(checks[i % 1000] for i in range(n))
     return script, "unsat\n" * n
+
+
+def honest_models(n):
+    """The same, where each check has a model of all constants."""
+    rng = random.Random(1)
+    names = ["c%d" % i for i in range(200)]
+    checks, models = [], []
+    for _ in range(100):
+        assumed = rng.sample(names, 100)
+        checks.append("(check-sat-assuming (%s))\n(get-model)\n" % " ".join(assumed))
+        values = [(name, name in assumed or rng.random() < 0.5) for name in names]
+        models.append("sat\n(%s)\n" % "".join("(define-fun %s () Bool %s)" % (name, str(value).lower()) for name, value in values))
+    script = "".join("(declare-const %s Bool)\n" % name for name in names) + "(assert (or %s))\n" % " ".join(names)
+    return script + "".join(checks[i % 100] for i in range(n)), "".join(models[i % 100] for i in range(n))
 
 
 def global_declarations(n):
@@ -100,6 +114,7 @@ SHAPES = {
     "assumptions, models": Shape(assumptions_with_models, 16_000, 1, 0),
     "assumptions": Shape(assumptions, 2_500, 1, 0),
     "honest assumptions": Shape(honest_assumptions, 135_000, 3, 0),
+    "honest models": Shape(honest_models, 8_000, 3, 0),
     "global declarations": Shape(global_declarations, 16_000, 1, 0),
     "doubling functions": Shape(doubling_functions, 100, None, 200),
     "wide model": Shape(wide_model, 2_500_000, 1, 200),

@@ -3,7 +3,7 @@
 
 usage: slow_models.py FOLDER [--most SECONDS] [--steps N]
 
-Writes FOLDER/NAME.smt2 and FOLDER/NAME.txt for each of 37 kinds at four sizes, with print-success off, and prints
+Writes FOLDER/NAME.smt2 and FOLDER/NAME.txt for each of 38 kinds at four sizes, with print-success off, and prints
 the ten that took the most processor time, in seconds, and the memory of each. A run that ends without a report fails,
 and with --most one that takes more seconds. Needs what `rt ci` has
 built, or another program: SMTCHECK names it."""

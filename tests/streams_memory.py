@@ -1,4 +1,5 @@
-"""streams_memory.py PROGRAM SIZE [NAME ..]: runs the program on ten streams of SIZE bytes, or on those that are named, and prints what each takes.
+"""streams_memory.py PROGRAM SIZE [NAME ..]: runs the program on streams of SIZE bytes of eleven shapes, or of those that are named, and prints
+what each takes.
 
 A stream is a script and its answers, which are made as they are read, and whose every round ends what it began: so it needs no more memory
 the longer it is, and at most 10 MB. The status is 1 where one takes more, or has another verdict than its own.
@@ -18,7 +19,12 @@ HELPERS = b"".join(b"(define-fun h%d ((a Int)) Int (ite (< a %d) (+ a 1) (- a 1)
 # For each shape: how the script begins, a round of the script and one of the answers, and the verdict.
 SHAPES = {
     "assuming": (DECLARED, b"(check-sat-assuming (" + b"p " * 100 + b"))", b"unsat ", "valid"),
-    "assuming with models": (DECLARED, b"(check-sat-assuming (p (not p)))" + b"(check-sat-assuming (p))(get-model)", b"unsat sat" + MODEL, "valid"),
+    "assuming with models": (
+        DECLARED,
+        b"(check-sat-assuming (p (not p)))(check-sat-assuming (p))(get-model)",
+        b"unsat sat" + MODEL,
+        "valid",
+    ),
     "global declarations": (
         b"(set-option :global-declarations true)" + DECLARED,
         b"(push 1)(assert (and " + b"p " * 100 + b"))" + ASK + b"(pop 1)",

@@ -1,5 +1,5 @@
 #!/bin/sh
-# streams_memory.sh [SIZE [NAME ..]]: runs the program on streams of 2 MB, or of SIZE bytes, of ten shapes, and looks that none takes more
+# streams_memory.sh [SIZE [NAME ..]]: runs the program on streams of 2 MB, or of SIZE bytes, of eleven shapes, and looks that none takes more
 # than 10 MB of memory, and that each ends in time: a program that keeps what is gone takes more. Needs what `rt ci` has built, or another
 # program: SMTCHECK names it; and Python 3. Prints what is wrong, and with a SIZE what each takes.
 set -e
