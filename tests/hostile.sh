@@ -7,4 +7,7 @@ cd "$(dirname "$0")/.."
 work=$(mktemp -d)
 trap 'rm -rf "$work"' EXIT
 command -v python3 >"$work/python" || { echo 'hostile: skipped, no python3' >&2; exit 0; }
-PYTHONDONTWRITEBYTECODE=1 python3 tests/hostile.py --part 4 --bound --patience 20 >"$work/table" || { cat "$work/table"; exit 1; }
+# Left out are those that keep what is gone, assumptions and levels under global declarations (docs/SECURITY.md), and those whose time is
+# the time of steps.
+PYTHONDONTWRITEBYTECODE=1 python3 tests/hostile.py --part 4 --bound --patience 20 \
+    'unused body' 'wide model' 'wide script' 'deep and wide' levels 'levels beside names' >"$work/table" || { cat "$work/table"; exit 1; }
