@@ -26,7 +26,7 @@ returns-clause-accepted c = λ taken early pairs stands check.
     (λ commands on. ap (behind m) (c.in-Ok.ensures.checks commands on)
     ∙ sym (after_behind m effective (checks_state d.checks) (signature_in_force commands)
     (claims_in_force commands) (d.commands + 1) role answer))
-    refl (ap (λ n. s.answers + n) c.count_of.ensures.count) refl refl
+    refl (ap (λ n. s.answers + n) c.count_of-count.ensures.count) refl refl
 
 pub returns-in-Err-clause-refused : goal.returns-in-Err-clause-refused
 returns-in-Err-clause-refused c = λ flaw told taken early pairs stands.
