@@ -8,6 +8,8 @@ top=$PWD
 for tool in python3 timeout; do
     command -v "$tool" >/dev/null || { echo "collections: skipped, since there is no $tool"; exit 0; }
 done
+# (a python3 that chooses one of several interpreters takes its time, at each start)
+PATH=$(python3 -c 'import os, sys; print(os.path.dirname(sys.executable))'):$PATH
 work=$(mktemp -d)
 trap 'rm -rf "$work"' EXIT
 export SMTCHECK="${SMTCHECK:-$top/crates/smtcheck/out/smtcheck}" PYTHONDONTWRITEBYTECODE=1
@@ -256,9 +258,12 @@ for block in $(ls | grep '^block' | sort -V); do
     case $(cat "$block") in
         *SBATCH*)
             rm -rf results
+            tasks=
             for task in 1 2 3 4 5 6 7 8 9 10; do
-                SLURM_ARRAY_TASK_ID=$task PATH=$work/page/bin:$PATH ends 0 sh "$block"
+                SLURM_ARRAY_TASK_ID=$task PATH=$work/page/bin:$PATH sh "$block" &
+                tasks="$tasks $!"
             done
+            for task in $tasks; do wait "$task" || fail 'a task of an array'; done
             [ "$(find results -name '*.row' | wc -l)" = 10 ] || fail 'the tasks of an array left out a script'
             ran=$((ran + 1))
             continue ;;
