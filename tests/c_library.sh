@@ -79,6 +79,8 @@ fi
 if command -v python3 >"$work/found"; then
     export SMTCHECK_LIBRARY="$work/libsmtcheck.so" PYTHONDONTWRITEBYTECODE=1
     python3 -m doctest bindings/python/smtcheck.py >"$work/printed" || fail "$(cat "$work/printed")"
+    python3 tests/python_module.py >"$work/printed" 2>&1 || fail "the Python module: $(cat "$work/printed")"
+    cat "$work/printed"
     [ ! -x "$program" ] || python3 bindings/python/compare.py "$program" "$work/check" crates/dialogue_rows/data/solvers.txt ||
         fail 'the dialogues of solvers'
 fi
