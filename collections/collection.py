@@ -97,7 +97,7 @@ class Programs:
     """The programs that run now, which are ended where this one is."""
 
     def __init__(self) -> None:
-        self.lock = threading.Lock()
+        self.lock = threading.RLock()
         self.running: "set[subprocess.Popen[bytes]]" = set()
         self.stopped = 0
 
@@ -121,6 +121,8 @@ class Programs:
             process = subprocess.Popen(command, stdin=subprocess.DEVNULL, stdout=subprocess.PIPE, stderr=told)
             with self.lock:
                 self.running.add(process)
+                if self.stopped:
+                    process.terminate()
             assert process.stdout is not None
             try:
                 shutil.copyfileobj(process.stdout, file)

@@ -135,6 +135,7 @@ class Reports(unittest.TestCase):
 
     def test_names(self) -> None:
         self.assertEqual(smtcheck.__version__, smtcheck.version().split()[0])
+        self.assertIn(f'version = "{smtcheck.__version__}"', (BINDING / "pyproject.toml").read_text())
         for name in smtcheck.__all__:
             self.assertTrue(hasattr(smtcheck, name), name)
         self.assertIn("Session", smtcheck.__all__)
