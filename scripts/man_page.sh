@@ -1,6 +1,6 @@
 #!/bin/sh
 # man_page.sh PROGRAM LANGUAGE: prints the manual page, which is made of what the program says to `--help` and `--version`, and of the
-# last two tables of docs/LANGUAGE.md, on faults and on the lines of standard error.
+# tables of docs/LANGUAGE.md on the report's lines, on faults and on the lines of standard error.
 set -e
 version=$("$1" --version) || [ $? = 5 ]
 version=${version#smtcheck }
@@ -66,6 +66,30 @@ z3 prints no \(gasuccess\(ga unless it is told to:
 z3 script.smt2 > answers.txt
 smtcheck \-\-print\-success off script.smt2 answers.txt
 .fi
+.SH REPORT LINES
+One line for each check, then the first fault if there is one, then the verdict. Commands, answers, checks, items and assumptions are
+counted from 1, and bytes from 0.
+END
+rows '| line | meaning |' "$2" | awk '{
+    split($0, cells, / [|] /)
+    gsub(/\\\(ga/, "", cells[1])
+    print ".TP\n.B " cells[1] "\n" cells[2] "."
+}' | sed 's/!bar!/|/g'
+cat <<'END'
+.PP
+The verdict has four counts of checks:
+.TP
+.B confirmed
+answered sat, with a model or more, each of which makes every assertion in force and every assumption true.
+.TP
+.B refuted
+answered sat, with a model that makes one of them false.
+.TP
+.B undecided
+answered sat, and neither: no model was printed, or it has a fault, lacks a symbol, is too long or leaves an assertion open.
+.TP
+.B unchecked
+answered otherwise than sat.
 .SH FAULTS
 For each fault: what it means, the likely cause, and what to do.
 END
@@ -87,5 +111,5 @@ rows '| line on standard error | meaning | what to do |' "$2" | awk '{
 }' | sed 's/!bar!/|/g'
 cat <<'END'
 .SH SEE ALSO
-LANGUAGE.md, SOLVERS.md and COLLECTIONS.md, which are installed beside this page, in share/doc/smtcheck.
+LANGUAGE.md, SOLVERS.md, COLLECTIONS.md and EMBEDDING.md, which are installed with this page, in share/doc/smtcheck.
 END

@@ -24,6 +24,14 @@ examples=crates/smtcheck_c/examples
 strict='-std=c99 -O1 -Wall -Wextra -Werror -pedantic'
 scripts/c_library.sh "$work" 2>"$work/log" || fail "$(cat "$work/log")"
 
+# the shared object exports the calls of smtcheck.h and no other name, and has a name of its own
+if command -v nm >"$work/found" && command -v readelf >"$work/found"; then
+    nm -D --defined-only "$work/libsmtcheck.so" | awk '{ print $3 }' | LC_ALL=C sort >"$work/exported"
+    sed -n 's/^[a-z].* \**\(smtcheck_[a-z_]*\)(.*/\1/p' "$work/smtcheck.h" | LC_ALL=C sort >"$work/declared"
+    cmp -s "$work/exported" "$work/declared" || fail "it exports $(cat "$work/exported")"
+    readelf -d "$work/libsmtcheck.so" | grep -q 'SONAME.*\[libsmtcheck\.so\.0\]' || fail 'the shared object has no name'
+fi
+
 # the library's version is the program's
 cat >"$work/version.c" <<'END_OF_C'
 #include "smtcheck.h"
@@ -85,6 +93,8 @@ fi
 if command -v python3 >"$work/found"; then
     export SMTCHECK_LIBRARY="$work/libsmtcheck.so" PYTHONDONTWRITEBYTECODE=1
     python3 -m doctest bindings/python/smtcheck.py >"$work/printed" || fail "$(cat "$work/printed")"
+    python3 tests/python_module.py >"$work/printed" 2>&1 || fail "the Python module: $(cat "$work/printed")"
+    cat "$work/printed"
     [ ! -x "$program" ] || python3 bindings/python/compare.py "$program" "$work/check" crates/dialogue_rows/data/solvers.txt ||
         fail 'the dialogues of solvers'
 fi

@@ -19,7 +19,7 @@ for file in *; do
 done
 cat >"$work/bin/rt" <<END
 #!/bin/sh
-case "\$1 \$2" in 'run --' | 'try --') ;; *) echo "readme: rt \$*" >&2; exit 1 ;; esac
+case "\$1 \$2" in 'doc ') exec "$(command -v rt)" doc ;; 'run --' | 'try --') ;; *) echo "readme: rt \$*" >&2; exit 1 ;; esac
 shift 2
 exec "$top/crates/smtcheck/out/smtcheck" "\$@"
 END

@@ -15,7 +15,17 @@ Line(check=1, command=3, outcome='refuted', place=Place(model=4, assertion=2))
 check 1 at command 3: sat, model of command 4: refuted by the assertion of command 2
 verdict: invalid, confirmed 0, refuted 1, undecided 0, unchecked 0
 
-`python -m smtcheck` takes the command line of the program `smtcheck`. It reads both files whole before it prints.
+`check_files` does so with two files, and a `Session` takes both texts piece by piece, and hands out each line once it is decided:
+
+>>> with Session(print_success=False) as session:
+...     session.script("(declare-const x Int)(assert (< 5 x))(check-sat)(get-model)(check-sat)")
+...     session.answers("sat ((define-fun x () Int 7))")
+...     for line in session.lines():
+...         print(line.outcome)
+confirmed
+
+`python -m smtcheck` takes the command line of the program `smtcheck`. It reads both files whole before it prints, and ends with 0 to 3 only
+where it printed a whole report.
 
 The shared library is the file that the variable SMTCHECK_LIBRARY names, or else `libsmtcheck.so` beside this file.
 """
@@ -23,16 +33,26 @@ from __future__ import annotations
 
 import argparse
 import ctypes
+import json
+import operator
 import os
 import re
 import sys
-from typing import NamedTuple, Optional, Sequence, Tuple, Union
+from typing import Iterator, List, NamedTuple, NoReturn, Optional, Sequence, Tuple, Union
+
+__all__ = ["LibraryError", "Line", "Place", "Report", "STEPS", "Session", "VERDICTS", "check", "check_files", "line_of", "main", "version"]
+__version__ = "0.3.0"
 
 VERDICTS = ("valid", "invalid", "not decided", "refused")
-MEMORY, OPTIONS = 4, 5
+MEMORY, OPTIONS, OPEN, LONG = 4, 5, 6, 7
 STEPS = 10_000_000
 
-Text = Union[str, bytes]
+Text = Union[str, bytes, bytearray, memoryview]
+Path = Union[str, bytes, "os.PathLike[str]", "os.PathLike[bytes]"]
+
+
+class LibraryError(ImportError):
+    """The shared library is not there, or is none of smtcheck."""
 
 
 class Place(NamedTuple):
@@ -70,6 +90,11 @@ class Line(NamedTuple):
     place: Place
     """what else the line names"""
 
+    def to_object(self) -> "dict[str, object]":
+        """The line as a dictionary that JSON has a form for."""
+        place = {name: value for name, value in self.place._asdict().items() if value is not None}
+        return {"check": self.check, "command": self.command, "outcome": self.outcome, "place": place}
+
 
 class Report(NamedTuple):
     """The report on a dialogue."""
@@ -94,6 +119,39 @@ class Report(NamedTuple):
         """The exit status of the program."""
         return VERDICTS.index(self.verdict)
 
+    def __str__(self) -> str:
+        return self.text
+
+    def to_json(self, **options: object) -> str:
+        """The report as an object of JSON. `lines` has an object for each check, and one for the fault, in order; in its `place` stands
+        only what the line names. The options are those of `json.dumps`.
+
+        >>> script = "(declare-const x Int)(assert (< 5 x))(check-sat)(get-model)"
+        >>> print(check(script, "sat ((define-fun x () Int 3))", print_success=False).to_json(indent=1))
+        {
+         "verdict": "invalid",
+         "status": 1,
+         "confirmed": 0,
+         "refuted": 1,
+         "undecided": 0,
+         "unchecked": 0,
+         "lines": [
+          {
+           "check": 1,
+           "command": 3,
+           "outcome": "refuted",
+           "place": {
+            "model": 4,
+            "assertion": 2
+           }
+          }
+         ]
+        }
+        """
+        told = {"verdict": self.verdict, "status": self.status, "confirmed": self.confirmed, "refuted": self.refuted}
+        told.update({"undecided": self.undecided, "unchecked": self.unchecked, "lines": [line.to_object() for line in self.lines]})
+        return json.dumps(told, **options)  # type: ignore[arg-type]
+
 
 class _Options(ctypes.Structure):
     _fields_ = [("steps", ctypes.c_uint64), ("print_success", ctypes.c_bool)]
@@ -103,6 +161,10 @@ class _Summary(ctypes.Structure):
     _fields_ = [(name, ctypes.c_uint64) for name in ("confirmed", "refuted", "undecided", "unchecked", "lines")]
 
 
+class _Session(ctypes.Structure):
+    _fields_ = [("at", ctypes.c_void_p)]
+
+
 _loaded: Optional[ctypes.CDLL] = None
 
 
@@ -110,18 +172,58 @@ def _library() -> ctypes.CDLL:
     """The shared library, which is loaded once."""
     global _loaded
     if _loaded is None:
-        beside = os.path.join(os.path.dirname(os.path.abspath(__file__)), "libsmtcheck.so")
-        library = ctypes.CDLL(os.environ.get("SMTCHECK_LIBRARY", beside))
-        size = ctypes.c_size_t
-        library.smtcheck_validate.restype = ctypes.c_uint32
-        library.smtcheck_validate.argtypes = [
-            ctypes.c_char_p, size, ctypes.c_char_p, size, ctypes.POINTER(_Options), ctypes.POINTER(_Summary), ctypes.c_char_p, size,
-            ctypes.POINTER(size),
-        ]
-        library.smtcheck_version.restype = size
-        library.smtcheck_version.argtypes = [ctypes.c_char_p, size]
-        _loaded = library
+        name = os.environ.get("SMTCHECK_LIBRARY") or os.path.join(os.path.dirname(os.path.abspath(__file__)), "libsmtcheck.so")
+        try:
+            _loaded = _with_types(ctypes.CDLL(name))
+        except (OSError, AttributeError) as error:
+            raise LibraryError(
+                f"the shared library of smtcheck could not be loaded: {error}. SMTCHECK_LIBRARY names it; without that variable it stands "
+                "beside smtcheck.py. scripts/c_library.sh FOLDER makes it"
+            ) from error
     return _loaded
+
+
+def _with_types(library: ctypes.CDLL) -> ctypes.CDLL:
+    """The library, of which each call has its types."""
+    size, number, text = ctypes.c_size_t, ctypes.c_uint32, ctypes.c_char_p
+    options, session, wanted = ctypes.POINTER(_Options), ctypes.POINTER(_Session), ctypes.POINTER(size)
+    calls = {
+        "validate": (number, [text, size, text, size, options, ctypes.POINTER(_Summary), text, size, wanted]),
+        "version": (size, [text, size]),
+        "session_new": (number, [options, session]),
+        "session_script": (number, [session, text, size]),
+        "session_answers": (number, [session, text, size]),
+        "session_end_script": (number, [session]),
+        "session_end_answers": (number, [session]),
+        "session_verdict": (number, [session]),
+        "session_text": (number, [session, text, size, wanted]),
+        "session_free": (None, [session]),
+    }
+    for name, (result, arguments) in calls.items():
+        call = getattr(library, "smtcheck_" + name)
+        call.restype, call.argtypes = result, arguments
+    return library
+
+
+def _bytes_of(text: Text, name: str) -> bytes:
+    """The bytes of an argument that is a text."""
+    if isinstance(text, str):
+        return text.encode("utf-8", "surrogateescape")
+    if isinstance(text, (bytes, bytearray, memoryview)):
+        return bytes(text)
+    raise TypeError(f"{name} is a {type(text).__name__}, and no str or bytes" + (": check_files takes paths" if hasattr(text, "__fspath__") else ""))
+
+
+def _options_of(print_success: bool, steps: int) -> _Options:
+    """The options, if they have the types and the ranges that they need."""
+    if not isinstance(print_success, bool):
+        raise TypeError(f"print_success is {print_success!r}, and not True or False")
+    if isinstance(steps, bool) or not hasattr(steps, "__index__"):
+        raise TypeError(f"steps is {steps!r}, and no int")
+    steps = operator.index(steps)
+    if not 0 <= steps < 2**64 - 1:
+        raise ValueError(f"steps is {steps}, and not from 0 to {2**64 - 2}")
+    return _Options(steps, print_success)
 
 
 def version() -> str:
@@ -151,12 +253,11 @@ def check(script: Text, answers: Text, print_success: bool = True, steps: int = 
     >>> check("(assert (< 1 2))", "", print_success=True).lines
     (Line(check=None, command=1, outcome='fault P1', place=Place()),)
 
-    MemoryError is raised where memory was refused, and ValueError for a number of steps out of range.
+    MemoryError is raised where memory was refused, ValueError for a number of steps out of range, and TypeError for an argument of another
+    type, which it names.
     """
-    if not 0 <= steps < 2**64 - 1:
-        raise ValueError(f"steps is {steps}, and not from 0 to {2**64 - 2}")
-    texts = [text.encode("utf-8", "surrogateescape") if isinstance(text, str) else bytes(text) for text in (script, answers)]
-    options, summary, wanted = _Options(steps, bool(print_success)), _Summary(), ctypes.c_size_t()
+    options, summary, wanted = _options_of(print_success, steps), _Summary(), ctypes.c_size_t()
+    texts = [_bytes_of(script, "script"), _bytes_of(answers, "answers")]
     room = 4096
     while True:
         buffer = ctypes.create_string_buffer(room)
@@ -175,6 +276,145 @@ def check(script: Text, answers: Text, print_success: bool = True, steps: int = 
     return Report(
         VERDICTS[outcome], summary.confirmed, summary.refuted, summary.undecided, summary.unchecked, lines, text
     )
+
+
+def check_files(script: Path, answers: Path, print_success: bool = True, steps: int = STEPS) -> Report:
+    """The report on two files, as `check` gives it. OSError is raised where one can't be read."""
+    options = _options_of(print_success, steps)
+    texts = []
+    for name, path in (("script", script), ("answers", answers)):
+        if not isinstance(path, (str, bytes)) and not hasattr(path, "__fspath__"):
+            raise TypeError(f"{name} is a {type(path).__name__}, and no path")
+        with open(path, "rb") as file:
+            texts.append(file.read())
+    return check(texts[0], texts[1], options.print_success, options.steps)
+
+
+class Session:
+    """A dialogue that is told piece by piece. It is a context manager, which gives its memory back at its end, and stays on one thread.
+
+    A piece may end anywhere, also inside a token. A text is told its end once, and no piece behind it: ValueError is raised else, and for
+    a session that was closed. MemoryError says that memory was refused, and that the session goes no further.
+
+    >>> with Session(print_success=False) as session:
+    ...     session.script("(declare-const p Bool)(assert p)(check-sat)(get-mo")
+    ...     session.answers("sat ((define-fun p () Bool false))")
+    ...     list(session.lines())
+    ...     session.script("del)")
+    ...     [line.outcome for line in session.lines()]
+    ...     session.end_script()
+    ...     session.end_answers()
+    ...     session.verdict
+    ...     print(session.text, end="")
+    []
+    ['refuted']
+    'invalid'
+    check 1 at command 3: sat, model of command 4: refuted by the assertion of command 2
+    verdict: invalid, confirmed 0, refuted 1, undecided 0, unchecked 0
+    """
+
+    def __init__(self, print_success: bool = True, steps: int = STEPS) -> None:
+        self._session = _Session()
+        self._ended = {"script": False, "answers": False}
+        self._lines: List[str] = []
+        self._told = 0
+        self._answered(_library().smtcheck_session_new(_options_of(print_success, steps), self._session))
+
+    def __enter__(self) -> "Session":
+        return self
+
+    def __exit__(self, *_: object) -> None:
+        self.close()
+
+    def __del__(self) -> None:
+        if getattr(self, "_session", None) is not None:
+            self.close()
+
+    def close(self) -> None:
+        """Gives the memory back. What was told stays in `text`."""
+        if self._session.at:
+            _library().smtcheck_session_free(self._session)
+            self._session.at = None
+
+    def script(self, piece: Text) -> None:
+        """Takes the next bytes of the script."""
+        self._tell("script", piece)
+
+    def answers(self, piece: Text) -> None:
+        """Takes the next bytes of the answers."""
+        self._tell("answers", piece)
+
+    def end_script(self) -> None:
+        """Takes the end of the script."""
+        self._end("script")
+
+    def end_answers(self) -> None:
+        """Takes the end of the answers."""
+        self._end("answers")
+
+    def lines(self) -> Iterator[Line]:
+        """The lines that are decided and were not handed out, in order, without that of the verdict. None is taken back."""
+        self._take()
+        while self._told < len(self._lines):
+            text = self._lines[self._told]
+            self._told += 1
+            if not text.startswith("verdict: "):
+                yield line_of(text)
+
+    @property
+    def verdict(self) -> Optional[str]:
+        """`valid`, `invalid`, `not decided` or `refused` once that is decided, and None before."""
+        self._opened()
+        outcome = _library().smtcheck_session_verdict(self._session)
+        return VERDICTS[outcome] if outcome < len(VERDICTS) else None
+
+    @property
+    def text(self) -> str:
+        """The text of all lines that are decided."""
+        if self._session.at:
+            self._take()
+        return "".join(line + "\n" for line in self._lines)
+
+    def _opened(self) -> None:
+        if not self._session.at:
+            raise ValueError("the session is closed")
+
+    def _answered(self, outcome: int) -> None:
+        if outcome == MEMORY:
+            raise MemoryError("smtcheck: memory")
+        if outcome == LONG:
+            raise OverflowError("smtcheck: a text of 2^64 bytes or more")
+
+    def _tell(self, side: str, piece: Text) -> None:
+        self._opened()
+        text = _bytes_of(piece, "piece")
+        if self._ended[side]:
+            raise ValueError(f"a piece of the {side} behind its end")
+        call = _library().smtcheck_session_script if side == "script" else _library().smtcheck_session_answers
+        self._answered(call(self._session, text, len(text)))
+
+    def _end(self, side: str) -> None:
+        self._opened()
+        if self._ended[side]:
+            raise ValueError(f"a second end of the {side}")
+        self._ended[side] = True
+        call = _library().smtcheck_session_end_script if side == "script" else _library().smtcheck_session_end_answers
+        self._answered(call(self._session))
+
+    def _take(self) -> None:
+        """Takes the lines that are decided from the library."""
+        self._opened()
+        wanted, room = ctypes.c_size_t(), 4096
+        while True:
+            buffer = ctypes.create_string_buffer(room)
+            if _library().smtcheck_session_text(self._session, buffer, room, wanted) == MEMORY:
+                raise MemoryError("smtcheck: memory")
+            if wanted.value == 0:
+                return
+            if wanted.value > room:
+                room = wanted.value
+            else:
+                self._lines += buffer.raw[: wanted.value].decode("ascii").splitlines()
 
 
 _CHECK = re.compile(r"check (\d+) at command (\d+): (?:sat, )?(?:model of command (\d+): )?(.*)")
@@ -218,10 +458,20 @@ def line_of(text: str) -> Line:
     return Line(int(check_number), int(command), finding, place)
 
 
+class _Once(argparse.Action):
+    """An option that is given once at most."""
+
+    def __call__(self, parser: argparse.ArgumentParser, given: argparse.Namespace, value: object, option: Optional[str] = None) -> None:
+        if hasattr(given, self.dest + "_given"):
+            parser.error(f"{option} is given twice")
+        setattr(given, self.dest + "_given", True)
+        setattr(given, self.dest, value)
+
+
 class _Parser(argparse.ArgumentParser):
     """The command line, which ends with the program's status where it is refused or asks for help."""
 
-    def exit(self, status: int = 0, message: Optional[str] = None) -> None:  # type: ignore[override]
+    def exit(self, status: int = 0, message: Optional[str] = None) -> NoReturn:  # type: ignore[override]
         if message:
             sys.stderr.write(message)
         sys.exit(5)
@@ -233,33 +483,55 @@ def _steps(word: str) -> int:
     return int(word)
 
 
+def _said(word: str) -> int:
+    """Says on standard error why there is no report."""
+    sys.stderr.write(f"smtcheck: {word}\n")
+    return 4
+
+
+def _print(text: str) -> bool:
+    """Whether the whole text could be written to standard output, which is closed where it could not."""
+    try:
+        sys.stdout.write(text)
+        sys.stdout.flush()
+        return True
+    except (OSError, ValueError):
+        # What stays in the buffer is not to be tried again at the interpreter's end.
+        sys.stdout = None  # type: ignore[assignment]
+        return False
+
+
 def main(words: Optional[Sequence[str]] = None) -> int:
-    """The program: prints the report on two files, and answers its exit status."""
+    """The program: prints the report on two files, and answers its exit status. It answers 0 to 3 only behind a whole report."""
     parser = _Parser("smtcheck", description="Checks the models that an SMT solver printed.", allow_abbrev=False)
     parser.add_argument("script", metavar="SCRIPT", help="the script that the solver read")
     parser.add_argument("answers", metavar="ANSWERS", help="what the solver printed")
-    parser.add_argument("--print-success", choices=("on", "off"), default="on", help="whether it prints `success`, from the start")
-    parser.add_argument("--steps", metavar="N", type=_steps, default=STEPS, help="how many steps the evaluation of a model may take")
-    if "--version" in (sys.argv[1:] if words is None else words):
-        print(f"smtcheck {version()}")
-        return 5
-    given = parser.parse_args(words)
-    texts = []
-    for name in ("script", "answers"):
-        try:
-            with open(getattr(given, name), "rb") as file:
-                texts.append(file.read())
-        except OSError:
-            sys.stderr.write(f"smtcheck: {name}\n")
-            return 4
+    parser.add_argument("--print-success", action=_Once, choices=("on", "off"), default="on", help="whether it prints `success`, from the start")
+    parser.add_argument("--steps", action=_Once, metavar="N", type=_steps, default=STEPS, help="how many steps the evaluation of a model may take")
+    parser.add_argument("-V", "--version", action="store_true", help="prints the version")
     try:
+        given_words = sys.argv[1:] if words is None else list(words)
+        if given_words in (["-V"], ["--version"]):
+            return 5 if _print(f"smtcheck {version()}\n") else _said("output")
+        given = parser.parse_args(given_words)
+        if given.version:
+            parser.error("--version stands alone")
+        texts = []
+        for name in ("script", "answers"):
+            try:
+                with open(getattr(given, name), "rb") as file:
+                    texts.append(file.read())
+            except (OSError, ValueError):
+                return _said(name)
         report = check(texts[0], texts[1], given.print_success == "on", given.steps)
+        return report.status if _print(report.text) else _said("output")
+    except LibraryError as error:
+        return _said(f"library: {error}")
     except MemoryError:
-        sys.stderr.write("smtcheck: memory\n")
-        return 4
-    sys.stdout.write(report.text)
-    sys.stdout.flush()
-    return report.status
+        return _said("memory")
+    except Exception as error:  # pylint: disable=broad-except
+        # An interpreter that ends by an exception ends with 1, which is a verdict.
+        return _said(f"{type(error).__name__}: {error}")
 
 
 if __name__ == "__main__":

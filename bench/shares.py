@@ -1,0 +1,198 @@
+#!/usr/bin/env python3
+"""Counts how many of a solver's models are confirmed, by kind of script: shares.py [--scripts N] [--seed N] NAME=COMMAND..
+
+It invents N scripts of each kind (40), each with one assertion or more, and lets each solver answer each twice: first without models, and
+then with a `get-model` behind each check that was answered `sat`, since some print nothing for a model behind `unsat`. A solver has 10
+seconds for each run. The table has, for each kind and solver, `confirmed of sat`, and what else was found. SMTCHECK names the program.
+"""
+import argparse
+import os
+import random
+import re
+import shlex
+import subprocess
+import sys
+import tempfile
+from typing import Callable, Dict, List, Sequence, Tuple
+
+BITS = (1, 4, 8, 32)
+
+
+class Terms:
+    """Random terms over the names of a script."""
+
+    def __init__(self, seed: int, sorts: Sequence[str], products: bool = False, divides: str = "", functions: bool = False) -> None:
+        self.random, self.sorts, self.products, self.divides = random.Random(seed), list(sorts), products, divides
+        self.names: Dict[str, List[str]] = {sort: [f"{letter}{index}" for index in range(3)] for letter, sort in zip("pqrs", ["Bool", *self.sorts])}
+        self.functions = functions
+
+    def declarations(self) -> List[str]:
+        """The declarations of the names."""
+        told = [f"(declare-const {name} {sort})" for sort, names in self.names.items() for name in names]
+        if self.functions:
+            told += [f"(declare-fun f{index} ({sort} Bool) {sort})" for index, sort in enumerate(self.names)]
+        return told
+
+    def of(self, sort: str, depth: int) -> str:
+        """A term of the sort."""
+        if depth == 0 or self.random.random() < 0.1:
+            return self.leaf(sort)
+        if self.functions and self.random.random() < 0.3:
+            return f"(f{list(self.names).index(sort)} {self.of(sort, depth - 1)} {self.of('Bool', 0)})"
+        if self.random.random() < 0.1:
+            return f"(ite {self.of('Bool', depth - 1)} {self.of(sort, depth - 1)} {self.of(sort, depth - 1)})"
+        return self.formula(depth) if sort == "Bool" else self.integer(depth) if sort == "Int" else self.vector(sort, depth)
+
+    def leaf(self, sort: str) -> str:
+        """A name, or a value."""
+        if self.random.random() < 0.7 or sort == "Bool":
+            return self.random.choice(self.names[sort])
+        if sort == "Int":
+            return str(self.random.randrange(12))
+        width = int(sort.split()[-1][:-1])
+        return "#b" + format(self.random.randrange(2**width), f"0{width}b")
+
+    def formula(self, depth: int) -> str:
+        """A formula."""
+        if self.sorts and self.random.random() < 0.6:
+            sort = self.random.choice(self.sorts)
+            signs = ("<=", "<", "=", "distinct") if sort == "Int" else ("bvult", "bvsle", "=", "distinct")
+            return f"({self.random.choice(signs)} {self.of(sort, depth - 1)} {self.of(sort, depth - 1)})"
+        if self.random.random() < 0.2:
+            return f"(not {self.of('Bool', depth - 1)})"
+        return f"({self.random.choice(('and', 'or', '=>', 'xor', '='))} {self.of('Bool', depth - 1)} {self.of('Bool', depth - 1)})"
+
+    def integer(self, depth: int) -> str:
+        """A term of integers."""
+        if self.divides and self.random.random() < 0.4:
+            by = str(self.random.randrange(1, 9)) if self.divides == "numeral" else self.of("Int", depth - 1)
+            return f"({self.random.choice(('div', 'mod'))} {self.of('Int', depth - 1)} {by})"
+        if self.products and self.random.random() < 0.4:
+            return f"(* {self.of('Int', depth - 1)} {self.of('Int', depth - 1)})"
+        if self.random.random() < 0.2:
+            return f"(* {self.random.randrange(2, 9)} {self.of('Int', depth - 1)})"
+        return f"({self.random.choice('+-')} {self.of('Int', depth - 1)} {self.of('Int', depth - 1)})"
+
+    def vector(self, sort: str, depth: int) -> str:
+        """A term of bit vectors."""
+        signs = ("bvadd", "bvsub", "bvmul", "bvand", "bvor", "bvxor", "bvudiv", "bvurem", "bvshl", "bvlshr", "bvashr", "bvsdiv")
+        return f"({self.random.choice(signs)} {self.of(sort, depth - 1)} {self.of(sort, depth - 1)})"
+
+
+def plain(terms: Terms) -> List[str]:
+    """Four assertions and one check."""
+    return [*terms.declarations(), *(f"(assert {terms.of('Bool', 3)})" for _ in range(4)), "(check-sat)"]
+
+
+def levels(terms: Terms) -> List[str]:
+    """Ten assertions at up to three levels, with a check behind each second one."""
+    told, depth = terms.declarations(), 0
+    for index in range(10):
+        if depth < 3 and terms.random.random() < 0.5:
+            told, depth = [*told, "(push 1)"], depth + 1
+        elif depth and terms.random.random() < 0.4:
+            told, depth = [*told, "(pop 1)"], depth - 1
+        told.append(f"(assert {terms.of('Bool', 2)})")
+        if index % 2:
+            told.append("(check-sat)")
+    return told
+
+
+def defined(terms: Terms, parameters: str) -> List[str]:
+    """As plain, with a definition of which each assertion makes use."""
+    use = f"(g {terms.random.choice(terms.names['Bool'])})" if parameters else "g"
+    told = [*terms.declarations(), f"(define-fun g ({parameters}) Bool {terms.of('Bool', 2)})"]
+    return [*told, *(f"(assert (or {use} {terms.of('Bool', 2)}))" for _ in range(4)), "(check-sat)"]
+
+
+def labelled(terms: Terms) -> List[str]:
+    """As plain, with a label on every assertion."""
+    return [*terms.declarations(), *(f"(assert (! {terms.of('Bool', 3)} :named l{index}))" for index in range(4)), "(check-sat)"]
+
+
+def vectors(seed: int) -> List[str]:
+    """The sort of bit vectors of a script."""
+    return [f"(_ BitVec {BITS[seed % len(BITS)]})"]
+
+
+KINDS: Tuple[Tuple[str, str, Callable[[int], List[str]]], ...] = (
+    ("truth values and a function over them", "QF_UF", lambda seed: plain(Terms(seed, [], functions=True))),
+    ("integers, divided by numerals", "QF_LIA", lambda seed: plain(Terms(seed, ["Int"], divides="numeral"))),
+    ("integers and products", "QF_NIA", lambda seed: plain(Terms(seed, ["Int"], products=True))),
+    ("integers divided by variables", "QF_NIA", lambda seed: plain(Terms(seed, ["Int"], divides="term"))),
+    ("integers and functions", "QF_UFLIA", lambda seed: plain(Terms(seed, ["Int"], functions=True))),
+    ("bit vectors", "QF_BV", lambda seed: plain(Terms(seed, vectors(seed)))),
+    ("bit vectors and functions", "QF_UFBV", lambda seed: plain(Terms(seed, vectors(seed), functions=True))),
+    ("integers, with `push` and `pop`", "QF_LIA", lambda seed: levels(Terms(seed, ["Int"]))),
+    ("bit vectors, with `push` and `pop`", "QF_BV", lambda seed: levels(Terms(seed, vectors(seed)))),
+    ("functions that the script defines", "QF_BV", lambda seed: defined(Terms(seed, vectors(seed)), "(b Bool)")),
+    ("constants that the script defines", "QF_BV", lambda seed: defined(Terms(seed, vectors(seed)), "")),
+    ("labels on every assertion", "QF_BV", lambda seed: labelled(Terms(seed, vectors(seed)))),
+)
+
+
+def answered(command: Sequence[str], script: str, folder: str) -> str:
+    """What the solver prints for a script, within 10 seconds."""
+    name = os.path.join(folder, "script.smt2")
+    with open(name, "w") as file:
+        file.write(script)
+    try:
+        done = subprocess.run([*command, name], stdout=subprocess.PIPE, stderr=subprocess.DEVNULL, stdin=subprocess.DEVNULL, timeout=10)
+    except subprocess.TimeoutExpired as stopped:
+        return (stopped.stdout or b"").decode("utf-8", "replace")
+    return done.stdout.decode("utf-8", "replace")
+
+
+def found(program: str, command: Sequence[str], logic: str, body: List[str]) -> Dict[str, int]:
+    """What is found of one script: how many checks of each finding, or that the dialogue was refused."""
+    head = f"(set-option :produce-models true)\n(set-logic {logic})\n"
+    with tempfile.TemporaryDirectory() as folder:
+        said = iter(answered(command, head + "\n".join([*body, "(exit)", ""]), folder).split())
+        asked = [line + "(get-model)" if line == "(check-sat)" and next(said, "") == "sat" else line for line in body]
+        answers = answered(command, head + "\n".join([*asked, "(exit)", ""]), folder)
+        name = os.path.join(folder, "answers.txt")
+        with open(name, "w") as file:
+            file.write(answers)
+        words = [program, "--print-success", "off", os.path.join(folder, "script.smt2"), name]
+        report = subprocess.run(words, stdout=subprocess.PIPE, stdin=subprocess.DEVNULL).stdout.decode("ascii").splitlines()
+    counts: Dict[str, int] = {}
+    for line in report:
+        if line.startswith("fault "):
+            key = "refused " + line.split()[1]
+        elif ": sat" in line:
+            key = "confirmed" if line.endswith("sat, confirmed") else "refuted" if "refuted" in line else "item" if "item" in line else "no model" if line.endswith("no model") else "other"
+        else:
+            continue
+        counts[key] = counts.get(key, 0) + 1
+    return counts
+
+
+def main() -> int:
+    """Prints the table."""
+    parser = argparse.ArgumentParser(description=(__doc__ or "").split("\n", 1)[0])
+    parser.add_argument("--scripts", type=int, default=40)
+    parser.add_argument("--seed", type=int, default=1)
+    parser.add_argument("solvers", nargs="+", metavar="NAME=COMMAND")
+    given = parser.parse_args()
+    program = os.environ.get("SMTCHECK", "smtcheck")
+    solvers = [(word.split("=", 1)[0], shlex.split(word.split("=", 1)[1])) for word in given.solvers]
+    print("| kind of script | " + " | ".join(name for name, _ in solvers) + " |")
+    print("|---" * (len(solvers) + 1) + "|")
+    refuted = 0
+    for kind, logic, body in KINDS:
+        cells = []
+        for _, command in solvers:
+            counts: Dict[str, int] = {}
+            for index in range(given.scripts):
+                for key, count in found(program, command, logic, body(given.seed * 1000 + index)).items():
+                    counts[key] = counts.get(key, 0) + count
+            refuted += counts.get("refuted", 0)
+            sat = sum(count for key, count in counts.items() if not key.startswith("refused"))
+            rest = [f"{count} {key}" for key, count in sorted(counts.items()) if re.match("refused|refuted", key)]
+            cells.append(", ".join([f"{counts.get('confirmed', 0)} of {sat}" if sat else "-", *rest]))
+        print(f"| {kind} (`{logic}`) | " + " | ".join(cells) + " |", flush=True)
+    return 1 if refuted else 0
+
+
+if __name__ == "__main__":
+    sys.exit(main())

@@ -1,0 +1,223 @@
+#!/usr/bin/env python3
+"""Tests bindings/python/smtcheck.py over the shared library that SMTCHECK_LIBRARY names: python_module.py. Says nothing where all is well."""
+import json
+import os
+import pathlib
+import subprocess
+import sys
+import tempfile
+import unittest
+
+TOP = pathlib.Path(__file__).resolve().parent.parent
+BINDING = TOP / "bindings" / "python"
+sys.path.insert(0, str(BINDING))
+import smtcheck  # noqa: E402
+
+SCRIPT = "(declare-const x Int)(assert (< 5 x))(check-sat)(get-model)"
+RIGHT, WRONG = "sat ((define-fun x () Int 7))", "sat ((define-fun x () Int 3))"
+
+
+def run(*words: str, output: object = subprocess.PIPE, **variables: str) -> "subprocess.CompletedProcess[bytes]":
+    """A run of `python -m smtcheck`."""
+    environment = {**os.environ, **variables}
+    return subprocess.run([sys.executable, "-m", "smtcheck", *words], stdout=output, stderr=subprocess.PIPE, cwd=BINDING, env=environment, stdin=subprocess.DEVNULL)  # type: ignore[call-overload, no-any-return]
+
+
+class Files(unittest.TestCase):
+    """Tests with two files."""
+
+    def setUp(self) -> None:
+        folder = tempfile.TemporaryDirectory()
+        self.addCleanup(folder.cleanup)
+        self.folder = pathlib.Path(folder.name)
+        self.files = [str(self.folder / name) for name in ("script.smt2", "answers.txt")]
+        for file, text in zip(self.files, (SCRIPT, WRONG)):
+            pathlib.Path(file).write_text(text)
+
+
+class Main(Files):
+    """The command line: 0 to 3 is a verdict, and stands behind a whole report alone."""
+
+    def told(self, status: int, words: str, *line: str, **others: object) -> None:
+        done = run(*line, **others)  # type: ignore[arg-type]
+        self.assertEqual((done.returncode, words in done.stderr.decode()), (status, True), done.stderr)
+
+    def test_a_verdict(self) -> None:
+        self.assertEqual(run("--print-success", "off", *self.files).returncode, 1)
+        self.assertEqual(run("--print-success=on", *self.files).returncode, 3)
+
+    def test_a_library_that_is_missing(self) -> None:
+        self.told(4, "SMTCHECK_LIBRARY", *self.files, SMTCHECK_LIBRARY="/nowhere/libsmtcheck.so")
+        self.told(4, "SMTCHECK_LIBRARY", "--version", SMTCHECK_LIBRARY="/nowhere/libsmtcheck.so")
+
+    def test_a_library_that_is_another(self) -> None:
+        self.told(4, "SMTCHECK_LIBRARY", *self.files, SMTCHECK_LIBRARY=self.files[0])
+
+    def test_no_room_for_the_output(self) -> None:
+        with open("/dev/full", "wb") as full:
+            self.told(4, "smtcheck: output", *self.files, output=full)
+            self.told(4, "smtcheck: output", "--version", output=full)
+
+    def test_a_pipe_that_is_closed(self) -> None:
+        reader, writer = os.pipe()
+        os.close(reader)
+        with os.fdopen(writer, "wb") as closed:
+            self.told(4, "smtcheck: output", *self.files, output=closed)
+
+    def test_files_that_are_missing(self) -> None:
+        self.told(4, "smtcheck: script", str(self.folder), self.files[1])
+        self.told(4, "smtcheck: answers", self.files[0], "none")
+
+    def test_words_that_are_refused(self) -> None:
+        for line in ([], ["--help"], ["--steps", "5", "--steps", "5", *self.files], ["--steps=x", *self.files], ["--print-succ", "off", *self.files]):
+            self.assertEqual(run(*line).returncode, 5, line)
+        self.told(5, "given twice", "--print-success", "on", "--print-success", "on", *self.files)
+
+    def test_the_version(self) -> None:
+        for word in ("-V", "--version"):
+            done = run(word)
+            self.assertEqual((done.stdout.decode(), done.stderr), (f"smtcheck {smtcheck.version()}\n", b""))
+            self.assertIn(done.returncode, (0, 5))
+
+
+class Arguments(Files):
+    """Arguments of wrong types are named."""
+
+    def test_types(self) -> None:
+        for name, words in {
+            "script is a PosixPath, and no str or bytes: check_files takes paths": (self.folder, RIGHT),
+            "script is a int, and no str or bytes": (5, RIGHT),
+            "answers is a NoneType, and no str or bytes": (SCRIPT, None),
+            "answers is a list, and no str or bytes": (SCRIPT, [1]),
+            "print_success is 'off', and not True or False": (SCRIPT, RIGHT, "off"),
+            "print_success is 0, and not True or False": (SCRIPT, RIGHT, 0),
+            "steps is True, and no int": (SCRIPT, RIGHT, False, True),
+            "steps is 1.5, and no int": (SCRIPT, RIGHT, False, 1.5),
+        }.items():
+            with self.assertRaises(TypeError) as raised:
+                smtcheck.check(*words)  # type: ignore[arg-type]
+            self.assertEqual(str(raised.exception), name)
+        with self.assertRaises(ValueError):
+            smtcheck.check(SCRIPT, RIGHT, False, 2**64 - 1)
+
+    def test_texts(self) -> None:
+        for form in (str, str.encode, lambda text: bytearray(text.encode()), lambda text: memoryview(text.encode())):
+            self.assertEqual(smtcheck.check(form(SCRIPT), form(RIGHT), print_success=False).verdict, "valid")
+
+    def test_files(self) -> None:
+        wanted = smtcheck.check(SCRIPT, WRONG, print_success=False)
+        self.assertEqual(smtcheck.check_files(*self.files, print_success=False), wanted)
+        self.assertEqual(smtcheck.check_files(*map(pathlib.Path, self.files), print_success=False), wanted)
+        with self.assertRaises(TypeError):
+            smtcheck.check_files(0, self.files[1])  # type: ignore[arg-type]
+        with self.assertRaises(FileNotFoundError):
+            smtcheck.check_files("nowhere.smt2", self.files[1])
+
+
+class Reports(unittest.TestCase):
+    """What a report and the module have."""
+
+    def test_text(self) -> None:
+        report = smtcheck.check(SCRIPT, WRONG, print_success=False)
+        self.assertEqual(str(report), report.text)
+        self.assertTrue(str(report).endswith("verdict: invalid, confirmed 0, refuted 1, undecided 0, unchecked 0\n"))
+
+    def test_json(self) -> None:
+        report = smtcheck.check(SCRIPT + "(check-sat)(frob)", WRONG + "unsat", print_success=False)
+        told = json.loads(report.to_json())
+        self.assertEqual([told[name] for name in ("verdict", "status", "confirmed", "refuted", "undecided", "unchecked")], ["refused", 3, 0, 1, 0, 1])
+        self.assertEqual(told["lines"], [
+            {"check": 1, "command": 3, "outcome": "refuted", "place": {"model": 4, "assertion": 2}},
+            {"check": 2, "command": 5, "outcome": "unsat", "place": {}},
+            {"check": None, "command": 6, "outcome": "fault C1", "place": {}},
+        ])
+        self.assertNotIn("\n", report.to_json())
+
+    def test_names(self) -> None:
+        self.assertEqual(smtcheck.__version__, smtcheck.version().split()[0])
+        self.assertIn(f'version = "{smtcheck.__version__}"', (BINDING / "pyproject.toml").read_text())
+        for name in smtcheck.__all__:
+            self.assertTrue(hasattr(smtcheck, name), name)
+        self.assertIn("Session", smtcheck.__all__)
+        self.assertNotIn("re", smtcheck.__all__)
+
+    def test_a_library_that_is_missing(self) -> None:
+        code = "import smtcheck\ntry:\n smtcheck.check('', '')\nexcept smtcheck.LibraryError as e: print('SMTCHECK_LIBRARY names it' in str(e))"
+        done = subprocess.run([sys.executable, "-c", code], stdout=subprocess.PIPE, cwd=BINDING, env={**os.environ, "SMTCHECK_LIBRARY": "/nowhere"})
+        self.assertEqual(done.stdout, b"True\n")
+
+
+class Sessions(unittest.TestCase):
+    """Sessions, whose lines come once they are decided."""
+
+    def test_pieces(self) -> None:
+        script, answers = SCRIPT + "(assert (< x 7))(check-sat)", RIGHT + " unsat\n"
+        wanted = smtcheck.check(script, answers, print_success=False)
+        with smtcheck.Session(print_success=False) as session:
+            lines = []
+            for byte in script.encode():
+                session.script(bytes([byte]))
+                lines += session.lines()
+            self.assertEqual(lines, [])
+            self.assertIsNone(session.verdict)
+            session.answers(answers)
+            lines += session.lines()
+            self.assertEqual([line.outcome for line in lines], ["confirmed", "unsat"])
+            session.end_answers()
+            session.end_script()
+            lines += session.lines()
+            self.assertEqual((session.verdict, session.text, tuple(lines)), (wanted.verdict, wanted.text, wanted.lines))
+        self.assertEqual(session.text, wanted.text)
+
+    def test_many_lines(self) -> None:
+        with smtcheck.Session(print_success=False) as session:
+            session.script("(check-sat)" * 1000)
+            session.answers("unsat " * 1000)
+            self.assertEqual(len(list(session.lines())), 1000)
+
+    def test_what_is_refused(self) -> None:
+        session = smtcheck.Session()
+        with self.assertRaises(TypeError) as raised:
+            session.script(7)  # type: ignore[arg-type]
+        self.assertEqual(str(raised.exception), "piece is a int, and no str or bytes")
+        session.end_script()
+        for call in (session.end_script, lambda: session.script("")):
+            with self.assertRaises(ValueError):
+                call()
+        session.close()
+        session.close()
+        for call in (session.end_answers, lambda: session.answers(""), lambda: session.verdict, lambda: list(session.lines())):
+            with self.assertRaises(ValueError):
+                call()
+        with self.assertRaises(TypeError):
+            smtcheck.Session(print_success="off")  # type: ignore[arg-type]
+
+
+class Wheel(unittest.TestCase):
+    """`pip install`, without a network."""
+
+    def test_pip(self) -> None:
+        if subprocess.run([sys.executable, "-m", "pip", "--version"], stdout=subprocess.DEVNULL, stderr=subprocess.DEVNULL).returncode != 0:
+            sys.stdout.write("python module: there is no pip, so that it installs is not tried\n")
+            return
+        with tempfile.TemporaryDirectory() as folder:
+            source, target = os.path.join(folder, "python"), os.path.join(folder, "target")
+            os.mkdir(source)
+            for name in ("pyproject.toml", "smtcheck.py", "smtcheck_wheel.py"):
+                pathlib.Path(source, name).write_bytes((BINDING / name).read_bytes())
+            pathlib.Path(source, "libsmtcheck.so").write_bytes(pathlib.Path(os.environ["SMTCHECK_LIBRARY"]).read_bytes())
+            words = [sys.executable, "-m", "pip", "install", "-q", "--no-index", "--disable-pip-version-check", "--root-user-action=ignore", "--target", target, source]
+            done = subprocess.run(words, stdout=subprocess.PIPE, stderr=subprocess.STDOUT, stdin=subprocess.DEVNULL)
+            self.assertEqual(done.returncode, 0, done.stdout.decode())
+            environment = {name: value for name, value in os.environ.items() if name != "SMTCHECK_LIBRARY"}
+            environment["PYTHONPATH"] = target
+            code = "import smtcheck, importlib.metadata as m; print(smtcheck.version().split()[0] == m.version('smtcheck'), smtcheck.__file__)"
+            told = subprocess.run([sys.executable, "-c", code], stdout=subprocess.PIPE, cwd=folder, env=environment).stdout.decode()
+            self.assertEqual(told, f"True {target}/smtcheck.py\n")
+
+
+if __name__ == "__main__":
+    result = unittest.TextTestRunner(stream=open(os.devnull, "w"), verbosity=0).run(unittest.defaultTestLoader.loadTestsFromModule(sys.modules["__main__"]))
+    for _, trace in result.failures + result.errors:
+        sys.stdout.write(trace)
+    sys.exit(not result.wasSuccessful())
