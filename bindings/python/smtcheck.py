@@ -41,7 +41,7 @@ import sys
 from typing import Iterator, List, NamedTuple, NoReturn, Optional, Sequence, Tuple, Union
 
 __all__ = ["LibraryError", "Line", "Place", "Report", "STEPS", "Session", "VERDICTS", "check", "check_files", "line_of", "main", "version"]
-__version__ = "0.3.0"
+__version__ = "0.4.0"
 
 VERDICTS = ("valid", "invalid", "not decided", "refused")
 MEMORY, OPTIONS, OPEN, LONG = 4, 5, 6, 7
