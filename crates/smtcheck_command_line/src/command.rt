@@ -48,7 +48,7 @@ const EXPLAIN: &str =
 line and column, and why: of an assertion that is false the part that makes it so, with the values of what stands \
 in it.
 
-The report and the status stay the same. Both files are read once more, so neither can be a pipe.";
+The report and the status stay the same. Both texts are kept in memory until then.";
 
 const STRICT: &str =
     "End with status 2 in place of 0 where a check was answered otherwise than by a confirmed `sat`, or where there \
