@@ -160,6 +160,9 @@ fn tell_term(
     match flaw {
         TermFlaw::Unknown => {
             let mut known = names_before(page, dialogue, place)?;
+            if head_of(text) != Head::Assert {
+                add_name(page.alloc, &mut known, word(text, 1))?;
+            }
             bind_all(page.alloc, &tree, &mut known)?;
             tell_unknown(page, &tree, known.as_slice())
         }

@@ -119,7 +119,7 @@ fn need_of(head: Head, prints: bool) -> Need {
         Head::Check | Head::Model | Head::Echo | Head::Query => Need::Needed,
         Head::Exit => Need::Success,
         Head::Prints(true) => Need::Needed,
-        Head::Prints(false) => needed_or(prints, Need::General),
+        Head::Prints(false) => Need::General,
         Head::Setting | Head::Global(_) => needed_or(prints, Need::Unsupported),
         _ => needed_or(prints, Need::Nothing),
     }

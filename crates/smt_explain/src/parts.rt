@@ -294,7 +294,7 @@ fn bind<'a>(
 ) -> Result<usize, Memory> {
     bounds.push(Bound {
         name,
-        constant: constant(alloc, value)?,
+        constant: constant(alloc, &value)?,
         term,
         term_scope,
         outer,
@@ -637,7 +637,7 @@ fn tell_value<'a>(
                 page.put(b" = ")?;
                 page.put_cut(text_of(over.alloc, bound.term)?.as_slice())?;
             }
-            see_names(over.alloc, bound.term, bound.term_scope, seen)?;
+            see_behind(over, bound, seen, items)?;
         } else if let Some((place, defined)) = defined_at(over, name.as_slice()) {
             if defined.of_model {
                 items.push(place)?;
@@ -647,16 +647,35 @@ fn tell_value<'a>(
         }
     }
     page.put(b" = ")?;
-    match value_in(over, bounds, next.scope, next.term)? {
-        Some(value) => {
-            page.put(text_of(over.alloc, &constant(over.alloc, Some(value))?)?.as_slice())?;
-        }
-        None => page.put(b"open")?,
+    let value = value_in(over, bounds, next.scope, next.term)?;
+    if value.is_some() {
+        let text = text_of(over.alloc, &constant(over.alloc, &value)?)?;
+        page.put(text.as_slice())?;
+    } else {
+        page.put(b"open")?;
     }
     if let Tree::List(_) = next.term {
         see_names(over.alloc, next.term, next.scope, seen)?;
     }
     Ok(())
+}
+
+// Adds the names in the term of a variable to those whose value is told; of one that is such a name only its item.
+fn see_behind<'a>(
+    over: &Over<'a, '_>,
+    bound: &Bound<'a>,
+    seen: &mut Vec<Seen<'a>>,
+    items: &mut Vec<usize>,
+) -> Result<(), Memory> {
+    if let Tree::Symbol(name) = bound.term
+        && bound.term_scope == 0
+        && let Some((place, defined)) = defined_at(over, name.as_slice())
+        && defined.of_model
+    {
+        items.push(place)?;
+        return Ok(());
+    }
+    see_names(over.alloc, bound.term, bound.term_scope, seen)
 }
 
 // Adds the names in a term to those whose value is told.

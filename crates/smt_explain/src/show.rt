@@ -2,7 +2,8 @@
 
 use smt_faults::Memory;
 use smt_trees::{Bytes, Tree, Trees, spelling};
-use smt_values::{Bits, Value};
+use smt_bits::Bits;
+use smt_values::Value;
 use std::alloc::Global;
 
 /// How many bytes of a tree are written before the rest is left out.
@@ -132,17 +133,19 @@ fn is_name_byte(byte: u8) -> bool {
 }
 
 /// The constant that has a value; a keyword, which has none, where it is open.
-pub(crate) fn constant(alloc: Global, value: Option<Value>) -> Result<Tree, Memory> {
+pub(crate) fn constant(alloc: Global, value: &Option<Value>) -> Result<Tree, Memory> {
     match value {
         None => Ok(Tree::Keyword(Bytes::new(alloc, b"open")?)),
         Some(Value::Bool(true)) => symbol(alloc, b"true"),
         Some(Value::Bool(false)) => symbol(alloc, b"false"),
-        Some(Value::Int(number)) => integer(alloc, number),
-        Some(Value::Bits(bits)) => Ok(Tree::Bin(Bytes::new(
-            alloc,
-            digits_of(alloc, bits)?.as_slice(),
-        )?)),
+        Some(Value::Int(number)) => integer(alloc, *number),
+        Some(Value::Bits(bits)) => vector(alloc, bits),
     }
+}
+
+fn vector(alloc: Global, bits: &Bits) -> Result<Tree, Memory> {
+    let digits = digits_of(alloc, bits.number(), bits.width().bits())?;
+    Ok(Tree::Bin(Bytes::new(alloc, digits.as_slice())?))
 }
 
 fn symbol(alloc: Global, name: &[u8]) -> Result<Tree, Memory> {
@@ -165,13 +168,12 @@ fn integer(alloc: Global, number: i128) -> Result<Tree, Memory> {
     }
 }
 
-// The bits of a vector, the highest first.
-fn digits_of(alloc: Global, bits: Bits) -> Result<Vec<u8>, Memory> {
+// The bits of a number, so many of them, the highest first.
+fn digits_of(alloc: Global, number: u128, count: u64) -> Result<Vec<u8>, Memory> {
     let mut digits = Vec::new(alloc);
-    let number = bits.number();
     for place in 0..128u32 {
         let bit = 127 - place;
-        if u64::from(bit) < bits.width().bits() {
+        if u64::from(bit) < count {
             digits.push(if (number >> bit) & 1 == 1 { b'1' } else { b'0' })?;
         }
     }

@@ -299,7 +299,12 @@ fn tell_claim(
             tell_command(page, dialogue, b"  claim: ", command)?;
             command
         }
-        Claim::Assumption { .. } => check,
+        Claim::Assumption { place } => {
+            page.put(b"  claim: assumption ")?;
+            page.put_number(place)?;
+            page.line(b" of the check")?;
+            check
+        }
     };
     let Some(span) = dialogue.commands.get(index_of_number(command)) else {
         return Ok(());
