@@ -197,7 +197,10 @@ fn cost_behind<'a>(
 
 fn enter<'a>(bound: &mut Vec<&'a [u8]>, bindings: &'a [Tree]) -> Result<(), Memory> {
     let mut left = bindings;
-    while let Some((name, _, rest)) = split_named(left) {
+    for _ in 0..bindings.len() {
+        let Some((name, _, rest)) = split_named(left) else {
+            break;
+        };
         push_name(bound, name)?;
         left = rest;
     }
@@ -262,7 +265,10 @@ fn push_let<'a>(tasks: &mut Vec<Task<'a>>, seen: usize, args: &'a [Tree]) -> Res
     push_task(tasks, Task::Count(body))?;
     push_task(tasks, Task::Enter(bindings))?;
     let mut left = bindings;
-    while let Some((_, term, rest)) = split_named(left) {
+    for _ in 0..bindings.len() {
+        let Some((_, term, rest)) = split_named(left) else {
+            break;
+        };
         push_task(tasks, Task::Count(term))?;
         left = rest;
     }

@@ -267,7 +267,10 @@ fn go_into_let<'a>(
     };
     let mut scope = part.scope;
     let mut rest = bindings;
-    while let Some((name, term, behind)) = split_named(rest) {
+    for _ in 0..bindings.len() {
+        let Some((name, term, behind)) = split_named(rest) else {
+            break;
+        };
         let value = value_in(over, bounds.as_slice(), part.scope, term)?;
         scope = bind(over.alloc, bounds, name, value, term, part.scope, scope)?;
         rest = behind;

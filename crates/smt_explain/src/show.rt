@@ -1,8 +1,8 @@
 //! The text of trees and of values. This file reads no text.
 
+use smt_bits::Bits;
 use smt_faults::Memory;
 use smt_trees::{Bytes, Tree, Trees, spelling};
-use smt_bits::Bits;
 use smt_values::Value;
 use std::alloc::Global;
 

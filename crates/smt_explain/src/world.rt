@@ -118,7 +118,10 @@ fn add_command(
 // Whether a text has the word of a label, perhaps in a comment or a string.
 pub(crate) fn has_label(text: &[u8]) -> bool {
     let mut left = text;
-    while let Some((first, rest)) = left.split_first() {
+    for _ in 0..text.len() {
+        let Some((first, rest)) = left.split_first() else {
+            break;
+        };
         if *first == b':' && rest.starts_with(b"named") {
             return true;
         }
@@ -136,7 +139,10 @@ fn add_form(
 ) -> Result<(), Memory> {
     let mut params = Vec::new(alloc);
     let mut left = form.parameters;
-    while let Some((name, sort, rest)) = split_named(left) {
+    for _ in 0..form.parameters.len() {
+        let Some((name, sort, rest)) = split_named(left) else {
+            break;
+        };
         params.push((Vec::from_slice(alloc, name)?, sort_of(sort)))?;
         left = rest;
     }
