@@ -2,7 +2,7 @@
 # man_page.sh PROGRAM LANGUAGE: prints the manual page, which is made of what the program says to `--help` and `--version`, and of the
 # tables of docs/LANGUAGE.md on the report's lines, on faults and on the lines of standard error.
 set -e
-version=$("$1" --version) || [ $? = 5 ]
+version=$("$1" --version)
 version=${version#smtcheck }
 help=$("$1" --help) || [ $? = 5 ]
 [ -n "$help" ] || { echo "man_page.sh: $1 --help printed nothing" >&2; exit 1; }

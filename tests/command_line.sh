@@ -1,6 +1,6 @@
 #!/bin/sh
-# Runs the program on command lines: which files and which `--print-success` they name, which `--steps` they may name, or how they are
-# refused, to the byte. Needs what `rt ci` has built. Says nothing where all is well.
+# Runs the program on command lines: which files and which `--print-success` they name, which `--steps` they may name, what `--explain` and
+# `--strict` change, or how they are refused, to the byte. Needs what `rt ci` has built. Says nothing where all is well.
 set -e
 cd "$(dirname "$0")/.."
 top=$PWD
@@ -54,6 +54,51 @@ named 'a --steps 5 b' a b on
 named '--print-success off --steps 5 a b' a b off
 named 'a --steps=5 --print-success=off b' a b off
 named '-- --steps=5 b' --steps=5 b on
+named '--explain a b' a b on
+named 'a b --explain' a b on
+named '--explain --print-success off --steps 5 a b' a b off
+named '-- --strict --explain' --strict --explain on
+rm -f ./*
+
+# strict WANTED SCRIPT ANSWERS: with --strict the status is this one, the report stays, and without it the status is 0 in place of 2.
+strict() {
+    printf '%s' "$2" >script
+    printf '%s' "$3" >answers
+    run '--print-success off script answers'
+    cp output plain
+    [ "$status" = "$1" ] || [ "$1$status" = 20 ] || fail "$2, $3"
+    for line in '--strict --print-success off script answers' '--print-success off script --strict answers'; do
+        run "$line"
+        [ "$status" = "$1" ] && cmp -s output plain && [ ! -s errors ] || fail "$line: $2, $3"
+    done
+}
+model='((define-fun p () Bool true))'
+strict 0 '(declare-const p Bool)(assert p)(check-sat)(get-model)' "sat $model"
+strict 0 '(declare-const p Bool)(assert p)(check-sat)(get-model)(check-sat)(get-model)' "sat $model sat $model"
+strict 2 '(declare-const p Bool)(assert p)(check-sat)(get-model)(check-sat)' "sat $model unsat"
+strict 2 '(declare-const p Bool)(check-sat)' unknown
+strict 2 '(check-sat)' '(error "no")'
+strict 2 '' ''
+strict 2 '(check-sat)' sat
+strict 1 '(declare-const p Bool)(assert (not p))(check-sat)(get-model)' "sat $model"
+strict 3 '(check-sat)' ''
+rm -f ./*
+
+# hinted LINE SCRIPT ANSWERS: with --explain standard error has a hint with this in it, and without it nothing.
+hinted() {
+    printf '%b' "$2" >script
+    printf '%b' "$3" >answers
+    run '--print-success on script answers'
+    [ ! -s errors ] || fail "$1: a hint without --explain"
+    run '--explain --print-success on script answers'
+    [ "$(wc -l <errors)" = 1 ] && grep -q "^hint: .*$1" errors || fail "$1"
+}
+hinted 'print-success off' '(check-sat)' 'success'
+hinted 'exchanged' 'sat' '(check-sat)'
+hinted 'compressed' '\037\213x' 'sat'
+hinted 'compressed' '(check-sat)' '\357\273\277sat'
+hinted 'model.user_functions=false' '(assert (! true :named a))(check-sat)(get-model)' 'success sat ((define-fun a () Bool true))'
+hinted 'unsat' '(assert false)(check-sat)(get-model)' 'success unsat'
 rm -f ./*
 
 # refused LINE: the line is refused by the text on standard input, whole, with no report.
@@ -210,6 +255,14 @@ Options:
           
           [default: 10000000]
 
+      --explain
+          After the report, say of each check that is not confirmed, and of the fault, where it stands in the files, by line and column, and why: of an assertion that is false the part that makes it so, with the values of what stands in it.
+          
+          The report and the status stay the same. Both texts are kept in memory until then.
+
+      --strict
+          End with status 2 in place of 0 where a check was answered otherwise than by a confirmed `sat`, or where there is no check. The report stays the same.
+
   -h, --help
           Print help (see a summary with '-h')
 
@@ -222,7 +275,7 @@ The last line of the report is the verdict, and the exit status says the same:
   2  not decided: no model refutes a `sat`, and some `sat` is not confirmed
   3  refused: the script or the answers have a fault
   4  a file could not be opened, read or written, or memory was refused: standard error says which
-  5  the command line was refused, or help or the version was asked for
+  5  the command line was refused, or help was asked for
 
 A fault is named by a letter and a number: the manual page and docs/LANGUAGE.md say what each means, its likely cause, and what to do. Seen most often is `fault P2 at command 1, answer 1`: the solver prints no `success`, and --print-success off is missing.
 END
@@ -236,5 +289,5 @@ grep -qxF '      --steps <N>               how many steps the evaluation of a mo
 version=$(sed -n 's/^## //p' "$top/CHANGELOG.md" | head -n 1)
 for line in --version -V 'a b -V'; do
     run "$line"
-    [ "$status" = 5 ] && [ ! -s errors ] && [ "$(cat output)" = "smtcheck $version ($(rt version))" ] || fail "$line"
+    [ "$status" = 0 ] && [ ! -s errors ] && [ "$(cat output)" = "smtcheck $version ($(rt version))" ] || fail "$line"
 done

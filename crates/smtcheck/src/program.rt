@@ -1,11 +1,13 @@
 //! The program: from the words of the command line to the exit status. This file opens no file, and knows no
 //! verdict.
 
-use crate::files::run;
+ghost use Rattle.std.specs.Prelude.{◌<◌, ◌-◌, ◌^◌};
+
+use crate::files::{Ran, run};
 use crate::room::has_room;
 use smt_dialogue::{RunFault, Verdict};
-use smtcheck_command_line::{LineFault, settings};
-use smtcheck_status::status_of;
+use smtcheck_command_line::{LineFault, Settings, settings};
+use smtcheck_status::{status_of, strict_status};
 use std::alloc::{AllocError, Global};
 use std::rt::{Env, Files};
 use std::{env, io};
@@ -13,9 +15,13 @@ use std::{env, io};
 /// The status of a command line that was refused, or asked for help.
 const REFUSED: u8 = 5;
 
-/// Runs the program, and answers its exit status: 0 to 3 by the verdict, 4 where there is no report, and 5
-/// where the command line was refused or asked for help.
-pub(crate) fn run_program<R: Files + Env + AllocGlobal + Print + Eprint>(rt: &R) -> u8 {
+/// Runs the program, and answers its exit status: 0 to 3 by the verdict, 4 where there is no report, 5 where the
+/// command line was refused or asked for help, and 0 where it asked for the version. Standard error may be a
+/// terminal: then a usual mistake is told there.
+pub(crate) fn run_program<R: Files + Env + AllocGlobal + Print + Eprint>(
+    rt: &R,
+    on_terminal: bool,
+) -> u8 {
     let words = match words(rt) {
         Ok(words) => words,
         Err(error) if error.kind() == io::ErrorKind::InvalidData => {
@@ -25,20 +31,65 @@ pub(crate) fn run_program<R: Files + Env + AllocGlobal + Print + Eprint>(rt: &R)
         Err(_) => return status(rt, Err(RunFault::Memory)),
     };
     match as_strs(rt.alloc(), words.as_slice()) {
-        Ok(words) => run_words(rt, words.as_slice()),
+        Ok(words) => run_words(rt, words.as_slice(), on_terminal),
         Err(_) => status(rt, Err(RunFault::Memory)),
     }
 }
 
 /// Runs the program on these words, the program's name first, and answers its exit status.
-pub(crate) fn run_words<R: Files + AllocGlobal + Print + Eprint>(rt: &R, words: &[&str]) -> u8 {
+pub(crate) fn run_words<R: Files + AllocGlobal + Print + Eprint>(
+    rt: &R,
+    words: &[&str],
+    on_terminal: bool,
+) -> u8 {
     match settings(rt.alloc(), words) {
         Ok(_) if !has_room(rt) => status(rt, Err(RunFault::Memory)),
-        Ok(settings) => status(rt, run(rt, settings)),
-        Err(LineFault::Memory) => status(rt, Err(RunFault::Memory)),
-        Err(LineFault::Refused(error)) => {
+        Ok(settings) => run_settings(rt, settings, on_terminal),
+        Err(fault) => refuse(rt, fault),
+    }
+}
+
+// Runs the program as the command line asks.
+fn run_settings<R: Files + AllocGlobal + Print + Eprint>(
+    rt: &R,
+    settings: Settings,
+    on_terminal: bool,
+) -> u8
+    requires { settings.steps < 2 ^ 64 - 1 }
+{
+    match run(rt, settings) {
+        Ok(ran) => {
+            tell_beside(rt, ran, settings.explain || on_terminal);
+            strict_status(
+                status(rt, Ok(ran.verdict)),
+                ran.all_confirmed || !settings.strict,
+            )
+        }
+        Err(fault) => status(rt, Err(fault)),
+    }
+}
+
+// Tells on standard error what stands in no report.
+fn tell_beside<R: Eprint>(rt: &R, ran: Ran, hints: bool) {
+    if ran.unexplained {
+        let _ = eprintln!(rt; "smtcheck: the explanation could not be made, or not be written");
+    }
+    if let Some(hint) = ran.hint
+        && hints
+    {
+        let text = hint.text();
+        let _ = eprintln!(rt; "{text}");
+    }
+}
+
+// Tells why a command line was refused, or what it asked for.
+fn refuse<R: Print + Eprint>(rt: &R, fault: LineFault) -> u8 {
+    let is_version = fault.asks_for_version();
+    match fault {
+        LineFault::Memory => status(rt, Err(RunFault::Memory)),
+        LineFault::Refused(error) => {
             let _ = error.print(rt);
-            REFUSED
+            if is_version { 0 } else { REFUSED }
         }
     }
 }

@@ -19,10 +19,14 @@ use Rattle.clap.specs.Simple.{Shape, built}
 use Rattle.clap.specs.Takes.{bundle_passes, default_passes, flag_word_passes, is_valid, other_passes}
 use Rattle.clap.specs.Takes.{settle_passes, step_passes, takes, turn_passes, walk_passes, word_passes}
 use Rattle.clap.specs.declared.builder.value_parser.ValueParser.TheVariants.{Unsigned}
+use Rattle.clap.specs.declared.builder.value_parser.ValueParser.TheVariants as vp
 use Rattle.clap.proofs.TakesLemmas.{leaf_takes}
 use Rattle.clap.proofs.ValueTestLemmas.{Accepts-accepts}
 use Rattle.clap.proofs.OnLiterals.{clap_on_literals}
-use Rattle.smtcheck_command_line.specs.Settings.{Places, is_plain, most_steps, smtcheck_app, success_word}
+use Rattle.smtcheck_command_line.specs.Settings.{Places, flag_words, is_given, is_plain, most_steps}
+use Rattle.smtcheck_command_line.specs.Settings.{smtcheck_app, success_word}
+use Rattle.clap.specs.Values.{reading_of}
+use Rattle.clap.specs.declared.parser.matches.ValueSource.TheVariants.{CommandLine}
 
 -- ---- words that begin with no hyphen
 
@@ -127,24 +131,54 @@ abbrev steps_words : Option Text → List Text
 steps_words None = []
 steps_words (Some text) = codes "--steps" ∷ text ∷ []
 
+-- which of the options without a value are given, and the word of the first that has one
+pub record Given : Type 0 where
+  pub explain : Bool
+  pub strict : Bool
+  pub success : Option Bool
+
+abbrev given_words : Given → List Text → List Text
+given_words given rest = flag_words given.explain given.strict ++ (success_words given.success ++ rest)
+
 -- the options, and the words behind them
-abbrev with_options : Option Bool → Option Text → List Text → List Text
-with_options success steps rest = success_words success ++ (steps_words steps ++ rest)
+abbrev with_options : Given → Option Text → List Text → List Text
+with_options given steps rest = given_words given (steps_words steps ++ rest)
 
 -- the program's name, the options and the two words
-abbrev pub line_of : Text → Option Bool → Option Text → Text → Text → List Text
-line_of name success steps script answers = name ∷ with_options success steps (script ∷ answers ∷ [])
+abbrev pub line_of : Text → Given → Option Text → Text → Text → List Text
+line_of name given steps script answers = name ∷ with_options given steps (script ∷ answers ∷ [])
 
 -- the number is one that the option takes, where it is given
 abbrev pub IsTaken : Option Text → Type 0
 IsTaken None = ⊤
 IsTaken (Some text) = IsUnsignedIn 0 most_steps text
 
--- what is held behind the first option
-abbrev success_held : Option Bool → Held
-success_held None = nothing_held
-success_held (Some prints) =
-    record nothing_held { pending = Some (codes "print-success", success_word prints ∷ []) }
+-- what is held behind the options without a value
+abbrev flag_row : Text → Row
+flag_row id = record {
+  id = id;
+  values = codes "true" ∷ [];
+  count = None;
+  source = Some CommandLine;
+  reading = reading_of vp.Bool;
+}
+
+abbrev flag_rows : Bool → Bool → List Row
+flag_rows true true = flag_row (codes "explain") ∷ flag_row (codes "strict") ∷ []
+flag_rows true false = flag_row (codes "explain") ∷ []
+flag_rows false true = flag_row (codes "strict") ∷ []
+flag_rows false false = []
+
+-- and behind the first option
+abbrev success_pending : Option Bool → Option (Text × List Text)
+success_pending None = None
+success_pending (Some prints) = Some (codes "print-success", success_word prints ∷ [])
+
+abbrev success_held : Given → Held
+success_held given = record nothing_held {
+  rows = flag_rows given.explain given.strict;
+  pending = success_pending given.success;
+}
 
 -- and behind the name of the second, and behind its word
 abbrev asked_held : Places → Held → Held
@@ -153,21 +187,38 @@ asked_held places h = record (settled (top places).rules h) { pending = Some (co
 abbrev given_held : Places → Held → Text → Held
 given_held places h text = record (settled (top places).rules h) { pending = Some (codes "steps", text ∷ []) }
 
-abbrev options_held : Places → Option Bool → Option Text → Held
-options_held places success None = success_held success
-options_held places success (Some text) = given_held places (success_held success) text
+abbrev options_held : Places → Given → Option Text → Held
+options_held places given None = success_held given
+options_held places given (Some text) = given_held places (success_held given) text
 
 -- a walk that waits for the number
 abbrev asking : Places → Held → Walk
 asking places h = record (standing 1 (asked_held places h)) { waiting = option (codes "steps") }
 
-success_walked : (places : Places) (success : Option Bool) (rest : List Text)
-    → walk (top places).rules [] nothing_held (success_words success ++ rest)
-    ≡ fold (walked (top places).rules []) (standing 1 (success_held success)) rest
+success_walked : (places : Places) (given : Given) (rest : List Text)
+    → walk (top places).rules [] nothing_held (given_words given rest)
+    ≡ fold (walked (top places).rules []) (standing 1 (success_held given)) rest
 unfolding smtcheck_app clap_on_literals
-success_walked places None rest = refl
-success_walked places (Some true) rest = refl
-success_walked places (Some false) rest = refl
+success_walked places given rest = go given.explain given.strict given.success
+  where
+    go : (explain strict : Bool) (success : Option Bool) → walk (top places).rules [] nothing_held
+        (flag_words explain strict ++ (success_words success ++ rest))
+        ≡ fold (walked (top places).rules []) (standing 1 (record nothing_held {
+          rows = flag_rows explain strict;
+          pending = success_pending success;
+        })) rest
+    go true true None = refl
+    go true true (Some true) = refl
+    go true true (Some false) = refl
+    go true false None = refl
+    go true false (Some true) = refl
+    go true false (Some false) = refl
+    go false true None = refl
+    go false true (Some true) = refl
+    go false true (Some false) = refl
+    go false false None = refl
+    go false false (Some true) = refl
+    go false false (Some false) = refl
 
 asked : (places : Places) (h : Held)
     → walked (top places).rules [] (standing 1 h) (codes "--steps") ≡ asking places h
@@ -181,33 +232,66 @@ number_walked places h text e =
     ap (λ m. after_step (top places).rules text (asking places h) m.0 m.1)
     (plain_met (top places).rules (option (codes "steps")) 1 text (asked_held places h) e)
 
-options_walked : (places : Places) (success : Option Bool) (steps : Option Text) (rest : List Text)
-    → IsTaken steps → walk (top places).rules [] nothing_held (with_options success steps rest)
-    ≡ fold (walked (top places).rules []) (standing 1 (options_held places success steps)) rest
-options_walked places success None rest taken = success_walked places success rest
-options_walked places success (Some text) rest taken =
-    let h = success_held success in
-    success_walked places success (codes "--steps" ∷ text ∷ rest)
+options_walked : (places : Places) (given : Given) (steps : Option Text) (rest : List Text)
+    → IsTaken steps → walk (top places).rules [] nothing_held (with_options given steps rest)
+    ≡ fold (walked (top places).rules []) (standing 1 (options_held places given steps)) rest
+options_walked places given None rest taken = success_walked places given rest
+options_walked places given (Some text) rest taken =
+    let h = success_held given in
+    success_walked places given (codes "--steps" ∷ text ∷ rest)
     ∙ ap (λ w. fold (walked (top places).rules []) (walked (top places).rules [] w text) rest)
     (asked places h)
     ∙ ap (λ w. fold (walked (top places).rules []) w rest)
     (number_walked places h text (plain_number 0 most_steps text taken))
 
-success_passes : (places : Places) (success : Option Bool) (rest : List Text)
-    → walk_passes (top places) [] (walk_from nothing_held) (success_words success ++ rest)
-    ≡ walk_passes (top places) [] (standing 1 (success_held success)) rest
+success_passes : (places : Places) (given : Given) (rest : List Text)
+    → walk_passes (top places) [] (walk_from nothing_held) (given_words given rest)
+    ≡ walk_passes (top places) [] (standing 1 (success_held given)) rest
 unfolding smtcheck_app clap_on_literals
-success_passes places None rest = refl
-success_passes places (Some true) rest = refl
-success_passes places (Some false) rest = refl
+success_passes places given rest = go given.explain given.strict given.success
+  where
+    go : (explain strict : Bool) (success : Option Bool) → walk_passes (top places) []
+        (walk_from nothing_held) (flag_words explain strict ++ (success_words success ++ rest))
+        ≡ walk_passes (top places) [] (standing 1 (record nothing_held {
+          rows = flag_rows explain strict;
+          pending = success_pending success;
+        })) rest
+    go true true None = refl
+    go true true (Some true) = refl
+    go true true (Some false) = refl
+    go true false None = refl
+    go true false (Some true) = refl
+    go true false (Some false) = refl
+    go false true None = refl
+    go false true (Some true) = refl
+    go false true (Some false) = refl
+    go false false None = refl
+    go false false (Some true) = refl
+    go false false (Some false) = refl
 
 -- what is held settles before the number is asked for
-asked_turn : (places : Places) (success : Option Bool)
-    → turn_passes (top places) [] (standing 1 (success_held success)) (codes "--steps") ≡ true
+asked_turn : (places : Places) (given : Given)
+    → turn_passes (top places) [] (standing 1 (success_held given)) (codes "--steps") ≡ true
 unfolding smtcheck_app clap_on_literals
-asked_turn places None = refl
-asked_turn places (Some true) = refl
-asked_turn places (Some false) = refl
+asked_turn places given = go given.explain given.strict given.success
+  where
+    go : (explain strict : Bool) (success : Option Bool) → turn_passes (top places) [] (standing 1
+        (record nothing_held {
+          rows = flag_rows explain strict;
+          pending = success_pending success;
+        })) (codes "--steps") ≡ true
+    go true true None = refl
+    go true true (Some true) = refl
+    go true true (Some false) = refl
+    go true false None = refl
+    go true false (Some true) = refl
+    go true false (Some false) = refl
+    go false true None = refl
+    go false true (Some true) = refl
+    go false true (Some false) = refl
+    go false false None = refl
+    go false false (Some true) = refl
+    go false false (Some false) = refl
 
 number_turn : (places : Places) (h : Held) (text : Text) → is_plain text ≡ true
     → turn_passes (top places) [] (asking places h) text ≡ true
@@ -219,21 +303,21 @@ number_turn places h text e =
     (plain_met (top places).rules waiting 1 text (asked_held places h) e)
     ∙ ap (λ b. b && true) (plain_passes (top places) waiting text (asked_held places h) e)
 
-options_pass : (places : Places) (success : Option Bool) (steps : Option Text) (rest : List Text)
+options_pass : (places : Places) (given : Given) (steps : Option Text) (rest : List Text)
     → IsTaken steps
-    → walk_passes (top places) [] (walk_from nothing_held) (with_options success steps rest)
-    ≡ walk_passes (top places) [] (standing 1 (options_held places success steps)) rest
+    → walk_passes (top places) [] (walk_from nothing_held) (with_options given steps rest)
+    ≡ walk_passes (top places) [] (standing 1 (options_held places given steps)) rest
 unfolding walk_passes
-options_pass places success None rest taken = success_passes places success rest
-options_pass places success (Some text) rest taken =
-    let h = success_held success in
+options_pass places given None rest taken = success_passes places given rest
+options_pass places given (Some text) rest taken =
+    let h = success_held given in
     let plain = plain_number 0 most_steps text taken in
     let behind = λ (w : Walk). turn_passes (top places) [] w text
     && walk_passes (top places) [] (walked (top places).rules [] w text) rest in
     let more = λ (w : Walk). walk_passes (top places) [] w rest in
-    success_passes places success (codes "--steps" ∷ text ∷ rest)
+    success_passes places given (codes "--steps" ∷ text ∷ rest)
     ∙ ap (λ b. b && behind (walked (top places).rules [] (standing 1 h) (codes "--steps")))
-    (asked_turn places success) ∙ ap behind (asked places h)
+    (asked_turn places given) ∙ ap behind (asked places h)
     ∙ ap (λ b. b && more (walked (top places).rules [] (asking places h) text))
     (number_turn places h text plain) ∙ ap more (number_walked places h text plain)
 
@@ -265,57 +349,118 @@ both_walked places h script answers p q =
     ap (λ w. walked (top places).rules [] w answers) (first_walked places h script p)
     ∙ plain_walked (top places).rules 2 answers (first_held places h script) q
 
-line_walked : (places : Places) (success : Option Bool) (steps : Option Text) (script answers : Text)
+line_walked : (places : Places) (given : Given) (steps : Option Text) (script answers : Text)
     → IsTaken steps → is_plain script ≡ true → is_plain answers ≡ true
-    → walk (top places).rules [] nothing_held (with_options success steps (script ∷ answers ∷ []))
-    ≡ standing 3 (both_held places (options_held places success steps) script answers)
-line_walked places success steps script answers taken p q =
-    options_walked places success steps (script ∷ answers ∷ []) taken
-    ∙ both_walked places (options_held places success steps) script answers p q
+    → walk (top places).rules [] nothing_held (with_options given steps (script ∷ answers ∷ []))
+    ≡ standing 3 (both_held places (options_held places given steps) script answers)
+line_walked places given steps script answers taken p q =
+    options_walked places given steps (script ∷ answers ∷ []) taken
+    ∙ both_walked places (options_held places given steps) script answers p q
 
 -- the second option settles, since its number is in its range
-number_settles : (places : Places) (success : Option Bool) (text : Text) → IsUnsignedIn 0 most_steps text
+number_settles : (places : Places) (given : Given) (text : Text) → IsUnsignedIn 0 most_steps text
     → settle_passes (top places).rules (top places).args_override_self
-    (given_held places (success_held success) text) ≡ true
+    (given_held places (success_held given) text) ≡ true
 unfolding smtcheck_app
-number_settles places None text is =
-    ap (λ b. b && true) (Accepts-accepts false (Unsigned 0 most_steps) text is)
-number_settles places (Some true) text is =
-    ap (λ b. b && true) (Accepts-accepts false (Unsigned 0 most_steps) text is)
-number_settles places (Some false) text is =
-    ap (λ b. b && true) (Accepts-accepts false (Unsigned 0 most_steps) text is)
+number_settles places given text is = go given.explain given.strict given.success
+  where
+    go : (explain strict : Bool) (success : Option Bool)
+        → settle_passes (top places).rules (top places).args_override_self
+        (given_held places (record nothing_held {
+          rows = flag_rows explain strict;
+          pending = success_pending success;
+        }) text) ≡ true
+    go true true None = ap (λ b. b && true) (Accepts-accepts false (Unsigned 0 most_steps) text is)
+    go true true (Some true) = ap (λ b. b && true) (Accepts-accepts false (Unsigned 0 most_steps) text is)
+    go true true (Some false) = ap (λ b. b && true) (Accepts-accepts false (Unsigned 0 most_steps) text is)
+    go true false None = ap (λ b. b && true) (Accepts-accepts false (Unsigned 0 most_steps) text is)
+    go true false (Some true) = ap (λ b. b && true) (Accepts-accepts false (Unsigned 0 most_steps) text is)
+    go true false (Some false) = ap (λ b. b && true) (Accepts-accepts false (Unsigned 0 most_steps) text is)
+    go false true None = ap (λ b. b && true) (Accepts-accepts false (Unsigned 0 most_steps) text is)
+    go false true (Some true) = ap (λ b. b && true) (Accepts-accepts false (Unsigned 0 most_steps) text is)
+    go false true (Some false) = ap (λ b. b && true) (Accepts-accepts false (Unsigned 0 most_steps) text is)
+    go false false None = ap (λ b. b && true) (Accepts-accepts false (Unsigned 0 most_steps) text is)
+    go false false (Some true) = ap (λ b. b && true) (Accepts-accepts false (Unsigned 0 most_steps) text is)
+    go false false (Some false) = ap (λ b. b && true) (Accepts-accepts false (Unsigned 0 most_steps) text is)
 
-first_passes : (places : Places) (success : Option Bool) (steps : Option Text) → IsTaken steps
-    → step_passes (top places) 1 (options_held places success steps) value ≡ true
+first_passes : (places : Places) (given : Given) (steps : Option Text) → IsTaken steps
+    → step_passes (top places) 1 (options_held places given steps) value ≡ true
 unfolding smtcheck_app
-first_passes places None None taken = refl
-first_passes places (Some true) None taken = refl
-first_passes places (Some false) None taken = refl
-first_passes places success (Some text) taken = number_settles places success text taken
+first_passes places given None taken = go given.explain given.strict given.success
+  where
+    go : (explain strict : Bool) (success : Option Bool) → step_passes (top places) 1 (record nothing_held {
+      rows = flag_rows explain strict;
+      pending = success_pending success;
+    }) value ≡ true
+    go true true None = refl
+    go true true (Some true) = refl
+    go true true (Some false) = refl
+    go true false None = refl
+    go true false (Some true) = refl
+    go true false (Some false) = refl
+    go false true None = refl
+    go false true (Some true) = refl
+    go false true (Some false) = refl
+    go false false None = refl
+    go false false (Some true) = refl
+    go false false (Some false) = refl
+first_passes places given (Some text) taken = number_settles places given text taken
 
-second_passes : (places : Places) (success : Option Bool) (steps : Option Text) (script : Text)
-    → step_passes (top places) 2 (first_held places (options_held places success steps) script) value ≡ true
+second_passes : (places : Places) (given : Given) (steps : Option Text) (script : Text)
+    → step_passes (top places) 2 (first_held places (options_held places given steps) script) value ≡ true
 unfolding smtcheck_app
-second_passes places None None script = refl
-second_passes places (Some true) None script = refl
-second_passes places (Some false) None script = refl
-second_passes places None (Some text) script = refl
-second_passes places (Some true) (Some text) script = refl
-second_passes places (Some false) (Some text) script = refl
+second_passes places given None script = go given.explain given.strict given.success
+  where
+    go : (explain strict : Bool) (success : Option Bool) → step_passes (top places) 2 (first_held places
+        (record nothing_held {
+          rows = flag_rows explain strict;
+          pending = success_pending success;
+        }) script) value ≡ true
+    go true true None = refl
+    go true true (Some true) = refl
+    go true true (Some false) = refl
+    go true false None = refl
+    go true false (Some true) = refl
+    go true false (Some false) = refl
+    go false true None = refl
+    go false true (Some true) = refl
+    go false true (Some false) = refl
+    go false false None = refl
+    go false false (Some true) = refl
+    go false false (Some false) = refl
+second_passes places given (Some text) script = go given.explain given.strict given.success
+  where
+    go : (explain strict : Bool) (success : Option Bool) → step_passes (top places) 2 (first_held places
+        (given_held places (record nothing_held {
+          rows = flag_rows explain strict;
+          pending = success_pending success;
+        }) text) script) value ≡ true
+    go true true None = refl
+    go true true (Some true) = refl
+    go true true (Some false) = refl
+    go true false None = refl
+    go true false (Some true) = refl
+    go true false (Some false) = refl
+    go false true None = refl
+    go false true (Some true) = refl
+    go false true (Some false) = refl
+    go false false None = refl
+    go false false (Some true) = refl
+    go false false (Some false) = refl
 
-both_pass : (places : Places) (success : Option Bool) (steps : Option Text) (script answers : Text)
+both_pass : (places : Places) (given : Given) (steps : Option Text) (script answers : Text)
     → IsTaken steps → is_plain script ≡ true → is_plain answers ≡ true
-    → walk_passes (top places) [] (standing 1 (options_held places success steps)) (script ∷ answers ∷ [])
+    → walk_passes (top places) [] (standing 1 (options_held places given steps)) (script ∷ answers ∷ [])
     ≡ true
 unfolding walk_passes
-both_pass places success steps script answers taken p q =
-    let h = options_held places success steps in
+both_pass places given steps script answers taken p q =
+    let h = options_held places given steps in
     let behind = λ (w : Walk). turn_passes (top places) [] w answers && true in
     let second : behind (standing 2 (first_held places h script)) ≡ true = ap (λ b. b && true)
     (plain_turn (top places) 2 answers (first_held places h script) q
-    (second_passes places success steps script)) in
+    (second_passes places given steps script)) in
     ap (λ b. b && behind (walked (top places).rules [] (standing 1 h) script))
-    (plain_turn (top places) 1 script h p (first_passes places success steps taken))
+    (plain_turn (top places) 1 script h p (first_passes places given steps taken))
     ∙ ap behind (first_walked places h script p) ∙ second
 
 -- what is checked after the words
@@ -324,64 +469,146 @@ end_passes places h = settle_passes (top places).rules (top places).args_overrid
     && (list_all default_passes (top places).rules
     && is_valid (top places) (finished (top places).rules h) false)
 
-end_holds : (places : Places) (success : Option Bool) (steps : Option Text) (script answers : Text)
-    → end_passes places (both_held places (options_held places success steps) script answers) ≡ true
+end_holds : (places : Places) (given : Given) (steps : Option Text) (script answers : Text)
+    → end_passes places (both_held places (options_held places given steps) script answers) ≡ true
 unfolding smtcheck_app
-end_holds places None None script answers = refl
-end_holds places (Some true) None script answers = refl
-end_holds places (Some false) None script answers = refl
-end_holds places None (Some text) script answers = refl
-end_holds places (Some true) (Some text) script answers = refl
-end_holds places (Some false) (Some text) script answers = refl
+end_holds places given None script answers = go given.explain given.strict given.success
+  where
+    go : (explain strict : Bool) (success : Option Bool) → end_passes places (both_held places
+        (record nothing_held {
+          rows = flag_rows explain strict;
+          pending = success_pending success;
+        }) script answers) ≡ true
+    go true true None = refl
+    go true true (Some true) = refl
+    go true true (Some false) = refl
+    go true false None = refl
+    go true false (Some true) = refl
+    go true false (Some false) = refl
+    go false true None = refl
+    go false true (Some true) = refl
+    go false true (Some false) = refl
+    go false false None = refl
+    go false false (Some true) = refl
+    go false false (Some false) = refl
+end_holds places given (Some text) script answers = go given.explain given.strict given.success
+  where
+    go : (explain strict : Bool) (success : Option Bool) → end_passes places (both_held places
+        (given_held places (record nothing_held {
+          rows = flag_rows explain strict;
+          pending = success_pending success;
+        }) text) script answers) ≡ true
+    go true true None = refl
+    go true true (Some true) = refl
+    go true true (Some false) = refl
+    go true false None = refl
+    go true false (Some true) = refl
+    go true false (Some false) = refl
+    go false true None = refl
+    go false true (Some true) = refl
+    go false true (Some false) = refl
+    go false false None = refl
+    go false false (Some true) = refl
+    go false false (Some false) = refl
 
-pub line-taken : (places : Places) (name : Text) (success : Option Bool) (steps : Option Text)
+pub line-taken : (places : Places) (name : Text) (given : Given) (steps : Option Text)
     (script answers : Text) → IsTaken steps → is_plain script ≡ true → is_plain answers ≡ true
-    → takes (smtcheck_app places) (line_of name success steps script answers) ≡ true
+    → takes (smtcheck_app places) (line_of name given steps script answers) ≡ true
 unfolding smtcheck_app
-line-taken places name success steps script answers taken p q =
-    let words = with_options success steps (script ∷ answers ∷ []) in
+line-taken places name given steps script answers taken p q =
+    let words = with_options given steps (script ∷ answers ∷ []) in
     let ends : end_passes places (walk (top places).rules [] nothing_held words).held ≡ true =
     ap (λ (w : Walk). end_passes places w.held)
-    (line_walked places success steps script answers taken p q)
-    ∙ end_holds places success steps script answers in
-    let passes = options_pass places success steps (script ∷ answers ∷ []) taken
-    ∙ both_pass places success steps script answers taken p q in
+    (line_walked places given steps script answers taken p q)
+    ∙ end_holds places given steps script answers in
+    let passes = options_pass places given steps (script ∷ answers ∷ []) taken
+    ∙ both_pass places given steps script answers taken p q in
     leaf_takes (built (smtcheck_app places)) nothing_held words refl
     (ap (λ b. b && end_passes places (walk (top places).rules [] nothing_held words).held) passes ∙ ends)
 
 -- ---- the values that the command has on the words
 
 -- the rows have these values: where an option is not given, its default
-pub record HasValues (success : Option Bool) (steps : Option Text) (script answers : Text) (rows : List Row)
+pub record HasValues (given : Given) (steps : Option Text) (script answers : Text) (rows : List Row)
     : Type 0 where
   pub of_script : first_of (codes "SCRIPT") rows ≡ Some script
   pub of_answers : first_of (codes "ANSWERS") rows ≡ Some answers
-  pub of_success : first_of (codes "print-success") rows ≡ Some (success_word (unwrap_or success true))
+  pub of_success : first_of (codes "print-success") rows
+      ≡ Some (success_word (unwrap_or given.success true))
   pub of_steps : one_of (codes "steps") rows ≡ Some (unwrap_or steps (codes "10000000"))
+  pub of_explain : is_given (first_of (codes "explain") rows) ≡ given.explain
+  pub of_strict : is_given (first_of (codes "strict") rows) ≡ given.strict
 
-end_values : (places : Places) (success : Option Bool) (steps : Option Text) (script answers : Text)
-    → HasValues success steps script answers (finished (top places).rules
-    (both_held places (options_held places success steps) script answers))
-unfolding smtcheck_app
-end_values places None None script answers =
-    record { of_script = refl; of_answers = refl; of_success = refl; of_steps = refl }
-end_values places (Some true) None script answers =
-    record { of_script = refl; of_answers = refl; of_success = refl; of_steps = refl }
-end_values places (Some false) None script answers =
-    record { of_script = refl; of_answers = refl; of_success = refl; of_steps = refl }
-end_values places None (Some text) script answers =
-    record { of_script = refl; of_answers = refl; of_success = refl; of_steps = refl }
-end_values places (Some true) (Some text) script answers =
-    record { of_script = refl; of_answers = refl; of_success = refl; of_steps = refl }
-end_values places (Some false) (Some text) script answers =
-    record { of_script = refl; of_answers = refl; of_success = refl; of_steps = refl }
+end_values : (places : Places) (given : Given) (steps : Option Text) (script answers : Text)
+    → HasValues given steps script answers (finished (top places).rules
+    (both_held places (options_held places given steps) script answers))
+unfolding smtcheck_app clap_on_literals
+end_values places given None script answers =
+    let g = go given.explain given.strict given.success in
+    record {
+      of_script = g.of_script;
+      of_answers = g.of_answers;
+      of_success = g.of_success;
+      of_steps = g.of_steps;
+      of_explain = g.of_explain;
+      of_strict = g.of_strict;
+    }
+  where
+    go : (explain strict : Bool) (success : Option Bool)
+        → HasValues (record { explain = explain; strict = strict; success = success }) None script answers
+        (finished (top places).rules (both_held places (record nothing_held {
+          rows = flag_rows explain strict;
+          pending = success_pending success;
+        }) script answers))
+    go true true None = record { of_script = refl; of_answers = refl; of_success = refl; of_steps = refl; of_explain = refl; of_strict = refl }
+    go true true (Some true) = record { of_script = refl; of_answers = refl; of_success = refl; of_steps = refl; of_explain = refl; of_strict = refl }
+    go true true (Some false) = record { of_script = refl; of_answers = refl; of_success = refl; of_steps = refl; of_explain = refl; of_strict = refl }
+    go true false None = record { of_script = refl; of_answers = refl; of_success = refl; of_steps = refl; of_explain = refl; of_strict = refl }
+    go true false (Some true) = record { of_script = refl; of_answers = refl; of_success = refl; of_steps = refl; of_explain = refl; of_strict = refl }
+    go true false (Some false) = record { of_script = refl; of_answers = refl; of_success = refl; of_steps = refl; of_explain = refl; of_strict = refl }
+    go false true None = record { of_script = refl; of_answers = refl; of_success = refl; of_steps = refl; of_explain = refl; of_strict = refl }
+    go false true (Some true) = record { of_script = refl; of_answers = refl; of_success = refl; of_steps = refl; of_explain = refl; of_strict = refl }
+    go false true (Some false) = record { of_script = refl; of_answers = refl; of_success = refl; of_steps = refl; of_explain = refl; of_strict = refl }
+    go false false None = record { of_script = refl; of_answers = refl; of_success = refl; of_steps = refl; of_explain = refl; of_strict = refl }
+    go false false (Some true) = record { of_script = refl; of_answers = refl; of_success = refl; of_steps = refl; of_explain = refl; of_strict = refl }
+    go false false (Some false) = record { of_script = refl; of_answers = refl; of_success = refl; of_steps = refl; of_explain = refl; of_strict = refl }
+end_values places given (Some text) script answers =
+    let g = go given.explain given.strict given.success in
+    record {
+      of_script = g.of_script;
+      of_answers = g.of_answers;
+      of_success = g.of_success;
+      of_steps = g.of_steps;
+      of_explain = g.of_explain;
+      of_strict = g.of_strict;
+    }
+  where
+    go : (explain strict : Bool) (success : Option Bool)
+        → HasValues (record { explain = explain; strict = strict; success = success }) (Some text) script
+        answers (finished (top places).rules (both_held places (given_held places (record nothing_held {
+          rows = flag_rows explain strict;
+          pending = success_pending success;
+        }) text) script
+        answers))
+    go true true None = record { of_script = refl; of_answers = refl; of_success = refl; of_steps = refl; of_explain = refl; of_strict = refl }
+    go true true (Some true) = record { of_script = refl; of_answers = refl; of_success = refl; of_steps = refl; of_explain = refl; of_strict = refl }
+    go true true (Some false) = record { of_script = refl; of_answers = refl; of_success = refl; of_steps = refl; of_explain = refl; of_strict = refl }
+    go true false None = record { of_script = refl; of_answers = refl; of_success = refl; of_steps = refl; of_explain = refl; of_strict = refl }
+    go true false (Some true) = record { of_script = refl; of_answers = refl; of_success = refl; of_steps = refl; of_explain = refl; of_strict = refl }
+    go true false (Some false) = record { of_script = refl; of_answers = refl; of_success = refl; of_steps = refl; of_explain = refl; of_strict = refl }
+    go false true None = record { of_script = refl; of_answers = refl; of_success = refl; of_steps = refl; of_explain = refl; of_strict = refl }
+    go false true (Some true) = record { of_script = refl; of_answers = refl; of_success = refl; of_steps = refl; of_explain = refl; of_strict = refl }
+    go false true (Some false) = record { of_script = refl; of_answers = refl; of_success = refl; of_steps = refl; of_explain = refl; of_strict = refl }
+    go false false None = record { of_script = refl; of_answers = refl; of_success = refl; of_steps = refl; of_explain = refl; of_strict = refl }
+    go false false (Some true) = record { of_script = refl; of_answers = refl; of_success = refl; of_steps = refl; of_explain = refl; of_strict = refl }
+    go false false (Some false) = record { of_script = refl; of_answers = refl; of_success = refl; of_steps = refl; of_explain = refl; of_strict = refl }
 
-pub line-values : (places : Places) (name : Text) (success : Option Bool) (steps : Option Text)
+pub line-values : (places : Places) (name : Text) (given : Given) (steps : Option Text)
     (script answers : Text) → IsTaken steps → is_plain script ≡ true → is_plain answers ≡ true
-    → HasValues success steps script answers
-    (matches_of (smtcheck_app places) (line_of name success steps script answers))
+    → HasValues given steps script answers
+    (matches_of (smtcheck_app places) (line_of name given steps script answers))
 unfolding smtcheck_app
-line-values places name success steps script answers taken p q = subst
-    (λ (w : Walk). HasValues success steps script answers (finished (top places).rules w.held))
-    (sym (line_walked places success steps script answers taken p q))
-    (end_values places success steps script answers)
+line-values places name given steps script answers taken p q = subst
+    (λ (w : Walk). HasValues given steps script answers (finished (top places).rules w.held))
+    (sym (line_walked places given steps script answers taken p q))
+    (end_values places given steps script answers)

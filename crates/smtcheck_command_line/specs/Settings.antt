@@ -1,6 +1,8 @@
 -- The command line of the program, in the words in which clap says what a parse gives.
 use Rattle.std.specs.Prelude.{◌≡◌, ◌==◌, ◌-◌, ◌^◌, ℕ, Bool, true, false, not, Some, ⊤, codes, is_some, List}
-use Rattle.std.specs.Prelude.{[], ◌∷◌, MatchResult, None, Option, Result, if◌then◌else◌}
+use Rattle.std.specs.Prelude.{[], ◌∷◌, ◌++◌, MatchResult, None, Option, Result, if◌then◌else◌}
+use Rattle.std.specs.Option.{option_map_or}
+use Rattle.std.specs.Str.{bytes_eq}
 use Rattle.std.specs.Borrow.{Bor}
 use Rattle.std.specs.Str.Parse.{digits_value, without_leading_plus}
 use Rattle.clap.specs.Words.{App, IsAmong, IsParsedFrom, IsUnsignedIn, Rule, Text, fault_of, first_of}
@@ -10,7 +12,9 @@ use Rattle.clap.specs.Simple.{on_top}
 use Rattle.clap.specs.declared.builder.value_parser.ValueParser.TheVariants as parser
 use Rattle.clap.specs.declared.builder.Command.{Command}
 use Rattle.clap.specs.declared.parser.ArgMatches.{ArgMatches}
-use Rattle.clap.specs.declared.builder.ArgAction.TheVariants.{Set}
+use Rattle.clap.specs.declared.builder.ArgAction.TheVariants.{Set, SetTrue}
+use Rattle.clap.specs.declared.error.ErrorKind.{ErrorKind}
+use Rattle.clap.specs.declared.error.ErrorKind.TheVariants as kind
 use Rattle.smtcheck_command_line.specs.declared.arguments.LineFault.{LineFault}
 use Rattle.smtcheck_command_line.specs.declared.arguments.LineFault.TheVariants as line
 use Rattle.smtcheck_command_line.specs.declared.arguments.Settings.{Settings}
@@ -60,16 +64,22 @@ steps_rule = record (new_rule (codes "steps")) {
   defaults = codes "10000000" ∷ [];
 }
 
+-- an option without a value, which is meant where it is given
+abbrev pub flag_rule : Text → Rule
+flag_rule id = record (new_rule id) { long = Some id; action = Some SetTrue }
+
 -- a command that tells its version
 abbrev pub with_version : App → App
 with_version = on_top (λ s. record s { has_version = true })
 
--- `smtcheck [--print-success on|off] [--steps N] SCRIPT ANSWERS`, which has `--version` and `--help` besides
+-- `smtcheck [--print-success on|off] [--steps N] [--explain] [--strict] SCRIPT ANSWERS`, which has `--version`
+-- and `--help` besides
 unfoldable pub smtcheck_app : Places → App
 smtcheck_app places =
-    with_rule (with_rule (with_rule
+    with_rule (with_rule (with_rule (with_rule (with_rule
     (with_rule (with_version (new_app (codes "smtcheck"))) (file_rule (codes "SCRIPT")))
-    (file_rule (codes "ANSWERS"))) (success_rule places)) steps_rule
+    (file_rule (codes "ANSWERS"))) (success_rule places)) steps_rule) (flag_rule (codes "explain")))
+    (flag_rule (codes "strict"))
 
 -- of the program's command, whose words lie at some places
 abbrev pub OfCommand : (App → Type 0) → Type 0
@@ -104,6 +114,10 @@ HasSteps c = (m : ArgMatches) → IsParsedFrom c m
     → (text : Text) × (steps : ℕ) × (one_text (found_of m) (codes "steps") ≡ Some text)
     × WritesSteps text steps
 
+-- an option without a value is given where its value is `true`, as clap has it
+abbrev pub is_given : Option Text → Bool
+is_given value = option_map_or (λ t. bytes_eq t (codes "true")) value false
+
 -- the settings are the matches that the command has on these words, where a number stands as its text
 pub record AreSettings (words : List Text) (s : Settings) (a : App) : Type 0 where
   pub script : first_of (codes "SCRIPT") (matches_of a words) ≡ Some s.script.now
@@ -112,6 +126,8 @@ pub record AreSettings (words : List Text) (s : Settings) (a : App) : Type 0 whe
       ≡ Some (success_word s.print_success)
   pub steps : (text : Text) × (one_of (codes "steps") (matches_of a words) ≡ Some text)
       × WritesSteps text s.steps
+  pub explain : s.explain ≡ is_given (first_of (codes "explain") (matches_of a words))
+  pub strict : s.strict ≡ is_given (first_of (codes "strict") (matches_of a words))
 
 -- what is refused is refused with a kind that the command has on these words
 abbrev pub IsFaultOf : List Text → LineFault → App → Type 0
@@ -123,37 +139,59 @@ abbrev pub is_plain : Text → Bool
 is_plain [] = false
 is_plain (x ∷ xs) = not (x == 45)
 
+-- the words of the options without a value
+abbrev pub flag_words : Bool → Bool → List Text
+flag_words true true = codes "--explain" ∷ codes "--strict" ∷ []
+flag_words true false = codes "--explain" ∷ []
+flag_words false true = codes "--strict" ∷ []
+flag_words false false = []
+
 -- the settings are these, or memory was refused
-abbrev pub Gives : Text → Text → Bool → ℕ → Result Settings LineFault → Type 0
-Gives script answers prints steps r = MatchResult r
+abbrev pub Gives : Bool → Bool → Text → Text → Bool → ℕ → Result Settings LineFault → Type 0
+Gives explain strict script answers prints steps r = MatchResult r
     (λ s. (s.script.now ≡ script) × (s.answers.now ≡ answers) × (s.print_success ≡ prints)
-    × (s.steps ≡ steps))
+    × (s.steps ≡ steps) × (s.explain ≡ explain) × (s.strict ≡ strict))
     (λ f. f ≡ line.Memory)
 
--- after the program's name, two plain words name the two files: only memory may be missing
+-- after the program's name and any options without a value, two plain words name the two files: only memory may
+-- be missing
 abbrev pub TakesTwo : List Text → Result Settings LineFault → Type 0
-TakesTwo words r = (name script answers : Text) → words ≡ name ∷ script ∷ answers ∷ []
-    → is_plain script ≡ true → is_plain answers ≡ true → Gives script answers true default_steps r
+TakesTwo words r = (name script answers : Text) (explain strict : Bool)
+    → words ≡ name ∷ flag_words explain strict ++ (script ∷ answers ∷ [])
+    → is_plain script ≡ true → is_plain answers ≡ true
+    → Gives explain strict script answers true default_steps r
 
 -- and so they do behind the option with one of its words
 abbrev pub TakesOption : List Text → Result Settings LineFault → Type 0
-TakesOption words r = (name script answers : Text) (prints : Bool)
-    → words ≡ name ∷ codes "--print-success" ∷ success_word prints ∷ script ∷ answers ∷ []
-    → is_plain script ≡ true → is_plain answers ≡ true → Gives script answers prints default_steps r
+TakesOption words r = (name script answers : Text) (explain strict prints : Bool)
+    → words ≡ name ∷ flag_words explain strict
+    ++ (codes "--print-success" ∷ success_word prints ∷ script ∷ answers ∷ [])
+    → is_plain script ≡ true → is_plain answers ≡ true
+    → Gives explain strict script answers prints default_steps r
 
 -- and behind `--steps` with a number in its range
 abbrev pub TakesSteps : List Text → Result Settings LineFault → Type 0
-TakesSteps words r = (name text script answers : Text) (steps : ℕ)
-    → words ≡ name ∷ codes "--steps" ∷ text ∷ script ∷ answers ∷ [] → WritesSteps text steps
-    → is_plain script ≡ true → is_plain answers ≡ true → Gives script answers true steps r
+TakesSteps words r = (name text script answers : Text) (explain strict : Bool) (steps : ℕ)
+    → words ≡ name ∷ flag_words explain strict ++ (codes "--steps" ∷ text ∷ script ∷ answers ∷ [])
+    → WritesSteps text steps → is_plain script ≡ true → is_plain answers ≡ true
+    → Gives explain strict script answers true steps r
 
 -- and behind both options
 abbrev pub TakesBoth : List Text → Result Settings LineFault → Type 0
-TakesBoth words r = (name text script answers : Text) (prints : Bool) (steps : ℕ)
-    → words ≡ name ∷ codes "--print-success" ∷ success_word prints ∷ codes "--steps" ∷ text ∷ script
-    ∷ answers ∷ []
+TakesBoth words r = (name text script answers : Text) (explain strict prints : Bool) (steps : ℕ)
+    → words ≡ name ∷ flag_words explain strict
+    ++ (codes "--print-success" ∷ success_word prints ∷ codes "--steps" ∷ text ∷ script ∷ answers ∷ [])
     → WritesSteps text steps → is_plain script ≡ true → is_plain answers ≡ true
-    → Gives script answers prints steps r
+    → Gives explain strict script answers prints steps r
+
+-- the version was asked for
+abbrev pub is_version : ErrorKind → Bool
+is_version kind.DisplayVersion = true
+is_version _ = false
+
+abbrev pub asks_for_version : LineFault → Bool
+asks_for_version line.Memory = false
+asks_for_version (line.Refused e) = is_version (kind_of e)
 
 -- what a fault says; of the text of its own errors clap promises nothing
 abbrev pub text_of_line_fault : LineFault → Option Text

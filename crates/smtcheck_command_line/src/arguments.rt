@@ -1,7 +1,11 @@
 //! What a command line asks for, and why it can't be taken. This file reads no words, and knows of `clap`
 //! only the error.
 
+ghost use Rattle.std.specs.Prelude.{◌≡◌};
+ghost use Rattle.smtcheck_command_line.specs.Settings.{asks_for_version};
+
 use clap::Error;
+use clap::error::ErrorKind;
 use std::{error, fmt};
 
 /// What the command line asks for.
@@ -15,6 +19,11 @@ pub struct Settings<'a> {
     pub print_success: bool,
     /// How many steps the evaluation of a model may take, from 0 to 2^64 - 2: what its assertions cost.
     pub steps: u64,
+    /// Whether the report is followed by an explanation of what is not confirmed.
+    pub explain: bool,
+    /// Whether a dialogue counts as not decided where a check was answered otherwise than by a confirmed `sat`,
+    /// or where there is no check.
+    pub strict: bool,
 }
 
 /// Why a command line can't be taken.
@@ -24,6 +33,18 @@ pub enum LineFault {
     Memory,
     /// It is not in form, or asks for help: the text to print is that of the error.
     Refused(Error),
+}
+
+impl LineFault {
+    /// Whether the command line asks for the version, and for nothing else.
+    pub fn asks_for_version(&self) -> bool
+        ensures { result ≡ asks_for_version self.now }
+    {
+        match self {
+            LineFault::Memory => false,
+            LineFault::Refused(error) => matches!(error.kind(), ErrorKind::DisplayVersion),
+        }
+    }
 }
 
 impl fmt::Display for LineFault {

@@ -3,16 +3,16 @@
 
 ghost use Rattle.std.specs.Prelude.{◌≡◌, ◌<◌, ◌-◌, ◌^◌, IfErr, IfOk, None, [], true, false};
 ghost use Rattle.clap.specs.Walk.{texts};
-ghost use Rattle.clap.specs.Words.{IsPlainArg, app_of, rule_of, takes};
+ghost use Rattle.clap.specs.Words.{IsPlainArg, app_of, first_value, found_of, rule_of, takes};
 ghost use Rattle.smtcheck_command_line.specs.Settings.{AreSettings, HasSteps, HasSuccessWord, IsFaultOf};
 ghost use Rattle.smtcheck_command_line.specs.Settings.{NeedsFiles, OfCommand, Places, TakesBoth, TakesOption};
-ghost use Rattle.smtcheck_command_line.specs.Settings.{TakesSteps, TakesTwo, file_rule, steps_rule};
-ghost use Rattle.smtcheck_command_line.specs.Settings.{success_rule};
+ghost use Rattle.smtcheck_command_line.specs.Settings.{TakesSteps, TakesTwo, file_rule, flag_rule};
+ghost use Rattle.smtcheck_command_line.specs.Settings.{is_given, steps_rule, success_rule};
 
 use crate::arguments::{LineFault, Settings};
 use clap::builder::ValueParser;
 use clap::error::ErrorKind;
-use clap::{Arg, ArgAction, Command};
+use clap::{Arg, ArgAction, ArgMatches, Command};
 use std::alloc::{AllocError, Global};
 
 /// The version of the program and the kit that proves it, which `--version` prints behind the program's name.
@@ -43,6 +43,17 @@ name, and each annotation `!` is one step more.
 The cost grows with the text, so the models of a large script may need more. About 10,000,000 steps are \
 enough for some 25 to 70 MB of usual script.";
 
+const EXPLAIN: &str =
+    "After the report, say of each check that is not confirmed, and of the fault, where it stands in the files, by \
+line and column, and why: of an assertion that is false the part that makes it so, with the values of what stands \
+in it.
+
+The report and the status stay the same. Both texts are kept in memory until then.";
+
+const STRICT: &str =
+    "End with status 2 in place of 0 where a check was answered otherwise than by a confirmed `sat`, or where there \
+is no check. The report stays the same.";
+
 const VERDICTS: &str =
     "The last line of the report is the verdict, and the exit status says the same:
   0  valid: every `sat` is confirmed by the models printed for it
@@ -50,7 +61,7 @@ const VERDICTS: &str =
   2  not decided: no model refutes a `sat`, and some `sat` is not confirmed
   3  refused: the script or the answers have a fault
   4  a file could not be opened, read or written, or memory was refused: standard error says which
-  5  the command line was refused, or help or the version was asked for
+  5  the command line was refused, or help was asked for
 
 A fault is named by a letter and a number: the manual page and docs/LANGUAGE.md say what each means, its \
 likely cause, and what to do. Seen most often is `fault P2 at command 1, answer 1`: the solver prints no \
@@ -65,6 +76,18 @@ pub(crate) fn smtcheck_command<'a>(alloc: Global) -> Result<Command<'a>, AllocEr
 {
     let script = file(alloc, "SCRIPT", "the script that the solver read");
     let answers = file(alloc, "ANSWERS", "what the solver printed");
+    let explain = flag(
+        alloc,
+        "explain",
+        "say where what is not confirmed stands, and why",
+        EXPLAIN,
+    );
+    let strict = flag(
+        alloc,
+        "strict",
+        "end with status 2 where a check was not confirmed",
+        STRICT,
+    );
     Command::new(alloc, "smtcheck")
         .version(VERSION)
         .about(ABOUT)
@@ -73,7 +96,9 @@ pub(crate) fn smtcheck_command<'a>(alloc: Global) -> Result<Command<'a>, AllocEr
         .arg(script)?
         .arg(answers)?
         .arg(print_success(alloc))?
-        .arg(steps(alloc))
+        .arg(steps(alloc))?
+        .arg(explain)?
+        .arg(strict)
 }
 
 // The argument that names a file.
@@ -87,6 +112,19 @@ fn file<'a>(alloc: Global, id: &'a str, help: &'a str) -> Arg<'a>
         .required(true)
         .action(ArgAction::Set)
         .help(help)
+}
+
+// An option without a value, which is false where it is not given.
+fn flag<'a>(alloc: Global, id: &'a str, help: &'a str, long_help: &'a str) -> Arg<'a>
+    ensures rule { rule_of result ≡ flag_rule id.entry.now }
+    ensures plain { IsPlainArg result }
+    ensures local { result.global ≡ false }
+{
+    Arg::new(alloc, id)
+        .long(id)
+        .action(ArgAction::SetTrue)
+        .help(help)
+        .long_help(long_help)
 }
 
 // The option that says whether the solver prints `success` before the script sets `:print-success`.
@@ -153,5 +191,18 @@ pub fn settings<'a>(alloc: Global, words: &'a [&'a str]) -> Result<Settings<'a>,
         answers: matches.get_str("ANSWERS").unwrap(),
         print_success: matches.get_str("print-success").unwrap() == "on",
         steps: matches.get_one::<u64>("steps").unwrap(),
+        explain: is_given_in(&matches, "explain"),
+        strict: is_given_in(&matches, "strict"),
     })
+}
+
+// Whether an option without a value is given. The contract of `get_flag` says nothing of other values than the
+// two that clap gives such an option.
+fn is_given_in(matches: &ArgMatches, id: &str) -> bool
+    ensures { result ≡ is_given (first_value (found_of matches.now) id.now) }
+{
+    match matches.get_str(id) {
+        Some(value) => value == "true",
+        None => false,
+    }
 }

@@ -8,7 +8,7 @@
 #![tactic(auto)]
 
 ghost use Rattle.std.specs.Prelude.{◌≡◌};
-ghost use Rattle.smtcheck_status.specs.Status.{status_number};
+ghost use Rattle.smtcheck_status.specs.Status.{status_number, strict_number};
 
 use smt_dialogue::{RunFault, Verdict};
 
@@ -23,5 +23,17 @@ pub fn status_of(outcome: &Result<Verdict, RunFault>) -> u8
         Ok(Verdict::NotDecided) => 2,
         Ok(Verdict::Refused) => 3,
         Err(_) => 4,
+    }
+}
+
+/// The status with which a strict program ends: 2 in place of 0 where not every check was confirmed, or there is no
+/// check.
+pub fn strict_status(status: u8, all_confirmed: bool) -> u8
+    ensures { result ≡ strict_number status all_confirmed }
+{
+    if status == 0 && !all_confirmed {
+        2
+    } else {
+        status
     }
 }

@@ -14,9 +14,9 @@ use Rattle.clap.specs.declared.error.kind.ErrorKind.TheVariants.{OutOfMemory}
 use Rattle.clap.proofs.OnLiterals.{clap_on_literals}
 use Rattle.clap.proofs.WalkLemmas.{first_value-rows, one_text-rows}
 use Rattle.clap.specs.Walk.{texts}
-use Rattle.smtcheck_command_line.proofs.SettingsLemmas.{IsTaken, line_of, line-taken, line-values}
+use Rattle.smtcheck_command_line.proofs.SettingsLemmas.{Given, IsTaken, line_of, line-taken, line-values}
 use Rattle.smtcheck_command_line.proofs.ClapLemmas.{takes-without_fault}
-use Rattle.smtcheck_command_line.specs.Settings.{AreSettings, Places, is_plain, most_steps, smtcheck_app}
+use Rattle.smtcheck_command_line.specs.Settings.{AreSettings, Places, is_given, is_plain, most_steps, smtcheck_app}
 use Rattle.smtcheck_command_line.specs.Settings.{success_word}
 use Rattle.smtcheck_command_line.specs.declared.arguments.Settings.{Settings}
 use Rattle.smtcheck_command_line.proofs.command.settings.Goals as goal
@@ -44,6 +44,14 @@ read places a words m id o s is matches got some =
     let first = sym (ap (first_of id) (rows ∙ ap (λ x. matches_of x words) is)) ∙ sym
     (first_value-rows (found_of m) id) in
     first ∙ sym got ∙ ap (option_map (λ t. t.now)) some
+
+-- and what it has, if it has anything
+given_read : (places : Places) (a : App) (words : List Text) (m : ArgMatches) (id : Text)
+    → a ≡ smtcheck_app places → HasMatchesOf a words m
+    → first_value (found_of m) id ≡ first_of id (matches_of (smtcheck_app places) words)
+given_read places a words m id is matches =
+    let rows = (matches (ap is_simple is ∙ simple places)).0 in
+    first_value-rows (found_of m) id ∙ ap (first_of id) (rows ∙ ap (λ x. matches_of x words) is)
 
 -- the same of what `get_one` reads
 read_one : (places : Places) (a : App) (words : List Text) (m : ArgMatches) (id t : Text)
@@ -94,18 +102,24 @@ same_word false true e = cc
 same_word false false e = refl
 
 -- the settings of a line with two plain words, behind the options that are given
-of_line : (places : Places) (words : List Text) (s : Settings) (name : Text) (success : Option Bool)
+of_line : (places : Places) (words : List Text) (s : Settings) (name : Text) (given : Given)
     (steps : Option Text) (script answers : Text) → AreSettings words s (smtcheck_app places)
-    → words ≡ line_of name success steps script answers → IsTaken steps
+    → words ≡ line_of name given steps script answers → IsTaken steps
     → is_plain script ≡ true → is_plain answers ≡ true
-    → (s.script.now ≡ script) × (s.answers.now ≡ answers) × (s.print_success ≡ unwrap_or success true)
-    × (s.steps ≡ number_of (unwrap_or steps (codes "10000000")))
-of_line places words s name success steps script answers are is taken p q =
-    let values = line-values places name success steps script answers taken p q in (
+    → (s.script.now ≡ script) × (s.answers.now ≡ answers) × (s.print_success ≡ unwrap_or given.success true)
+    × (s.steps ≡ number_of (unwrap_or steps (codes "10000000"))) × (s.explain ≡ given.explain)
+    × (s.strict ≡ given.strict)
+of_line places words s name given steps script answers are is taken p q =
+    let values = line-values places name given steps script answers taken p q in
+    let same : (id : Text) → is_given (first_of id (matches_of (smtcheck_app places) words))
+    ≡ is_given (first_of id (matches_of (smtcheck_app places) (line_of name given steps script answers))) =
+    λ id. ap (λ ws. is_given (first_of id (matches_of (smtcheck_app places) ws))) is in (
       same_value first_of places _ _ _ _ _ are.script is values.of_script,
       same_value first_of places _ _ _ _ _ are.answers is values.of_answers,
       same_word _ _ (same_value first_of places _ _ _ _ _ are.print_success is values.of_success),
       are.steps.2.1 ∙ ap number_of (same_value one_of places _ _ _ _ _ are.steps.1 is values.of_steps),
+      are.explain ∙ same (codes "explain") ∙ values.of_explain,
+      are.strict ∙ same (codes "strict") ∙ values.of_strict,
     )
 
 pub returns-clause-ok : goal.returns-clause-ok
@@ -131,30 +145,37 @@ returns-clause-ok c =
           read_one app.0 _ _ _ _ _ app.1 matches steps.2,
           (steps.3.0, ap (λ o. unwrap_or o c.unwrap-4.result) (sym c.unwrap-4.ensures ∙ number)),
         );
+        explain = c.is_given_in.ensures ∙ ap is_given (given_read app.0 _ _ _ (codes "explain") app.1 matches);
+        strict = c.is_given_in-2.ensures ∙ ap is_given (given_read app.0 _ _ _ (codes "strict") app.1 matches);
       },
     )
 
+abbrev given_as : Bool → Bool → Option Bool → Given
+given_as explain strict success = record { explain = explain; strict = strict; success = success }
+
 pub returns-clause-two_words : goal.returns-clause-two_words
-returns-clause-two_words c = λ name script answers words p q.
+returns-clause-two_words c = λ name script answers explain strict words p q.
     let ok = returns-clause-ok c in
-    of_line ok.0 _ _ name None None script answers ok.1 words tt p q
+    of_line ok.0 _ _ name (given_as explain strict None) None script answers ok.1 words tt p q
 
 pub returns-clause-option : goal.returns-clause-option
-returns-clause-option c = λ name script answers prints words p q.
+returns-clause-option c = λ name script answers explain strict prints words p q.
     let ok = returns-clause-ok c in
-    of_line ok.0 _ _ name (Some prints) None script answers ok.1 words tt p q
+    of_line ok.0 _ _ name (given_as explain strict (Some prints)) None script answers ok.1 words tt p q
 
 pub returns-clause-steps : goal.returns-clause-steps
-returns-clause-steps c = λ name text script answers steps words writes p q.
+returns-clause-steps c = λ name text script answers explain strict steps words writes p q.
     let ok = returns-clause-ok c in
-    let of = of_line ok.0 _ _ name None (Some text) script answers ok.1 words writes.0 p q in
-    (of.0, of.1, of.2, of.3 ∙ sym writes.1)
+    let of = of_line ok.0 _ _ name (given_as explain strict None) (Some text) script answers ok.1 words
+    writes.0 p q in
+    (of.0, of.1, of.2, of.3 ∙ sym writes.1, of.4, of.5)
 
 pub returns-clause-both : goal.returns-clause-both
-returns-clause-both c = λ name text script answers prints steps words writes p q.
+returns-clause-both c = λ name text script answers explain strict prints steps words writes p q.
     let ok = returns-clause-ok c in
-    let of = of_line ok.0 _ _ name (Some prints) (Some text) script answers ok.1 words writes.0 p q in
-    (of.0, of.1, of.2, of.3 ∙ sym writes.1)
+    let of = of_line ok.0 _ _ name (given_as explain strict (Some prints)) (Some text) script answers ok.1
+    words writes.0 p q in
+    (of.0, of.1, of.2, of.3 ∙ sym writes.1, of.4, of.5)
 
 pub returns-clause-limited : goal.returns-clause-limited
 returns-clause-limited c =
@@ -185,28 +206,29 @@ returns-in-Err-2-clause-memory c =
     )
 
 pub returns-in-Err-2-clause-two_words : goal.returns-in-Err-2-clause-two_words
-returns-in-Err-2-clause-two_words c = λ name script answers words p q.
+returns-in-Err-2-clause-two_words c = λ name script answers explain strict words p q.
     let memory = returns-in-Err-2-clause-memory c in
     memory.1 (ap (takes (smtcheck_app memory.0)) words
-    ∙ line-taken memory.0 name None None script answers tt p q)
+    ∙ line-taken memory.0 name (given_as explain strict None) None script answers tt p q)
 
 pub returns-in-Err-2-clause-option : goal.returns-in-Err-2-clause-option
-returns-in-Err-2-clause-option c = λ name script answers prints words p q.
+returns-in-Err-2-clause-option c = λ name script answers explain strict prints words p q.
     let memory = returns-in-Err-2-clause-memory c in
     memory.1 (ap (takes (smtcheck_app memory.0)) words
-    ∙ line-taken memory.0 name (Some prints) None script answers tt p q)
+    ∙ line-taken memory.0 name (given_as explain strict (Some prints)) None script answers tt p q)
 
 pub returns-in-Err-2-clause-steps : goal.returns-in-Err-2-clause-steps
-returns-in-Err-2-clause-steps c = λ name text script answers steps words writes p q.
+returns-in-Err-2-clause-steps c = λ name text script answers explain strict steps words writes p q.
     let memory = returns-in-Err-2-clause-memory c in
     memory.1 (ap (takes (smtcheck_app memory.0)) words
-    ∙ line-taken memory.0 name None (Some text) script answers writes.0 p q)
+    ∙ line-taken memory.0 name (given_as explain strict None) (Some text) script answers writes.0 p q)
 
 pub returns-in-Err-2-clause-both : goal.returns-in-Err-2-clause-both
-returns-in-Err-2-clause-both c = λ name text script answers prints steps words writes p q.
+returns-in-Err-2-clause-both c = λ name text script answers explain strict prints steps words writes p q.
     let memory = returns-in-Err-2-clause-memory c in
     memory.1 (ap (takes (smtcheck_app memory.0)) words
-    ∙ line-taken memory.0 name (Some prints) (Some text) script answers writes.0 p q)
+    ∙ line-taken memory.0 name (given_as explain strict (Some prints)) (Some text) script answers writes.0 p
+    q)
 
 pub returns-in-Err-2-clause-refused : goal.returns-in-Err-2-clause-refused
 returns-in-Err-2-clause-refused c =

@@ -22,37 +22,50 @@ use Rattle.smtcheck_command_line.specs.Settings.{smtcheck_app, steps_rule, succe
 use Rattle.smtcheck_command_line.specs.Settings.{with_version}
 use Rattle.smtcheck_command_line.proofs.DefaultLemmas.{HasDefault, Reads, default_in_chain, has_default}
 use Rattle.smtcheck_command_line.proofs.command.smtcheck_command.Goals as goal
-use Rattle.smtcheck_command_line.proofs.command.smtcheck_command.Goals.{After-arg-4}
+use Rattle.smtcheck_command_line.proofs.command.smtcheck_command.Goals.{After-arg-6}
 
--- which argument has the id, by its first byte
+-- which argument has the id, by its third byte
 abbrev place : List ℕ → ℕ
-place id = if slice_index id 0 == 83 then 0 else (if slice_index id 0 == 65 then 1
-    else (if slice_index id 0 == 112 then 2 else 3))
+place id = if slice_index id 2 == 82 then 0 else (if slice_index id 2 == 83 then 1
+    else (if slice_index id 2 == 105 then 2 else (if slice_index id 2 == 101 then 3
+    else (if slice_index id 2 == 112 then 4 else 5))))
 
-four_pass : (P : Arg → Type 0) (a b c d : Arg) → P a → P b → P c → P d → All P (a ∷ b ∷ c ∷ d ∷ [])
-four_pass P a b c d x y z w zero e lt = x
-four_pass P a b c d x y z w (suc zero) e lt = y
-four_pass P a b c d x y z w (suc (suc zero)) e lt = z
-four_pass P a b c d x y z w (suc (suc (suc zero))) e lt = w
-four_pass P a b c d x y z w (suc (suc (suc (suc k)))) e lt = absurd (omega arith)
+six_pass : (P : Arg → Type 0) (a b c d e f : Arg) → P a → P b → P c → P d → P e → P f
+    → All P (a ∷ b ∷ c ∷ d ∷ e ∷ f ∷ [])
+six_pass P a b c d e f u v w x y z zero g lt = u
+six_pass P a b c d e f u v w x y z (suc zero) g lt = v
+six_pass P a b c d e f u v w x y z (suc (suc zero)) g lt = w
+six_pass P a b c d e f u v w x y z (suc (suc (suc zero))) g lt = x
+six_pass P a b c d e f u v w x y z (suc (suc (suc (suc zero)))) g lt = y
+six_pass P a b c d e f u v w x y z (suc (suc (suc (suc (suc zero))))) g lt = z
+six_pass P a b c d e f u v w x y z (suc (suc (suc (suc (suc (suc k)))))) g lt = absurd (omega arith)
+
+-- the ids of the six arguments, in order
+record AreNamed (a b c d e f : Arg) : Type 0 where
+  script : a.id.now ≡ codes "SCRIPT"
+  answers : b.id.now ≡ codes "ANSWERS"
+  success : c.id.now ≡ codes "print-success"
+  steps : d.id.now ≡ codes "steps"
+  explain : e.id.now ≡ codes "explain"
+  strict : f.id.now ≡ codes "strict"
 
 -- the place of an argument by its id
-place_of_id : (a b c d : Arg) → a.id.now ≡ codes "SCRIPT" → b.id.now ≡ codes "ANSWERS"
-    → c.id.now ≡ codes "print-success" → d.id.now ≡ codes "steps"
-    → (k : ℕ) (e : Arg) → k < 4 → place (slice_index_or (a ∷ b ∷ c ∷ d ∷ []) k e).id.now ≡ k
-place_of_id a b c d x y z w zero e lt = ap place x
-place_of_id a b c d x y z w (suc zero) e lt = ap place y
-place_of_id a b c d x y z w (suc (suc zero)) e lt = ap place z
-place_of_id a b c d x y z w (suc (suc (suc zero))) e lt = ap place w
-place_of_id a b c d x y z w (suc (suc (suc (suc k)))) e lt = absurd (omega arith)
+place_of_id : (a b c d e f : Arg) → AreNamed a b c d e f
+    → (k : ℕ) (g : Arg) → k < 6 → place (slice_index_or (a ∷ b ∷ c ∷ d ∷ e ∷ f ∷ []) k g).id.now ≡ k
+place_of_id a b c d e f n zero g lt = ap place n.script
+place_of_id a b c d e f n (suc zero) g lt = ap place n.answers
+place_of_id a b c d e f n (suc (suc zero)) g lt = ap place n.success
+place_of_id a b c d e f n (suc (suc (suc zero))) g lt = ap place n.steps
+place_of_id a b c d e f n (suc (suc (suc (suc zero)))) g lt = ap place n.explain
+place_of_id a b c d e f n (suc (suc (suc (suc (suc zero))))) g lt = ap place n.strict
+place_of_id a b c d e f n (suc (suc (suc (suc (suc (suc k)))))) g lt = absurd (omega arith)
 
-four_ids : (a b c d : Arg) → a.id.now ≡ codes "SCRIPT" → b.id.now ≡ codes "ANSWERS"
-    → c.id.now ≡ codes "print-success" → d.id.now ≡ codes "steps" → HasDistinctIds (a ∷ b ∷ c ∷ d ∷ [])
-four_ids a b c d x y z w j k f e low lt same =
-    let all = a ∷ b ∷ c ∷ d ∷ [] in
-    let one : (slice_index_or all j e).id.now ≡ (slice_index_or all k f).id.now =
+six_ids : (a b c d e f : Arg) → AreNamed a b c d e f → HasDistinctIds (a ∷ b ∷ c ∷ d ∷ e ∷ f ∷ [])
+six_ids a b c d e f n j k g h low lt same =
+    let all = a ∷ b ∷ c ∷ d ∷ e ∷ f ∷ [] in
+    let one : (slice_index_or all j h).id.now ≡ (slice_index_or all k g).id.now =
     (bytes_eq-Decides _ _).0 same in
-    sym (place_of_id a b c d x y z w j e low) ∙ ap place one ∙ place_of_id a b c d x y z w k f lt
+    sym (place_of_id a b c d e f n j h low) ∙ ap place one ∙ place_of_id a b c d e f n k g lt
 
 -- an argument whose id has none of the first bytes of the flags that clap adds
 fits : (a : Arg) (r : Rule) (x : ℕ) → IsPlainArg a → a.global ≡ false → rule_of a ≡ r
@@ -100,33 +113,46 @@ counted f a is reads =
     let id : a.id.now ≡ codes "steps" = ap (λ (r : Rule). r.id) is in
     (reads.text, _, ap (one_text f) (sym id) ∙ reads.one, (reads.passed, refl))
 
--- ---- the chain of the four `.arg(..)` calls
+-- ---- the chain of the six `.arg(..)` calls
 
-abbrev four : After-arg-4 → List Arg
-four c = c.file-script.result ∷ c.file-answers.result ∷ c.print_success.result ∷ c.steps.result ∷ []
+abbrev six : After-arg-6 → List Arg
+six c = c.file-script.result ∷ c.file-answers.result ∷ c.print_success.result ∷ c.steps.result
+    ∷ c.flag-explain.result ∷ c.flag-strict.result ∷ []
 
-four_fit : (c : After-arg-4) → All FitsChain (four c)
-four_fit c =
-    let w = c.file-script.result in
-    let x = c.file-answers.result in
-    let y = c.print_success.result in
-    let z = c.steps.result in
+six_fit : (c : After-arg-6) → All FitsChain (six c)
+six_fit c =
+    let u = c.file-script.result in
+    let v = c.file-answers.result in
+    let w = c.print_success.result in
+    let x = c.steps.result in
+    let y = c.flag-explain.result in
+    let z = c.flag-strict.result in
     let script = c.file-script.ensures in
     let answers = c.file-answers.ensures in
     let success = c.print_success.ensures in
     let steps = c.steps.ensures in
-    four_pass FitsChain w x y z
-    (fits w _ 83 script.plain script.local script.rule refl (omega arith) (omega arith) (omega arith))
-    (fits x _ 65 answers.plain answers.local answers.rule refl (omega arith) (omega arith) (omega arith))
-    (fits y _ 112 success.plain success.local success.rule.1 refl (omega arith) (omega arith) (omega arith))
-    (fits z _ 115 steps.plain steps.local steps.rule refl (omega arith) (omega arith) (omega arith))
+    let explain = c.flag-explain.ensures in
+    let strict = c.flag-strict.ensures in
+    six_pass FitsChain u v w x y z
+    (fits u _ 83 script.plain script.local script.rule refl (omega arith) (omega arith) (omega arith))
+    (fits v _ 65 answers.plain answers.local answers.rule refl (omega arith) (omega arith) (omega arith))
+    (fits w _ 112 success.plain success.local success.rule.1 refl (omega arith) (omega arith) (omega arith))
+    (fits x _ 115 steps.plain steps.local steps.rule refl (omega arith) (omega arith) (omega arith))
+    (fits y _ 101 explain.plain explain.local explain.rule refl (omega arith) (omega arith) (omega arith))
+    (fits z _ 115 strict.plain strict.local strict.rule refl (omega arith) (omega arith) (omega arith))
 
-four_distinct : (c : After-arg-4) → HasDistinctIds (four c)
-four_distinct c =
+six_distinct : (c : After-arg-6) → HasDistinctIds (six c)
+six_distinct c =
     let id = λ (r : Rule). r.id in
-    four_ids c.file-script.result c.file-answers.result c.print_success.result c.steps.result
-    (ap id c.file-script.ensures.rule) (ap id c.file-answers.ensures.rule)
-    (ap id c.print_success.ensures.rule.1) (ap id c.steps.ensures.rule)
+    six_ids c.file-script.result c.file-answers.result c.print_success.result c.steps.result
+    c.flag-explain.result c.flag-strict.result (record {
+      script = ap id c.file-script.ensures.rule;
+      answers = ap id c.file-answers.ensures.rule;
+      success = ap id c.print_success.ensures.rule.1;
+      steps = ap id c.steps.ensures.rule;
+      explain = ap id c.flag-explain.ensures.rule;
+      strict = ap id c.flag-strict.ensures.rule;
+    })
 
 -- the command before them
 record IsBare (d : Command) : Type 0 where
@@ -135,7 +161,7 @@ record IsBare (d : Command) : Type 0 where
   no_globals : (out-Command d).has_globals ≡ false
   negates : (out-Command d).subcommand_negates_reqs ≡ false
 
-bare : (c : After-arg-4) → IsBare c.after_help.result
+bare : (c : After-arg-6) → IsBare c.after_help.result
 bare c = record {
   no_args = search rules;
   no_groups = search rules;
@@ -143,35 +169,43 @@ bare c = record {
   negates = search rules;
 }
 
-chain : (c : After-arg-4) (r : Command) → AddsArg c.in_ok-arg-3.field-0 c.steps.result r
-    → AddsInTurn AddsArg c.after_help.result (four c) r
+chain : (c : After-arg-6) (r : Command) → AddsArg c.in_ok-arg-5.field-0 c.flag-strict.result r
+    → AddsInTurn AddsArg c.after_help.result (six c) r
 chain c r added = (
   c.in_ok-arg.field-0,
   c.in_ok-arg.ensures,
   (
     c.in_ok-arg-2.field-0,
     c.in_ok-arg-2.ensures,
-    (c.in_ok-arg-3.field-0, c.in_ok-arg-3.ensures, (r, added, refl)),
+    (
+      c.in_ok-arg-3.field-0,
+      c.in_ok-arg-3.ensures,
+      (
+        c.in_ok-arg-4.field-0,
+        c.in_ok-arg-4.ensures,
+        (c.in_ok-arg-5.field-0, c.in_ok-arg-5.ensures, (r, added, refl)),
+      ),
+    ),
   ),
 )
 
 -- after a parse a required argument has a value, and an option with a default a text that its parser takes
-required_has : (c : After-arg-4) (r : Command) (m : ArgMatches) (k : ℕ) (a : Arg)
-    → AddsArg c.in_ok-arg-3.field-0 c.steps.result r → IsParsedFrom r m → k < 4
-    → TakesValue (slice_index_or (four c) k a)
-    → is_some (first_value (found_of m) (slice_index_or (four c) k a).id.now) ≡ true
+required_has : (c : After-arg-6) (r : Command) (m : ArgMatches) (k : ℕ) (a : Arg)
+    → AddsArg c.in_ok-arg-5.field-0 c.flag-strict.result r → IsParsedFrom r m → k < 6
+    → TakesValue (slice_index_or (six c) k a)
+    → is_some (first_value (found_of m) (slice_index_or (six c) k a).id.now) ≡ true
 required_has c r m k a added parsed lt takes =
     let b = bare c in
-    required_in_chain c.after_help.result r (four c) k a m (chain c r added) b.no_args b.no_groups
-    b.no_globals b.negates (four_fit c) (four_distinct c) lt takes parsed
+    required_in_chain c.after_help.result r (six c) k a m (chain c r added) b.no_args b.no_groups
+    b.no_globals b.negates (six_fit c) (six_distinct c) lt takes parsed
 
-option_reads : (c : After-arg-4) (r : Command) (m : ArgMatches) (k : ℕ) (a : Arg) (q : ValueParser)
-    → AddsArg c.in_ok-arg-3.field-0 c.steps.result r → IsParsedFrom r m → k < 4
-    → slice_index_or (four c) k a ≡ a → HasDefault a q → Reads (found_of m) a.id.now a.ignore_case q
+option_reads : (c : After-arg-6) (r : Command) (m : ArgMatches) (k : ℕ) (a : Arg) (q : ValueParser)
+    → AddsArg c.in_ok-arg-5.field-0 c.flag-strict.result r → IsParsedFrom r m → k < 6
+    → slice_index_or (six c) k a ≡ a → HasDefault a q → Reads (found_of m) a.id.now a.ignore_case q
 option_reads c r m k a q added parsed lt at default =
     let b = bare c in
-    default_in_chain c.after_help.result r (four c) k a q m (chain c r added) b.no_args b.no_groups
-    b.no_globals (four_fit c) (four_distinct c) lt at default parsed
+    default_in_chain c.after_help.result r (six c) k a q m (chain c r added) b.no_args b.no_groups
+    b.no_globals (six_fit c) (six_distinct c) lt at default parsed
 
 -- ---- the clauses
 
@@ -187,9 +221,17 @@ returns-clause-app c =
     c.file-answers.ensures.rule in
     let success = c.print_success.ensures.rule in
     let third = c.in_ok-arg-3.ensures.shape c.print_success.ensures.local ∙ ap₂ with_rule second success.1 in
-    IfOk-weaker c.arg-4.result _ _
-    (λ r added. (success.0, added.shape c.steps.ensures.local ∙ ap₂ with_rule third c.steps.ensures.rule))
-    c.arg-4.ensures
+    let fourth = c.in_ok-arg-4.ensures.shape c.steps.ensures.local ∙ ap₂ with_rule third
+    c.steps.ensures.rule in
+    let fifth = c.in_ok-arg-5.ensures.shape c.flag-explain.ensures.local ∙ ap₂ with_rule fourth
+    c.flag-explain.ensures.rule in
+    IfOk-weaker c.arg-6.result _ _
+    (λ r added. (
+      success.0,
+      added.shape c.flag-strict.ensures.local ∙ ap₂ with_rule fifth
+          c.flag-strict.ensures.rule,
+    ))
+    c.arg-6.ensures
 
 pub returns-clause-needs : goal.returns-clause-needs
 returns-clause-needs c =
@@ -199,12 +241,12 @@ returns-clause-needs c =
     let answers_is = c.file-answers.ensures.rule in
     let script_id : script.id.now ≡ codes "SCRIPT" = ap (λ (r : Rule). r.id) script_is in
     let answers_id : answers.id.now ≡ codes "ANSWERS" = ap (λ (r : Rule). r.id) answers_is in
-    IfOk-weaker c.arg-4.result _ _ (λ r added m parsed.
+    IfOk-weaker c.arg-6.result _ _ (λ r added m parsed.
     let first = required_has c r m 0 script added parsed (omega arith)
     (takes_value script _ script_is c.file-script.ensures.undivided) in
     let second = required_has c r m 1 script added parsed (omega arith)
     (takes_value answers _ answers_is c.file-answers.ensures.undivided) in
-    (rw script_id at first, rw answers_id at second)) c.arg-4.ensures
+    (rw script_id at first, rw answers_id at second)) c.arg-6.ensures
 
 pub returns-clause-success : goal.returns-clause-success
 returns-clause-success c =
@@ -212,9 +254,9 @@ returns-clause-success c =
     let option = c.print_success.result in
     let default = has_default option _ (Names (choices success.rule.0)) _ success.rule.1 success.undivided
     success.unconditional refl refl refl refl in
-    IfOk-weaker c.arg-4.result _ _ (λ r added m parsed.
+    IfOk-weaker c.arg-6.result _ _ (λ r added m parsed.
     worded (found_of m) option success.rule.0 success.rule.1
-    (option_reads c r m 2 option _ added parsed (omega arith) refl default)) c.arg-4.ensures
+    (option_reads c r m 2 option _ added parsed (omega arith) refl default)) c.arg-6.ensures
 
 pub returns-clause-steps : goal.returns-clause-steps
 returns-clause-steps c =
@@ -222,6 +264,6 @@ returns-clause-steps c =
     let option = c.steps.result in
     let default = has_default option _ (Unsigned 0 most_steps) _ steps.rule steps.undivided
     steps.unconditional refl refl refl refl in
-    IfOk-weaker c.arg-4.result _ _ (λ r added m parsed.
+    IfOk-weaker c.arg-6.result _ _ (λ r added m parsed.
     counted (found_of m) option steps.rule
-    (option_reads c r m 3 option _ added parsed (omega arith) refl default)) c.arg-4.ensures
+    (option_reads c r m 3 option _ added parsed (omega arith) refl default)) c.arg-6.ensures

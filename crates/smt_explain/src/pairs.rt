@@ -1,0 +1,228 @@
+//! Which answer each command took. This file judges no answer: the report says where the pairing ends.
+
+use crate::scan::{Span, is_word, part, text_at};
+use smt_faults::Memory;
+use std::alloc::Global;
+
+/// What a command is, as far as answers and what is in force go.
+#[derive(Clone, Copy, PartialEq, Eq)]
+pub(crate) enum Head {
+    Assert,
+    Declare,
+    Define,
+    DefineSort,
+    Push,
+    Pop,
+    Reset,
+    ResetAssertions,
+    Check,
+    Model,
+    Echo,
+    Query,
+    Exit,
+    Prints(bool),
+    Global(bool),
+    Setting,
+    Logic,
+    Other,
+}
+
+/// A command, and the place among the answers of the one that it took.
+#[derive(Clone, Copy)]
+pub(crate) struct Pair {
+    pub(crate) head: Head,
+    pub(crate) answer: Option<usize>,
+    pub(crate) effective: bool,
+}
+
+/// What a command needs of the answers.
+#[derive(Clone, Copy)]
+enum Need {
+    Nothing,
+    Needed,
+    /// The next answer, where it is `success`.
+    Success,
+    /// Where it is `unsupported`.
+    Unsupported,
+    /// Where it is either, or an error.
+    General,
+}
+
+/// What an answer says of its command.
+#[derive(Clone, Copy, PartialEq, Eq)]
+enum Said {
+    Success,
+    Unsupported,
+    Error,
+    Else,
+}
+
+/// Pairs the commands of a script with its answers.
+pub(crate) fn pair_up(
+    alloc: Global,
+    script: &[u8],
+    commands: &[Span],
+    answers: &[u8],
+    given: &[Span],
+    prints_success: bool,
+) -> Result<Vec<Pair>, Memory> {
+    let mut pairs = Vec::with_capacity(alloc, commands.len())?;
+    let mut prints = prints_success;
+    let mut next = 0usize;
+    for command in commands {
+        let text = text_at(script, *command);
+        let head = head_of(text);
+        let said = match given.get(next) {
+            Some(span) => Some(said_by(text_at(answers, *span))),
+            None => None,
+        };
+        let takes = match said {
+            Some(said) => takes(need_of(head, prints), said),
+            None => false,
+        };
+        let effective = !takes || said == Some(Said::Success) || said == Some(Said::Else);
+        pairs.push(Pair {
+            head,
+            answer: if takes { Some(next) } else { None },
+            effective,
+        })?;
+        if takes {
+            next = next.saturating_add(1);
+        }
+        if effective {
+            prints = prints_after(head, prints, prints_success);
+        }
+    }
+    Ok(pairs)
+}
+
+fn prints_after(head: Head, prints: bool, at_first: bool) -> bool {
+    match head {
+        Head::Prints(on) => on,
+        Head::Reset => at_first,
+        _ => prints,
+    }
+}
+
+fn takes(need: Need, said: Said) -> bool {
+    match need {
+        Need::Nothing => false,
+        Need::Needed => true,
+        Need::Success => said == Said::Success,
+        Need::Unsupported => said == Said::Unsupported,
+        Need::General => said != Said::Else,
+    }
+}
+
+fn need_of(head: Head, prints: bool) -> Need {
+    match head {
+        Head::Check | Head::Model | Head::Echo | Head::Query => Need::Needed,
+        Head::Exit => Need::Success,
+        Head::Prints(true) => Need::Needed,
+        Head::Prints(false) => Need::General,
+        Head::Setting | Head::Global(_) => needed_or(prints, Need::Unsupported),
+        _ => needed_or(prints, Need::Nothing),
+    }
+}
+
+fn needed_or(prints: bool, otherwise: Need) -> Need {
+    if prints { Need::Needed } else { otherwise }
+}
+
+fn said_by(answer: &[u8]) -> Said {
+    match answer {
+        b"success" | b"|success|" => Said::Success,
+        b"unsupported" | b"|unsupported|" => Said::Unsupported,
+        _ => {
+            if answer.starts_with(b"(") && matches!(word(answer, 0), b"error") {
+                Said::Error
+            } else {
+                Said::Else
+            }
+        }
+    }
+}
+
+/// What a command is, by its first words.
+pub(crate) fn head_of(text: &[u8]) -> Head {
+    match word(text, 0) {
+        b"assert" => Head::Assert,
+        b"declare-const" | b"declare-fun" => Head::Declare,
+        b"define-fun" => Head::Define,
+        b"define-sort" => Head::DefineSort,
+        b"push" => Head::Push,
+        b"pop" => Head::Pop,
+        b"reset" => Head::Reset,
+        b"reset-assertions" => Head::ResetAssertions,
+        b"check-sat" | b"check-sat-assuming" => Head::Check,
+        b"get-model" => Head::Model,
+        b"echo" => Head::Echo,
+        b"exit" => Head::Exit,
+        b"set-logic" => Head::Logic,
+        b"set-option" => option_of(text),
+        b"set-info" => Head::Setting,
+        other => {
+            if other.starts_with(b"get-") {
+                Head::Query
+            } else {
+                Head::Other
+            }
+        }
+    }
+}
+
+fn option_of(text: &[u8]) -> Head {
+    match (word(text, 1), word(text, 2)) {
+        (b":print-success", b"true") => Head::Prints(true),
+        (b":print-success", b"false") => Head::Prints(false),
+        (b":global-declarations", b"true") => Head::Global(true),
+        (b":global-declarations", b"false") => Head::Global(false),
+        _ => Head::Setting,
+    }
+}
+
+/// The atom of a list that stands behind so many others, if no list stands before it: its bytes, without bars.
+pub(crate) fn word(text: &[u8], place: usize) -> &[u8] {
+    let mut skipped = 0usize;
+    let mut begun: Option<usize> = None;
+    let mut barred = false;
+    let mut comment = false;
+    for (index, byte) in text.iter().enumerate() {
+        match begun {
+            Some(from) => {
+                let ends = if barred {
+                    *byte == b'|'
+                } else {
+                    !is_word(*byte)
+                };
+                if ends {
+                    if skipped == place {
+                        return part(text, from, index);
+                    }
+                    skipped = skipped.saturating_add(1);
+                    begun = None;
+                    comment = !barred && *byte == b';';
+                    barred = false;
+                }
+            }
+            None => {
+                if comment {
+                    comment = *byte != b'\n' && *byte != b'\r';
+                } else if *byte == b';' {
+                    comment = true;
+                } else if *byte == b'|' {
+                    barred = true;
+                    begun = Some(index.saturating_add(1));
+                } else if is_word(*byte) {
+                    begun = Some(index);
+                } else if *byte == b'(' && index > 0 {
+                    return &[];
+                }
+            }
+        }
+    }
+    match begun {
+        Some(from) if skipped == place => part(text, from, text.len()),
+        _ => &[],
+    }
+}

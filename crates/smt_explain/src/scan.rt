@@ -1,0 +1,272 @@
+//! The places of the trees of a text. This file makes no tree, and knows of a text only where its tokens and
+//! lists begin and end.
+
+use smt_faults::Memory;
+use std::alloc::Global;
+
+/// How many lists that are open are remembered: lists nest no deeper in a text that is read.
+const MOST_OPEN: usize = 1001;
+
+/// A place in a text: its byte from 0, its line, and the byte of its line, both from 1.
+#[derive(Clone, Copy)]
+pub struct Place {
+    pub byte: usize,
+    pub line: u64,
+    pub column: u64,
+}
+
+/// Where a tree stands: its first byte, and the byte behind its last.
+#[derive(Clone, Copy)]
+pub struct Span {
+    pub start: Place,
+    pub end: usize,
+}
+
+/// What is found in a text: its trees, in order, and, where it ends inside one, what is open.
+#[derive(Drop)]
+pub struct Scan {
+    pub spans: Vec<Span>,
+    /// Where each list that is open at the end begins, the outermost first.
+    pub open: Vec<Place>,
+    /// Where the token begins that the text ends in, if it is not whole.
+    pub token: Option<Place>,
+    /// The end of the text.
+    pub end: Place,
+}
+
+/// What a byte stands in.
+#[derive(Clone, Copy, PartialEq, Eq)]
+enum Mode {
+    /// Between tokens.
+    Gap,
+    /// Behind a `;`.
+    Comment,
+    /// In an atom without quotes.
+    Atom,
+    /// Between bars.
+    Bars,
+    /// Between the quotes of a string.
+    Text,
+    /// Behind a quote in a string, which ends it unless another follows.
+    Quote,
+}
+
+#[derive(Drop)]
+struct Scanner {
+    mode: Mode,
+    depth: usize,
+    here: Place,
+    /// Where the outermost list that is open begins, and the token in turn.
+    list: Place,
+    token: Place,
+    spans: Vec<Span>,
+    open: Vec<Place>,
+}
+
+/// Finds the trees of a text, whose first byte stands at a place.
+pub fn find_trees(alloc: Global, text: &[u8], from: Place) -> Result<Scan, Memory> {
+    let mut scanner = Scanner {
+        mode: Mode::Gap,
+        depth: 0,
+        here: from,
+        list: from,
+        token: from,
+        spans: Vec::new(alloc),
+        open: Vec::new(alloc),
+    };
+    for byte in text {
+        scanner.take(*byte)?;
+        scanner.step(*byte);
+    }
+    scanner.finish()
+}
+
+impl Scanner {
+    // Goes on to the next byte.
+    fn step(&mut self, byte: u8) {
+        self.here = Place {
+            byte: self.here.byte.saturating_add(1),
+            line: if byte == b'\n' {
+                self.here.line.saturating_add(1)
+            } else {
+                self.here.line
+            },
+            column: if byte == b'\n' {
+                1
+            } else {
+                self.here.column.saturating_add(1)
+            },
+        };
+    }
+
+    fn take(&mut self, byte: u8) -> Result<(), Memory> {
+        match self.mode {
+            Mode::Gap => self.begin(byte),
+            Mode::Comment => {
+                if byte == b'\n' || byte == b'\r' {
+                    self.mode = Mode::Gap;
+                }
+                Ok(())
+            }
+            Mode::Atom => {
+                if is_word(byte) {
+                    return Ok(());
+                }
+                self.end_token(self.here.byte)?;
+                self.begin(byte)
+            }
+            Mode::Bars => {
+                if byte == b'|' {
+                    return self.end_token(self.here.byte.saturating_add(1));
+                }
+                Ok(())
+            }
+            Mode::Text => {
+                if byte == b'"' {
+                    self.mode = Mode::Quote;
+                }
+                Ok(())
+            }
+            Mode::Quote => {
+                if byte == b'"' {
+                    self.mode = Mode::Text;
+                    return Ok(());
+                }
+                self.end_token(self.here.byte)?;
+                self.begin(byte)
+            }
+        }
+    }
+
+    // Takes a byte between tokens.
+    fn begin(&mut self, byte: u8) -> Result<(), Memory> {
+        match byte {
+            b' ' | b'\t' | b'\n' | b'\r' => Ok(()),
+            b'(' => self.open_list(),
+            b')' => self.close_list(),
+            b';' => {
+                self.mode = Mode::Comment;
+                Ok(())
+            }
+            _ => {
+                self.token = self.here;
+                self.mode = match byte {
+                    b'"' => Mode::Text,
+                    b'|' => Mode::Bars,
+                    _ => Mode::Atom,
+                };
+                Ok(())
+            }
+        }
+    }
+
+    fn open_list(&mut self) -> Result<(), Memory> {
+        if self.depth == 0 {
+            self.list = self.here;
+        }
+        if self.open.len() < MOST_OPEN {
+            self.open.push(self.here)?;
+        }
+        self.depth = self.depth.saturating_add(1);
+        Ok(())
+    }
+
+    fn close_list(&mut self) -> Result<(), Memory> {
+        if self.depth == 0 {
+            return Ok(());
+        }
+        self.depth = self.depth.saturating_sub(1);
+        self.open.truncate(self.depth);
+        if self.depth == 0 {
+            self.spans.push(Span {
+                start: self.list,
+                end: self.here.byte.saturating_add(1),
+            })?;
+        }
+        Ok(())
+    }
+
+    fn end_token(&mut self, end: usize) -> Result<(), Memory> {
+        self.mode = Mode::Gap;
+        if self.depth == 0 {
+            self.spans.push(Span {
+                start: self.token,
+                end,
+            })?;
+        }
+        Ok(())
+    }
+
+    fn finish(mut self) -> Result<Scan, Memory> {
+        let token = match self.mode {
+            Mode::Bars | Mode::Text => Some(self.token),
+            Mode::Gap | Mode::Comment => None,
+            Mode::Atom | Mode::Quote => {
+                let end = self.here.byte;
+                self.end_token(end)?;
+                None
+            }
+        };
+        Ok(Scan {
+            spans: self.spans,
+            open: self.open,
+            token,
+            end: self.here,
+        })
+    }
+}
+
+// Whether an atom without quotes goes on with this byte.
+pub(crate) fn is_word(byte: u8) -> bool {
+    !matches!(
+        byte,
+        b' ' | b'\t' | b'\n' | b'\r' | b'(' | b')' | b';' | b'"' | b'|'
+    )
+}
+
+/// The bytes of a text from one place up to another; none where there are no such places.
+pub(crate) fn part(text: &[u8], start: usize, end: usize) -> &[u8] {
+    if start <= end && end <= text.len() {
+        &text[start..end]
+    } else {
+        &[]
+    }
+}
+
+/// The bytes of a tree.
+pub(crate) fn text_at(text: &[u8], span: Span) -> &[u8] {
+    part(text, span.start.byte, span.end)
+}
+
+/// The place of the first byte of a text.
+pub(crate) fn first_place() -> Place {
+    Place {
+        byte: 0,
+        line: 1,
+        column: 1,
+    }
+}
+
+/// The place of a byte of a text.
+pub(crate) fn place_of(text: &[u8], byte: usize) -> Place {
+    let mut place = first_place();
+    for (index, each) in text.iter().enumerate() {
+        if index >= byte {
+            return place;
+        }
+        place = Place {
+            byte: place.byte.saturating_add(1),
+            line: if *each == b'\n' {
+                place.line.saturating_add(1)
+            } else {
+                place.line
+            },
+            column: if *each == b'\n' {
+                1
+            } else {
+                place.column.saturating_add(1)
+            },
+        };
+    }
+    place
+}

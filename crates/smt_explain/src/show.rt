@@ -1,0 +1,181 @@
+//! The text of trees and of values. This file reads no text.
+
+use smt_bits::Bits;
+use smt_faults::Memory;
+use smt_trees::{Bytes, Tree, Trees, spelling};
+use smt_values::Value;
+use std::alloc::Global;
+
+/// How many bytes of a tree are written before the rest is left out.
+const MOST: usize = 4096;
+
+/// The text of a tree, which ends with ` ..` where it is very long.
+pub(crate) fn text_of(alloc: Global, tree: &Tree) -> Result<Vec<u8>, Memory> {
+    let mut out = Vec::new(alloc);
+    write_tree(alloc, &mut out, tree)?;
+    if out.len() > MOST {
+        out.truncate(MOST);
+        out.extend_from_slice(b" ..")?;
+    }
+    Ok(out)
+}
+
+// What is to be written next.
+#[derive(Clone, Copy)]
+enum Next<'a> {
+    Tree(&'a Tree),
+    Bytes(&'static [u8]),
+}
+
+fn push_next<'a>(left: &mut Vec<Next<'a>>, next: Next<'a>) -> Result<(), Memory> {
+    match left.push(next) {
+        Ok(()) => Ok(()),
+        Err(_) => Err(Memory),
+    }
+}
+
+fn write_tree(alloc: Global, out: &mut Vec<u8>, tree: &Tree) -> Result<(), Memory> {
+    let mut left = Vec::new(alloc);
+    push_next(&mut left, Next::Tree(tree))?;
+    for _ in 0..u64::MAX {
+        if out.len() > MOST {
+            break;
+        }
+        match left.pop() {
+            Some(Next::Bytes(bytes)) => put(out, bytes)?,
+            Some(Next::Tree(Tree::List(parts))) => {
+                put(out, b"(")?;
+                push_list(&mut left, parts)?;
+            }
+            Some(Next::Tree(tree)) => write_atom(out, tree)?,
+            None => break,
+        }
+    }
+    Ok(())
+}
+
+// What is to be written of a list behind its parenthesis, the last first.
+fn push_list<'a>(left: &mut Vec<Next<'a>>, parts: &'a Trees) -> Result<(), Memory> {
+    push_next(left, Next::Bytes(b")"))?;
+    let mut rest = parts.as_slice();
+    for _ in 0..parts.as_slice().len() {
+        let Some((last, before)) = rest.split_last() else {
+            break;
+        };
+        push_next(left, Next::Tree(last))?;
+        if !before.is_empty() {
+            push_next(left, Next::Bytes(b" "))?;
+        }
+        rest = before;
+    }
+    Ok(())
+}
+
+fn write_atom(out: &mut Vec<u8>, tree: &Tree) -> Result<(), Memory> {
+    match tree {
+        Tree::Numeral(digits) | Tree::Decimal(digits) => put(out, digits.as_slice()),
+        Tree::Hex(digits) => {
+            put(out, b"#x")?;
+            put(out, digits.as_slice())
+        }
+        Tree::Bin(digits) => {
+            put(out, b"#b")?;
+            put(out, digits.as_slice())
+        }
+        Tree::Text(_) => put(out, b"\"..\""),
+        Tree::Symbol(name) => put_name(out, name.as_slice()),
+        Tree::Reserved(word) => put(out, spelling(*word)),
+        Tree::Keyword(name) => {
+            put(out, b":")?;
+            put(out, name.as_slice())
+        }
+        Tree::List(_) => Ok(()),
+    }
+}
+
+fn put(out: &mut Vec<u8>, bytes: &[u8]) -> Result<(), Memory> {
+    out.extend_from_slice(bytes)?;
+    Ok(())
+}
+
+// A name, between bars where it is no plain one.
+pub(crate) fn put_name(out: &mut Vec<u8>, name: &[u8]) -> Result<(), Memory> {
+    if is_plain(name) {
+        return put(out, name);
+    }
+    put(out, b"|")?;
+    put(out, name)?;
+    put(out, b"|")
+}
+
+fn is_plain(name: &[u8]) -> bool {
+    let Some(first) = name.first() else {
+        return false;
+    };
+    if matches!(*first, b'0'..=b'9') {
+        return false;
+    }
+    for byte in name {
+        if !is_name_byte(*byte) {
+            return false;
+        }
+    }
+    true
+}
+
+fn is_name_byte(byte: u8) -> bool {
+    match byte {
+        b'0'..=b'9' | b'a'..=b'z' | b'A'..=b'Z' => true,
+        b'~' | b'!' | b'@' | b'$' | b'%' | b'^' | b'&' | b'*' | b'_' | b'-' => true,
+        b'+' | b'=' | b'<' | b'>' | b'.' | b'?' | b'/' => true,
+        _ => false,
+    }
+}
+
+/// The constant that has a value; a keyword, which has none, where it is open.
+pub(crate) fn constant(alloc: Global, value: &Option<Value>) -> Result<Tree, Memory> {
+    match value {
+        None => Ok(Tree::Keyword(Bytes::new(alloc, b"open")?)),
+        Some(Value::Bool(true)) => symbol(alloc, b"true"),
+        Some(Value::Bool(false)) => symbol(alloc, b"false"),
+        Some(Value::Int(number)) => integer(alloc, *number),
+        Some(Value::Bits(bits)) => vector(alloc, bits),
+    }
+}
+
+fn vector(alloc: Global, bits: &Bits) -> Result<Tree, Memory> {
+    let digits = digits_of(alloc, bits.number(), bits.width().bits())?;
+    Ok(Tree::Bin(Bytes::new(alloc, digits.as_slice())?))
+}
+
+fn symbol(alloc: Global, name: &[u8]) -> Result<Tree, Memory> {
+    Ok(Tree::Symbol(Bytes::new(alloc, name)?))
+}
+
+fn integer(alloc: Global, number: i128) -> Result<Tree, Memory> {
+    let digits = format!(in alloc; "{number}")?;
+    let text = digits.as_bytes();
+    match text.strip_prefix(b"-") {
+        Some(rest) => {
+            let minus = symbol(alloc, b"-")?;
+            let size = Tree::Numeral(Bytes::new(alloc, rest)?);
+            let mut parts = Vec::with_capacity(alloc, 2)?;
+            parts.push(minus)?;
+            parts.push(size)?;
+            Ok(Tree::List(Trees::new(parts)))
+        }
+        None => Ok(Tree::Numeral(Bytes::new(alloc, text)?)),
+    }
+}
+
+// The bits of a number, so many of them, the highest first.
+fn digits_of(alloc: Global, number: u128, count: u64) -> Result<Vec<u8>, Memory> {
+    let mut digits = Vec::new(alloc);
+    for place in 0..128u32 {
+        let bit = 127 - place;
+        if u64::from(bit) < count {
+            digits.push(if (number >> bit) & 1 == 1 { b'1' } else { b'0' })?;
+        }
+    }
+    Ok(digits)
+}

@@ -1,0 +1,498 @@
+//! The explanation of a report, line by line. This file finds no line itself: it is handed them.
+
+use crate::faults::{tell_command_fault, tell_item_fault, tell_pairing, tell_text_fault};
+use crate::force::in_force;
+use crate::names::{cost_of, costs_of, index_of, used_by};
+use crate::page::Page;
+use crate::pairs::{Head, Pair, head_of, pair_up};
+use crate::parts::{Over, tell_parts, value_of};
+use crate::scan::{Place, Scan, Span, find_trees, first_place, text_at};
+use crate::show::text_of;
+use crate::world::{World, tree_of, world_of};
+use smt_faults::Memory;
+use smt_forms::Scope;
+use smt_report::{Claim, Line};
+use smt_trees::{Tree, split_first};
+use smt_values::Value;
+use std::alloc::Global;
+
+/// How many bytes of texts and commands are gone through, all checks together, for each byte of both texts.
+const ROUNDS: u64 = 4;
+
+/// How many bytes are gone through where the texts are short.
+const LEAST: u64 = 10_000_000;
+
+/// Both texts of a dialogue, what the files are called, and whether the solver prints `success` from the start.
+#[derive(Clone, Copy)]
+pub struct Texts<'a> {
+    pub script: &'a [u8],
+    pub answers: &'a [u8],
+    pub script_name: &'a [u8],
+    pub answers_name: &'a [u8],
+    pub prints_success: bool,
+}
+
+/// What was found of both texts.
+#[derive(Clone, Copy)]
+pub(crate) struct Dialogue<'a> {
+    pub(crate) texts: Texts<'a>,
+    pub(crate) commands: &'a [Span],
+    pub(crate) given: &'a [Span],
+    pub(crate) pairs: &'a [Pair],
+    pub(crate) script_scan: &'a Scan,
+    pub(crate) answers_scan: &'a Scan,
+}
+
+/// The explanation of the lines that a report has on a dialogue: of each check that is not confirmed, and of the
+/// fault. Each line has at most 200 bytes, printable ASCII and the end of the line; of one check there are at most
+/// 200.
+pub fn explain(alloc: Global, texts: Texts<'_>, lines: &[Line]) -> Result<Vec<u8>, Memory> {
+    let script_scan = find_trees(alloc, texts.script, first_place())?;
+    let answers_scan = find_trees(alloc, texts.answers, first_place())?;
+    let pairs = pair_up(
+        alloc,
+        texts.script,
+        script_scan.spans.as_slice(),
+        texts.answers,
+        answers_scan.spans.as_slice(),
+        texts.prints_success,
+    )?;
+    let dialogue = Dialogue {
+        texts,
+        commands: script_scan.spans.as_slice(),
+        given: answers_scan.spans.as_slice(),
+        pairs: pairs.as_slice(),
+        script_scan: &script_scan,
+        answers_scan: &answers_scan,
+    };
+    let mut page = Page::new(alloc);
+    let mut left = size_of_texts(texts)
+        .saturating_mul(ROUNDS)
+        .saturating_add(LEAST);
+    for line in lines {
+        page.begin();
+        tell_line(&mut page, &dialogue, line, &mut left)?;
+    }
+    Ok(page.into_bytes())
+}
+
+fn size_of_texts(texts: Texts<'_>) -> u64 {
+    (texts.script.len() as u64).saturating_add(texts.answers.len() as u64)
+}
+
+fn tell_line(
+    page: &mut Page,
+    dialogue: &Dialogue<'_>,
+    line: &Line,
+    left: &mut u64,
+) -> Result<(), Memory> {
+    match *line {
+        Line::Confirmed { .. } | Line::Verdict { .. } => Ok(()),
+        Line::Unchecked { check, command, .. } => {
+            tell_check(page, dialogue, check, command)?;
+            tell_answer_of(page, dialogue, command)
+        }
+        Line::NoModel { check, command } => {
+            tell_check(page, dialogue, check, command)?;
+            page.line(
+                b"  no model: no (get-model) behind it was answered by a list before the next check or change",
+            )
+        }
+        Line::ItemFault {
+            check,
+            command,
+            model,
+            item,
+            flaw,
+        } => {
+            tell_check(page, dialogue, check, command)?;
+            tell_item_fault(page, dialogue, command, model, item, flaw)
+        }
+        Line::Lacks {
+            check,
+            command,
+            model,
+            declaration,
+        } => {
+            tell_check(page, dialogue, check, command)?;
+            tell_command(page, dialogue, b"  lacks: ", declaration)?;
+            tell_model(page, dialogue, model)
+        }
+        Line::TooLong {
+            check,
+            command,
+            model,
+        } => {
+            tell_check(page, dialogue, check, command)?;
+            tell_cost(page, dialogue, command, model, left)?;
+            tell_model(page, dialogue, model)
+        }
+        Line::Refuted {
+            check,
+            command,
+            model,
+            claim,
+        }
+        | Line::NotDecided {
+            check,
+            command,
+            model,
+            claim,
+        } => {
+            tell_check(page, dialogue, check, command)?;
+            tell_claim(page, dialogue, command, model, claim, left)?;
+            tell_model(page, dialogue, model)
+        }
+        Line::TextFault { side, flaw } => tell_text_fault(page, dialogue, side, flaw),
+        Line::CommandFault { command, flaw } => {
+            tell_command(page, dialogue, b"fault: ", command)?;
+            tell_command_fault(page, dialogue, command, flaw)
+        }
+        Line::MissingAnswer { .. } | Line::UnexpectedAnswer { .. } | Line::ExtraAnswer { .. } => {
+            tell_pairing(page, dialogue, line)
+        }
+    }
+}
+
+// ---- places
+
+/// The index of what is counted from 1.
+pub(crate) fn index_of_number(number: u64) -> usize {
+    match usize::try_from(number) {
+        Ok(number) => number.saturating_sub(1),
+        Err(_) => usize::MAX,
+    }
+}
+
+pub(crate) fn put_place(page: &mut Page, name: &[u8], place: Place) -> Result<(), Memory> {
+    // (of a long name the end)
+    let from = name.len().saturating_sub(60);
+    page.put(&name[from..])?;
+    page.put(b":")?;
+    page.put_number(place.line)?;
+    page.put(b":")?;
+    page.put_number(place.column)
+}
+
+// The line on which a check stands.
+fn tell_check(
+    page: &mut Page,
+    dialogue: &Dialogue<'_>,
+    check: u64,
+    command: u64,
+) -> Result<(), Memory> {
+    page.put(b"check ")?;
+    page.put_number(check)?;
+    tell_command(page, dialogue, b": ", command)
+}
+
+/// A command with its place and its text.
+pub(crate) fn tell_command(
+    page: &mut Page,
+    dialogue: &Dialogue<'_>,
+    before: &[u8],
+    command: u64,
+) -> Result<(), Memory> {
+    page.put(before)?;
+    if let Some(span) = dialogue.commands.get(index_of_number(command)) {
+        put_place(page, dialogue.texts.script_name, span.start)?;
+        page.put(b", command ")?;
+        page.put_number(command)?;
+        page.put(b": ")?;
+        put_text(page, text_at(dialogue.texts.script, *span))?;
+    }
+    page.end()
+}
+
+/// An answer with its place and its text.
+pub(crate) fn tell_answer(
+    page: &mut Page,
+    dialogue: &Dialogue<'_>,
+    before: &[u8],
+    answer: usize,
+) -> Result<(), Memory> {
+    page.put(before)?;
+    if let Some(span) = dialogue.given.get(answer) {
+        put_place(page, dialogue.texts.answers_name, span.start)?;
+        page.put(b": ")?;
+        put_text(page, text_at(dialogue.texts.answers, *span))?;
+    }
+    page.end()
+}
+
+// A text of a file: without comments, where it is short.
+fn put_text(page: &mut Page, text: &[u8]) -> Result<(), Memory> {
+    if text.len() <= 4096
+        && let Some(tree) = tree_of(page.alloc, text)?
+    {
+        return page.put_cut(text_of(page.alloc, &tree)?.as_slice());
+    }
+    page.put_cut(text)
+}
+
+fn tell_answer_of(page: &mut Page, dialogue: &Dialogue<'_>, command: u64) -> Result<(), Memory> {
+    match answer_of(dialogue, command) {
+        Some(answer) => tell_answer(page, dialogue, b"  answer: ", answer),
+        None => Ok(()),
+    }
+}
+
+/// The place among the answers of the one that a command took.
+pub(crate) fn answer_of(dialogue: &Dialogue<'_>, command: u64) -> Option<usize> {
+    dialogue.pairs.get(index_of_number(command))?.answer
+}
+
+/// Where the model stands that was printed for a command.
+pub(crate) fn model_of(dialogue: &Dialogue<'_>, model: u64) -> Option<Span> {
+    dialogue.given.get(answer_of(dialogue, model)?).copied()
+}
+
+fn tell_model(page: &mut Page, dialogue: &Dialogue<'_>, model: u64) -> Result<(), Memory> {
+    match model_of(dialogue, model) {
+        Some(span) => {
+            page.put(b"  model: ")?;
+            put_place(page, dialogue.texts.answers_name, span.start)?;
+            page.end()
+        }
+        None => Ok(()),
+    }
+}
+
+// ---- claims
+
+// Takes the work of one more check, or answers that too little is left.
+fn take_work(dialogue: &Dialogue<'_>, left: &mut u64) -> bool {
+    let work = size_of_texts(dialogue.texts);
+    if *left < work {
+        return false;
+    }
+    *left = left.saturating_sub(work);
+    true
+}
+
+// The term of a claim, out of its command.
+fn claim_term(command: &Tree, claim: Claim) -> Option<&Tree> {
+    let Tree::List(parts) = command else {
+        return None;
+    };
+    let (_, args) = split_first(parts.as_slice())?;
+    match claim {
+        Claim::Assertion { .. } => args.first(),
+        Claim::Assumption { place } => match args.first()? {
+            Tree::List(literals) => literals.as_slice().get(index_of_number(place)),
+            _ => None,
+        },
+    }
+}
+
+fn tell_claim(
+    page: &mut Page,
+    dialogue: &Dialogue<'_>,
+    check: u64,
+    model: u64,
+    claim: Claim,
+    left: &mut u64,
+) -> Result<(), Memory> {
+    let alloc = page.alloc;
+    let command = match claim {
+        Claim::Assertion { command } => {
+            tell_command(page, dialogue, b"  claim: ", command)?;
+            command
+        }
+        Claim::Assumption { place } => {
+            page.put(b"  claim: assumption ")?;
+            page.put_number(place)?;
+            page.line(b" of the check")?;
+            check
+        }
+    };
+    let Some(span) = dialogue.commands.get(index_of_number(command)) else {
+        return Ok(());
+    };
+    if !take_work(dialogue, left) {
+        return page.line(b"  (enough was looked at for the checks above)");
+    }
+    let Some(tree) = tree_of(alloc, text_at(dialogue.texts.script, *span))? else {
+        return Ok(());
+    };
+    let Some(term) = claim_term(&tree, claim) else {
+        return Ok(());
+    };
+    let standing = in_force(
+        alloc,
+        dialogue.texts.script,
+        dialogue.commands,
+        dialogue.pairs,
+        index_of_number(check),
+    )?;
+    let mut world = world_of(
+        alloc,
+        dialogue.texts.script,
+        dialogue.commands,
+        dialogue.pairs,
+        standing.as_slice(),
+        dialogue.texts.answers,
+        model_of(dialogue, model),
+    )?;
+    world.claim = Some(term.copy(alloc)?);
+    tell_in(page, dialogue, &world)?;
+    tell_others(page, dialogue, &world, standing.as_slice(), command, claim)
+}
+
+fn tell_in(page: &mut Page, dialogue: &Dialogue<'_>, world: &World) -> Result<(), Memory> {
+    let alloc = page.alloc;
+    let Some(term) = &world.claim else {
+        return Ok(());
+    };
+    let index = index_of(alloc, world)?;
+    let used = used_by(alloc, world, &index, term)?;
+    let over = Over {
+        alloc,
+        world,
+        index: &index,
+        used: used.as_slice(),
+        script_name: dialogue.texts.script_name,
+        answers_name: dialogue.texts.answers_name,
+    };
+    tell_parts(page, &over, term)
+}
+
+// The other assertions that are false, as far as they fit on the page.
+fn tell_others(
+    page: &mut Page,
+    dialogue: &Dialogue<'_>,
+    world: &World,
+    standing: &[usize],
+    told: u64,
+    claim: Claim,
+) -> Result<(), Memory> {
+    let Claim::Assertion { .. } = claim else {
+        return Ok(());
+    };
+    let index = index_of(page.alloc, world)?;
+    let size = (world.definitions.len() as u64).saturating_add(100);
+    let mut work = size_of_texts(dialogue.texts).saturating_add(LEAST);
+    for place in standing {
+        let number = (*place as u64).saturating_add(1);
+        if number <= told || !is_assertion(dialogue, *place) {
+            continue;
+        }
+        if work < size || !page.has_room() {
+            return page.line(b"  (the assertions behind these were not looked at)");
+        }
+        work = work.saturating_sub(size);
+        tell_other(page, dialogue, world, &index, number)?;
+    }
+    Ok(())
+}
+
+fn is_assertion(dialogue: &Dialogue<'_>, place: usize) -> bool {
+    match dialogue.pairs.get(place) {
+        Some(pair) => pair.head == Head::Assert,
+        None => false,
+    }
+}
+
+fn tell_other(
+    page: &mut Page,
+    dialogue: &Dialogue<'_>,
+    world: &World,
+    index: &Scope<'_, usize>,
+    number: u64,
+) -> Result<(), Memory> {
+    let Some(span) = dialogue.commands.get(index_of_number(number)) else {
+        return Ok(());
+    };
+    let Some(tree) = tree_of(page.alloc, text_at(dialogue.texts.script, *span))? else {
+        return Ok(());
+    };
+    let claim = Claim::Assertion { command: number };
+    let Some(term) = claim_term(&tree, claim) else {
+        return Ok(());
+    };
+    let used = used_by(page.alloc, world, index, term)?;
+    if value_of(page.alloc, used.as_slice(), term)? == Some(Value::Bool(false)) {
+        return tell_command(page, dialogue, b"  also false: ", number);
+    }
+    Ok(())
+}
+
+// What the claims of a check cost, and which of them costs most.
+fn tell_cost(
+    page: &mut Page,
+    dialogue: &Dialogue<'_>,
+    check: u64,
+    model: u64,
+    left: &mut u64,
+) -> Result<(), Memory> {
+    let alloc = page.alloc;
+    if !take_work(dialogue, left) {
+        return page.line(b"  (enough was looked at for the checks above)");
+    }
+    let standing = in_force(
+        alloc,
+        dialogue.texts.script,
+        dialogue.commands,
+        dialogue.pairs,
+        index_of_number(check),
+    )?;
+    let world = world_of(
+        alloc,
+        dialogue.texts.script,
+        dialogue.commands,
+        dialogue.pairs,
+        standing.as_slice(),
+        dialogue.texts.answers,
+        model_of(dialogue, model),
+    )?;
+    let costs = costs_of(alloc, &world)?;
+    let mut sum = 0u64;
+    let mut most = (0u64, 0u64);
+    for place in standing.as_slice() {
+        if is_assertion(dialogue, *place) {
+            let number = (*place as u64).saturating_add(1);
+            let cost = cost_of_command(page, dialogue, &costs, number)?;
+            sum = sum.saturating_add(cost);
+            if cost > most.0 {
+                most = (cost, number);
+            }
+        }
+    }
+    let own = cost_of_command(page, dialogue, &costs, check)?;
+    page.put(b"  too long: the claims of this check cost ")?;
+    page.put_number(sum.saturating_add(own))?;
+    page.line(b" steps; --steps sets the limit")?;
+    page.put(b"  most of it, ")?;
+    page.put_number(most.0)?;
+    tell_command(page, dialogue, b": ", most.1)
+}
+
+// What the terms of an assertion or of a check cost.
+fn cost_of_command(
+    page: &Page,
+    dialogue: &Dialogue<'_>,
+    costs: &Scope<'_, u64>,
+    number: u64,
+) -> Result<u64, Memory> {
+    let alloc = page.alloc;
+    let Some(span) = dialogue.commands.get(index_of_number(number)) else {
+        return Ok(0);
+    };
+    let text = text_at(dialogue.texts.script, *span);
+    let Some(Tree::List(parts)) = tree_of(alloc, text)? else {
+        return Ok(0);
+    };
+    let Some((_, args)) = split_first(parts.as_slice()) else {
+        return Ok(0);
+    };
+    let terms = match (head_of(text), args.first()) {
+        (Head::Check, Some(Tree::List(literals))) => literals.as_slice(),
+        (Head::Assert, Some(_)) => args,
+        _ => return Ok(0),
+    };
+    let mut sum = 0u64;
+    for term in terms {
+        sum = sum.saturating_add(cost_of(alloc, costs, term)?);
+    }
+    Ok(sum)
+}

@@ -1,0 +1,253 @@
+//! The definitions that a model and a script give to names, as their trees. This file evaluates nothing.
+
+use crate::pairs::{Head, Pair};
+use crate::scan::{Place, Span, find_trees, part, text_at};
+use crate::walk::all_in;
+use smt_faults::{Memory, TextFault};
+use smt_forms::{ItemForm, is_bang, item_form, label_at, split_named};
+use smt_text::read_trees;
+use smt_theory::{Sort, Width};
+use smt_trees::{Tree, Trees, split_first};
+use std::alloc::Global;
+
+/// A name that a model, a command or a label defines.
+#[derive(Drop)]
+pub(crate) struct Defined {
+    pub(crate) name: Vec<u8>,
+    pub(crate) params: Vec<(Vec<u8>, Sort)>,
+    pub(crate) result: Sort,
+    pub(crate) body: Tree,
+    pub(crate) place: Place,
+    pub(crate) of_model: bool,
+}
+
+/// The definitions that a claim stands over: the model's, and behind them the script's, in order; and that claim.
+#[derive(Drop)]
+pub(crate) struct World {
+    pub(crate) definitions: Vec<Defined>,
+    /// The claim that is explained.
+    pub(crate) claim: Option<Tree>,
+}
+
+/// The tree of a text that is one.
+pub(crate) fn tree_of(alloc: Global, text: &[u8]) -> Result<Option<Tree>, Memory> {
+    match read_trees(alloc, text) {
+        Ok(trees) => {
+            let mut trees = trees.into_vec();
+            Ok(trees.pop())
+        }
+        Err(TextFault::Memory) => Err(Memory),
+        Err(_) => Ok(None),
+    }
+}
+
+/// The places of the trees of a list.
+pub(crate) fn places_in(alloc: Global, text: &[u8], list: Span) -> Result<Vec<Span>, Memory> {
+    let from = Place {
+        byte: list.start.byte.saturating_add(1),
+        line: list.start.line,
+        column: list.start.column.saturating_add(1),
+    };
+    let inner = part(text, from.byte, list.end.saturating_sub(1));
+    Ok(find_trees(alloc, inner, from)?.spans)
+}
+
+/// The definitions of a model that is printed at a place, and of the commands that stand.
+pub(crate) fn world_of(
+    alloc: Global,
+    script: &[u8],
+    commands: &[Span],
+    pairs: &[Pair],
+    standing: &[usize],
+    answers: &[u8],
+    model: Option<Span>,
+) -> Result<World, Memory> {
+    let mut world = World {
+        definitions: Vec::new(alloc),
+        claim: None,
+    };
+    if let Some(span) = model {
+        add_model(alloc, &mut world, answers, span)?;
+    }
+    for place in standing {
+        if let (Some(pair), Some(span)) = (pairs.get(*place), commands.get(*place)) {
+            add_command(alloc, &mut world, pair.head, script, *span)?;
+        }
+    }
+    Ok(world)
+}
+
+fn add_model(alloc: Global, world: &mut World, answers: &[u8], model: Span) -> Result<(), Memory> {
+    let Some(Tree::List(items)) = tree_of(alloc, text_at(answers, model))? else {
+        return Ok(());
+    };
+    let places = places_in(alloc, answers, model)?;
+    for (item, span) in items.as_slice().iter().zip(places.as_slice().iter()) {
+        if let Ok(form) = item_form(item) {
+            add_form(alloc, world, &form, span.start, true)?;
+        }
+    }
+    Ok(())
+}
+
+fn add_command(
+    alloc: Global,
+    world: &mut World,
+    head: Head,
+    script: &[u8],
+    command: Span,
+) -> Result<(), Memory> {
+    let text = text_at(script, command);
+    let wanted = match head {
+        Head::Define => true,
+        Head::Assert => has_label(text),
+        _ => false,
+    };
+    if !wanted {
+        return Ok(());
+    }
+    let Some(tree) = tree_of(alloc, text)? else {
+        return Ok(());
+    };
+    match item_form(&tree) {
+        Ok(form) => add_form(alloc, world, &form, command.start, false),
+        Err(_) => add_labels(alloc, world, &tree, command.start),
+    }
+}
+
+// Whether a text has the word of a label, perhaps in a comment or a string.
+pub(crate) fn has_label(text: &[u8]) -> bool {
+    let mut left = text;
+    for _ in 0..text.len() {
+        let Some((first, rest)) = left.split_first() else {
+            break;
+        };
+        if *first == b':' && rest.starts_with(b"named") {
+            return true;
+        }
+        left = rest;
+    }
+    false
+}
+
+fn add_form(
+    alloc: Global,
+    world: &mut World,
+    form: &ItemForm<'_>,
+    place: Place,
+    of_model: bool,
+) -> Result<(), Memory> {
+    let mut params = Vec::new(alloc);
+    let mut left = form.parameters;
+    for _ in 0..form.parameters.len() {
+        let Some((name, sort, rest)) = split_named(left) else {
+            break;
+        };
+        params.push((Vec::from_slice(alloc, name)?, sort_of(sort)))?;
+        left = rest;
+    }
+    let name = Vec::from_slice(alloc, form.name)?;
+    let body = form.body.copy(alloc)?;
+    world.definitions.push(Defined {
+        name,
+        params,
+        result: sort_of(form.sort),
+        body,
+        place,
+        of_model,
+    })?;
+    Ok(())
+}
+
+// The labels inside a term, those inside an annotated term before its own.
+fn add_labels(alloc: Global, world: &mut World, tree: &Tree, place: Place) -> Result<(), Memory> {
+    let all = all_in(alloc, tree)?;
+    for part in all.as_slice().iter().rev() {
+        if let Tree::List(parts) = *part {
+            add_labels_of(alloc, world, parts, place)?;
+        }
+    }
+    Ok(())
+}
+
+// The labels of an annotated term itself.
+fn add_labels_of(
+    alloc: Global,
+    world: &mut World,
+    parts: &Trees,
+    place: Place,
+) -> Result<(), Memory> {
+    let Some((head, rest)) = split_first(parts.as_slice()) else {
+        return Ok(());
+    };
+    if !is_bang(head) {
+        return Ok(());
+    }
+    let Some((term, attributes)) = split_first(rest) else {
+        return Ok(());
+    };
+    let mut left = attributes;
+    for _ in 0..attributes.len() {
+        let Some((attribute, rest)) = left.split_first() else {
+            break;
+        };
+        if let Some(name) = label_at(attribute, rest) {
+            add_label(alloc, world, name, term, place)?;
+        }
+        left = rest;
+    }
+    Ok(())
+}
+
+fn add_label(
+    alloc: Global,
+    world: &mut World,
+    name: &[u8],
+    term: &Tree,
+    place: Place,
+) -> Result<(), Memory> {
+    let name = Vec::from_slice(alloc, name)?;
+    let body = term.copy(alloc)?;
+    world.definitions.push(Defined {
+        name,
+        params: Vec::new(alloc),
+        result: Sort::Bool,
+        body,
+        place,
+        of_model: false,
+    })?;
+    Ok(())
+}
+
+// The sort that a tree names; `Bool` where it is an abbreviation, which no evaluation asks for.
+fn sort_of(tree: &Tree) -> Sort {
+    match tree {
+        Tree::Symbol(name) => {
+            if matches!(name.as_slice(), b"Int") {
+                Sort::Int
+            } else {
+                Sort::Bool
+            }
+        }
+        Tree::List(parts) => match parts.as_slice() {
+            [_, _, Tree::Numeral(digits)] => bits_sort(digits.as_slice()),
+            _ => Sort::Bool,
+        },
+        _ => Sort::Bool,
+    }
+}
+
+fn bits_sort(digits: &[u8]) -> Sort {
+    let mut width = 0u64;
+    for byte in digits {
+        if matches!(*byte, b'0'..=b'9') {
+            width = width
+                .saturating_mul(10)
+                .saturating_add(u64::from(*byte - b'0'));
+        }
+    }
+    match Width::new(width) {
+        Some(width) => Sort::Bits(width),
+        None => Sort::Bool,
+    }
+}

@@ -1,0 +1,64 @@
+//! A source that keeps what it gave, for an explanation. This file knows no file and no line.
+
+use smt_streams::{Broken, Source};
+use std::alloc::Global;
+
+/// A source over another one, which keeps the bytes that were pulled, as long as memory is not refused.
+#[derive(Drop)]
+pub(crate) struct Recorded<S> {
+    inner: S,
+    keeps: bool,
+    bytes: Vec<u8>,
+    whole: bool,
+}
+
+impl<S> Recorded<S> {
+    /// A source of which nothing was pulled yet. It keeps what is pulled, or nothing.
+    pub(crate) fn new(alloc: Global, inner: S, keeps: bool) -> Recorded<S> {
+        Recorded {
+            inner,
+            keeps,
+            bytes: Vec::new(alloc),
+            whole: true,
+        }
+    }
+
+    /// The bytes that were pulled; `None` where memory was refused for them, or none were to be kept.
+    pub(crate) fn bytes(&self) -> Option<&[u8]> {
+        if self.keeps && self.whole {
+            Some(self.bytes.as_slice())
+        } else {
+            None
+        }
+    }
+
+    fn note(&mut self, piece: &[u8]) {
+        if self.keeps && self.whole && self.bytes.extend_from_slice(piece).is_err() {
+            self.whole = false;
+            self.bytes.clear();
+        }
+    }
+}
+
+impl<S: Source> Source for Recorded<S> {
+    ghost use Rattle.smtcheck.specs.Recorded.{inner_of};
+
+    ghost to_come = { λ source. S.to_come (inner_of source) };
+
+    ghost has_ended = { λ source. S.has_ended (inner_of source) };
+
+    ghost is_broken = { λ source. S.is_broken (inner_of source) };
+
+    fn pull(&mut self, buf: &mut [u8]) -> Result<usize, Broken> {
+        let given = self.inner.pull(buf);
+        if let Ok(count) = given {
+            let count = count.min(buf.len());
+            self.note(&buf[..count]);
+        }
+        given
+    }
+
+    fn broken(&self) -> bool {
+        self.inner.broken()
+    }
+}

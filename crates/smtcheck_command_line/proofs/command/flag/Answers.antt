@@ -1,0 +1,11 @@
+use Rattle.std.proofs.Common.{◌∙◌, ap, Some}
+use Rattle.clap.specs.Words.{Rule, rule_of}
+use Rattle.clap.specs.declared.builder.action.ArgAction.TheVariants.{SetTrue}
+use Rattle.smtcheck_command_line.proofs.command.flag.Goals as goal
+
+pub returns-clause-rule : goal.returns-clause-rule
+returns-clause-rule c =
+    let named = ap rule_of c.long.ensures ∙ ap
+    (λ (r : Rule). record r { long = Some c.args.id.now }) c.new.ensures.rule in
+    let set = ap rule_of c.action.ensures ∙ ap (λ (r : Rule). record r { action = Some SetTrue }) named in
+    ap rule_of c.long_help.ensures ∙ ap rule_of c.help.ensures ∙ set
