@@ -3,39 +3,54 @@
 use smt_streams::{Broken, Source};
 use std::alloc::Global;
 
-/// A source over another one, which keeps the bytes that were pulled, as long as memory is not refused.
+/// Bytes that are kept, as long as memory is not refused.
 #[derive(Drop)]
-pub(crate) struct Recorded<S> {
-    inner: S,
+struct Kept {
     keeps: bool,
     bytes: Vec<u8>,
     whole: bool,
 }
 
+impl Kept {
+    fn note(&mut self, piece: &[u8]) {
+        if self.keeps && self.whole && self.bytes.extend_from_slice(piece).is_err() {
+            self.whole = false;
+            self.bytes.clear();
+        }
+    }
+}
+
+/// A source over another one, which keeps the bytes that were pulled, as long as memory is not refused.
+#[derive(Drop)]
+pub(crate) struct Recorded<S> {
+    inner: S,
+    kept: Kept,
+}
+
 impl<S> Recorded<S> {
+    ghost use Rattle.std.specs.Prelude.{◌≡◌};
+    ghost use Rattle.smtcheck.specs.Recorded.{inner_of};
+
     /// A source of which nothing was pulled yet. It keeps what is pulled, or nothing.
-    pub(crate) fn new(alloc: Global, inner: S, keeps: bool) -> Recorded<S> {
+    pub(crate) fn new(alloc: Global, inner: S, keeps: bool) -> Recorded<S>
+        ensures { inner_of result ≡ inner }
+    {
         Recorded {
             inner,
-            keeps,
-            bytes: Vec::new(alloc),
-            whole: true,
+            kept: Kept {
+                keeps,
+                bytes: Vec::new(alloc),
+                whole: true,
+            },
         }
     }
 
     /// The bytes that were pulled; `None` where memory was refused for them, or none were to be kept.
     pub(crate) fn bytes(&self) -> Option<&[u8]> {
-        if self.keeps && self.whole {
-            Some(self.bytes.as_slice())
+        if self.kept.keeps && self.kept.whole {
+            Some(self.kept.bytes.as_slice())
         } else {
             None
-        }
-    }
-
-    fn note(&mut self, piece: &[u8]) {
-        if self.keeps && self.whole && self.bytes.extend_from_slice(piece).is_err() {
-            self.whole = false;
-            self.bytes.clear();
         }
     }
 }
@@ -53,7 +68,7 @@ impl<S: Source> Source for Recorded<S> {
         let given = self.inner.pull(buf);
         if let Ok(count) = given {
             let count = count.min(buf.len());
-            self.note(&buf[..count]);
+            self.kept.note(&buf[..count]);
         }
         given
     }

@@ -28,7 +28,8 @@ impl Hint {
             Hint::NoSuccess => {
                 "hint: z3, cvc5, cvc4 and bitwuzla print no `success`: add --print-success off"
             }
-            Hint::Exchanged => "hint: are the files exchanged? SCRIPT comes first, and then ANSWERS",
+            Hint::Exchanged =>
+                "hint: are the files exchanged? SCRIPT comes first, and then ANSWERS",
             Hint::Coded => {
                 "hint: a compressed file, a byte order mark and UTF-16 are no text that is read here"
             }
@@ -42,10 +43,9 @@ impl Hint {
     }
 }
 
-/// A sink over another one, which keeps the beginning of the line in turn, and what it saw of the lines.
+/// The beginning of the line in turn, and what was seen of the lines before.
 #[derive(Drop)]
-pub(crate) struct Watched<S> {
-    inner: S,
+struct Seen {
     line: [u8; LINE],
     used: usize,
     after_unsat: bool,
@@ -53,28 +53,7 @@ pub(crate) struct Watched<S> {
     hint: Option<Hint>,
 }
 
-impl<S> Watched<S> {
-    pub(crate) fn new(inner: S) -> Watched<S> {
-        Watched {
-            inner,
-            line: [0; LINE],
-            used: 0,
-            after_unsat: false,
-            all_confirmed: false,
-            hint: None,
-        }
-    }
-
-    /// Whether the verdict was that each check is confirmed, and that there is one.
-    pub(crate) fn confirms_all(&self) -> bool {
-        self.all_confirmed
-    }
-
-    /// The usual mistake that a line looked like.
-    pub(crate) fn hint(&self) -> Option<Hint> {
-        self.hint
-    }
-
+impl Seen {
     fn note(&mut self, bytes: &[u8]) {
         for byte in bytes {
             if *byte == b'\n' {
@@ -98,6 +77,43 @@ impl<S> Watched<S> {
             self.hint = hint;
         }
         self.used = 0;
+    }
+}
+
+/// A sink over another one, which keeps the beginning of the line in turn, and what it saw of the lines.
+#[derive(Drop)]
+pub(crate) struct Watched<S> {
+    inner: S,
+    seen: Seen,
+}
+
+impl<S> Watched<S> {
+    ghost use Rattle.std.specs.Prelude.{◌≡◌};
+    ghost use Rattle.smtcheck.specs.Watched.{inner_of};
+
+    pub(crate) fn new(inner: S) -> Watched<S>
+        ensures { inner_of result ≡ inner }
+    {
+        Watched {
+            inner,
+            seen: Seen {
+                line: [0; LINE],
+                used: 0,
+                after_unsat: false,
+                all_confirmed: false,
+                hint: None,
+            },
+        }
+    }
+
+    /// Whether the verdict was that each check is confirmed, and that there is one.
+    pub(crate) fn confirms_all(&self) -> bool {
+        self.seen.all_confirmed
+    }
+
+    /// The usual mistake that a line looked like.
+    pub(crate) fn hint(&self) -> Option<Hint> {
+        self.seen.hint
     }
 }
 
@@ -138,7 +154,7 @@ impl<S: Sink> Sink for Watched<S> {
         let taken = self.inner.put(bytes);
         if let Ok(count) = taken {
             let count = count.min(bytes.len());
-            self.note(&bytes[..count]);
+            self.seen.note(&bytes[..count]);
         }
         taken
     }
