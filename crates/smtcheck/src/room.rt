@@ -17,19 +17,22 @@ const BLOCK: usize = 4096;
 
 const BLOCKS: usize = 550;
 
-/// Whether the limits of the process leave room for the stack that the deepest text takes, which is taken then.
-/// Linux tells the limits in a file; a system that tells none has none.
+/// Whether the limits of the process leave room for the stack that the deepest text takes. Where addresses are
+/// limited, so that the heap could take them all, that stack is taken then; else it grows as it is needed. Linux
+/// tells the limits in a file; a system that tells none has none.
 pub(crate) fn has_room<R: Files + AllocGlobal>(rt: &R) -> bool {
     let Ok(limits) = fs::read_to_string(rt, "/proc/self/limits") else {
         return true;
     };
+    let mut is_limited = false;
     for line in limits.as_str().lines() {
         if !allows(line, "Max stack size", STACK) || !allows(line, "Max address space", ADDRESSES) {
             return false;
         }
+        is_limited |= !allows(line, "Max address space", u64::MAX);
     }
     let mark = limits.as_str().as_bytes().first().copied().unwrap_or(0);
-    takes_stack(BLOCKS, mark)
+    !is_limited || takes_stack(BLOCKS, mark)
 }
 
 // Takes so many blocks of stack and one more, by filling each with a mark, and answers whether each holds it. Linux
