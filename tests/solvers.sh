@@ -1,9 +1,15 @@
 #!/bin/sh
-# Tries what docs/SOLVERS.md says of z3, where it is installed: the table of shares is made with two scripts of each kind, and labels are left
-# out of models by an option. SMTCHECK names the program; without it, that which `rt ci` has built. Skips with a word where z3 or Python is not
-# installed. Says nothing else where all is well.
+# Tries what docs/SOLVERS.md says: of bitwuzla and boolector on answers that are stored (tests/solvers), and of z3, where it is installed, by
+# running it: the table of shares is made with two scripts of each kind, and labels are left out of models by an option. SMTCHECK names the
+# program; without it, that which `rt ci` has built. Skips with a word where z3 or Python is not installed. Says nothing else where all is well.
 set -e
 cd "$(dirname "$0")/.."
+program="${SMTCHECK:-$PWD/crates/smtcheck/out/smtcheck}"
+while read -r name solver lines; do
+    solver=${solver%:}
+    told=$("$program" --print-success off "tests/solvers/$name.smt2" "tests/solvers/$name.$solver.txt" | grep -v '^verdict' | tr '\n' ';')
+    [ "$told" = "$lines" ] || { echo "solvers: $name of $solver: $told"; exit 1; }
+done <tests/solvers/expected
 for tool in python3 z3; do
     command -v "$tool" >/dev/null || { echo "solvers: skipped, since there is no $tool"; exit 0; }
 done

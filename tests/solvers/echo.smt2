@@ -1,0 +1,1 @@
+(echo "start")(set-option :produce-models true) (set-logic QF_BV)(declare-const p Bool)(assert p)(check-sat)(get-model)

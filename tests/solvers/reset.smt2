@@ -1,0 +1,1 @@
+(set-option :produce-models true) (set-logic QF_BV)(declare-const x (_ BitVec 8))(assert (bvult x #x07))(check-sat)(get-model)(reset)(set-option :produce-models true) (set-logic QF_BV)(declare-const y (_ BitVec 8))(assert (bvult y #x07))(check-sat)(get-model)
