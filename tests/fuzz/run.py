@@ -519,7 +519,9 @@ class Fuzzer:
             kind = ("no script", "no answers", "a folder")[choice] + ": status 4"
         else:
             wrong = (["--print-success", "maybe"] + paths, paths[:1], [], paths + paths, ["--nothing"] + paths, ["--help"], ["--version"])
-            arguments, status, complaint, kind = rng.choice(wrong), 5, None, "command line: status 5"
+            arguments, complaint, kind = rng.choice(wrong), None, "command line: status 5"
+            # (the version is asked for, and nothing is refused)
+            status = 0 if arguments == ["--version"] else 5
         run = self.program.run_as_is(arguments)
         self.counts[kind] += 1
         self.measure(seed, run)
