@@ -6,7 +6,7 @@ use Rattle.smt_machine.specs.Costs.{cost, within}
 use Rattle.smt_machine.specs.Tables.{arounds_of, model_count, nodes_of, term_cost}
 use Rattle.smt_machine.specs.declared.tables.Tables.{Tables}
 use Rattle.smt_terms.specs.Denotes.{Denotes, Table}
-use Rattle.smt_terms.specs.Library.{IsTerm, StandsFor, terms_of}
+use Rattle.smt_terms.specs.Library.{IsTerm, StandsFor, held_terms_of, terms_of}
 use Rattle.smt_terms.specs.Signature.{AreDistinct, Signature}
 use Rattle.smt_terms.specs.TermsOf.{AreTermsOf}
 use Rattle.smt_terms.specs.declared.library.Library.{Library}
@@ -31,18 +31,19 @@ NodesHaveCosts = (model script : Table) (declared : List ℕ) (names definitions
 -- the tables are those of the library and the interpretation
 pub record AreTablesOf (tables : Tables) (library : Library) (interpretation : Interpretation) : Type 0 where
   pub nodes : nodes_of tables
-      ≡ nodes_over (terms_of interpretation.definitions) (terms_of library) interpretation.declared.items
-  pub arounds : arounds_of tables ≡ arounds_over (terms_of interpretation.definitions) (terms_of library)
-  pub count : model_count tables ≡ length (terms_of interpretation.definitions).rows
+      ≡ nodes_over (held_terms_of interpretation.definitions) (terms_of library) interpretation.declared.items
+  pub arounds : arounds_of tables ≡ arounds_over (held_terms_of interpretation.definitions) (terms_of library)
+  pub count : model_count tables ≡ length (held_terms_of interpretation.definitions).rows
+  pub named : (s : Signature) → StandsFor library s → AreTermsOf (terms_of library) s
 
 pub cost_is : NodesHaveCosts → (tables : Tables) (library : Library) (interpretation : Interpretation) (id : ℕ)
     (script definitions : Signature) (t : Sexp) → AreTablesOf tables library interpretation
     → StandsFor library script → IsInterpretation interpretation script definitions → IsTerm library id t
     → term_cost tables id ≡ cost_over (structure_of script definitions) t
 cost_is law tables library interpretation id script definitions t are names holds term =
-    let model = terms_of interpretation.definitions in
+    let model = held_terms_of interpretation.definitions in
     let whole = law model (terms_of library) interpretation.declared.items script definitions 0 id t
-    names.terms holds.stands.terms holds.defined holds.theories holds.distinct holds.bodies term in
+    (are.named script names) holds.stands.terms holds.defined holds.theories holds.distinct holds.bodies term in
     ap (λ n. cost (nodes_of tables) (arounds_of tables) (n + id)) are.count
     ∙ ap (λ nodes. cost nodes (arounds_of tables) (length model.rows + id)) are.nodes
     ∙ ap (λ (arounds : List ℕ). cost (nodes_over model (terms_of library) interpretation.declared.items) arounds

@@ -4,7 +4,7 @@ use Rattle.smt_trees.specs.Sexp.{Sexp}
 use Rattle.smt_machine.specs.Costs.{AreCosts}
 use Rattle.smt_machine.specs.Memory.{Remembers}
 use Rattle.smt_machine.specs.declared.machine.Machine.{Machine}
-use Rattle.smt_terms.specs.Library.{IsTerm, StandsFor, terms_of}
+use Rattle.smt_terms.specs.Library.{IsTerm, StandsFor, held_terms_of, terms_of}
 use Rattle.smt_terms.specs.Signature.{AreDistinct, Signature}
 use Rattle.smt_terms.specs.declared.library.Library.{Library}
 use Rattle.smt_eval.specs.Cost.{cost_over}
@@ -22,7 +22,7 @@ pub record IsInterpretation (interpretation : Interpretation) (script definition
   pub theories : definitions.theories ≡ script.theories
   pub distinct : AreDistinct (structure_of script definitions).entries
   pub bodies : GivesBodies interpretation.declared.items script definitions
-      (terms_of interpretation.definitions).bodies
+      (held_terms_of interpretation.definitions).bodies
 
 -- the interpretation is one of a model of the names that the script's library has now
 pub record Fits (interpretation : Interpretation) (library : Library) : Type 0 where
@@ -34,13 +34,13 @@ pub record Fits (interpretation : Interpretation) (library : Library) : Type 0 w
 -- the values that the machine keeps are those of this interpretation, over the script's library
 abbrev pub Serves : Machine → Interpretation → Library → Type 0
 Serves machine interpretation library = Remembers machine
-    (nodes_over (terms_of interpretation.definitions) (terms_of library) interpretation.declared.items)
+    (nodes_over (held_terms_of interpretation.definitions) (terms_of library) interpretation.declared.items)
 
 -- the costs that the interpretation keeps are those of its nodes and of the library's as they are now
 abbrev pub KnowsCosts : Interpretation → Library → Type 0
 KnowsCosts interpretation library = AreCosts
-    (nodes_over (terms_of interpretation.definitions) (terms_of library) interpretation.declared.items)
-    (arounds_over (terms_of interpretation.definitions) (terms_of library)) interpretation.costs.items
+    (nodes_over (held_terms_of interpretation.definitions) (terms_of library) interpretation.declared.items)
+    (arounds_over (held_terms_of interpretation.definitions) (terms_of library)) interpretation.costs.items
 
 -- it keeps none, or those
 abbrev pub KeepsCosts : Interpretation → Library → Type 0

@@ -5,8 +5,9 @@ ghost use Rattle.smt_trees.specs.Sexp.{Sexp};
 ghost use Rattle.smt_values.specs.Element.{known_element};
 ghost use Rattle.smt_machine.specs.Costs.{capped, within};
 ghost use Rattle.smt_machine.specs.Tables.{arounds_of, model_count, nodes_of};
-ghost use Rattle.smt_terms.specs.Library.{IsTerm, StandsFor, terms_of};
+ghost use Rattle.smt_terms.specs.Library.{IsTerm, StandsFor, held_terms_of, terms_of};
 ghost use Rattle.smt_terms.specs.Signature.{Signature};
+ghost use Rattle.smt_terms.specs.TermsOf.{AreTermsOf};
 ghost use Rattle.smt_eval.specs.Cost.{cost_over};
 ghost use Rattle.smt_eval.specs.Interpretation.{CostsAtMost, Fits, IsInterpretation, KeepsCosts, KnowsCosts};
 ghost use Rattle.smt_eval.specs.Interpretation.{Serves};
@@ -144,11 +145,12 @@ pub fn eval_by(
 
 // The tables of the model and of the script.
 fn tables_of<'a>(library: &'a Library, interpretation: &'a Interpretation) -> Tables<'a>
-    ensures nodes { nodes_of result ≡ nodes_over (terms_of interpretation.now.definitions)
+    ensures nodes { nodes_of result ≡ nodes_over (held_terms_of interpretation.now.definitions)
         (terms_of library.now) interpretation.now.declared.items }
-    ensures arounds { arounds_of result ≡ arounds_over (terms_of interpretation.now.definitions)
+    ensures arounds { arounds_of result ≡ arounds_over (held_terms_of interpretation.now.definitions)
         (terms_of library.now) }
-    ensures count { model_count result ≡ length (terms_of interpretation.now.definitions).rows }
+    ensures count { model_count result ≡ length (held_terms_of interpretation.now.definitions).rows }
+    ensures named { (s : Signature) → StandsFor library.now s → AreTermsOf (terms_of library.now) s }
 {
     tables(
         library,

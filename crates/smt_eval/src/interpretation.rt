@@ -4,7 +4,7 @@ ghost use Rattle.std.specs.Prelude.{◌≡◌, List, [], ◌∷◌, ◌++◌, No
 ghost use Rattle.std.specs.Prelude.{IfOk, OnErr, OnOk, slice_get};
 ghost use Rattle.smt_trees.specs.Tree.{sexps_of};
 ghost use Rattle.smt_terms.specs.Items.{items_before};
-ghost use Rattle.smt_terms.specs.Library.{StandsFor, terms_of};
+ghost use Rattle.smt_terms.specs.Library.{StandsFor, held_terms_of};
 ghost use Rattle.smt_terms.specs.Signature.{Entry, Signature, declared_among, entry_named};
 ghost use Rattle.smt_eval.specs.Internal.DefinitionValues.{AllDefined};
 ghost use Rattle.smt_eval.specs.Internal.GivenBodies.{GiveBodies, GivesBody, TellsLacking};
@@ -127,7 +127,7 @@ fn declared_bodies(declared: &Library, definitions: &Library) -> Result<Vec<Term
     requires { (s : Signature) × StandsFor declared.now s }
     ensures { (s d : Signature) → StandsFor declared.now s → StandsFor definitions.now d → AllDefined d.entries
         → MatchResult result (λ bodies. (first_lacking s.entries d.entries ≡ None)
-        × GiveBodies d.entries (terms_of definitions.now).bodies (declared_among s.entries) bodies.items)
+        × GiveBodies d.entries (held_terms_of definitions.now).bodies (declared_among s.entries) bodies.items)
         (TellsLacking (first_lacking s.entries d.entries)) }
 {
     let mut bodies = Vec::new(definitions.alloc());
@@ -148,7 +148,7 @@ fn declared_bodies(declared: &Library, definitions: &Library) -> Result<Vec<Term
 fn body_of(definitions: &Library, name: &[u8]) -> Option<TermId>
     ensures { (d : Signature) → StandsFor definitions.now d → AllDefined d.entries
         → MatchOption result (entry_named d.entries name.now ≡ None)
-        (λ body. GivesBody d.entries (terms_of definitions.now).bodies name.now body) }
+        (λ body. GivesBody d.entries (held_terms_of definitions.now).bodies name.now body) }
 {
     match definitions.find(name) {
         Some(Found::Defined(place)) => item_at(definitions.bodies(), place),

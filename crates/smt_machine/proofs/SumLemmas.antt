@@ -14,7 +14,7 @@ use Rattle.smt_machine.specs.Costs.{AreCosts, around_at, capped, cost, first_cos
 use Rattle.smt_machine.specs.Costs.{part_cost, parts_cost}
 use Rattle.smt_machine.specs.Internal.Sums.{AreKept, made_cost}
 use Rattle.smt_machine.specs.Nodes.{Node}
-use Rattle.smt_machine.specs.Tables.{arounds_of, model_count, nodes_of, resolved}
+use Rattle.smt_machine.specs.Tables.{arounds_of, model_count, nodes_of, resolved, script_rows}
 use Rattle.smt_machine.specs.declared.tables.Place.{Place}
 use Rattle.smt_machine.specs.declared.tables.Tables.{Tables}
 
@@ -113,7 +113,7 @@ past_cost nodes arounds numbers i j costs same past above =
 pub arounds_counted : (tables : Tables) → length (arounds_of tables) ≡ length (nodes_of tables)
 arounds_counted tables =
     let model = rows_of tables.model.now in
-    let script = rows_of tables.script.now in
+    let script = script_rows tables in
     let a : ℕ = length (map (λ (row : Row). row.around) model) in
     let left = length-append (map (λ (row : Row). row.around) model) (map (λ (row : Row). row.around) script) in
     let right = length-append

@@ -4,7 +4,7 @@ use Rattle.std.specs.Prelude.{ℕ, ◌+◌, List, [], ◌++◌, Option, Some, No
 use Rattle.smt_values.specs.Literals.{bin_element, hex_element, numeral_element}
 use Rattle.smt_machine.specs.Costs.{cost}
 use Rattle.smt_machine.specs.Nodes as machine
-use Rattle.smt_nodes.specs.Node.{Node, Numeral, Hexadecimal, Binary, Slot, Apply, Declared, Defined, Let}
+use Rattle.smt_nodes.specs.Node.{Node, Numeral, Hexadecimal, Binary, Slot, Apply, Declared, Defined, Let, Row}
 use Rattle.smt_nodes.specs.Nodes.{rows_of}
 use Rattle.smt_machine.specs.declared.tables.Tables.{Tables}
 
@@ -34,16 +34,20 @@ resolved n bodies declared (Let values body) = machine.Let (shifted n values) (n
 abbrev pub model_count : Tables → ℕ
 model_count tables = length (rows_of tables.model.now)
 
+-- the nodes of the script, with the transient ones behind
+abbrev pub script_rows : Tables → List Row
+script_rows tables = rows_of tables.script.now ++ rows_of tables.transient.now
+
 abbrev pub nodes_of : Tables → List machine.Node
 nodes_of tables =
     map (λ row. resolved 0 tables.model_bodies.now [] row.node) (rows_of tables.model.now)
     ++ map (λ row. resolved (model_count tables) tables.script_bodies.now tables.declared.now row.node)
-    (rows_of tables.script.now)
+    (script_rows tables)
 
 -- how many annotations stand round each of these nodes
 abbrev pub arounds_of : Tables → List ℕ
 arounds_of tables =
-    map (λ row. row.around) (rows_of tables.model.now) ++ map (λ row. row.around) (rows_of tables.script.now)
+    map (λ row. row.around) (rows_of tables.model.now) ++ map (λ row. row.around) (script_rows tables)
 
 -- what a term of the script costs, by its number there
 abbrev pub term_cost : Tables → ℕ → ℕ

@@ -19,7 +19,8 @@ pub fn costs(alloc: Global, tables: Tables<'_>) -> Result<Vec<u64>, Memory>
     ensures { IfOk result (λ costs. AreCosts (nodes_of tables.entry) (arounds_of tables.entry) costs.items) }
 {
     let shift = tables.shift();
-    let Some(count) = shift.checked_add(tables.script.len()) else {
+    let script = tables.script.len().checked_add(tables.transient.len());
+    let Some(count) = shift.checked_add(script.unwrap_or(usize::MAX)) else {
         // So many nodes have no place in memory.
         return Err(Memory);
     };

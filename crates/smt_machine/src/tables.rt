@@ -21,6 +21,8 @@ pub struct Tables<'a> {
     pub model_bodies: &'a [TermId],
     /// The nodes of the script's terms.
     pub script: &'a Nodes,
+    /// The nodes of further terms of the script, which stand behind those.
+    pub transient: &'a Nodes,
     /// The body of each definition of the script's own, by its place.
     pub script_bodies: &'a [TermId],
     /// For each name that the script declares, by its place, the body of the definition that the model gives
@@ -86,9 +88,27 @@ impl<'a> Tables<'a> {
         ensures node { found result ≡ slice_get (nodes_of self.now) number }
         ensures around { found_around result ≡ around_at (arounds_of self.now) number }
     {
+        let own = number - shift;
+        let count = self.script.len();
+        if own < count {
+            self.place_among(shift, self.script, own)
+        } else {
+            self.place_among(shift, self.transient, own - count)
+        }
+    }
+
+    // A place in one of the script's tables.
+    #[inline(always)]
+    fn place_among(&self, shift: usize, nodes: &'a Nodes, number: usize) -> Place<'a>
+        ensures nodes { result.nodes ≡ nodes }
+        ensures number { result.number ≡ number }
+        ensures shift { result.shift ≡ shift }
+        ensures bodies { result.bodies ≡ self.now.script_bodies }
+        ensures declared { result.declared ≡ self.now.declared }
+    {
         Place {
-            nodes: self.script,
-            number: number - shift,
+            nodes,
+            number,
             shift,
             bodies: self.script_bodies,
             declared: self.declared,

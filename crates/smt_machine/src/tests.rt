@@ -32,8 +32,8 @@ fn model(alloc: Global) -> Result<(Nodes, [TermId; 2]), Memory> {
     Ok((nodes, [x, f]))
 }
 
-// `(g a b)` is `(ite (< b a) (- b a) (f b))`, and the term is `(g x (f x))`.
-fn script(alloc: Global) -> Result<(Nodes, TermId, TermId), Memory> {
+// `(g a b)` is `(ite (< b a) (- b a) (f b))`, and `(f x)` is the last of the script's own nodes.
+fn script(alloc: Global) -> Result<(Nodes, TermId, [TermId; 2]), Memory> {
     let mut nodes = Nodes::new(alloc);
     let a = nodes.push(&Node::Slot(0), Sort::Int)?;
     let b = nodes.push(&Node::Slot(1), Sort::Int)?;
@@ -50,19 +50,24 @@ fn script(alloc: Global) -> Result<(Nodes, TermId, TermId), Memory> {
         Sort::Int,
     )?;
     let f_x = nodes.push(&Node::Declared { place, args: &[x] }, Sort::Int)?;
-    let args = &[x, f_x];
-    let term = nodes.push(&Node::Defined { place: 0, args }, Sort::Int)?;
-    Ok((nodes, g, term))
+    Ok((nodes, g, [x, f_x]))
 }
 
-// What the term costs, its value, and what is left of that when it was evaluated twice.
+// What the transient term `(g x (f x))` costs, its value, and what is left of that when it was evaluated twice.
 fn value(alloc: Global) -> Result<(u64, Option<Value>, u64), Memory> {
     let (model, declared) = model(alloc)?;
-    let (script, g, term) = script(alloc)?;
+    let (script, g, args) = script(alloc)?;
+    let mut transient = Nodes::new(alloc);
+    let call = Node::Defined {
+        place: 0,
+        args: &args,
+    };
+    let term = transient.push(&call, Sort::Int)?.behind(script.len())?;
     let tables = Tables {
         model: &model,
         model_bodies: &declared,
         script: &script,
+        transient: &transient,
         script_bodies: &[g],
         declared: &declared,
     };

@@ -1,7 +1,8 @@
 //! The numbers of nodes. This file knows no table.
 
-ghost use Rattle.std.specs.Prelude.{◌≡◌};
+ghost use Rattle.std.specs.Prelude.{◌≡◌, ◌≤◌, ◌+◌, ◌-◌, IfOk};
 
+use smt_faults::Memory;
 use std::marker::Model;
 
 /// The number of a node, which means something in the table that gave it alone. Contracts see it as a number.
@@ -26,6 +27,30 @@ impl TermId {
         ensures { result ≡ self }
     {
         self.number as usize
+    }
+
+    /// The number of the same node where so many others stand before its table's; want of memory from 2^32 on.
+    #[inline(always)]
+    pub fn behind(self, count: usize) -> Result<TermId, Memory>
+        ensures { IfOk result (λ id. id ≡ count + self) }
+    {
+        let sum = count.checked_add(self.number as usize);
+        match sum {
+            Some(number) if number <= u32::MAX as usize => Ok(TermId {
+                number: number as u32,
+            }),
+            _ => Err(Memory),
+        }
+    }
+
+    /// The number of the same node in its own table, before which so many others stand.
+    pub fn after(self, count: usize) -> TermId
+        requires { count ≤ self }
+        ensures { result ≡ self - count }
+    {
+        TermId {
+            number: self.number - count as u32,
+        }
     }
 
     // The same in four bytes.

@@ -1,13 +1,14 @@
 -- What a check with assumptions does to a stack, and which assumptions each command leaves.
-use Rattle.std.proofs.Common.{◌≡◌, ℕ, List, [], ◌∷◌, ◌++◌, Option, None, refl, ap, append_assoc, sym, subst, ◌∙◌}
+use Rattle.std.proofs.Common.{◌≡◌, ℕ, List, [], ◌∷◌, ◌++◌, Option, None, false, refl, ap, sym, subst, ◌∙◌}
 use Rattle.std.proofs.lemmas.List.{append-nil}
 use Rattle.std.specs.Global.{Vec}
 use Rattle.std.specs.Option.{option_or}
 use Rattle.smt_trees.specs.Sexp.{Sexp, Sexps, Cons}
 use Rattle.smt_terms.specs.Checking.{sort_in}
-use Rattle.smt_terms.specs.Contents.{Contents, Extends, contents_of}
+use Rattle.smt_terms.specs.Contents.{Extends, contents_of}
 use Rattle.smt_terms.specs.Library as library
-use Rattle.smt_terms.specs.Library.{IsTermOf}
+use Rattle.smt_terms.specs.Denotes.{Denotes, Table}
+use Rattle.smt_terms.specs.Library.{terms_of}
 use Rattle.smt_terms.specs.Signature.{Names, Signature, names_of}
 use Rattle.smt_terms.specs.declared.library.Library.{Library}
 use Rattle.smt_script.specs.Command.{Command, SetLogic, DeclareConst, DeclareFun, DefineFun, DefineSort, Assert}
@@ -15,7 +16,7 @@ use Rattle.smt_script.specs.Command.{effect_of, SetPrintSuccess, SetGlobalDeclar
 use Rattle.smt_script.specs.Command.{Reset, ResetAssertions, Exit, CheckSat, CheckSatAssuming, GetModel, Echo, Get}
 use Rattle.smt_script.specs.Stack as spec
 use Rattle.smt_script.specs.Stack.{assertions_in_force, signature_in_force, assumptions_after, flaw_of_formula}
-use Rattle.smt_script.specs.Stack.{flaw_of_literals, trees_of}
+use Rattle.smt_script.specs.Stack.{ends_assumptions, flaw_of_literals, trees_of}
 use Rattle.smt_script.specs.StackView.{AreAssertions, AreTerms}
 use Rattle.smt_script.specs.Internal.Effect.{ContentsAreKept, HasAssumed, HasEffect, assumptions_left}
 use Rattle.smt_faults.specs.declared.command_flaw.CommandFlaw.{CommandFlaw}
@@ -23,61 +24,56 @@ use Rattle.smt_script.specs.declared.stack.Stack.{Stack}
 use Rattle.smt_script.proofs.EffectLemmas.{Adds, added, assertions_stay, nothing_brought}
 
 -- the assumptions behind a command are those that it leaves or assumes
-pub left_assumptions : (old new : Stack) (command : Command) (s : Signature) (ts : List Sexp) (items : List ℕ)
-    → library.StandsFor old.library s → HasAssumed old new (effect_of command) → AreTerms (contents_of old.library) old.assumptions.items ts
+pub left_assumptions : (old new : Stack) (now : Table) (command : Command) (s : Signature) (ts : List Sexp)
+    (items : List ℕ) → library.StandsFor old.library s → HasAssumed old new (effect_of command)
+    → AreTerms (terms_of old.library) old.assumptions.items ts
     → items ≡ assumptions_left command new.assumptions.items
-    → AreTerms (contents_of new.library) items (assumptions_after ts command)
-left_assumptions old new command s ts items names h are is = by command h is
+    → (ends_assumptions command ≡ false → now ≡ terms_of new.library)
+    → AreTerms now items (assumptions_after ts command)
+left_assumptions old new now command s ts items names h are is table = by command h is table
   where
-    none : items ≡ [] → AreTerms (contents_of new.library) items []
-    none e = subst (λ xs. AreTerms (contents_of new.library) xs []) (sym e) tt
+    none : items ≡ [] → AreTerms now items []
+    none e = subst (λ xs. AreTerms now xs []) (sym e) tt
 
-    same : (us : List Sexp) → items ≡ new.assumptions.items
-        → AreTerms (contents_of new.library) new.assumptions.items us → AreTerms (contents_of new.library) items us
-    same us e them = subst (λ xs. AreTerms (contents_of new.library) xs us) (sym e) them
+    same : (us : List Sexp) → now ≡ terms_of new.library → items ≡ new.assumptions.items
+        → AreTerms (terms_of new.library) new.assumptions.items us → AreTerms now items us
+    same us t e them =
+        subst (λ u. AreTerms u items us) (sym t)
+        (subst (λ xs. AreTerms (terms_of new.library) xs us) (sym e) them)
 
     by : (d : Command) → HasAssumed old new (effect_of d) → items ≡ assumptions_left d new.assumptions.items
-        → AreTerms (contents_of new.library) items (assumptions_after ts d)
-    by (SetLogic name) h is = none is
-    by (SetPrintSuccess on) h is = same ts is (h ts are)
-    by (SetGlobalDeclarations on) h is = same ts is (h ts are)
-    by (SetOption keyword value) h is = same ts is (h ts are)
-    by (SetInfo keyword value) h is = same ts is (h ts are)
-    by (DeclareConst x sort) h is = none is
-    by (DeclareFun x parameters sort) h is = none is
-    by (DefineFun x parameters sort body) h is = none is
-    by (DefineSort x sort) h is = none is
-    by (Assert term) h is = none is
-    by (Push levels) h is = none is
-    by (Pop levels) h is = none is
-    by Reset h is = none is
-    by ResetAssertions h is = none is
-    by Exit h is = same ts is (h ts are)
-    by CheckSat h is = none is
-    by (CheckSatAssuming literals) h is = same (trees_of literals) is (h s names)
-    by GetModel h is = same ts is (h ts are)
-    by (Echo text) h is = same ts is (h ts are)
-    by (Get query) h is = same ts is (h ts are)
+        → (ends_assumptions d ≡ false → now ≡ terms_of new.library) → AreTerms now items (assumptions_after ts d)
+    by (SetLogic name) h is t = none is
+    by (SetPrintSuccess on) h is t = same ts (t refl) is (h ts are)
+    by (SetGlobalDeclarations on) h is t = same ts (t refl) is (h ts are)
+    by (SetOption keyword value) h is t = same ts (t refl) is (h ts are)
+    by (SetInfo keyword value) h is t = same ts (t refl) is (h ts are)
+    by (DeclareConst x sort) h is t = none is
+    by (DeclareFun x parameters sort) h is t = none is
+    by (DefineFun x parameters sort body) h is t = none is
+    by (DefineSort x sort) h is t = none is
+    by (Assert term) h is t = none is
+    by (Push levels) h is t = none is
+    by (Pop levels) h is t = none is
+    by Reset h is t = none is
+    by ResetAssertions h is t = none is
+    by Exit h is t = same ts (t refl) is (h ts are)
+    by CheckSat h is t = none is
+    by (CheckSatAssuming literals) h is t = same (trees_of literals) (t refl) is (h s names)
+    by GetModel h is t = same ts (t refl) is (h ts are)
+    by (Echo text) h is t = same ts (t refl) is (h ts are)
+    by (Get query) h is t = same ts (t refl) is (h ts are)
 
-longer : {A : Type 0} (xs ys zs : List A) → (more : List A) × (ys ≡ xs ++ more)
-    → (more : List A) × (zs ≡ ys ++ more) → (more : List A) × (zs ≡ xs ++ more)
-longer {A} xs ys zs a b = (a.0 ++ b.0, b.1 ∙ ap (λ (l : List A). l ++ b.0) a.1 ∙ append_assoc xs a.0 b.0)
+-- terms that stay in a library
+pub terms_stay : (l m : Library) → ((i : ℕ) (t : Sexp) → library.IsTerm l i t → library.IsTerm m i t) → (ids : List ℕ)
+    (ts : List Sexp) → AreTerms (terms_of l) ids ts → AreTerms (terms_of m) ids ts
+terms_stay l m kept [] [] h = tt
+terms_stay l m kept [] (t ∷ ts) h = absurd h
+terms_stay l m kept (i ∷ ids) [] h = absurd h
+terms_stay l m kept (i ∷ ids) (t ∷ ts) h = (kept i t h.0, terms_stay l m kept ids ts h.1)
 
--- contents that are longer than longer ones
-pub extends_more : (c d e : Contents) → Extends c d → Extends d e → Extends c e
-extends_more c d e f g = record {
-  theories = g.theories ∙ f.theories;
-  abbreviations = longer c.abbreviations d.abbreviations e.abbreviations f.abbreviations g.abbreviations;
-  ranks = longer c.ranks d.ranks e.ranks f.ranks g.ranks;
-  heads = longer c.heads d.heads e.heads f.heads g.heads;
-  declared = longer c.declared d.declared e.declared f.declared g.declared;
-  definitions = longer c.definitions d.definitions e.definitions f.definitions g.definitions;
-  bodies = longer c.bodies d.bodies e.bodies f.bodies g.bodies;
-  rows = longer c.rows d.rows e.rows f.rows g.rows;
-}
-
-pub more_terms : (c : Contents) (ids : List ℕ) (ts : List Sexp) (i : ℕ) (t : Sexp) → AreTerms c ids ts
-    → IsTermOf c i t → AreTerms c (ids ++ i ∷ []) (ts ++ t ∷ [])
+pub more_terms : (c : Table) (ids : List ℕ) (ts : List Sexp) (i : ℕ) (t : Sexp) → AreTerms c ids ts
+    → Denotes c [] 0 0 i t → AreTerms c (ids ++ i ∷ []) (ts ++ t ∷ [])
 more_terms c [] [] i t h one = (one, tt)
 more_terms c [] (u ∷ ts) i t h one = absurd h
 more_terms c (j ∷ ids) [] i t h one = absurd h

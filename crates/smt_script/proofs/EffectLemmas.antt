@@ -3,7 +3,8 @@ use Rattle.std.proofs.Common.{◌≡◌, ◌≤◌, ℕ, ◌+◌, zero, suc, Lis
 use Rattle.std.proofs.Common.{true, cond, ◌||◌, Option, None, Some, Result, Ok, length, slice_get, take, refl, ap}
 use Rattle.std.proofs.Common.{sym, subst, ◌∙◌, arith}
 use Rattle.std.proofs.lemmas.List.{append-nil, length-append}
-use Rattle.std.specs.Prelude.{nat_le}
+use Rattle.std.specs.List.{All}
+use Rattle.std.specs.Prelude.{nat_le, ◌<◌}
 use Rattle.std.specs.Global.{Vec}
 use Rattle.smt_trees.specs.Sexp.{Sexp, Sexps, Nil}
 use Rattle.smt_theory.specs.Theories.{theories_named}
@@ -13,7 +14,7 @@ use Rattle.smt_terms.specs.Assertions.{asserted_in}
 use Rattle.smt_terms.specs.Contents.{Contents, Extends, contents_of, first_of}
 use Rattle.smt_terms.specs.Definitions.{defined_in}
 use Rattle.smt_terms.specs.Library as library
-use Rattle.smt_terms.specs.Library.{Holds, IsTermOf}
+use Rattle.smt_terms.specs.Library.{Holds, IsTermOf, transient_of}
 use Rattle.smt_terms.specs.Declarations.{abbreviated_in, declared_in}
 use Rattle.smt_terms.specs.Signature.{Entry, Signature, names_of, no_names, sort_names_of, with_abbreviation}
 use Rattle.smt_terms.specs.Signature.{with_entries, with_entry}
@@ -33,9 +34,9 @@ use Rattle.smt_script.specs.Stack.{print_success_after, print_success_in_force, 
 use Rattle.smt_script.specs.Stack.{signature_of, theories_after, theories_in_force, theories_or}
 use Rattle.smt_script.specs.Stack.{global_after, global_by, global_in_force, name_stands_after}
 use Rattle.smt_script.specs.Stack.{assertions_stand, is_logic_set, is_too_late}
-use Rattle.smt_script.specs.StackView.{AreAs, AreAssertions, AreNamesAlike, AreTerms, HasInForce, IsLevel}
+use Rattle.smt_script.specs.StackView.{AreAs, AreAssertions, AreNamesAlike, HasInForce, IsLevel}
 use Rattle.smt_script.specs.StackView.{assertions_to_level, names_level, names_to_level, signature_to_level, to_level}
-use Rattle.smt_script.specs.Internal.Effect.{ContentsAreKept, HasEffect, IsUnchanged, logic_after, with_notes}
+use Rattle.smt_script.specs.Internal.Effect.{ContentsAreKept, HasEffect, HasMore, HasNotesOf, logic_after, with_notes}
 use Rattle.smt_faults.specs.declared.command_fault.CommandFault.{CommandFault}
 use Rattle.smt_faults.specs.declared.command_flaw.CommandFlaw.{CommandFlaw}
 use Rattle.smt_faults.specs.declared.command_flaw.CommandFlaw.TheVariants.{Term}
@@ -232,6 +233,11 @@ assertions_left k cs c keeps inside =
     ap assertions_of (ap (to_level k) (assertions_grow cs c keeps.no_reset (keeps.level (depth_in_force cs)))
     ∙ to_level-push level_of k (in_force assertions_stand (history cs)) (brought_by cs (history cs) c) inside)
 
+-- the notes of a stack are its own
+pub same_notes : (s : Stack) → HasNotesOf s s
+same_notes s =
+    record { logic = refl; global = refl; print_success = refl; start = refl; exited = refl; last = refl }
+
 -- a level as the contents and the assertions grow; global names grow with them
 pub level_grows : ContentsAreKept → (global : Bool)
     → (c d : Contents) (as' more : List Assertion) (l : Level) (old new : Signature)
@@ -245,6 +251,7 @@ level_grows law true c d as' more l old new asserted grown local names h = recor
   assertions_are =
       subst (λ (x : List Assertion). AreAssertions d x asserted) (sym (take_before l.assertions as' more h.count))
       (assertions_stay law c d grown (take l.assertions as') asserted h.assertions_are);
+  terms = subst (All (λ a. a.term < l.mark.nodes)) (sym (take_before l.assertions as' more h.count)) h.terms;
 }
 level_grows law false c d as' more l old new asserted grown local names h = record {
   within = law.within l.mark c d h.within grown;
@@ -256,6 +263,7 @@ level_grows law false c d as' more l old new asserted grown local names h = reco
       (sym (law.first l.mark c d h.within grown))
       (subst (λ (x : List Assertion). AreAssertions (first_of l.mark c) x asserted)
       (sym (take_before l.assertions as' more h.count)) h.assertions_are);
+  terms = subst (All (λ a. a.term < l.mark.nodes)) (sym (take_before l.assertions as' more h.count)) h.terms;
 }
 
 -- a stack after a command that adds to what is in force
@@ -621,45 +629,17 @@ assert_effect law old l as' a term asserts stored grown pushed = record {
   start = refl;
 }
 
--- terms are the same in longer contents
-pub terms_stay : ContentsAreKept → (c d : Contents) → Extends c d → (ids : List ℕ) (ts : List Sexp)
-    → AreTerms c ids ts → AreTerms d ids ts
-terms_stay law c d grown [] [] h = tt
-terms_stay law c d grown [] (t ∷ ts) h = absurd h
-terms_stay law c d grown (i ∷ ids) [] h = absurd h
-terms_stay law c d grown (i ∷ ids) (t ∷ ts) h =
-    (law.terms c d i t grown h.0, terms_stay law c d grown ids ts h.1)
-
--- a library that stands for the same and has more terms changes nothing
-pub unchanged_by : ContentsAreKept → (old : Stack) (l : Library) (as' : Vec Assertion)
-    → ((s : Signature) → library.StandsFor old.library s → library.StandsFor l s)
-    → Extends (contents_of old.library) (contents_of l) → as'.items ≡ old.assertions.items
-    → IsUnchanged old (record old { library = l; assertions = as' })
-unchanged_by law old l as' names grown same = record {
-  stands = λ cs h. record {
-    library = names (signature_in_force cs) h.library;
-    assertions =
-        subst (λ (xs : List Assertion). AreAssertions (contents_of l) xs (assertions_in_force cs)) (sym same)
-        (assertions_stay law (contents_of old.library) (contents_of l) grown old.assertions.items
-        (assertions_in_force cs) h.assertions);
-    depth = h.depth;
-    levels = λ k level at.
-        subst (λ (xs : List Assertion). IsLevel old.global (contents_of l) xs level
-        (signature_to_level k cs) (assertions_to_level k cs))
-        (append-nil old.assertions.items ∙ sym same)
-        (level_grows law old.global (contents_of old.library) (contents_of l) old.assertions.items [] level
-        (signature_to_level k cs) (signature_to_level k cs) (assertions_to_level k cs) grown
-        (λ local. refl) (λ everywhere held. names (signature_to_level k cs) held)
-        (h.levels k level at));
-    ordered = h.ordered;
-    logic = h.logic;
-    global = h.global;
-    print_success = h.print_success;
-    exited = h.exited;
-  };
-  last = refl;
-  start = refl;
-  assumptions = terms_stay law (contents_of old.library) (contents_of l) grown old.assumptions.items;
+-- a library that holds more, and as many assertions, change nothing else
+pub unchanged_by : (old : Stack) (l : Library) (as' : Vec Assertion)
+    → Extends (contents_of old.library) (contents_of l) → transient_of l ≡ transient_of old.library
+    → as'.items ≡ old.assertions.items → HasMore old (record old { library = l; assertions = as' })
+unchanged_by old l as' grown transient same = record {
+  library = grown;
+  transient = transient;
+  assertions = same;
+  assumptions = refl;
+  levels = refl;
+  notes = same_notes old;
 }
 
 -- ---- logics

@@ -1,8 +1,10 @@
 -- What the commands do that change levels.
 use Rattle.std.proofs.Common.{◌≡◌, ◌≤◌, ℕ, ◌+◌, ◌-◌, zero, suc, List, [], ◌∷◌, ◌++◌, Bool, true, false, cond, not}
 use Rattle.std.proofs.Common.{◌&&◌, ◌||◌, inl, inr, Some, length, slice_get, take, refl, ap, sym, subst, ◌∙◌, arith}
-use Rattle.std.specs.Prelude.{nat_le, nat_lt}
-use Rattle.std.proofs.lemmas.List.{append-nil, length-append}
+use Rattle.std.specs.Prelude.{nat_le, nat_lt, ◌<◌}
+use Rattle.std.specs.List.{All}
+use Rattle.std.proofs.lemmas.List.{append-nil, length-append, length-take}
+use Rattle.std.proofs.lemmas.List.Elements.{All-cons, All-nil}
 use Rattle.std.specs.Global.{Vec}
 use Rattle.smt_theory.specs.declared.sort.Sort.{Sort}
 use Rattle.smt_terms.specs.Contents.{Contents, IsBelow, IsWithin, contents_of, first_of}
@@ -21,7 +23,8 @@ use Rattle.smt_script.specs.Stack.{resets, signature_in_force, signature_of, sta
 use Rattle.smt_script.specs.Stack.{theories_in_force}
 use Rattle.smt_script.specs.StackView.{AreAs, AreAssertions, HasInForce, IsAs, IsLevel, IsOuter, assertions_to_level}
 use Rattle.smt_script.specs.StackView.{contents_left, names_level, names_to_level, signature_to_level, to_level}
-use Rattle.smt_script.specs.Internal.Effect.{HasEffect, HasNoAssertions, HasNotesOf, IsCut, IsEmpty, IsUnchanged}
+use Rattle.smt_script.specs.Internal.Effect.{HasEffect, HasMore, HasNoAssertions, HasNotesOf, IsCut, IsEmpty}
+use Rattle.smt_script.specs.Internal.Effect.{TermsHaveNodes}
 use Rattle.smt_script.specs.Internal.Runs.{copies}
 use Rattle.smt_script.specs.Internal.Effect.{NotesAll, logic_after, with_notes}
 use Rattle.smt_faults.specs.declared.command_flaw.CommandFlaw.TheVariants.{TooDeep, NoLevel}
@@ -29,7 +32,8 @@ use Rattle.smt_script.specs.declared.stack.Assertion.{Assertion}
 use Rattle.smt_script.specs.declared.stack.LogicState.{LogicState}
 use Rattle.smt_script.specs.declared.stack.levels.Level.{Level}
 use Rattle.smt_script.specs.declared.stack.Stack.{Stack}
-use Rattle.smt_script.proofs.EffectLemmas.{Keeps, assertions-add, assertions_left, no_names_left, none_more}
+use Rattle.smt_script.proofs.EffectLemmas.{Keeps, assertions-add, assertions_left, extends_itself, no_names_left}
+use Rattle.smt_script.proofs.EffectLemmas.{none_more, same_notes}
 use Rattle.smt_script.proofs.EffectLemmas.{nothing_brought, same_signature, signature-add, within}
 use Rattle.smt_script.proofs.HistoryLemmas.{all_to_level, assertion_stands_after, assertions-push, assertions_rule}
 use Rattle.smt_script.proofs.HistoryLemmas.{exited-push, global-push, history-push, in_force-left, in_force-push}
@@ -97,11 +101,21 @@ left_all : (global : Bool) (l : Level) (c : Contents) → first_of l.mark c ≡ 
 left_all true l c h = refl
 left_all false l c h = h
 
-note_is_level : (s : Stack) (l : Level) (cs : List Numbered) (k : ℕ) → HasInForce s cs → NotesAll s l
+-- the terms of assertions are among the nodes
+terms_within : TermsHaveNodes → (c : Contents) (bs : List spec.Assertion) (as' : List Assertion) (n : ℕ)
+    → length c.rows ≤ n → AreAssertions c as' bs → All (λ a. a.term < n) as'
+terms_within law c [] [] n most h = All-nil (λ a. a.term < n)
+terms_within law c (b ∷ bs) [] n most h = absurd h
+terms_within law c [] (a ∷ as') n most h = absurd h
+terms_within law c (b ∷ bs) (a ∷ as') n most h =
+    All-cons (λ x. x.term < n) a as' (let w = law c a.term b.term h.1 in omega arith)
+    (terms_within law c bs as' n most h.2)
+
+note_is_level : TermsHaveNodes → (s : Stack) (l : Level) (cs : List Numbered) (k : ℕ) → HasInForce s cs → NotesAll s l
     → depth_in_force cs ≤ k
     → IsLevel s.global (contents_of s.library) s.assertions.items l (signature_to_level k cs)
     (assertions_to_level k cs)
-note_is_level s l cs k h notes le =
+note_is_level law s l cs k h notes le =
     let c = contents_of s.library in
     let N = in_force names_stand (history cs) in
     let A = in_force assertions_stand (history cs) in
@@ -126,17 +140,22 @@ note_is_level s l cs k h notes le =
           (subst (λ (xs : List Assertion). AreAssertions c xs (assertions_in_force cs))
           (sym (ap (λ (n : ℕ). take n s.assertions.items) notes.assertions ∙ take_all s.assertions.items))
           h.assertions));
+      terms = subst (All (λ a. a.term < l.mark.nodes))
+          (sym (ap (λ (n : ℕ). take n s.assertions.items) notes.assertions ∙ take_all s.assertions.items))
+          (terms_within law c (assertions_in_force cs) s.assertions.items l.mark.nodes
+          (let e = ap (λ (x : Contents). length x.rows) notes.all in let m =
+              length-take l.mark.nodes c.rows in omega arith) h.assertions);
     }
 
-push_level : (s : Stack) (l : Level) (cs : List Numbered) (k : ℕ) (x : Level) → HasInForce s cs → NotesAll s l
+push_level : TermsHaveNodes → (s : Stack) (l : Level) (cs : List Numbered) (k : ℕ) (x : Level) → HasInForce s cs → NotesAll s l
     → Behind s.levels l k x
     → IsLevel s.global (contents_of s.library) s.assertions.items x (signature_to_level k cs)
     (assertions_to_level k cs)
-push_level s l cs k x h notes (Before at) = h.levels k x at
-push_level s l cs k x h notes (Copy is le) =
+push_level law s l cs k x h notes (Before at) = h.levels k x at
+push_level law s l cs k x h notes (Copy is le) =
     subst (λ (y : Level). IsLevel s.global (contents_of s.library) s.assertions.items y
     (signature_to_level k cs) (assertions_to_level k cs)) (sym is)
-    (note_is_level s l cs k h notes (let e = h.depth in omega arith))
+    (note_is_level law s l cs k h notes (let e = h.depth in omega arith))
 
 push_ordered : (s : Stack) (l : Level) (cs : List Numbered) (j k : ℕ) (x y : Level) → HasInForce s cs
     → NotesAll s l → j ≤ k → Behind s.levels l j x → Behind s.levels l k y → IsOuter x y
@@ -156,10 +175,10 @@ push_ordered s l cs j k x y h notes le (Copy same near) (Copy is far) =
     (subst (IsOuter l) (sym is)
     (record { mark = notes.last l.mark notes.within; assertions = omega arith }))
 
-pub push_effect : (old : Stack) (v : List Level) (l : Level) (m : ℕ) → NotesAll old l
+pub push_effect : TermsHaveNodes → (old : Stack) (v : List Level) (l : Level) (m : ℕ) → NotesAll old l
     → v ≡ old.levels ++ copies m l → length old.levels + m ≤ limit
     → (n : ℕ) → HasEffect old (record old { levels = v }) n (Push m)
-push_effect old v l m notes pushed fits n = record {
+push_effect law old v l m notes pushed fits n = record {
   faultless = λ cs h.
       let few : nat_lt limit (depth_in_force cs + m) ≡ false = (let e = h.depth in grind (arith)) in
       rw few refl;
@@ -186,7 +205,7 @@ push_effect old v l m notes pushed fits n = record {
             (assertions_to_level k (cs ++ c ∷ []))) (sym (no_names_left k cs c (push_keeps m) refl refl))
             (subst (IsLevel old.global (contents_of old.library) old.assertions.items x (signature_to_level k cs))
             (sym (assertions_left k cs c (push_keeps m) inside))
-            (push_level old l cs k x h notes behind));
+            (push_level law old l cs k x h notes behind));
         ordered = λ j k x y le at there.
             push_ordered old l cs j k x y h notes le
             (one_behind old.levels m l j x
@@ -257,6 +276,8 @@ cut_level law old new d cs h cut k x at =
           (subst (λ (xs : List Assertion). AreAssertions (contents_left g x.mark c) xs B)
           (sym (take_fewer x.assertions cut.level.assertions old.assertions.items outer.assertions))
           level.assertions_are);
+      terms = subst (All (λ a. a.term < x.mark.nodes))
+          (sym (take_fewer x.assertions cut.level.assertions old.assertions.items outer.assertions)) level.terms;
     }))
 
 -- the names that levels leave which are no more than a command leaves
@@ -594,26 +615,15 @@ take_old [] n l = refl
 take_old (x ∷ xs) n l = ap (λ (ys : List Level). x ∷ ys) (take_old xs n l)
 
 -- as many levels as before change nothing
-pub levels_unchanged : (old : Stack) (v : List Level) → v ≡ old.levels
-    → IsUnchanged old (record old { levels = v })
+pub levels_unchanged : (old : Stack) (v : List Level) → v ≡ old.levels → HasMore old (record old { levels = v })
 levels_unchanged old v same = record {
-  stands = λ cs h. record {
-    library = h.library;
-    assertions = h.assertions;
-    depth = ap length same ∙ h.depth;
-    levels = λ k x at. h.levels k x (ap (λ (xs : List Level). slice_get xs k) (sym same) ∙ at);
-    ordered = λ j k x y le at there. h.ordered j k x y le
-        (ap (λ (xs : List Level). slice_get xs j) (sym same) ∙ at)
-        (ap (λ (xs : List Level). slice_get xs k) (sym same) ∙ there);
-    logic = h.logic;
-    global = h.global;
-    print_success = h.print_success;
-    exited = h.exited;
-  };
-  last = refl;
-  start = refl;
-  assumptions = λ ts are. are;
+  library = extends_itself (contents_of old.library);
+  transient = refl;
+  assertions = refl;
+  assumptions = refl;
+  levels = same;
+  notes = same_notes old;
 }
 
-pub same_unchanged : (s : Stack) → IsUnchanged s s
-same_unchanged s = record { stands = λ cs h. h; last = refl; start = refl; assumptions = λ ts are. are }
+pub same_unchanged : (s : Stack) → HasMore s s
+same_unchanged s = levels_unchanged s s.levels refl

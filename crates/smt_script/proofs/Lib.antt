@@ -4,6 +4,7 @@ pub mod BroughtLemmas
 pub mod SinceLemmas
 pub mod EffectLemmas
 pub mod GlobalLemmas
+pub mod NeedLemmas
 pub mod AssumptionLemmas
 pub mod AppliedLemmas
 pub mod LevelLemmas

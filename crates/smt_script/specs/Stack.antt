@@ -347,6 +347,11 @@ assumptions_after before command =
 abbrev pub assumptions_in_force : List Numbered → List Sexp
 assumptions_in_force commands = fold (λ before c. assumptions_after before c.command) [] commands
 
+-- whether a command ends the assumptions of the check before it, and assumes nothing itself
+abbrev pub ends_assumptions : Command → Bool
+ends_assumptions (items.CheckSatAssuming literals) = false
+ends_assumptions command = is_check command || closes_window command
+
 -- commands behind others leave so many levels, each of them
 abbrev pub KeepLevels : ℕ → List Numbered → List Numbered → Type 0
 KeepLevels level before [] = Unit {0}

@@ -1,14 +1,17 @@
 -- What a contract sees of a stack, and the commands that it stands for.
-use Rattle.std.specs.Prelude.{◌≡◌, ◌≤◌, ◌⊎◌, ℕ, List, [], ◌∷◌, Bool, Some, length, nat_le, slice_get, take}
-use Rattle.std.specs.Prelude.{if◌then◌else◌}
-use Rattle.std.specs.List.{filter}
+use Rattle.std.specs.Prelude.{◌≡◌, ◌≤◌, ◌<◌, ◌-◌, ◌⊎◌, ℕ, zero, suc, List, [], ◌∷◌, Bool, Some, length, nat_le}
+use Rattle.std.specs.Prelude.{if◌then◌else◌, slice_get, take}
+use Rattle.std.specs.List.{All, filter}
 use Rattle.smt_trees.specs.Sexp.{Sexp}
-use Rattle.smt_terms.specs.Contents.{Contents, IsBelow, IsWithin, contents_of, first_of}
+use Rattle.smt_terms.specs.Contents.{Contents, Extends, IsBelow, IsWithin, contents_of, first_of, needed_of}
+use Rattle.smt_terms.specs.Denotes.{Denotes, Table}
 use Rattle.smt_terms.specs.Library as library
-use Rattle.smt_terms.specs.Library.{Holds, IsTermOf}
+use Rattle.smt_terms.specs.Library.{Holds, IsTermOf, terms_of}
 use Rattle.smt_terms.specs.Signature.{Signature}
 use Rattle.smt_terms.specs.declared.library.Library.{Library}
 use Rattle.smt_terms.specs.declared.library.marks.Mark.{Mark}
+use Rattle.smt_script.specs.Command.{AllButOptions, Assumes, Brings, Effect, Everything, Nothing, Pops, Pushes}
+use Rattle.smt_script.specs.Command.{Removing, SetsGlobal, SetsLogic}
 use Rattle.smt_script.specs.Stack as spec
 use Rattle.smt_script.specs.Stack.{Brought, Numbered, assertions_in_force, assertions_of, assumptions_in_force}
 use Rattle.smt_script.specs.Stack.{depth_in_force, global_in_force}
@@ -64,7 +67,13 @@ assertions_to_level k commands = assertions_of (to_level k (in_force assertions_
 abbrev pub contents_left : (global : Bool) → Mark → Contents → Contents
 contents_left global mark contents = if global then contents else first_of mark contents
 
--- what a level leaves are these names, and the first so many of the assertions as it notes are these
+-- and of the nodes those that it notes and those that definitions need, if declarations are global
+abbrev pub contents_needed : (global : Bool) → Mark → Contents → Contents
+contents_needed global mark contents =
+    if global then needed_of mark.nodes contents else first_of mark contents
+
+-- what a level leaves are these names, and the first so many of the assertions as it notes are these, whose
+-- terms are among the nodes that it notes
 pub record IsLevel (global : Bool) (contents : Contents) (assertions : List Assertion) (level : Level)
     (names : Signature) (asserted : List spec.Assertion) : Type 0 where
   pub within : IsWithin level.mark contents
@@ -72,6 +81,29 @@ pub record IsLevel (global : Bool) (contents : Contents) (assertions : List Asse
   pub holds : Holds (contents_left global level.mark contents) names
   pub assertions_are :
       AreAssertions (contents_left global level.mark contents) (take level.assertions assertions) asserted
+  pub terms : All (λ a. a.term < level.mark.nodes) (take level.assertions assertions)
+
+-- what a library holds behind a `pop` that leaves so many levels: what the outermost level that goes noted; if
+-- declarations are global, all but the nodes that came since and that no definition needs
+pub record IsPopped (old : Stack) (now : Contents) (depth : ℕ) : Type 0 where
+  pub level : Level
+  pub at : slice_get old.levels depth ≡ Some level
+  pub library : now ≡ contents_needed old.global level.mark (contents_of (library_of old))
+
+-- what a library holds behind a command of this effect: the same where it brings and removes nothing, and more
+-- where it brings something; what a removal of assertions leaves has the nodes that definitions need
+abbrev pub HoldsAfter : (old : Stack) → Effect → (now : Contents) → Type 0
+HoldsAfter old (SetsLogic name) now = now.rows ≡ []
+HoldsAfter old (Brings item) now = Extends (contents_of (library_of old)) now
+HoldsAfter old (Pushes levels) now = now ≡ contents_of (library_of old)
+HoldsAfter old (Pops zero) now = now ≡ contents_of (library_of old)
+HoldsAfter old (Pops (suc n)) now = IsPopped old now (length old.levels - suc n)
+HoldsAfter old (Removing Nothing) now = now ≡ contents_of (library_of old)
+HoldsAfter old (Removing AllButOptions) now =
+    if old.global then now ≡ needed_of 0 (contents_of (library_of old)) else now.rows ≡ []
+HoldsAfter old (Removing Everything) now = now.rows ≡ []
+HoldsAfter old (SetsGlobal on) now = now ≡ contents_of (library_of old)
+HoldsAfter old (Assumes literals) now = now ≡ contents_of (library_of old)
 
 -- an inner level notes as much as an outer one, or more
 pub record IsOuter (level inner : Level) : Type 0 where
@@ -83,10 +115,10 @@ abbrev pub logic_state : List Numbered → LogicState
 logic_state commands = record { set = is_logic_set commands; late = is_too_late commands }
 
 -- one by one the terms stand under these numbers
-abbrev pub AreTerms : Contents → List ℕ → List Sexp → Type 0
-AreTerms terms [] [] = Unit {0}
-AreTerms terms (i ∷ is) (t ∷ ts) = IsTermOf terms i t × AreTerms terms is ts
-AreTerms terms _ _ = ⊥
+abbrev pub AreTerms : Table → List ℕ → List Sexp → Type 0
+AreTerms table [] [] = Unit {0}
+AreTerms table (i ∷ is) (t ∷ ts) = Denotes table [] 0 0 i t × AreTerms table is ts
+AreTerms table _ _ = ⊥
 
 -- the stack holds exactly what is in force after these commands; and each of its levels notes what of it came
 -- outside that level
@@ -122,5 +154,5 @@ AreNamesAlike commands = AreAs (global_in_force commands) (in_force names_stand 
 pub record StandsFor (stack : Stack) (commands : List Numbered) : Type 0 where
   pub force : HasInForce stack commands
   pub alike : AreNamesAlike commands
-  pub assumptions : AreTerms (contents_of (library_of stack)) stack.assumptions.items
+  pub assumptions : AreTerms (terms_of (library_of stack)) stack.assumptions.items
       (assumptions_in_force commands)

@@ -2,15 +2,18 @@
 //! say which commands took effect.
 
 ghost use Rattle.std.specs.Prelude.{◌≡◌, ◌<◌, ◌++◌, ◌∷◌, ◌⊎◌, ◌||◌, ℕ, List, [], None, Some, IfErr, OnOk};
-ghost use Rattle.std.specs.Prelude.{OnErr};
+ghost use Rattle.std.specs.Prelude.{OnErr, true};
 ghost use Rattle.smt_terms.specs.Contents.{contents_of};
 ghost use Rattle.smt_terms.specs.Library as terms;
+ghost use Rattle.smt_terms.specs.Library.{terms_of, transient_of};
+ghost use Rattle.smt_script.specs.Command.{effect_of};
 ghost use Rattle.smt_script.specs.CommandView.{command_view};
 ghost use Rattle.smt_script.specs.Stack.{Numbered, assertions_in_force, assumptions_in_force, depth_in_force};
-ghost use Rattle.smt_script.specs.Stack.{flaw_of_effect};
+ghost use Rattle.smt_script.specs.Stack.{ends_assumptions, flaw_of_effect};
 ghost use Rattle.smt_script.specs.Stack.{has_exited, print_success_in_force, signature_in_force};
 ghost use Rattle.smt_script.specs.Stack as stack;
-ghost use Rattle.smt_script.specs.StackView.{AreAssertions, AreTerms, StandsFor, last_of, library_of};
+ghost use Rattle.smt_script.specs.StackView.{AreAssertions, AreTerms, HoldsAfter, StandsFor, last_of};
+ghost use Rattle.smt_script.specs.StackView.{library_of};
 ghost use Rattle.smt_script.specs.StackView.{initial_print_success_of};
 ghost use Rattle.smt_faults.specs.Outcome.{TellsCommand};
 
@@ -131,7 +134,7 @@ impl Stack {
     /// section 4.2.5). Their terms are those of `library`.
     pub fn assumptions(&self) -> &[TermId]
         ensures { (commands : List Numbered) → StandsFor self.now commands
-            → AreTerms (contents_of (library_of self.now)) result.now (assumptions_in_force commands) }
+            → AreTerms (terms_of (library_of self.now)) result.now (assumptions_in_force commands) }
     {
         self.assumptions.as_slice()
     }
@@ -188,8 +191,8 @@ impl Stack {
     ///
     /// The others have none. `Pop` removes what came at the levels that it removes, and takes time for that
     /// alone; `ResetAssertions` removes all but the logic and the options. While declarations are global both
-    /// remove assertions and levels, and no name. The stack keeps no tree of the command: the nodes of its terms
-    /// stand in the library.
+    /// remove assertions and levels, and no name, nor a node that a definition needs. The stack keeps no tree of
+    /// the command: the nodes of its terms are in the library, those of assumptions as transient ones.
     pub fn apply(&mut self, number: u64, command: &Command) -> Result<(), CommandFault>
         requires { last_of self.old < number }
         ensures faultless { OnOk result
@@ -203,10 +206,15 @@ impl Stack {
             → TellsCommand (flaw_of_effect commands number (command_view command.now)) fault) }
         ensures unchanged { OnErr result
             (((commands : List Numbered) → StandsFor self.old commands → StandsFor self.new commands)
-            × (last_of self.new ≡ last_of self.old)) }
+            × (last_of self.new ≡ last_of self.old)
+            × (contents_of (library_of self.new) ≡ contents_of (library_of self.old))) }
+        ensures held { OnOk result (HoldsAfter self.old (effect_of (command_view command.now))
+            (contents_of (library_of self.new))) }
+        ensures ended { OnOk result (ends_assumptions (command_view command.now) ≡ true
+            → transient_of (library_of self.new) ≡ []) }
         ensures start { initial_print_success_of self.new ≡ initial_print_success_of self.old }
     {
-        self.take_effect(number, command)?;
+        self.try_effect(number, command)?;
         self.note(command);
         self.end_assumptions(command);
         self.last = number;

@@ -196,6 +196,7 @@ pub record AreAdded (old now : Library) (all left : List Label) : Type 0 where
   pub bodies : now.bodies.items ≡ old.bodies.items ++ map (λ l. l.node) done
   pub new : AreNew (ranks_of_library now) left
   pub grown : Extends (contents_of old) (contents_of now)
+  pub transient : now.transient ≡ old.transient
 
 no_entries : (s : Signature) → s ≡ with_entries s []
 no_entries s = λ i. record
@@ -234,6 +235,7 @@ AreAdded-none library all new = record {
   bodies = sym (append-nil library.bodies.items);
   new = new;
   grown = extends_itself (contents_of library);
+  transient = refl;
 }
 
 pub AreAdded-next : (old mid now : Library) (all left rest : List Label) (l : Label)
@@ -243,8 +245,8 @@ pub AreAdded-next : (old mid now : Library) (all left rest : List Label) (l : La
     → HoldsUnder bodies (contents_of now) (with_entry s (label_entry l)))
     → ranks_of_library now ≡ ranks_of_library mid ++ (l.name.items, rank_of_entry (label_entry l)) ∷ []
     → now.bodies.items ≡ mid.bodies.items ++ l.node ∷ []
-    → Extends (contents_of mid) (contents_of now) → AreAdded old now all rest
-AreAdded-next old mid now all left rest l first split added ranks joined grown =
+    → Extends (contents_of mid) (contents_of now) → now.transient ≡ mid.transient → AreAdded old now all rest
+AreAdded-next old mid now all left rest l first split added ranks joined grown transient =
     let parts : all ≡ first.done ++ l ∷ rest = first.are ∙ ap (λ (ls : List Label). first.done ++ ls) split in
     let longer = λ (bodies : List ℕ).
     under_longer bodies (contents_of old) (contents_of mid) first.grown.theories first.grown.heads
@@ -267,6 +269,7 @@ AreAdded-next old mid now all left rest l first split added ranks joined grown =
       new = subst (λ rs. AreNew rs rest) (sym ranks)
           (subst (λ ls. AreNew (ranks_of_library mid) ls) split first.new).1;
       grown = extends_on (contents_of old) (contents_of mid) (contents_of now) first.grown grown;
+      transient = transient ∙ first.transient;
     }
 
 -- ## Undoing

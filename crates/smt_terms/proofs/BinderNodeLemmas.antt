@@ -16,7 +16,7 @@ use Rattle.smt_terms.specs.Internal.Calls.{SeesTheSame, has_labels}
 use Rattle.smt_terms.specs.Internal.DraftView.{Variables, inside, placed_from, seen_by, sorts_seen}
 use Rattle.smt_terms.specs.Internal.NodesView.{AddsAround, AddsNode, BindingsStand, GrowsTo, Stands}
 use Rattle.smt_terms.specs.Internal.NodesView.{nodes_given}
-use Rattle.smt_terms.specs.Internal.TableView.{AreNamed, IsReady, places_seen, slots_seen, table_in}
+use Rattle.smt_terms.specs.Internal.TableView.{AreNamed, IsReady, places_seen, rows_in, slots_seen, table_in}
 use Rattle.smt_terms.specs.declared.labels.Labels.{Labels}
 use Rattle.smt_terms.specs.declared.library.Library.{Library}
 use Rattle.smt_terms.specs.declared.library.draft.Checked.{Checked}
@@ -71,7 +71,7 @@ pub let_stands : (library : Library) (d mid inner last cut new : Draft) (args bi
     → inner.labels ≡ mid.labels → inner.nodes ≡ mid.nodes → names_of bound ≡ map (λ t. t.0) (named_trees bindings)
     → GrowsTo d mid → BindingsStand library d mid bindings js b → GrowsTo inner last
     → Stands library inner last body checked → cut.labels ≡ last.labels → cut.nodes ≡ last.nodes
-    → GrowsTo cut new → AddsNode cut new (node.Let js checked.node) c → c.is_open ≡ (b || checked.is_open)
+    → GrowsTo cut new → AddsNode library.nodes cut new (node.Let js checked.node) c → c.is_open ≡ (b || checked.is_open)
     → Stands library d new (Items (Cons (Reserved Let) args)) c
 let_stands library d mid inner last cut new args bindings body bound js b checked c split kept within more base
     labels nodes named first values second inside_stands labels_cut nodes_cut third adds opened =
@@ -85,20 +85,20 @@ let_stands library d mid inner last cut new args bindings body bound js b checke
     (λ ready closed.
     let each = neither b checked.is_open (sym opened ∙ closed) in
     let t = table_in library new in
-    let i = length (rows_of cut.nodes) in
+    let i = length (rows_in library cut) in
     let all = values.denote ready each.0 in
     let mid_new = grows_on mid last new (grows_on mid inner last step second) (grows_on last cut new step_cut third) in
-    let counted = bound_count (table_in library mid) (slots_seen d) (places_seen d) (length (rows_of mid.nodes)) js
+    let counted = bound_count (table_in library mid) (slots_seen d) (places_seen d) (length (rows_in library mid)) js
     bindings all in (
       tt,
       λ is. (
         js,
         checked.node,
         is,
-        bound_later t (slots_seen d) (places_seen d) (length (rows_of mid.nodes)) i js bindings lower
+        bound_later t (slots_seen d) (places_seen d) (length (rows_in library mid)) i js bindings lower
             (bound_kept (table_in library mid) t (mid_new library) (slots_seen d) (places_seen d)
-            (length (rows_of mid.nodes)) js bindings all),
-        omega (arith, inside_stands.number, ap (λ ns. length (rows_of ns)) nodes_cut),
+            (length (rows_in library mid)) js bindings all),
+        omega (arith, inside_stands.number, ap (λ ns. length (rows_of library.nodes ++ rows_of ns)) nodes_cut),
         subst (λ (n : ℕ). Denotes t (slots_bound (places_seen d) bindings ++ slots_seen d) n 0 checked.node body)
             (places_of_body d mid inner bindings bound kept within more base named js counted)
             (subst (λ (ss : Slots). Denotes t ss (places_seen inner) 0 checked.node body)
@@ -124,10 +124,10 @@ let_stands library d mid inner last cut new args bindings body bound js b checke
     to_cut : GrowsTo d cut
     to_cut = grows_on d last cut to_last step_cut
 
-    lower : length (rows_of mid.nodes) ≤ length (rows_of cut.nodes)
+    lower : length (rows_in library mid) ≤ length (rows_in library cut)
     lower =
         let longer = grows_on mid last cut (grows_on mid inner last step second) step_cut library in
-        omega (arith, ap length longer.rows.1, length-append (rows_of mid.nodes) longer.rows.0)
+        omega (arith, ap length longer.rows.1, length-append (rows_in library mid) longer.rows.0)
 
 -- ## Annotated terms
 
@@ -144,24 +144,25 @@ labelled_holds (x ∷ xs) bare labelled some h = h
 -- one without labels
 pub annotated_stands : (library : Library) (d mid new : Draft) (args attributes : Sexps) (term : Sexp)
     (checked c : Checked) → args ≡ Cons term attributes → has_labels (labels_among attributes) ≡ false
-    → GrowsTo d mid → Stands library d mid term checked → GrowsTo mid new → AddsAround mid new checked.node c.node
+    → GrowsTo d mid → Stands library d mid term checked → GrowsTo mid new → AddsAround library.nodes mid new checked.node c.node
     → c.is_open ≡ checked.is_open → Stands library d new (Items (Cons (Reserved Bang) args)) c
 annotated_stands library d mid new args attributes term checked c split none first stands second adds opened =
     subst (λ (ts : Sexps). Stands library d new (Items (Cons (Reserved Bang) ts)) c) (sym split) (record {
+      own = omega (arith, adds.number, length-append (rows_of library.nodes) (rows_of mid.nodes));
       number = omega (
         arith,
         adds.number,
         ap length adds.row.2,
-        length-append (rows_of mid.nodes) ((record r { around = r.around + 1 }) ∷ []),
+        length-append (rows_in library mid) ((record r { around = r.around + 1 }) ∷ []),
       );
       denotes = λ ready closed. bare_holds (labels_among attributes) _ _ (no_labels (labels_among attributes) none)
           (subst (λ (i : ℕ). Denotes t (slots_seen d) (places_seen d) 1 i term) (sym adds.number)
-          (denotes_around t checked.node (length (rows_of mid.nodes)) r
+          (denotes_around t checked.node (length (rows_in library mid)) r
           (ap (λ rs. slice_get rs checked.node) adds.row.2
-          ∙ slice_get-append (rows_of mid.nodes) ((record r { around = r.around + 1 }) ∷ []) checked.node r
+          ∙ slice_get-append (rows_in library mid) ((record r { around = r.around + 1 }) ∷ []) checked.node r
           adds.row.1)
-          (ap (λ rs. slice_get rs (length (rows_of mid.nodes))) adds.row.2
-          ∙ added (rows_of mid.nodes) (record r { around = r.around + 1 })) stands.number (slots_seen d)
+          (ap (λ rs. slice_get rs (length (rows_in library mid))) adds.row.2
+          ∙ added (rows_in library mid) (record r { around = r.around + 1 })) stands.number (slots_seen d)
           (places_seen d) 0 term
           (denotes_kept (table_in library mid) t (second library) (slots_seen d) (places_seen d) 0 checked.node term
           (stands.denotes ready (sym opened ∙ closed)))));
@@ -204,7 +205,7 @@ pub labelled_stands : (library : Library) (d inner mid given new : Draft) (term 
     → nodes_given given.labels ≡ nodes_given mid.labels ++ map (λ x. checked.node) (labels_among attributes)
     → ((t : Table) → AreNamed t mid.labels.given.items → Denotes t [] 0 0 checked.node term
     → AreNamed t given.labels.given.items)
-    → GrowsTo given new → AddsNode given new (node.Defined place []) c
+    → GrowsTo given new → AddsNode library.nodes given new (node.Defined place []) c
     → Stands library d new (Items (Cons (Reserved Bang) (Cons term attributes))) c
 labelled_stands library d inner mid given new term attributes place checked c labels nodes base first stands closed
     unused is_place some same_nodes more named last adds =
@@ -241,8 +242,8 @@ labelled_stands library d inner mid given new term attributes place checked c la
     to_inner_ready : IsReady (table_in library d) → IsReady (table_in library inner)
     to_inner_ready ready = ready_kept library d inner to_inner ready
 
-    below : checked.node < length (rows_of given.nodes)
-    below = omega (arith, stands.number, ap (λ ns. length (rows_of ns)) same_nodes)
+    below : checked.node < length (rows_in library given)
+    below = omega (arith, stands.number, ap (λ ns. length (rows_of library.nodes ++ rows_of ns)) same_nodes)
 
     no_slots : slots_seen inner ≡ []
     no_slots =

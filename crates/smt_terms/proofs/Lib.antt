@@ -25,6 +25,8 @@ pub mod BodyLemmas
 pub mod WholeLemmas
 pub mod ClosingLemmas
 pub mod HeadLemmas
+pub mod EndLemmas
+pub mod FirstRowLemmas
 pub mod TableLemmas
 pub mod AroundLemmas
 pub mod NodeLemmas

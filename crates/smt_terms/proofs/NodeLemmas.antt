@@ -1,5 +1,5 @@
 -- Nodes that are added stand for their terms.
-use Rattle.std.proofs.Common.{◌≡◌, ◌<◌, ◌-◌, ℕ, Bool, true, false, List, [], ◌∷◌, ◌++◌, length, map, nat_lt}
+use Rattle.std.proofs.Common.{suc, zero, ◌≤◌, ◌≡◌, ◌<◌, ◌-◌, ℕ, Bool, true, false, List, [], ◌∷◌, ◌++◌, length, map, nat_lt}
 use Rattle.std.proofs.Common.{slice_get, Option, Some, None, Result, Ok, Err, refl, ap, sym, ◌∙◌, subst}
 use Rattle.std.proofs.Common.{arith, cond, ◌==◌, IfOk}
 use Rattle.std.proofs.lemmas.List.{length-append}
@@ -20,7 +20,8 @@ use Rattle.smt_terms.specs.Denotes.{applied_node, named_node, node_at, node_of, 
 use Rattle.smt_terms.specs.Internal.DraftView.{IsPlaced, seen_by}
 use Rattle.smt_terms.specs.Internal.NodesView.{AddsApplied, AddsNode, GrowsTo, KeepsNamed, Stands, TermsStand}
 use Rattle.smt_terms.specs.Internal.NodesView.{bare_row}
-use Rattle.smt_terms.specs.Internal.TableView.{HasBody, IsReady, places_seen, slots_seen, table_in, table_of}
+use Rattle.smt_terms.specs.Internal.TableView.{HasBody, IsReady, places_seen, rows_in, slots_seen}
+use Rattle.smt_terms.specs.Internal.TableView.{table_in, table_of}
 use Rattle.smt_terms.specs.declared.library.Found.{Found}
 use Rattle.smt_terms.specs.declared.library.Found.TheVariants as place
 use Rattle.smt_terms.specs.declared.library.Library.{Library}
@@ -39,22 +40,36 @@ pub added : {A : Type 0} (xs : List A) (x : A) → slice_get (xs ++ x ∷ []) (l
 added [] x = refl
 added (y ∷ xs) x = added xs x
 
+-- what stands in the first of two lists, and in the second
+pub get_before : {A : Type 0} (xs ys : List A) (i : ℕ) → i < length xs → slice_get (xs ++ ys) i ≡ slice_get xs i
+get_before [] ys i within = absurd (omega (arith, within))
+get_before (x ∷ xs) ys zero within = refl
+get_before (x ∷ xs) ys (suc i) within = get_before xs ys i (omega (arith, within))
+
+pub get_behind : {A : Type 0} (xs ys : List A) (i : ℕ) → length xs ≤ i
+    → slice_get (xs ++ ys) i ≡ slice_get ys (i - length xs)
+get_behind [] ys i past = let same : i ≡ i - 0 = omega arith in ap (λ (k : ℕ). slice_get ys k) same
+get_behind (x ∷ xs) ys zero past = absurd (omega (arith, past))
+get_behind (x ∷ xs) ys (suc i) past =
+    let same : i - length xs ≡ suc i - suc (length xs) = omega arith in
+    get_behind xs ys i (omega (arith, past)) ∙ ap (λ (k : ℕ). slice_get ys k) same
+
 -- what is found is this row
 pub is_row : (o : Option Row) (r : Row) → o ≡ Some r → IsRow o r.around (Some r.node)
 is_row o r h = subst (λ (p : Option Row). IsRow p r.around (Some r.node)) (sym h) (refl, refl)
 
 -- the node that is added is found by its number
-pub row_added : (library : Library) (old new : Draft) (n : Node) (c : Checked) → AddsNode old new n c
-    → IsRow (slice_get (rows_of new.nodes) (length (rows_of old.nodes))) 0 (Some n)
+pub row_added : (library : Library) (old new : Draft) (n : Node) (c : Checked) → AddsNode library.nodes old new n c
+    → IsRow (slice_get (rows_in library new) (length (rows_in library old))) 0 (Some n)
 row_added library old new n c adds =
-    is_row (slice_get (rows_of new.nodes) (length (rows_of old.nodes))) (bare_row n c.sort)
-    (ap (λ (rs : List Row). slice_get rs (length (rows_of old.nodes))) adds.rows
-    ∙ added (rows_of old.nodes) (bare_row n c.sort))
+    is_row (slice_get (rows_in library new) (length (rows_in library old))) (bare_row n c.sort)
+    (ap (λ (rs : List Row). slice_get rs (length (rows_in library old))) adds.rows
+    ∙ added (rows_in library old) (bare_row n c.sort))
 
-pub number_added : (old new : Draft) (n : Node) (c : Checked) → AddsNode old new n c
-    → c.node < length (rows_of new.nodes)
-number_added old new n c adds =
-    omega (arith, adds.number, ap length adds.rows, length-append (rows_of old.nodes) (bare_row n c.sort ∷ []))
+pub number_added : (library : Library) (old new : Draft) (n : Node) (c : Checked) → AddsNode library.nodes old new n c
+    → c.node < length (rows_in library new)
+number_added library old new n c adds =
+    omega (arith, adds.number, ap length adds.rows, length-append (rows_in library old) (bare_row n c.sort ∷ []))
 
 -- ## What is named has a body
 
@@ -93,14 +108,15 @@ has_body t (Indexed f is) args n ready h =
 
 -- a node that is added behind others stands for a term where it does so by its number
 pub made_stands : (library : Library) (old mid new : Draft) (term : Sexp) (n : Node) (c : Checked)
-    → GrowsTo old mid → KeepsNamed library old mid → GrowsTo mid new → AddsNode mid new n c
+    → GrowsTo old mid → KeepsNamed library old mid → GrowsTo mid new → AddsNode library.nodes mid new n c
     → (IsReady (table_in library old) → c.is_open ≡ false
-    → HasBodyBelow (table_in library mid).bodies (length (rows_of mid.nodes)) (Some n)
-    × (IsNode (table_in library new) 0 (length (rows_of mid.nodes)) (Some n)
-    → Denotes (table_in library new) (slots_seen old) (places_seen old) 0 (length (rows_of mid.nodes)) term))
+    → HasBodyBelow (table_in library mid).bodies (length (rows_in library mid)) (Some n)
+    × (IsNode (table_in library new) 0 (length (rows_in library mid)) (Some n)
+    → Denotes (table_in library new) (slots_seen old) (places_seen old) 0 (length (rows_in library mid)) term))
     → Stands library old new term c
 made_stands library old mid new term n c first named second adds made = record {
-  number = number_added mid new n c adds;
+  own = omega (arith, adds.number, length-append (rows_of library.nodes) (rows_of mid.nodes));
+  number = number_added library mid new n c adds;
   denotes = λ ready closed.
       let m = made ready closed in
       subst (λ (i : ℕ). Denotes (table_in library new) (slots_seen old) (places_seen old) 0 i term)
@@ -108,7 +124,7 @@ made_stands library old mid new term n c first named second adds made = record {
       (m.1 (
         row_added library mid new n c adds,
         subst (λ ls. HasBodyBelow (library.bodies.items ++ map (λ l. l.node) ls.given.items)
-            (length (rows_of mid.nodes)) (Some n)) (sym adds.labels) m.0,
+            (length (rows_in library mid)) (Some n)) (sym adds.labels) m.0,
       ));
   named = keeps_on library old mid new first named (keeps_labels library mid new second adds.labels);
 }
@@ -117,28 +133,28 @@ made_stands library old mid new term n c first named second adds made = record {
 
 -- a literal
 pub literal_stands : (library : Library) (old new : Draft) (term : Sexp) (n : Node) (c : Checked)
-    → GrowsTo old new → AddsNode old new n c
-    → HasBodyBelow (table_in library old).bodies (length (rows_of old.nodes)) (Some n)
+    → GrowsTo old new → AddsNode library.nodes old new n c
+    → HasBodyBelow (table_in library old).bodies (length (rows_in library old)) (Some n)
     → ((t : Table) (slots : Slots) (next i : ℕ) → IsNode t 0 i (Some n) → Denotes t slots next 0 i term)
     → Stands library old new term c
 literal_stands library old new term n c longer adds body made =
     made_stands library old old new term n c (grows_itself old) (keeps_itself library old) longer adds
     (λ ready closed. (
       body,
-      λ is. made (table_in library new) (slots_seen old) (places_seen old) (length (rows_of old.nodes)) is,
+      λ is. made (table_in library new) (slots_seen old) (places_seen old) (length (rows_in library old)) is,
     ))
 
 -- a variable
 pub variable_stands : (library : Library) (old new : Draft) (x : List ℕ) (b : Bound) (c : Checked)
     → IsPlaced (seen_by old) old.base → look_up (seen_by old) x ≡ Some b
     → c.is_open ≡ nat_lt b.place old.base → GrowsTo old new
-    → AddsNode old new (node.Slot (b.place - old.base)) c → Stands library old new (Atom Symbol x) c
+    → AddsNode library.nodes old new (node.Slot (b.place - old.base)) c → Stands library old new (Atom Symbol x) c
 variable_stands library old new x b c placed found is longer adds =
     made_stands library old old new (Atom Symbol x) (node.Slot (b.place - old.base)) c (grows_itself old)
     (keeps_itself library old) longer adds
     (λ ready closed. (
       tt,
-      λ made. subst (λ (o : Option ℕ). IsNode (table_in library new) 0 (length (rows_of old.nodes))
+      λ made. subst (λ (o : Option ℕ). IsNode (table_in library new) 0 (length (rows_in library old))
           (symbol_node (table_in library new) x o))
           (sym (slot_inside (seen_by old) old.base x b placed found (sym is ∙ closed))) made,
     ))
@@ -148,8 +164,8 @@ applied_stands : (library : Library) (old mid new : Draft) (term : Sexp) (f : Id
     (args : List ℕ) (c : Checked) → GrowsTo old mid → KeepsNamed library old mid → GrowsTo mid new
     → AddsApplied library mid new f sorts args c → length args ≡ length sorts
     → (IsReady (table_in library old) → c.is_open ≡ false
-    → IsNode (table_in library new) 0 (length (rows_of mid.nodes)) (node_of (table_in library new) f args)
-    → Denotes (table_in library new) (slots_seen old) (places_seen old) 0 (length (rows_of mid.nodes)) term)
+    → IsNode (table_in library new) 0 (length (rows_in library mid)) (node_of (table_in library new) f args)
+    → Denotes (table_in library new) (slots_seen old) (places_seen old) 0 (length (rows_in library mid)) term)
     → Stands library old new term c
 applied_stands library old mid new term f sorts args c first named second adds counted made =
     made_stands library old mid new term adds.node c first named second adds.added
@@ -158,7 +174,7 @@ applied_stands library old mid new term f sorts args c first named second adds c
     same mid ∙ adds.is ready.free counted in (
       has_body (table_in library mid) f args adds.node (ready_kept library old mid first ready) at,
       λ is. made ready closed
-          (subst (λ (o : Option Node). IsNode (table_in library new) 0 (length (rows_of mid.nodes)) o)
+          (subst (λ (o : Option Node). IsNode (table_in library new) 0 (length (rows_in library mid)) o)
           (sym (same new ∙ adds.is ready.free counted)) is),
     ))
   where
@@ -176,7 +192,7 @@ pub symbol_stands : (library : Library) (old new : Draft) (x : List ℕ) (c : Ch
 symbol_stands library old new x c none longer adds =
     applied_stands library old old new (Atom Symbol x) (Plain x) [] [] c (grows_itself old)
     (keeps_itself library old) longer adds refl
-    (λ ready closed is. subst (λ (o : Option ℕ). IsNode (table_in library new) 0 (length (rows_of old.nodes))
+    (λ ready closed is. subst (λ (o : Option ℕ). IsNode (table_in library new) 0 (length (rows_in library old))
     (symbol_node (table_in library new) x o)) (sym (slot_none (seen_by old) old.base x none)) is)
 
 -- an identifier with indexes alone
@@ -216,9 +232,9 @@ call_stands library old mid new head args parts f sorts js is_open c split other
     subst (λ (ps : Sexps). Stands library old new (Items ps) c) (sym split)
     (applied_stands library old mid new (Items (Cons head args)) f sorts js c first all.named second adds counted
     (λ ready closed made. other_denotes (table_in library new) (slots_seen old) (places_seen old) 0
-    (length (rows_of mid.nodes)) head args other f js is made
+    (length (rows_in library mid)) head args other f js is made
     (all_kept (table_in library mid) (table_in library new) (second library) (slots_seen old) (places_seen old)
-    (length (rows_of mid.nodes)) js args (all.denote ready (sym same ∙ closed)))))
+    (length (rows_in library mid)) js args (all.denote ready (sym same ∙ closed)))))
 
 -- what follows of an answer
 pub if_answered : {T E : Type 0} (r : Result T E) (P Q : T → Type 0) → ((v : T) → P v → Q v) → IfOk r P → IfOk r Q

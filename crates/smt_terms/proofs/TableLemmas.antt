@@ -3,12 +3,16 @@ use Rattle.std.proofs.Common.{◌≡◌, ◌<◌, ◌-◌, ℕ, map, List, [], �
 use Rattle.std.proofs.Common.{◌∙◌, subst, arith}
 use Rattle.std.proofs.lemmas.List.{length-append}
 use Rattle.smt_trees.specs.Tree.{sexp_of}
+use Rattle.smt_nodes.specs.Node.{Row}
 use Rattle.smt_nodes.specs.Nodes.{rows_of}
+use Rattle.smt_theory.specs.Operators.{is_plain_operator}
+use Rattle.smt_theory.specs.Words.{look_up}
 use Rattle.smt_terms.specs.Denotes.{IsLonger, Table}
 use Rattle.smt_terms.specs.Internal.Calls.{SeesTheSame}
 use Rattle.smt_terms.specs.Internal.DraftView.{Variables, inside, seen_by}
 use Rattle.smt_terms.specs.Internal.NodesView.{GrowsTo, KeepsNamed, nodes_given}
-use Rattle.smt_terms.specs.Internal.TableView.{AreNamed, HasBody, IsReady, places_seen, slots_seen, table_in}
+use Rattle.smt_terms.specs.Internal.TableView.{AreNamed, HasBody, IsReady, places_seen, rows_in, slots_seen}
+use Rattle.smt_terms.specs.Internal.TableView.{table_in}
 use Rattle.smt_terms.specs.declared.labels.Label.{Label}
 use Rattle.smt_terms.specs.declared.labels.Labels.{Labels}
 use Rattle.smt_terms.specs.declared.library.Found.{Found}
@@ -84,7 +88,7 @@ grows_same old new labels nodes library = record {
     ap (λ (ls : Labels). library.bodies.items ++ map (λ l. l.node) ls.given.items) labels
         ∙ sym (append-nil (table_in library old).bodies),
   );
-  rows = ([], ap rows_of nodes ∙ sym (append-nil (rows_of old.nodes)));
+  rows = ([], ap (λ ns. rows_of library.nodes ++ rows_of ns) nodes ∙ sym (append-nil (rows_in library old)));
 }
 
 -- one with the same nodes, and more labels
@@ -98,7 +102,45 @@ grows_given old new more nodes given library = record {
     ap (λ (ns : List ℕ). library.bodies.items ++ ns) given
         ∙ sym (append_assoc library.bodies.items (nodes_given old.labels) more),
   );
-  rows = ([], ap rows_of nodes ∙ sym (append-nil (rows_of old.nodes)));
+  rows = ([], ap (λ ns. rows_of library.nodes ++ rows_of ns) nodes ∙ sym (append-nil (rows_in library old)));
+}
+
+-- one with more nodes, and the same labels
+pub grows_rows : (old new : Draft) (more : List Row) → new.labels ≡ old.labels
+    → rows_of new.nodes ≡ rows_of old.nodes ++ more → GrowsTo old new
+grows_rows old new more labels rows library = record {
+  theories = refl;
+  heads = ([], sym (append-nil (table_in library old).heads));
+  bodies = (
+    [],
+    ap (λ (ls : Labels). library.bodies.items ++ map (λ l. l.node) ls.given.items) labels
+        ∙ sym (append-nil (table_in library old).bodies),
+  );
+  rows = (
+    more,
+    ap (λ (rs : List Row). rows_of library.nodes ++ rs) rows
+        ∙ sym (append_assoc (rows_of library.nodes) (rows_of old.nodes) more),
+  );
+}
+
+-- so the nodes of the draft alone grow
+pub rows_grow : (old new : Draft) → GrowsTo old new → (library : Library) → rows_of library.nodes ≡ []
+    → (more : List Row) × (rows_of new.nodes ≡ rows_of old.nodes ++ more)
+rows_grow old new longer library none =
+    let rows = (longer library).rows in (
+      rows.0,
+      sym (ap (λ (rs : List Row). rs ++ rows_of new.nodes) none)
+          ∙ rows.1
+          ∙ ap (λ (rs : List Row). (rs ++ rows_of old.nodes) ++ rows.0) none,
+    )
+
+-- a table is ready where it is longer
+pub ready_longer : (t u : Table) → IsLonger t u → u.heads ≡ t.heads → IsReady t → IsReady u
+ready_longer t u longer same ready = record {
+  free = λ x head at. ap (λ ts. is_plain_operator ts x) longer.theories
+      ∙ ready.free x head (ap (λ hs. look_up hs x) (sym same) ∙ at);
+  bodied = λ x head at. body_stays t u longer head.place
+      (ready.bodied x head (ap (λ hs. look_up hs x) (sym same) ∙ at));
 }
 
 -- what is ready stays so

@@ -1,10 +1,11 @@
 -- What a library holds, as plain lists, and its beginnings.
-use Rattle.std.specs.Prelude.{◌≡◌, ◌≤◌, ℕ, List, ◌++◌, length, map, take}
+use Rattle.std.specs.Prelude.{◌≡◌, ◌≤◌, ℕ, List, ◌++◌, length, map, max, take}
 use Rattle.smt_theory.specs.declared.sort.Sort.{Sort}
 use Rattle.smt_theory.specs.declared.theories.Theories.{Theories}
 use Rattle.smt_nodes.specs.Node.{Row}
 use Rattle.smt_nodes.specs.Nodes.{rows_of}
 use Rattle.smt_terms.specs.Denotes.{Head, Table}
+use Rattle.smt_terms.specs.Ends.{end_of}
 use Rattle.smt_terms.specs.Internal.LibraryView.{abbreviations_of, ranks_of_library}
 use Rattle.smt_terms.specs.Internal.TableView.{heads_of_library}
 use Rattle.smt_terms.specs.Signature.{Rank}
@@ -67,6 +68,10 @@ first_of mark c = record {
   bodies = take mark.definitions c.bodies;
   rows = take mark.nodes c.rows;
 }
+
+-- the first so many nodes, and those that the bodies of definitions need
+abbrev pub needed_of : ℕ → Contents → Contents
+needed_of count c = record c { rows = take (max count (end_of c.bodies)) c.rows }
 
 -- there are so many of each
 pub record IsWithin (mark : Mark) (c : Contents) : Type 0 where

@@ -9,6 +9,7 @@ pub mod Assertions
 pub mod Items
 pub mod WellSorted
 pub mod Written
+pub mod Ends
 pub mod Contents
 pub mod Library
 pub mod Denotes

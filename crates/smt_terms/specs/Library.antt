@@ -2,6 +2,8 @@
 -- their nodes.
 use Rattle.std.specs.Prelude.{◌≡◌, ℕ, ◌+◌, List, [], ◌∷◌, ◌++◌, Some, length}
 use Rattle.std.specs.Prelude.{map, slice_get}
+use Rattle.smt_nodes.specs.Node.{Row}
+use Rattle.smt_nodes.specs.Nodes.{rows_of}
 use Rattle.smt_trees.specs.Sexp.{Sexp}
 use Rattle.smt_terms.specs.Contents.{Contents, Declaration, contents_of, terms_in}
 use Rattle.smt_terms.specs.Denotes.{Denotes, Table}
@@ -21,12 +23,21 @@ use Rattle.smt_terms.specs.declared.library.Library.{Library}
 abbrev pub IsTermOf : Contents → ℕ → Sexp → Type 0
 IsTermOf c id t = Denotes (terms_in c) [] 0 0 id t
 
-abbrev pub IsTerm : Library → ℕ → Sexp → Type 0
-IsTerm library id t = IsTermOf (contents_of library) id t
+-- the nodes of the transient terms, which a library does not hold
+abbrev pub transient_of : Library → List Row
+transient_of library = rows_of library.transient
 
--- the table of a library's terms
+-- the table of the terms that a library holds
+abbrev pub held_terms_of : Library → Table
+held_terms_of library = terms_in (contents_of library)
+
+-- the table of a library's terms: the transient ones stand behind those that it holds
 abbrev pub terms_of : Library → Table
-terms_of library = terms_in (contents_of library)
+terms_of library =
+    record (held_terms_of library) { rows = rows_of library.nodes ++ transient_of library }
+
+abbrev pub IsTerm : Library → ℕ → Sexp → Type 0
+IsTerm library id t = Denotes (terms_of library) [] 0 0 id t
 
 -- ---- declared and defined names
 

@@ -1,18 +1,19 @@
 //! What holds of the definitions that the contracts name. Nothing here does anything: each contract is a law.
 
 ghost use Rattle.std.specs.List.{All};
-ghost use Rattle.std.specs.Prelude.{◌≡◌, ◌≢◌, ◌↔◌, ◌∷◌, ◌++◌, ℕ, List, [], Some, None, true, false, Ok, bytes_eq};
+ghost use Rattle.std.specs.Prelude.{◌≡◌, ◌≢◌, ◌<◌, ◌↔◌, ◌∷◌, ◌++◌, ℕ, List, [], Some, None, true, false, Ok};
+ghost use Rattle.std.specs.Prelude.{bytes_eq, length};
 ghost use Rattle.smt_trees.specs.Sexp.{Sexp, Sexps};
 ghost use Rattle.smt_nodes.specs.Node.{Row};
 ghost use Rattle.smt_theory.specs.declared.sort.Sort.{Sort};
 ghost use Rattle.smt_theory.specs.declared.theories.Theories.{Theories};
 ghost use Rattle.smt_terms.specs.Checking.{sort_in};
 ghost use Rattle.smt_terms.specs.Assertions.{asserted_in};
-ghost use Rattle.smt_terms.specs.Contents.{Contents, Extends, IsBelow, IsWithin, first_of};
+ghost use Rattle.smt_terms.specs.Contents.{Contents, Extends, IsBelow, IsWithin, first_of, needed_of};
 ghost use Rattle.smt_terms.specs.Definitions.{defined_in};
 ghost use Rattle.smt_terms.specs.Denotes.{Denotes, IsLonger, Slots, Table};
 ghost use Rattle.smt_forms.specs.Labels.{labels_in};
-ghost use Rattle.smt_terms.specs.Library.{IsTermOf};
+ghost use Rattle.smt_terms.specs.Library.{Holds, IsTermOf, StandsFor, terms_of};
 ghost use Rattle.smt_terms.specs.Items.{item_in};
 ghost use Rattle.smt_terms.specs.Declarations.{declared_in};
 ghost use Rattle.smt_terms.specs.Signature.{Entry, KeepsRank, Names, Signature, declared_named, entry_named};
@@ -21,6 +22,7 @@ ghost use Rattle.smt_terms.specs.TermsOf.{AreTermsOf};
 ghost use Rattle.smt_terms.specs.Freshness.{is_taken};
 ghost use Rattle.smt_terms.specs.WellSorted.{AreIntroduced, IsWellSorted, Keeps};
 ghost use Rattle.smt_terms.specs.Written.{AreLabelsOf, IsDeclaredAs, IsDefinedAs, IsPrintedAs};
+ghost use Rattle.smt_terms.specs.declared.library.Library.{Library};
 ghost use Rattle.smt_terms.specs.declared.library.marks.Mark.{Mark};
 
 use smt_theory::laws::sorts_are_compared;
@@ -138,6 +140,24 @@ pub fn terms_are_kept()
 pub fn nodes_stand_for_their_terms_still()
     ensures { (t u : Table) (slots : Slots) (next around i : ℕ) (term : Sexp) → IsLonger t u
         → Denotes t slots next around i term → Denotes u slots next around i term }
+{}
+
+/// The table of all terms of a library, the transient ones too, has the names and the definitions of the
+/// signature that it stands for.
+pub fn transient_terms_change_no_names()
+    ensures { (library : Library) (s : Signature) → StandsFor library s → AreTermsOf (terms_of library) s }
+{}
+
+/// The number of a term is that of a node.
+pub fn terms_have_nodes()
+    ensures { (c : Contents) (i : ℕ) (t : Sexp) → IsTermOf c i t → i < length c.rows }
+{}
+
+/// What contents stand for needs the nodes of the bodies alone, and a term those up to its own.
+pub fn needed_nodes_are_enough()
+    ensures names { (count : ℕ) (c : Contents) (s : Signature) → Holds c s → Holds (needed_of count c) s }
+    ensures terms { (count : ℕ) (c : Contents) (i : ℕ) (t : Sexp) → i < count → IsTermOf c i t
+        → IsTermOf (needed_of count c) i t }
 {}
 
 /// A table without names and bodies is that of a signature without names, whatever nodes it has.

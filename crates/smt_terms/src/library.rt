@@ -5,6 +5,7 @@ ghost use Rattle.std.specs.Prelude.{◌≡◌, length, bytes_eq};
 ghost use Rattle.std.specs.List.{IsDistinct};
 ghost use Rattle.std.proofs.Props.{props};
 ghost use Rattle.indexmap.specs.IndexMap.{keys};
+ghost use Rattle.smt_terms.specs.Ends.{ends_from};
 
 pub use marks::Mark;
 
@@ -19,6 +20,7 @@ mod items;
 mod marks;
 mod params;
 mod scope;
+mod transient;
 
 use crate::labels::Labels;
 use crate::sorts::SortNames;
@@ -84,9 +86,13 @@ pub struct Library {
     declared: Vec<Declared>,
     definitions: Vec<Definition>,
     bodies: Vec<TermId>,
+    /// For each definition how many nodes its body and those before it need.
+    ends: Vec<usize>,
     nodes: Nodes,
+    transient: Nodes,
     ghost distinct: { IsDistinct (λ a b. bytes_eq a.items b.items) (keys names) } by { Prim.hlevel props },
     ghost paired: { length bodies.items ≡ length definitions.items } by { Prim.hlevel props },
+    ghost ended: { ends.items ≡ ends_from 0 bodies.items } by { Prim.hlevel props },
 }
 
 impl Library {
@@ -105,8 +111,8 @@ impl Library {
     ghost use Rattle.smt_terms.specs.Internal.LibraryView.{names_of_library, places_of_library, rank_of};
     ghost use Rattle.smt_terms.specs.Internal.LibraryView.{ranks_of_library, sort_names};
     ghost use Rattle.smt_terms.specs.Internal.TableView.{head_of, heads_of_library};
-    ghost use Rattle.smt_terms.specs.Library.{AreDefinitions, IsFound, IsTerm, IsUnchanged};
-    ghost use Rattle.smt_terms.specs.Library.{StandsFor, declarations_from, terms_of};
+    ghost use Rattle.smt_terms.specs.Library.{AreDefinitions, IsFound, IsTerm, IsTermOf, IsUnchanged};
+    ghost use Rattle.smt_terms.specs.Library.{StandsFor, declarations_from, terms_of, transient_of};
     ghost use Rattle.smt_terms.specs.Library.{defined_among, definitions_of, name_count};
     ghost use Rattle.smt_terms.specs.Signature as signature;
     ghost use Rattle.smt_terms.specs.Declarations.{abbreviated_in, declaration, declared_in, rank_named};
@@ -117,7 +123,9 @@ impl Library {
 
     /// A library of these theories without names.
     pub fn new(alloc: Global, theories: Theories) -> Self
-        ensures { StandsFor result (no_names theories) }
+        ensures stands { StandsFor result (no_names theories) }
+        ensures empty { (contents_of result).rows ≡ [] }
+        ensures transient { transient_of result ≡ [] }
     {
         Library {
             alloc,
@@ -126,7 +134,9 @@ impl Library {
             declared: Vec::new(alloc),
             definitions: Vec::new(alloc),
             bodies: Vec::new(alloc),
+            ends: Vec::new(alloc),
             nodes: Nodes::new(alloc),
+            transient: Nodes::new(alloc),
         }
     }
 
@@ -196,6 +206,7 @@ impl Library {
             → Tells (declared_in s command name.now (sexps_of params.now) (sexp_of sort.now)) fault) }
         ensures unchanged { OnErr result (IsUnchanged self.old self.new) }
         ensures grown { Extends (contents_of self.old) (contents_of self.new) }
+        ensures transient { transient_of self.new ≡ transient_of self.old }
     {
         if self.is_taken(name) {
             return Err(TermFault::NotFresh);
@@ -216,6 +227,7 @@ impl Library {
             → Tells (abbreviated_in (sort_names_of s) name.now (sexp_of sort.now)) fault) }
         ensures unchanged { OnErr result (IsUnchanged self.old self.new) }
         ensures grown { Extends (contents_of self.old) (contents_of self.new) }
+        ensures transient { transient_of self.new ≡ transient_of self.old }
     {
         self.sorts.abbreviate(self.alloc, name, sort)
     }
@@ -226,30 +238,44 @@ impl Library {
     pub fn check(&mut self, term: &Tree) -> Result<(TermId, Sort), TermFault>
         ensures answer { (s : Signature) → StandsFor self.old s
             → MatchResult result (λ p. (sort_in (names_of s) [] (sexp_of term.now) ≡ Ok p.1)
-            × IsTerm self.new p.0 (sexp_of term.now))
+            × IsTermOf (contents_of self.new) p.0 (sexp_of term.now))
             (λ fault. Tells (sort_in (names_of s) [] (sexp_of term.now)) fault) }
         ensures kept { IsUnchanged self.old self.new }
         ensures grown { Extends (contents_of self.old) (contents_of self.new) }
+        ensures transient { transient_of self.new ≡ transient_of self.old }
     {
         let (checked, _) = self.check_whole(&[], Labels::refused(self.alloc), term)?;
         Ok((checked.node, checked.sort))
     }
 
-    /// The node of a term, which is one of this library.
+    /// The node of a term, which is one of this library, perhaps a transient one.
     pub fn node(&self, term: TermId) -> Node<'_>
         requires { (t : Sexp) × IsTerm self.now term t }
         ensures { (row : Row) × (slice_get (terms_of self.now).rows term ≡ Some row)
             × (node_view result ≡ row.node) }
     {
-        match self.nodes.get(term.number()) {
+        match self.node_at(term.number()) {
             Some(node) => node,
             None => unreachable!(),
         }
     }
 
-    /// The nodes of all terms.
+    // The node of a number, if one has it.
+    fn node_at(&self, number: usize) -> Option<Node<'_>>
+        ensures { option_map node_view result
+            ≡ option_map (λ row. row.node) (slice_get (terms_of self.now).rows number) }
+    {
+        let count = self.nodes.len();
+        if number < count {
+            self.nodes.get(number)
+        } else {
+            self.transient.get(number - count)
+        }
+    }
+
+    /// The nodes of all terms but the transient ones.
     pub fn nodes(&self) -> &Nodes
-        ensures { rows_of result.now ≡ (terms_of self.now).rows }
+        ensures { rows_of result.now ≡ (contents_of self.now).rows }
     {
         &self.nodes
     }
@@ -336,6 +362,7 @@ impl Library {
             (record { parameters = declared.params.items; sort = declared.result })))) }
         ensures unchanged { OnErr result (IsUnchanged self.old self.new) }
         ensures grown { Extends (contents_of self.old) (contents_of self.new) }
+        ensures transient { self.new.transient ≡ self.old.transient }
     {
         let entry = Entry {
             parameters: Vec::from_slice(self.alloc, declared.params.as_slice())?,
@@ -367,6 +394,7 @@ impl Library {
         ensures definitions { self.new.definitions.items ≡ self.old.definitions.items }
         ensures bodies { self.new.bodies.items ≡ self.old.bodies.items }
         ensures nodes { self.new.nodes ≡ self.old.nodes }
+        ensures transient { self.new.transient ≡ self.old.transient }
     {
         let key = Vec::from_slice(self.alloc, name)?;
         self.names.insert(key, entry)?;

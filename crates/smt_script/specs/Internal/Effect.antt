@@ -2,18 +2,19 @@
 -- printed, and that it was applied.
 use Rattle.std.specs.Prelude.{◌≡◌, ℕ, zero, suc, List, [], ◌∷◌, ◌++◌, Bool, false, ◌||◌, None, Some, length}
 use Rattle.std.specs.Prelude.{if◌then◌else◌}
-use Rattle.std.specs.Prelude.{slice_get, take}
+use Rattle.std.specs.Prelude.{slice_get, take, ◌<◌}
+use Rattle.smt_nodes.specs.Node.{Row}
 use Rattle.smt_trees.specs.Sexp.{Sexp}
 use Rattle.smt_theory.specs.declared.theories.Theories.{Theories}
-use Rattle.smt_terms.specs.Contents.{Contents, Extends, IsBelow, IsWithin, contents_of, first_of}
+use Rattle.smt_terms.specs.Contents.{Contents, Extends, IsBelow, IsWithin, contents_of, first_of, needed_of}
 use Rattle.smt_terms.specs.Library as library
-use Rattle.smt_terms.specs.Library.{IsTermOf}
+use Rattle.smt_terms.specs.Library.{Holds, IsTermOf, terms_of, transient_of}
 use Rattle.smt_terms.specs.Signature.{Signature, no_names}
 use Rattle.smt_terms.specs.declared.library.marks.Mark.{Mark}
 use Rattle.smt_script.specs.Command.{Assumes, CheckSatAssuming, Command, Effect, Nothing, Removing, SetsGlobal}
 use Rattle.smt_script.specs.Command.{closes_window, is_check}
 use Rattle.smt_script.specs.Stack.{Numbered, flaw_of_effect, is_exit, is_late_after, is_set_after, trees_of}
-use Rattle.smt_script.specs.Stack.{global_after, print_success_after}
+use Rattle.smt_script.specs.Stack.{ends_assumptions, global_after, print_success_after}
 use Rattle.smt_script.specs.StackView.{AreNamesAlike, AreTerms, HasInForce, contents_left, last_of}
 use Rattle.smt_script.specs.StackView.{initial_print_success_of}
 use Rattle.smt_faults.specs.declared.command_fault.CommandFault.{CommandFault}
@@ -33,6 +34,16 @@ pub record ContentsAreKept : Type 0 where
       → first_of mark d ≡ first_of mark c
   pub within : (mark : Mark) (c d : Contents) → IsWithin mark c → Extends c d → IsWithin mark d
   pub terms : (c d : Contents) (i : ℕ) (t : Sexp) → Extends c d → IsTermOf c i t → IsTermOf d i t
+
+-- the number of a term is that of a node
+abbrev pub TermsHaveNodes : Type 0
+TermsHaveNodes = (c : Contents) (i : ℕ) (t : Sexp) → IsTermOf c i t → i < length c.rows
+
+-- contents stand for the same, and terms up to a number too, by the nodes that are needed
+pub record NeededIsEnough : Type 0 where
+  pub names : (count : ℕ) (c : Contents) (s : Signature) → Holds c s → Holds (needed_of count c) s
+  pub terms : (count : ℕ) (c : Contents) (i : ℕ) (t : Sexp) → i < count → IsTermOf c i t
+      → IsTermOf (needed_of count c) i t
 
 -- the stack once this is noted
 abbrev pub with_notes : Command → Stack → Stack
@@ -57,28 +68,6 @@ IsRefused old n command fault =
     (commands : List Numbered) → HasInForce old commands
     → TellsCommand (flaw_of_effect commands n command) fault
 
--- nothing that was in force changed
-pub record IsUnchanged (old new : Stack) : Type 0 where
-  pub stands : (commands : List Numbered) → HasInForce old commands → HasInForce new commands
-  pub last : last_of new ≡ last_of old
-  pub start : initial_print_success_of new ≡ initial_print_success_of old
-  pub assumptions : (ts : List Sexp) → AreTerms (contents_of old.library) old.assumptions.items ts
-      → AreTerms (contents_of new.library) new.assumptions.items ts
-
--- the assumptions of the stack after an effect, where it ends none: the literals that it assumes, or those
--- of before
-abbrev pub HasAssumed : (old new : Stack) → Effect → Type 0
-HasAssumed old new (Assumes literals) =
-    (s : Signature) → library.StandsFor old.library s
-    → AreTerms (contents_of new.library) new.assumptions.items (trees_of literals)
-HasAssumed old new (Removing Nothing) =
-    (ts : List Sexp) → AreTerms (contents_of old.library) old.assumptions.items ts
-    → AreTerms (contents_of new.library) new.assumptions.items ts
-HasAssumed old new (SetsGlobal on) =
-    (ts : List Sexp) → AreTerms (contents_of old.library) old.assumptions.items ts
-    → AreTerms (contents_of new.library) new.assumptions.items ts
-HasAssumed old new _ = Unit {0}
-
 -- what is noted of the commands is the same
 pub record HasNotesOf (old new : Stack) : Type 0 where
   pub logic : new.logic ≡ old.logic
@@ -88,18 +77,49 @@ pub record HasNotesOf (old new : Stack) : Type 0 where
   pub exited : new.exited ≡ old.exited
   pub last : new.last ≡ old.last
 
--- whether a command ends the assumptions of the check before it, and assumes nothing itself
-abbrev pub ends_assumptions : Command → Bool
-ends_assumptions (CheckSatAssuming literals) = false
-ends_assumptions command = is_check command || closes_window command
+-- nothing changed but that the library may hold more
+pub record HasMore (old new : Stack) : Type 0 where
+  pub library : Extends (contents_of old.library) (contents_of new.library)
+  pub transient : transient_of new.library ≡ transient_of old.library
+  pub assertions : new.assertions.items ≡ old.assertions.items
+  pub assumptions : new.assumptions.items ≡ old.assumptions.items
+  pub levels : new.levels ≡ old.levels
+  pub notes : HasNotesOf old new
+
+-- nothing changed
+pub record IsUnchanged (old new : Stack) : Type 0 where
+  pub library : contents_of new.library ≡ contents_of old.library
+  pub transient : transient_of new.library ≡ transient_of old.library
+  pub assertions : new.assertions.items ≡ old.assertions.items
+  pub assumptions : new.assumptions.items ≡ old.assumptions.items
+  pub levels : new.levels ≡ old.levels
+  pub notes : HasNotesOf old new
+
+-- the assumptions of the stack after an effect, where it ends none: the literals that it assumes, or those
+-- of before
+abbrev pub HasAssumed : (old new : Stack) → Effect → Type 0
+HasAssumed old new (Assumes literals) =
+    (s : Signature) → library.StandsFor old.library s
+    → AreTerms (terms_of new.library) new.assumptions.items (trees_of literals)
+HasAssumed old new (Removing Nothing) =
+    (ts : List Sexp) → AreTerms (terms_of old.library) old.assumptions.items ts
+    → AreTerms (terms_of new.library) new.assumptions.items ts
+HasAssumed old new (SetsGlobal on) =
+    (ts : List Sexp) → AreTerms (terms_of old.library) old.assumptions.items ts
+    → AreTerms (terms_of new.library) new.assumptions.items ts
+HasAssumed old new _ = Unit {0}
 
 abbrev pub assumptions_left : Command → List ℕ → List ℕ
 assumptions_left command assumptions = if ends_assumptions command then [] else assumptions
 
--- the stack keeps its assumptions, unless the command ends them, and all else
+abbrev pub transient_left : Command → List Row → List Row
+transient_left command rows = if ends_assumptions command then [] else rows
+
+-- the stack keeps its assumptions, with their nodes, unless the command ends them, and all else
 pub record IsEnded (command : Command) (old new : Stack) : Type 0 where
   pub assumptions : new.assumptions.items ≡ assumptions_left command old.assumptions.items
-  pub library : new.library ≡ old.library
+  pub library : contents_of new.library ≡ contents_of old.library
+  pub transient : transient_of new.library ≡ transient_left command (transient_of old.library)
   pub assertions : new.assertions ≡ old.assertions
   pub levels : new.levels ≡ old.levels
   pub notes : HasNotesOf old new
@@ -118,6 +138,16 @@ pub record IsCut (old new : Stack) (depth : ℕ) : Type 0 where
   pub library : contents_of new.library ≡ contents_left old.global level.mark (contents_of old.library)
   pub assertions : new.assertions.items ≡ take level.assertions old.assertions.items
   pub levels : new.levels ≡ take depth old.levels
+
+-- the first so many nodes and those that definitions need are left, if declarations are global; all else is as
+-- before
+pub record NeedsLeft (old new : Stack) (count : ℕ) : Type 0 where
+  pub library : contents_of new.library
+      ≡ (if old.global then needed_of count (contents_of old.library) else contents_of old.library)
+  pub assertions : new.assertions ≡ old.assertions
+  pub assumptions : new.assumptions ≡ old.assumptions
+  pub levels : new.levels ≡ old.levels
+  pub notes : HasNotesOf old new
 
 -- the names are those of before, if declarations are global, or none
 abbrev pub HasNamesLeft : (old new : Stack) → Type 0

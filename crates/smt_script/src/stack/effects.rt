@@ -3,6 +3,7 @@
 
 ghost use Rattle.std.specs.Prelude.{◌≡◌, ◌∷◌, ◌||◌, ℕ, List, [], None, IfErr, MatchResult, OnOk, OnErr};
 ghost use Rattle.std.specs.Str.Parse.{digits_value};
+ghost use Rattle.smt_trees.specs.Sexp.{Sexp};
 ghost use Rattle.smt_trees.specs.Tree.{sexp_of, sexps_of};
 ghost use Rattle.smt_forms.specs.Bindings.{named_trees};
 ghost use Rattle.smt_script.specs.Command as commands;
@@ -17,10 +18,10 @@ ghost use Rattle.smt_terms.specs.Signature.{Signature, names_of};
 ghost use Rattle.smt_script.specs.Stack as stack;
 ghost use Rattle.smt_script.specs.Stack.{flaw_of_formula, flaw_of_literals, trees_of};
 ghost use Rattle.smt_terms.specs.Checking.{sort_in};
-ghost use Rattle.smt_terms.specs.Library.{IsTermOf};
-ghost use Rattle.smt_script.specs.StackView.{AreTerms, last_of, initial_print_success_of};
-ghost use Rattle.smt_script.specs.Internal.Effect.{ContentsAreKept, HasAssumed, HasEffect, IsEnded, IsRefused};
-ghost use Rattle.smt_script.specs.Internal.Effect.{IsUnchanged, with_notes};
+ghost use Rattle.smt_terms.specs.Library.{IsTerm, terms_of, transient_of};
+ghost use Rattle.smt_script.specs.StackView.{AreTerms, HoldsAfter, initial_print_success_of, last_of};
+ghost use Rattle.smt_script.specs.Internal.Effect.{ContentsAreKept, HasAssumed, HasEffect, HasMore, HasNotesOf};
+ghost use Rattle.smt_script.specs.Internal.Effect.{IsEnded, IsRefused, IsUnchanged, with_notes};
 
 use crate::command::{Command, Kind};
 use crate::stack::{Assertion, LogicState, Stack, all_theories};
@@ -41,13 +42,36 @@ fn contents_are_kept()
 }
 
 impl Stack {
-    // What a command does, but for what is noted of it.
-    pub(super) fn take_effect(&mut self, number: u64, command: &Command) -> Result<(), CommandFault>
+    // What a command does, but for what is noted of it; or nothing.
+    pub(super) fn try_effect(&mut self, number: u64, command: &Command) -> Result<(), CommandFault>
         ensures effect { OnOk result (HasEffect self.old self.new number (command_view command.now)) }
         ensures refused { IfErr result (λ fault. IsRefused self.old number (command_view command.now) fault) }
         ensures unchanged { OnErr result (IsUnchanged self.old self.new) }
         ensures assumed { OnOk result
             (HasAssumed self.old self.new (effect_of (command_view command.now))) }
+        ensures held { OnOk result (HoldsAfter self.old (effect_of (command_view command.now))
+            (contents_of self.new.library)) }
+    {
+        contents_are_kept();
+        let mark = self.library.mark();
+        match self.take_effect(number, command) {
+            Ok(()) => Ok(()),
+            Err(fault) => {
+                self.library.cut(mark);
+                Err(fault)
+            }
+        }
+    }
+
+    // What a command does, but for what is noted of it. Where it is refused, the library may hold more.
+    fn take_effect(&mut self, number: u64, command: &Command) -> Result<(), CommandFault>
+        ensures effect { OnOk result (HasEffect self.old self.new number (command_view command.now)) }
+        ensures refused { IfErr result (λ fault. IsRefused self.old number (command_view command.now) fault) }
+        ensures unchanged { OnErr result (HasMore self.old self.new) }
+        ensures assumed { OnOk result
+            (HasAssumed self.old self.new (effect_of (command_view command.now))) }
+        ensures held { OnOk result (HoldsAfter self.old (effect_of (command_view command.now))
+            (contents_of self.new.library)) }
     {
         contents_are_kept();
         match command {
@@ -113,8 +137,21 @@ impl Stack {
             _ => is_ended_by(command.kind()),
         };
         if ends {
-            self.assumptions.truncate(0);
+            self.drop_assumptions();
         }
+    }
+
+    // Leaves no assumptions, and none of their nodes.
+    fn drop_assumptions(&mut self)
+        ensures assumptions { self.new.assumptions.items ≡ [] }
+        ensures transient { transient_of self.new.library ≡ [] }
+        ensures library { contents_of self.new.library ≡ contents_of self.old.library }
+        ensures assertions { self.new.assertions ≡ self.old.assertions }
+        ensures levels { self.new.levels ≡ self.old.levels }
+        ensures notes { HasNotesOf self.old self.new }
+    {
+        let _ = self.library.take_transient();
+        self.assumptions.truncate(0);
     }
 
     // A logic is set while nothing is in force and there are no levels.
@@ -122,7 +159,8 @@ impl Stack {
         ensures effect { OnOk result ((number : ℕ) → HasEffect self.old self.new number (SetLogic name.now)) }
         ensures refused { IfErr result
             (λ fault. (number : ℕ) → IsRefused self.old number (SetLogic name.now) fault) }
-        ensures unchanged { OnErr result (IsUnchanged self.old self.new) }
+        ensures unchanged { OnErr result (HasMore self.old self.new) }
+        ensures held { OnOk result ((contents_of self.new.library).rows ≡ []) }
     {
         if self.logic.is_fixed() {
             return Err(CommandFault::Logic);
@@ -139,7 +177,8 @@ impl Stack {
         ensures effect { OnOk result ((number : ℕ) → HasEffect self.old self.new number (SetGlobalDeclarations on)) }
         ensures refused { IfErr result
             (λ fault. (number : ℕ) → IsRefused self.old number (SetGlobalDeclarations on) fault) }
-        ensures unchanged { OnErr result (IsUnchanged self.old self.new) }
+        ensures unchanged { OnErr result (HasMore self.old self.new) }
+        ensures held { contents_of self.new.library ≡ contents_of self.old.library }
         ensures assumed { OnOk result (HasAssumed self.old self.new (SetsGlobal on)) }
     {
         contents_are_kept();
@@ -157,7 +196,8 @@ impl Stack {
             (HasEffect self.old self.new number (DeclareConst name.now (sexp_of sort.now))) }
         ensures refused { IfErr result
             (λ fault. IsRefused self.old number (DeclareConst name.now (sexp_of sort.now)) fault) }
-        ensures unchanged { OnErr result (IsUnchanged self.old self.new) }
+        ensures unchanged { OnErr result (HasMore self.old self.new) }
+        ensures grown { Extends (contents_of self.old.library) (contents_of self.new.library) }
     {
         contents_are_kept();
         Ok(self.library.declare(number, name, &[], sort)?)
@@ -176,7 +216,8 @@ impl Stack {
         ensures refused { IfErr result
             (λ fault. IsRefused self.old number
             (DeclareFun name.now (sexps_of params.now) (sexp_of sort.now)) fault) }
-        ensures unchanged { OnErr result (IsUnchanged self.old self.new) }
+        ensures unchanged { OnErr result (HasMore self.old self.new) }
+        ensures grown { Extends (contents_of self.old.library) (contents_of self.new.library) }
     {
         contents_are_kept();
         Ok(self.library.declare(number, name, params, sort)?)
@@ -196,7 +237,8 @@ impl Stack {
             (λ fault. (number : ℕ) → IsRefused self.old number
             (DefineFun name.now (named_trees (sexps_of params.now)) (sexp_of sort.now) (sexp_of body.now))
             fault) }
-        ensures unchanged { OnErr result (IsUnchanged self.old self.new) }
+        ensures unchanged { OnErr result (HasMore self.old self.new) }
+        ensures grown { Extends (contents_of self.old.library) (contents_of self.new.library) }
     {
         contents_are_kept();
         let params = params_of(self.alloc, params)?;
@@ -208,7 +250,8 @@ impl Stack {
             ((number : ℕ) → HasEffect self.old self.new number (DefineSort name.now (sexp_of sort.now))) }
         ensures refused { IfErr result
             (λ fault. (number : ℕ) → IsRefused self.old number (DefineSort name.now (sexp_of sort.now)) fault) }
-        ensures unchanged { OnErr result (IsUnchanged self.old self.new) }
+        ensures unchanged { OnErr result (HasMore self.old self.new) }
+        ensures grown { Extends (contents_of self.old.library) (contents_of self.new.library) }
     {
         contents_are_kept();
         Ok(self.library.abbreviate(name, sort)?)
@@ -220,25 +263,31 @@ impl Stack {
             (CheckSatAssuming (sexps_of literals.now))) }
         ensures refused { IfErr result (λ fault. (number : ℕ)
             → IsRefused self.old number (CheckSatAssuming (sexps_of literals.now)) fault) }
-        ensures unchanged { OnErr result (IsUnchanged self.old self.new) }
+        ensures unchanged { OnErr result (HasMore self.old self.new) }
         ensures assumed { OnOk result ((s : Signature) → libraries.StandsFor self.old.library s
-            → AreTerms (contents_of self.new.library) self.new.assumptions.items
+            → AreTerms (terms_of self.new.library) self.new.assumptions.items
             (trees_of (sexps_of literals.now))) }
+        ensures held { contents_of self.new.library ≡ contents_of self.old.library }
     {
         contents_are_kept();
+        let before = self.library.take_transient();
         match check_literals(self.alloc, &mut self.library, literals) {
             Ok(terms) => {
                 self.assumptions = terms;
                 Ok(())
             }
-            Err(fault) => Err(fault),
+            Err(fault) => {
+                self.library.put_transient(before);
+                Err(fault)
+            }
         }
     }
 
     fn assert(&mut self, number: u64, term: &Tree) -> Result<(), CommandFault>
         ensures effect { OnOk result (HasEffect self.old self.new number (Assert (sexp_of term.now))) }
         ensures refused { IfErr result (λ fault. IsRefused self.old number (Assert (sexp_of term.now)) fault) }
-        ensures unchanged { OnErr result (IsUnchanged self.old self.new) }
+        ensures unchanged { OnErr result (HasMore self.old self.new) }
+        ensures grown { Extends (contents_of self.old.library) (contents_of self.new.library) }
     {
         contents_are_kept();
         let mark = self.library.mark();
@@ -254,20 +303,19 @@ impl Stack {
     }
 }
 
-// The terms of literals, each of which is a formula, or the first fault.
+// The terms of literals, each of which is a formula, or the first fault. They are transient.
 fn check_literals(
     alloc: Global,
     library: &mut Library,
     literals: &[Tree],
 ) -> Result<Vec<TermId>, CommandFault>
+    requires { transient_of library.old ≡ [] }
     ensures terms { (s : Signature) → libraries.StandsFor library.old s
         → MatchResult result (λ terms. (flaw_of_literals (names_of s) (sexps_of literals.now) ≡ None)
-        × AreTerms (contents_of library.new) terms.items (trees_of (sexps_of literals.now)))
+        × AreTerms (terms_of library.new) terms.items (trees_of (sexps_of literals.now)))
         (λ fault. TellsCommand (flaw_of_literals (names_of s) (sexps_of literals.now)) fault) }
-    ensures kept { libraries.IsUnchanged library.old library.new }
-    ensures grown { Extends (contents_of library.old) (contents_of library.new) }
+    ensures held { contents_of library.new ≡ contents_of library.old }
 {
-    contents_are_kept();
     let mut terms = Vec::new(alloc);
     let mut left = literals;
     while let Some((literal, rest)) = split_first(left) {
@@ -282,12 +330,12 @@ fn check_literals(
 fn check_literal(library: &mut Library, literal: &Tree) -> Result<TermId, CommandFault>
     ensures term { (s : Signature) → libraries.StandsFor library.old s
         → MatchResult result (λ term. (flaw_of_formula (sort_in (names_of s) [] (sexp_of literal.now)) ≡ None)
-        × IsTermOf (contents_of library.new) term (sexp_of literal.now))
+        × IsTerm library.new term (sexp_of literal.now))
         (λ fault. TellsCommand (flaw_of_formula (sort_in (names_of s) [] (sexp_of literal.now))) fault) }
-    ensures kept { libraries.IsUnchanged library.old library.new }
-    ensures grown { Extends (contents_of library.old) (contents_of library.new) }
+    ensures held { contents_of library.new ≡ contents_of library.old }
+    ensures kept { (i : ℕ) (t : Sexp) → IsTerm library.old i t → IsTerm library.new i t }
 {
-    let (term, sort) = library.check(literal)?;
+    let (term, sort) = library.check_transient(literal)?;
     match sort {
         Sort::Bool => Ok(term),
         Sort::Int | Sort::Bits(_) => Err(CommandFault::Term {

@@ -6,7 +6,7 @@ ghost use Rattle.std.specs.Str.Parse.{digits_value};
 
 use crate::stack::{Stack, all_theories};
 use smt_faults::CommandFault;
-use smt_terms::laws::earlier_marks_are_kept;
+use smt_terms::laws::{earlier_marks_are_kept, needed_nodes_are_enough, terms_have_nodes};
 use smt_terms::{Library, Mark};
 use smt_theory::number;
 
@@ -21,20 +21,24 @@ pub struct Level {
 const LIMIT: usize = 10_000;
 
 impl Stack {
-    ghost use Rattle.std.specs.Prelude.{◌<◌, ℕ, length};
-    ghost use Rattle.smt_script.specs.Command.{Push, Pop};
+    ghost use Rattle.std.specs.Prelude.{◌<◌, ℕ, Some, [], length, slice_get};
+    ghost use Rattle.smt_terms.specs.Contents.{contents_of};
+    ghost use Rattle.smt_script.specs.Command.{AllButOptions, Pop, Pops, Push, Removing};
     ghost use Rattle.smt_script.specs.Command as commands;
-    ghost use Rattle.smt_script.specs.Internal.Effect.{HasEffect, HasNotesOf, IsCut, IsRefused, IsUnchanged};
-    ghost use Rattle.smt_script.specs.Internal.Effect.{NamesAreDropped, NotesAll};
+    ghost use Rattle.smt_script.specs.Internal.Effect.{HasEffect, HasMore, HasNotesOf, IsCut, IsRefused};
+    ghost use Rattle.smt_script.specs.Internal.Effect.{NamesAreDropped, NeedsLeft, NotesAll};
+    ghost use Rattle.smt_script.specs.StackView.{HoldsAfter};
 
     // Adds levels. What is in force came outside each of them.
     pub(super) fn push(&mut self, digits: &[u8]) -> Result<(), CommandFault>
         ensures effect { OnOk result
             ((n : ℕ) → HasEffect self.old self.new n (Push (digits_value 10 digits.now))) }
+        ensures held { contents_of self.new.library ≡ contents_of self.old.library }
         ensures refused { IfErr result
             (λ fault. (n : ℕ) → IsRefused self.old n (Push (digits_value 10 digits.now)) fault) }
-        ensures unchanged { OnErr result (IsUnchanged self.old self.new) }
+        ensures unchanged { OnErr result (HasMore self.old self.new) }
     {
+        terms_have_nodes();
         let Some(room) = LIMIT.checked_sub(self.levels.len()) else {
             return Err(CommandFault::TooDeep);
         };
@@ -59,24 +63,30 @@ impl Stack {
     pub(super) fn pop(&mut self, digits: &[u8]) -> Result<(), CommandFault>
         ensures effect { OnOk result
             ((n : ℕ) → HasEffect self.old self.new n (Pop (digits_value 10 digits.now))) }
+        ensures held { OnOk result (HoldsAfter self.old (Pops (digits_value 10 digits.now))
+            (contents_of self.new.library)) }
         ensures refused { IfErr result
             (λ fault. (n : ℕ) → IsRefused self.old n (Pop (digits_value 10 digits.now)) fault) }
-        ensures unchanged { OnErr result (IsUnchanged self.old self.new) }
+        ensures unchanged { OnErr result (HasMore self.old self.new) }
     {
         earlier_marks_are_kept();
+        needed_nodes_are_enough();
         let depth = self.levels.len();
         let Some(count) = count_to(depth, digits) else {
             return Err(CommandFault::NoLevel);
         };
         if count > 0 {
-            self.cut_to(depth - count);
+            let level = self.cut_to(depth - count);
+            self.drop_unneeded(level.mark.nodes);
         }
         Ok(())
     }
 
     // Leaves so many levels, and what came outside the others; of names all, if declarations are global.
-    fn cut_to(&mut self, depth: usize)
+    // The level is the outermost of those that go.
+    fn cut_to(&mut self, depth: usize) -> Level
         requires { depth < length self.old.levels }
+        ensures level { slice_get self.old.levels depth ≡ Some result }
         ensures cut { IsCut self.old self.new depth }
         ensures notes { HasNotesOf self.old self.new }
     {
@@ -85,13 +95,24 @@ impl Stack {
             self.library.cut(level.mark);
         }
         self.assertions.truncate(level.assertions);
+        level
+    }
+
+    // Leaves the first so many nodes and those that definitions need, if declarations are global.
+    fn drop_unneeded(&mut self, count: usize)
+        ensures { NeedsLeft self.old self.new count }
+    {
+        if self.global {
+            self.library.cut_nodes(count);
+        }
     }
 
     // Removes all, the logic too.
     pub(super) fn reset(&mut self) -> Result<(), CommandFault>
         ensures effect { OnOk result ((n : ℕ) → HasEffect self.old self.new n commands.Reset) }
+        ensures held { (contents_of self.new.library).rows ≡ [] }
         ensures refused { IfErr result (λ fault. (n : ℕ) → IsRefused self.old n commands.Reset fault) }
-        ensures unchanged { OnErr result (IsUnchanged self.old self.new) }
+        ensures unchanged { OnErr result (HasMore self.old self.new) }
     {
         self.library = Library::new(self.alloc, all_theories());
         self.assertions.truncate(0);
@@ -102,9 +123,10 @@ impl Stack {
     // Removes all but the logic and the options; of names none, if declarations are global.
     pub(super) fn reset_assertions(&mut self) -> Result<(), CommandFault>
         ensures effect { OnOk result ((n : ℕ) → HasEffect self.old self.new n commands.ResetAssertions) }
+        ensures held { HoldsAfter self.old (Removing AllButOptions) (contents_of self.new.library) }
         ensures refused { IfErr result
             (λ fault. (n : ℕ) → IsRefused self.old n commands.ResetAssertions fault) }
-        ensures unchanged { OnErr result (IsUnchanged self.old self.new) }
+        ensures unchanged { OnErr result (HasMore self.old self.new) }
     {
         self.drop_names();
         self.assertions.truncate(0);
@@ -112,11 +134,15 @@ impl Stack {
         Ok(())
     }
 
-    // Drops names and terms, unless declarations are global.
+    // Drops names and terms, or the nodes that no definition needs, if declarations are global.
     fn drop_names(&mut self)
-        ensures { NamesAreDropped self.old self.new }
+        ensures dropped { NamesAreDropped self.old self.new }
+        ensures held { HoldsAfter self.old (Removing AllButOptions) (contents_of self.new.library) }
     {
-        if !self.global {
+        needed_nodes_are_enough();
+        if self.global {
+            self.library.cut_nodes(0);
+        } else {
             self.library = Library::new(self.alloc, self.library.theories());
         }
     }

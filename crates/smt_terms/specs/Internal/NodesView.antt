@@ -1,16 +1,17 @@
 -- What the sort checker adds to a table of nodes.
-use Rattle.std.specs.Prelude.{◌≡◌, ◌<◌, ◌+◌, ℕ, List, [], ◌∷◌, ◌++◌, Bool, false, Some, length, map}
+use Rattle.std.specs.Prelude.{◌≡◌, ◌<◌, ◌≤◌, ◌+◌, ℕ, List, [], ◌∷◌, ◌++◌, Bool, false, Some, length, map}
 use Rattle.std.specs.Prelude.{slice_get}
 use Rattle.smt_nodes.specs.Node.{Node, Row}
 use Rattle.smt_nodes.specs.Nodes.{rows_of}
+use Rattle.smt_nodes.specs.declared.table.Nodes.{Nodes}
 use Rattle.smt_forms.specs.Identifier.{Identifier}
 use Rattle.smt_theory.specs.Operators.{is_plain_operator}
 use Rattle.smt_theory.specs.Words.{look_up}
 use Rattle.smt_theory.specs.declared.sort.Sort.{Sort}
 use Rattle.smt_trees.specs.Sexp.{Sexp, Sexps}
 use Rattle.smt_terms.specs.Denotes.{AreBound, AreDenoted, Denotes, Head, IsLonger, Slots, Table, node_of}
-use Rattle.smt_terms.specs.Internal.TableView.{AreNamed, IsReady, places_seen, slots_seen, table_in}
-use Rattle.smt_terms.specs.Internal.TableView.{table_of}
+use Rattle.smt_terms.specs.Internal.TableView.{AreNamed, IsReady, places_seen, rows_behind, rows_in, slots_seen}
+use Rattle.smt_terms.specs.Internal.TableView.{table_in, table_of}
 use Rattle.smt_terms.specs.declared.labels.Labels.{Labels}
 use Rattle.smt_terms.specs.declared.library.Library.{Library}
 use Rattle.smt_terms.specs.declared.library.draft.Checked.{Checked}
@@ -38,24 +39,24 @@ nodes_given labels = map (λ l. l.node) labels.given.items
 abbrev pub GrowsTo : (old new : Draft) → Type 0
 GrowsTo old new = (library : Library) → IsLonger (table_in library old) (table_in library new)
 
--- the answer is this node, which is added alone
-pub record AddsNode (old new : Draft) (node : Node) (c : Checked) : Type 0 where
-  pub rows : rows_of new.nodes ≡ rows_of old.nodes ++ bare_row node c.sort ∷ []
-  pub number : c.node ≡ length (rows_of old.nodes)
+-- the answer is this node, which is added alone, where the draft's nodes stand behind those of a table
+pub record AddsNode (before : Nodes) (old new : Draft) (node : Node) (c : Checked) : Type 0 where
+  pub rows : rows_behind before new ≡ rows_behind before old ++ bare_row node c.sort ∷ []
+  pub number : c.node ≡ length (rows_behind before old)
   pub labels : new.labels ≡ old.labels
 
 -- the answer is the node of an identifier applied to these arguments, which is added alone
 pub record AddsApplied (library : Library) (old new : Draft) (f : Identifier) (sorts : List Sort)
     (args : List ℕ) (c : Checked) : Type 0 where
   pub node : Node
-  pub added : AddsNode old new node c
+  pub added : AddsNode library.nodes old new node c
   pub is : IsNodeOf library f sorts args node
 
 -- the row of the first number is added once more, with one annotation more round it
-pub record AddsAround (old new : Draft) (inner added : ℕ) : Type 0 where
-  pub row : (r : Row) × (slice_get (rows_of old.nodes) inner ≡ Some r)
-      × (rows_of new.nodes ≡ rows_of old.nodes ++ (record r { around = r.around + 1 }) ∷ [])
-  pub number : added ≡ length (rows_of old.nodes)
+pub record AddsAround (before : Nodes) (old new : Draft) (inner added : ℕ) : Type 0 where
+  pub row : (r : Row) × (slice_get (rows_behind before old) inner ≡ Some r)
+      × (rows_behind before new ≡ rows_behind before old ++ (record r { around = r.around + 1 }) ∷ [])
+  pub number : added ≡ length (rows_behind before old)
   pub labels : new.labels ≡ old.labels
 
 -- if the node of each label stood for its term, it does so with the new labels
@@ -64,9 +65,11 @@ KeepsNamed library old new = IsReady (table_in library old)
     → AreNamed (table_in library old) old.labels.given.items
     → AreNamed (table_in library new) new.labels.given.items
 
--- the node that was found stands for the term, unless that uses a variable from outside
+-- the node that was found is one of the draft's own, and stands for the term, unless that uses a variable from
+-- outside
 pub record Stands (library : Library) (old new : Draft) (term : Sexp) (c : Checked) : Type 0 where
-  pub number : c.node < length (rows_of new.nodes)
+  pub own : length (rows_of library.nodes) ≤ c.node
+  pub number : c.node < length (rows_in library new)
   pub denotes : IsReady (table_in library old) → c.is_open ≡ false
       → Denotes (table_in library new) (slots_seen old) (places_seen old) 0 c.node term
   pub named : KeepsNamed library old new
@@ -79,7 +82,7 @@ Denoting = Table → Slots → (next i : ℕ) → List ℕ → Sexps → Type 0
 pub record PartsStand (Are : Denoting) (library : Library) (old new : Draft) (parts : Sexps)
     (nodes : List ℕ) (is_open : Bool) : Type 0 where
   pub denote : IsReady (table_in library old) → is_open ≡ false
-      → Are (table_in library new) (slots_seen old) (places_seen old) (length (rows_of new.nodes)) nodes parts
+      → Are (table_in library new) (slots_seen old) (places_seen old) (length (rows_in library new)) nodes parts
   pub named : KeepsNamed library old new
 
 abbrev pub TermsStand : Library → (old new : Draft) → Sexps → List ℕ → Bool → Type 0

@@ -2,6 +2,7 @@
 use Rattle.std.specs.Prelude.{◌≡◌, ◌<◌, ◌-◌, ℕ, List, [], ◌∷◌, ◌++◌, Some, length, map, slice_get, false}
 use Rattle.smt_nodes.specs.Node.{Row}
 use Rattle.smt_nodes.specs.Nodes.{rows_of}
+use Rattle.smt_nodes.specs.declared.table.Nodes.{Nodes}
 use Rattle.smt_theory.specs.Operators.{is_plain_operator}
 use Rattle.smt_theory.specs.Words.{look_up}
 use Rattle.smt_trees.specs.Tree.{sexp_of}
@@ -37,9 +38,16 @@ table_with library given rows = record (table_of library) {
   rows = rows;
 }
 
+-- the nodes of a table, and those of a draft behind them
+abbrev pub rows_behind : Nodes → Draft → List Row
+rows_behind before draft = rows_of before ++ rows_of draft.nodes
+
+abbrev pub rows_in : Library → Draft → List Row
+rows_in library draft = rows_behind library.nodes draft
+
 -- that of a draft
 abbrev pub table_in : Library → Draft → Table
-table_in library draft = table_with library draft.labels.given.items (rows_of draft.nodes)
+table_in library draft = table_with library draft.labels.given.items (rows_in library draft)
 
 -- a definition has a body among the nodes
 abbrev pub HasBody : Table → Found → Type 0

@@ -10,7 +10,7 @@ ghost use Rattle.smt_terms.specs.Contents.{Extends, contents_of};
 ghost use Rattle.smt_terms.specs.Internal.Growing.{AreFitUnder, HoldsUnder, IsFitUnder};
 ghost use Rattle.smt_terms.specs.Internal.LabelsView.{AreNew, label_entry};
 ghost use Rattle.smt_terms.specs.Internal.LibraryView.{ranks_of_library};
-ghost use Rattle.smt_terms.specs.Library.{IsTerm, IsUnchanged, StandsFor};
+ghost use Rattle.smt_terms.specs.Library.{IsTermOf, IsUnchanged, StandsFor, transient_of};
 ghost use Rattle.smt_terms.specs.Signature as signature;
 ghost use Rattle.smt_terms.specs.Signature.{Signature, names_of, rank_of_entry, with_entries, with_entry};
 ghost use Rattle.smt_faults.specs.Outcome.{Tells};
@@ -39,11 +39,12 @@ impl Library {
             × (asserted_in (names_of s) (sexp_of term.now) ≡ Ok labels)
             × StandsFor self.new (with_entries s labels)) }
         ensures term { IfOk result (λ i. (s : Signature) → StandsFor self.old s
-            → IsTerm self.new i (sexp_of term.now)) }
+            → IsTermOf (contents_of self.new) i (sexp_of term.now)) }
         ensures refused { IfErr result (λ fault. (s : Signature) → StandsFor self.old s
             → Tells (asserted_in (names_of s) (sexp_of term.now)) fault) }
         ensures unchanged { OnErr result (IsUnchanged self.old self.new) }
         ensures grown { Extends (contents_of self.old) (contents_of self.new) }
+        ensures transient { transient_of self.new ≡ transient_of self.old }
     {
         let (checked, given) = self.check_whole(&[], Labels::new(self.alloc), term)?;
         if !are_equal(checked.sort, Sort::Bool) {
@@ -70,6 +71,7 @@ impl Library {
         ensures bodies { OnOk result
             (self.new.bodies.items ≡ self.old.bodies.items ++ map (λ l. l.node) labels.now) }
         ensures grown { Extends (contents_of self.old) (contents_of self.new) }
+        ensures transient { self.new.transient ≡ self.old.transient }
     {
         for label in labels {
             self.add_label(label)?;
@@ -89,6 +91,7 @@ impl Library {
             ∷ []) }
         ensures bodies { OnOk result (self.new.bodies.items ≡ self.old.bodies.items ++ label.now.node ∷ []) }
         ensures grown { Extends (contents_of self.old) (contents_of self.new) }
+        ensures transient { self.new.transient ≡ self.old.transient }
     {
         self.insert_definition(label.name.as_slice(), &[], label.sort, label.node)
     }

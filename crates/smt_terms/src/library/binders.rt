@@ -67,7 +67,7 @@ impl Library {
             values: values.as_slice(),
             body: checked.node,
         };
-        Ok(draft.push(&node, &checked.sort, is_open | checked.is_open)?)
+        Ok(draft.push(&self.nodes, &node, &checked.sort, is_open | checked.is_open)?)
     }
 
     // The variables that bindings bring, with the sorts of their terms, which do not see these variables;
@@ -141,7 +141,7 @@ impl Library {
             self.sort_of_labelled(draft, term, attributes)
         } else {
             let checked = self.sort_of(draft, term)?;
-            Ok(draft.annotate(checked)?)
+            Ok(draft.annotate(&self.nodes, checked)?)
         }
     }
 
@@ -174,7 +174,12 @@ impl Library {
         let place = self.bodies.len() + draft.labels.given.len();
         self.give_labels(&mut draft.labels, term, &checked, attributes)?;
         draft.base = base;
-        Ok(draft.push(&Node::Defined { place, args: &[] }, &checked.sort, false)?)
+        Ok(draft.push(
+            &self.nodes,
+            &Node::Defined { place, args: &[] },
+            &checked.sort,
+            false,
+        )?)
     }
 
     // Gives the labels among attributes to a term that was checked, in order, or answers their first fault.

@@ -36,7 +36,7 @@ use smt_faults::{TermFault, TermFlaw};
 use smt_forms::{
     Identifier, Scope, applied_identifier, indexed_identifier, is_bang, is_let, is_underscore,
 };
-use smt_nodes::{Node, TermId};
+use smt_nodes::{Node, Nodes, TermId};
 use smt_theory::{Op, OpFault, Sort, Width, op_of, rank};
 use smt_trees::{Tree, Trees, split_first};
 
@@ -101,7 +101,12 @@ impl Library {
         ensures labels { draft.new.labels ≡ draft.old.labels }
     {
         let _: &[TermId] = &[];
-        push_literal(draft, &Node::Numeral(digits), self.sort_of_numeral())
+        push_literal(
+            &self.nodes,
+            draft,
+            &Node::Numeral(digits),
+            self.sort_of_numeral(),
+        )
     }
 
     // The sort of a hexadecimal literal, whose node is added.
@@ -116,7 +121,12 @@ impl Library {
         ensures labels { draft.new.labels ≡ draft.old.labels }
     {
         let _: &[TermId] = &[];
-        push_literal(draft, &Node::Hex(digits), self.sort_of_digits(4, digits))
+        push_literal(
+            &self.nodes,
+            draft,
+            &Node::Hex(digits),
+            self.sort_of_digits(4, digits),
+        )
     }
 
     // The sort of a binary literal, whose node is added.
@@ -131,7 +141,12 @@ impl Library {
         ensures labels { draft.new.labels ≡ draft.old.labels }
     {
         let _: &[TermId] = &[];
-        push_literal(draft, &Node::Bin(digits), self.sort_of_digits(1, digits))
+        push_literal(
+            &self.nodes,
+            draft,
+            &Node::Bin(digits),
+            self.sort_of_digits(1, digits),
+        )
     }
 
     fn sort_of_numeral(&self) -> Result<Sort, TermFlaw>
@@ -246,7 +261,7 @@ impl Library {
             Some(variable) => {
                 let node = Node::Slot(variable.place.saturating_sub(draft.base));
                 let is_open = variable.place < draft.base;
-                Ok(draft.push(&node, &variable.sort, is_open)?)
+                Ok(draft.push(&self.nodes, &node, &variable.sort, is_open)?)
             }
             None => self.sort_applied(draft, &Identifier::Plain(name), &[], &[], false),
         }
@@ -300,7 +315,7 @@ impl Library {
         ensures labels { draft.new.labels ≡ draft.old.labels }
     {
         match self.applied(identifier, sorts, args) {
-            Ok((sort, node)) => Ok(draft.push(&node, &sort, is_open)?),
+            Ok((sort, node)) => Ok(draft.push(&self.nodes, &node, &sort, is_open)?),
             Err(flaw) => Err(TermFault::from(flaw)),
         }
     }
@@ -434,22 +449,23 @@ fn is_variable(scope: &Scope<'_, Bound>, identifier: &Identifier<'_>) -> bool
     }
 }
 
-// Adds the node of a literal of this sort, or answers what is wrong with that.
+// Adds the node of a literal of this sort behind others, or answers what is wrong with that.
 fn push_literal(
+    before: &Nodes,
     draft: &mut Draft<'_>,
     node: &Node<'_>,
     sort: Result<Sort, TermFlaw>,
 ) -> Result<Checked, TermFault>
     ensures sort { IsOutcome (λ c. c.sort) sort result }
     ensures open { IfOk result (λ c. c.is_open ≡ false) }
-    ensures added { IfOk result (λ c. AddsNode draft.old draft.new (node_view node.now) c) }
+    ensures added { IfOk result (λ c. AddsNode before.now draft.old draft.new (node_view node.now) c) }
     ensures longer { GrowsTo draft.old draft.new }
     ensures scope { draft.new.scope ≡ draft.old.scope }
     ensures base { draft.new.base ≡ draft.old.base }
     ensures labels { draft.new.labels ≡ draft.old.labels }
 {
     let sort = sort?;
-    Ok(draft.push(node, &sort, false)?)
+    Ok(draft.push(before, node, &sort, false)?)
 }
 
 // The width of digits that stand for so many bits each.

@@ -54,6 +54,7 @@ impl Library {
         ensures declared { self.new.declared ≡ self.old.declared }
         ensures definitions { self.new.definitions ≡ self.old.definitions }
         ensures bodies { self.new.bodies ≡ self.old.bodies }
+        ensures transient { self.new.transient ≡ self.old.transient }
     {
         let count = self.nodes.len();
         let nodes = mem::replace(&mut self.nodes, Nodes::new(self.alloc));
@@ -71,7 +72,7 @@ impl Library {
     }
 
     // The same over a draft without variables, where the nodes go that are made, at a fault too.
-    fn check_over<'a>(
+    pub(super) fn check_over<'a>(
         &self,
         draft: &mut Draft<'a>,
         variables: &[Variable<'a, Sort>],

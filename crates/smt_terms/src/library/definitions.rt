@@ -11,7 +11,7 @@ ghost use Rattle.smt_terms.specs.Contents.{Extends, contents_of};
 ghost use Rattle.smt_terms.specs.Definitions.{defined_in, definition, definition_in};
 ghost use Rattle.smt_terms.specs.Internal.Growing.{HoldsUnder, IsBodyUnder, KeepsNames};
 ghost use Rattle.smt_terms.specs.Internal.LibraryView.{names_of_library, ranks_of_library};
-ghost use Rattle.smt_terms.specs.Library.{IsUnchanged, StandsFor};
+ghost use Rattle.smt_terms.specs.Library.{IsUnchanged, StandsFor, transient_of};
 ghost use Rattle.smt_forms.specs.ParamView.{param_view};
 ghost use Rattle.smt_forms.specs.ScopeView.{scope_view};
 ghost use Rattle.smt_terms.specs.Signature as signature;
@@ -53,6 +53,7 @@ impl Library {
             fault) }
         ensures unchanged { OnErr result (IsUnchanged self.old self.new) }
         ensures grown { Extends (contents_of self.old) (contents_of self.new) }
+        ensures transient { transient_of self.new ≡ transient_of self.old }
     {
         if self.is_taken(name) {
             return Err(TermFault::NotFresh);
@@ -82,6 +83,7 @@ impl Library {
         ensures unchanged { OnErr result (IsUnchanged self.old self.new) }
         ensures grown { Extends (contents_of self.old) (contents_of self.new) }
         ensures sorts { self.new.sorts ≡ self.old.sorts }
+        ensures transient { self.new.transient ≡ self.old.transient }
     {
         let (checked, _) = self.check_whole(parameters, Labels::refused(self.alloc), body)?;
         if !are_equal(checked.sort, sort) {
@@ -115,6 +117,7 @@ impl Library {
         ensures unchanged { OnErr result (KeepsNames (contents_of self.old) (contents_of self.new)) }
         ensures grown { Extends (contents_of self.old) (contents_of self.new) }
         ensures sorts { self.new.sorts ≡ self.old.sorts }
+        ensures transient { self.new.transient ≡ self.old.transient }
     {
         let definition = Definition {
             name: Vec::from_slice(self.alloc, name)?,
@@ -147,15 +150,15 @@ impl Library {
         ensures sorts { self.new.sorts ≡ self.old.sorts }
         ensures declared { self.new.declared ≡ self.old.declared }
         ensures nodes { self.new.nodes ≡ self.old.nodes }
+        ensures transient { self.new.transient ≡ self.old.transient }
     {
+        let end = self.end().max(node.number() + 1);
+        self.ends.reserve(1)?;
+        self.bodies.reserve(1)?;
         self.definitions.push(definition)?;
-        match self.bodies.push(node) {
-            Ok(()) => Ok(()),
-            Err(_) => {
-                let _ = self.definitions.pop();
-                Err(Memory)
-            }
-        }
+        self.bodies.push_reserved(node);
+        self.ends.push_reserved(end);
+        Ok(())
     }
 
     // Takes the last definition away, and the node of its body.
@@ -168,8 +171,10 @@ impl Library {
         ensures sorts { self.new.sorts ≡ self.old.sorts }
         ensures declared { self.new.declared ≡ self.old.declared }
         ensures nodes { self.new.nodes ≡ self.old.nodes }
+        ensures transient { self.new.transient ≡ self.old.transient }
     {
         let _ = self.definitions.pop();
         let _ = self.bodies.pop();
+        let _ = self.ends.pop();
     }
 }

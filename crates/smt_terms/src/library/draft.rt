@@ -1,13 +1,14 @@
 //! What is kept of a term while it is checked: the variables that its parts see, and the labels that they
 //! gave. This file knows no trees.
 
-ghost use Rattle.std.specs.Prelude.{◌≡◌, ◌<◌, ◌+◌, ◌++◌, ◌∷◌, [], length, slice_get, Some, IfOk, OnOk, OnErr};
+ghost use Rattle.std.specs.Prelude.{◌≡◌, ◌<◌, ◌≤◌, ◌+◌, ◌++◌, ◌∷◌, [], length, slice_get, Some, IfOk, OnOk, OnErr};
 ghost use Rattle.smt_nodes.specs.Node.{Row};
 ghost use Rattle.smt_nodes.specs.NodeView.{node_view};
 ghost use Rattle.smt_nodes.specs.Nodes.{rows_of};
 ghost use Rattle.smt_forms.specs.ScopeView.{scope_view};
 ghost use Rattle.smt_terms.specs.Internal.DraftView.{placed_from, seen_by};
 ghost use Rattle.smt_terms.specs.Internal.NodesView.{AddsAround, AddsNode, GrowsTo};
+ghost use Rattle.smt_terms.specs.Internal.TableView.{rows_behind};
 
 use crate::labels::Labels;
 use smt_faults::Memory;
@@ -24,7 +25,8 @@ pub(crate) struct Bound {
 }
 
 /// The variables that are seen, of which the outermost `base` stand outside the innermost term with a label;
-/// the labels so far; and the nodes of terms, of this draft and of those before it.
+/// the labels so far; and the nodes of terms, of this draft and perhaps of those before it. All of them stand
+/// behind the nodes of a table that stays as it is.
 #[derive(Drop)]
 pub(crate) struct Draft<'a> {
     pub(crate) scope: Scope<'a, Bound>,
@@ -90,23 +92,26 @@ impl<'a> Draft<'a> {
         self.scope.push(name, Bound { sort, place })
     }
 
-    /// Adds the node of a term of this sort, which uses a variable from outside or doesn't.
+    /// Adds the node of a term of this sort, which uses a variable from outside or doesn't, behind the nodes
+    /// of a table.
     #[inline(always)]
     pub(crate) fn push(
         &mut self,
+        before: &Nodes,
         node: &Node<'_>,
         sort: &Sort,
         is_open: bool,
     ) -> Result<Checked, Memory>
         ensures sort { IfOk result (λ c. c.sort ≡ sort.now) }
         ensures open { IfOk result (λ c. c.is_open ≡ is_open) }
-        ensures added { IfOk result (λ c. AddsNode self.old self.new (node_view node.now) c) }
+        ensures added { IfOk result (λ c. AddsNode before.now self.old self.new (node_view node.now) c) }
         ensures longer { GrowsTo self.old self.new }
         ensures scope { self.new.scope ≡ self.old.scope }
         ensures base { self.new.base ≡ self.old.base }
         ensures labels { self.new.labels ≡ self.old.labels }
     {
-        let node = self.nodes.push(node, *sort)?;
+        let own = self.nodes.push(node, *sort)?;
+        let node = own.behind(before.len())?;
         Ok(Checked {
             sort: *sort,
             node,
@@ -114,18 +119,21 @@ impl<'a> Draft<'a> {
         })
     }
 
-    /// Adds the node of a term with one annotation more round it.
-    pub(crate) fn annotate(&mut self, term: Checked) -> Result<Checked, Memory>
-        requires { term.node < length (rows_of self.old.nodes) }
+    /// Adds the node of a term of this draft with one annotation more round it, behind the nodes of a table.
+    pub(crate) fn annotate(&mut self, before: &Nodes, term: Checked) -> Result<Checked, Memory>
+        requires own { length (rows_of before.now) ≤ term.node }
+        requires below { term.node < length (rows_behind before.now self.old) }
         ensures sort { IfOk result (λ c. c.sort ≡ term.sort) }
         ensures open { IfOk result (λ c. c.is_open ≡ term.is_open) }
-        ensures added { IfOk result (λ c. AddsAround self.old self.new term.node c.node) }
+        ensures added { IfOk result (λ c. AddsAround before.now self.old self.new term.node c.node) }
         ensures longer { GrowsTo self.old self.new }
         ensures scope { self.new.scope ≡ self.old.scope }
         ensures base { self.new.base ≡ self.old.base }
         ensures labels { self.new.labels ≡ self.old.labels }
     {
-        let node = self.nodes.annotate(term.node)?;
+        let count = before.len();
+        let own = self.nodes.annotate(term.node.after(count))?;
+        let node = own.behind(count)?;
         Ok(Checked {
             sort: term.sort,
             node,

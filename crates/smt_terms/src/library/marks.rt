@@ -2,7 +2,9 @@
 
 ghost use Rattle.std.specs.Prelude.{◌≡◌};
 ghost use Rattle.smt_terms.specs.declared.library.marks.Mark as declared;
-ghost use Rattle.smt_terms.specs.Contents.{IsBelow, IsWithin, contents_of, first_of};
+ghost use Rattle.smt_terms.specs.Contents.{IsBelow, IsWithin, contents_of, first_of, needed_of};
+ghost use Rattle.smt_terms.specs.Ends.{end_of};
+ghost use Rattle.smt_terms.specs.Library.{transient_of};
 
 use crate::library::Library;
 
@@ -33,15 +35,36 @@ impl Library {
         }
     }
 
+    /// Leaves the first so many nodes, and those that the bodies of definitions need, at the cost of what goes.
+    pub fn cut_nodes(&mut self, count: usize)
+        ensures left { contents_of self.new ≡ needed_of count (contents_of self.old) }
+        ensures transient { transient_of self.new ≡ transient_of self.old }
+    {
+        let needed = count.max(self.end());
+        self.nodes.cut(needed);
+    }
+
+    /// How many nodes the bodies of the definitions need: each has a lower number.
+    pub(super) fn end(&self) -> usize
+        ensures { result ≡ end_of self.now.bodies.items }
+    {
+        match self.ends.last() {
+            Some(end) => *end,
+            None => 0,
+        }
+    }
+
     /// Leaves the first so many names, declarations, definitions, abbreviations and nodes as a mark counts,
     /// at the cost of what goes.
     pub fn cut(&mut self, mark: Mark)
-        ensures { contents_of self.new ≡ first_of mark (contents_of self.old) }
+        ensures left { contents_of self.new ≡ first_of mark (contents_of self.old) }
+        ensures transient { transient_of self.new ≡ transient_of self.old }
     {
         self.names.truncate(mark.names);
         self.declared.truncate(mark.declared);
         self.definitions.truncate(mark.definitions);
         self.bodies.truncate(mark.definitions);
+        self.ends.truncate(mark.definitions);
         self.sorts.abbreviations.truncate(mark.abbreviations);
         self.nodes.cut(mark.nodes);
     }

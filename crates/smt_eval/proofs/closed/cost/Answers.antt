@@ -9,6 +9,7 @@ returns c = λ script definitions t names holds term.
       nodes = c.tables_of.ensures.nodes;
       arounds = c.tables_of.ensures.arounds;
       count = c.tables_of.ensures.count;
+      named = c.tables_of.ensures.named;
     } in
     c.cost_of_term.ensures
     ∙ ap capped (cost_is c.nodes_have_the_costs_of_their_terms.ensures c.tables_of.result c.args.library.now

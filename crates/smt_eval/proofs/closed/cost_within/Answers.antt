@@ -7,6 +7,7 @@ returns-then-is_empty c = λ script definitions t names holds term.
       nodes = c.tables_of-tables.ensures.nodes;
       arounds = c.tables_of-tables.ensures.arounds;
       count = c.tables_of-tables.ensures.count;
+      named = c.tables_of-tables.ensures.named;
     } in
     within_same c.cost_within.result c.args.limit _ _ c.cost_within.ensures
     (cost_is c.nodes_have_the_costs_of_their_terms.ensures c.tables_of-tables.result c.args.library.now

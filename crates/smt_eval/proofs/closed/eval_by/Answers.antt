@@ -1,7 +1,7 @@
 use Rattle.std.proofs.Common.{[], ◌+◌, ap, length, ◌∙◌}
 use Rattle.smt_machine.specs.Given.{given}
 use Rattle.smt_machine.specs.Tables.{nodes_of}
-use Rattle.smt_terms.specs.Library.{terms_of}
+use Rattle.smt_terms.specs.Library.{held_terms_of, terms_of}
 use Rattle.smt_eval.proofs.EvaluatorLemmas.{if_known}
 use Rattle.smt_eval.proofs.TermCostLemmas.{AreTablesOf, cost_is, cost_within, paid_is}
 use Rattle.smt_eval.proofs.closed.eval_by.Goals as goal
@@ -12,6 +12,7 @@ eval-requires-clause-enough c =
       nodes = c.tables_of.ensures.nodes;
       arounds = c.tables_of.ensures.arounds;
       count = c.tables_of.ensures.count;
+      named = c.tables_of.ensures.named;
     } in
     cost_within c.nodes_have_the_costs_of_their_terms.ensures c.tables_of.result c.args.library.now
     c.args.interpretation.now c.args.term _ are c.requires.fits c.requires.term c.requires.enough
@@ -22,6 +23,7 @@ returns-clause-paid c = λ script definitions t names holds term.
       nodes = c.tables_of.ensures.nodes;
       arounds = c.tables_of.ensures.arounds;
       count = c.tables_of.ensures.count;
+      named = c.tables_of.ensures.named;
     } in
     paid_is c.eval.result _ _ _ _ c.eval.ensures.paid
     (cost_is c.nodes_have_the_costs_of_their_terms.ensures c.tables_of.result c.args.library.now
@@ -29,12 +31,12 @@ returns-clause-paid c = λ script definitions t names holds term.
 
 pub returns-clause-known : goal.returns-clause-known
 returns-clause-known c = λ script definitions t names holds term.
-    let model = terms_of c.args.interpretation.now.definitions in
+    let model = held_terms_of c.args.interpretation.now.definitions in
     let id = c.args.term in
     if_known c.eval.result _ _ c.eval.ensures.value
     (ap (λ n. given (nodes_of c.tables_of.result) (n + id) []) c.tables_of.ensures.count
     ∙ ap (λ nodes. given nodes (length model.rows + id) []) c.tables_of.ensures.nodes
     ∙ c.nodes_give_the_values_of_their_terms.ensures model (terms_of c.args.library.now)
-    c.args.interpretation.now.declared.items script definitions 0 id t names.terms holds.stands.terms
+    c.args.interpretation.now.declared.items script definitions 0 id t (c.tables_of.ensures.named script names) holds.stands.terms
     holds.defined holds.theories holds.distinct holds.bodies
     term)

@@ -3,7 +3,7 @@ use Rattle.std.proofs.Common.{subst, append_assoc, append-nil, arith}
 use Rattle.std.proofs.lemmas.List.{length-map}
 use Rattle.std.specs.Option.{option_or}
 use Rattle.smt_terms.specs.Contents.{declaration_view}
-use Rattle.smt_terms.specs.Library.{name_count, terms_of}
+use Rattle.smt_terms.specs.Library.{name_count, held_terms_of}
 use Rattle.smt_terms.specs.Signature.{Entry, declared_among, entry_named, rank_of_entry}
 use Rattle.smt_eval.proofs.DefinitionLemmas.{absent_is_lacking, found_is_not_lacking, next_declared}
 use Rattle.smt_eval.proofs.DefinitionLemmas.{none_among_left, none_declared_left, within}
@@ -63,7 +63,7 @@ loop-declaration-preserved c = λ s stands.
       i.5 ∙ ap (λ (es : List Entry). i.2 ++ es) n.among
           ∙ sym (append_assoc i.2 (n.entry ∷ []) (declared_among n.later)),
       λ d defined all.
-          let bodies = (terms_of c.args.definitions.now).bodies in
+          let bodies = (held_terms_of c.args.definitions.now).bodies in
           let f = c.in-Some-body_of.ensures d defined all in
           let before = i.6 d defined all in (
             before.0 ∙ n.lacking d.entries ∙ ap
@@ -83,7 +83,7 @@ returns c = λ s d stands defined all.
     (empty_of c.loop-declaration.left.now c.in_default.ensures.cases) in
     let g = i.6 d defined all in (
       g.0 ∙ none_declared_left i.0 i.1 d.entries none,
-      subst (λ es. GiveBodies d.entries (terms_of c.args.definitions.now).bodies es
+      subst (λ es. GiveBodies d.entries (held_terms_of c.args.definitions.now).bodies es
           c.loop-declaration.bodies.items)
           (sym (i.5 ∙ ap (λ (es : List Entry). i.2 ++ es) (none_among_left i.0 i.1 none) ∙ append-nil i.2)) g.1,
     )

@@ -1,7 +1,7 @@
 use Rattle.std.proofs.Common.{ℕ, refl, Option, ap, ◌∙◌}
 use Rattle.smt_trees.specs.Tree.{sexps_of}
 use Rattle.smt_terms.specs.Items.{items_before}
-use Rattle.smt_terms.specs.Library.{terms_of}
+use Rattle.smt_terms.specs.Library.{held_terms_of}
 use Rattle.smt_eval.specs.Model.{complete_or, items_of}
 use Rattle.smt_eval.proofs.CompleteModelLemmas.{TakenAreItems}
 use Rattle.smt_eval.proofs.GivenBodyLemmas.{bodies_given, lacking_told}
@@ -32,7 +32,7 @@ returns-in-Ok-clause-model c = λ s stands.
         defined = defined;
         theories = refl;
         distinct = c.structures_are_distinct.ensures s c.args.model.now d whole stands.distinct;
-        bodies = bodies_given s d c.args.model.now (terms_of c.in_ok-definitions.definitions).bodies _
+        bodies = bodies_given s d c.args.model.now (held_terms_of c.in_ok-definitions.definitions).bodies _
             (c.models_are_complete.ensures s c.args.model.now d whole) stands.distinct given.1;
       },
     )

@@ -3,7 +3,6 @@ use Rattle.std.proofs.lemmas.Result.{err_from_is_err_and}
 use Rattle.smt_trees.specs.Tree.{sexp_of}
 use Rattle.smt_terms.specs.Assertions.{asserted_in}
 use Rattle.smt_terms.specs.Contents.{Contents, Extends, contents_of}
-use Rattle.smt_terms.specs.Library.{Holds}
 use Rattle.smt_terms.specs.Signature.{names_of}
 use Rattle.smt_script.specs.Stack.{signature_in_force}
 use Rattle.smt_script.proofs.EffectLemmas.{assert_effect, extends_itself, refused_by, unchanged_by}
@@ -22,8 +21,8 @@ returns-in_err-term-clause-refused c =
 pub returns-in_err-term-clause-unchanged : goal.returns-in_err-term-clause-unchanged
 returns-in_err-term-clause-unchanged c =
     let p = err_from_is_err_and c.from_residual.result c.from_residual.ensures.1 in
-    rw p.1 (unchanged_by c.contents_are_kept.ensures c.args.self.now c.assert.new.self
-    c.args.self.now.assertions c.in_err-term.ensures.unchanged c.in_err-term.ensures.grown refl)
+    rw p.1 (unchanged_by c.args.self.now c.assert.new.self c.args.self.now.assertions
+    c.assert.ensures.grown c.assert.ensures.transient refl)
 
 pub returns-in-Ok-clause-effect : goal.returns-in-Ok-clause-effect
 returns-in-Ok-clause-effect c =
@@ -35,9 +34,18 @@ pub returns-in-Err-clause-unchanged : goal.returns-in-Err-clause-unchanged
 returns-in-Err-clause-unchanged c =
     let before = contents_of c.args.self.now.library in
     let after = contents_of c.assert.new.self in
-    let same = c.cut.ensures
+    let same = c.cut.ensures.left
     ∙ c.contents_are_kept.ensures.first c.mark-mark.result before after c.mark-mark.ensures.within
     c.in_ok-term.ensures.grown ∙ c.mark-mark.ensures.all in
-    unchanged_by c.contents_are_kept.ensures c.args.self.now c.cut.new.self c.push.new.self
-    (λ s stands. subst (λ (x : Contents). Holds x s) (sym same) stands)
-    (subst (λ (x : Contents). Extends before x) (sym same) (extends_itself before)) c.in-Err.ensures.items
+    unchanged_by c.args.self.now c.cut.new.self c.push.new.self
+    (subst (λ (x : Contents). Extends before x) (sym same) (extends_itself before))
+    (c.cut.ensures.transient ∙ c.assert.ensures.transient) c.in-Err.ensures.items
+
+pub returns-in-Err-clause-grown : goal.returns-in-Err-clause-grown
+returns-in-Err-clause-grown c =
+    let before = contents_of c.args.self.now.library in
+    let after = contents_of c.assert.new.self in
+    let same = c.cut.ensures.left
+    ∙ c.contents_are_kept.ensures.first c.mark-mark.result before after c.mark-mark.ensures.within
+    c.in_ok-term.ensures.grown ∙ c.mark-mark.ensures.all in
+    subst (λ (x : Contents). Extends before x) (sym same) (extends_itself before)

@@ -21,8 +21,8 @@ returns-in_err-declare-clause-refused c =
 pub returns-in_err-declare-clause-unchanged : goal.returns-in_err-declare-clause-unchanged
 returns-in_err-declare-clause-unchanged c =
     let p = err_from_is_err_and c.from_residual.result c.from_residual.ensures.1 in
-    rw p.1 (unchanged_by c.contents_are_kept.ensures c.args.self.now c.declare.new.self
-    c.args.self.now.assertions c.in_err-declare.ensures.unchanged c.in_err-declare.ensures.grown refl)
+    rw p.1 (unchanged_by c.args.self.now c.declare.new.self c.args.self.now.assertions
+    c.declare.ensures.grown c.declare.ensures.transient refl)
 
 pub returns-clause-effect : goal.returns-clause-effect
 returns-clause-effect c =

@@ -31,8 +31,8 @@ pub returns-in_err-define-clause-unchanged : goal.returns-in_err-define-clause-u
 returns-in_err-define-clause-unchanged c =
     let p = err_from_is_err_and c.from_residual-in_err-define.result c.from_residual-in_err-define.ensures.1
     in
-    rw p.1 (unchanged_by c.contents_are_kept.ensures c.args.self.now c.define.new.self
-    c.args.self.now.assertions c.in_err-define.ensures.unchanged c.in_err-define.ensures.grown refl)
+    rw p.1 (unchanged_by c.args.self.now c.define.new.self c.args.self.now.assertions
+    c.define.ensures.grown c.define.ensures.transient refl)
 
 pub returns-clause-effect : goal.returns-clause-effect
 returns-clause-effect c =

@@ -13,6 +13,6 @@ returns-clause-effect c =
     let room = c.in-Some.ensures in
     let len = c.len.ensures in
     let fits : length old + digits_value 10 c.args.digits.now ≤ limit = omega arith in
-    push_effect c.args.self.now c.push.new.self c.level-level.result
+    push_effect c.terms_have_nodes.ensures c.args.self.now c.push.new.self c.level-level.result
     (digits_value 10 c.args.digits.now) c.level-level.ensures
     (c.in_ok-push.ensures.added ∙ ap (λ (n : ℕ). old ++ copies n c.level-level.result) same) fits

@@ -436,7 +436,7 @@ sort_of_let-returns-clause-node t c =
     (c.in_ok-bound.ensures.bound ∙ ap (λ vs. Ok (scope_view vs)) (sym c.as_slice.ensures.value)))
     c.bound_by.ensures.longer c.in_ok-bound.ensures.nodes c.sort_of.ensures.longer c.in_ok-checked.ensures.node
     refl refl c.push.ensures.longer
-    (subst (λ js. AddsNode cut c.push.new.self (node.Let js c.in_ok-checked.checked.node) c.in_ok-push.field-0)
+    (subst (λ js. AddsNode c.args.self.now.nodes cut c.push.new.self (node.Let js c.in_ok-checked.checked.node) c.in_ok-push.field-0)
     c.as_slice-2.ensures c.in_ok-push.ensures.added)
     c.in_ok-push.ensures.open
 

@@ -4,11 +4,10 @@ use Rattle.smt_nodes.specs.Nodes.{rows_of}
 use Rattle.smt_trees.specs.Tree.{sexp_of}
 use Rattle.smt_forms.specs.ScopeView.{scope_view}
 use Rattle.smt_terms.specs.Checking.{sort_in}
-use Rattle.smt_terms.specs.Contents.{contents_of}
+use Rattle.smt_terms.specs.Contents.{contents_of, terms_in}
 use Rattle.smt_terms.specs.Definitions.{definition}
 use Rattle.smt_terms.specs.Internal.LabelsView.{labels_view}
 use Rattle.smt_terms.specs.Internal.LibraryView.{names_for, names_of_library}
-use Rattle.smt_terms.specs.Library.{terms_of}
 use Rattle.smt_terms.specs.Signature.{names_of, with_entry}
 use Rattle.smt_terms.proofs.BodyLemmas.{ready}
 use Rattle.smt_terms.proofs.ContentsLemmas.{extends_on, grown_by, keeps_on, nothing_more}
@@ -131,5 +130,5 @@ returns-clause-added c = λ s stands.
           (stands_kept old.bodies.items (contents_of old) now s kept (under (contents_of old) s stands)))
           free
           (body_checked old now given rows bodies c.args.parameters.now node t longer
-          (c.in_ok-checked.ensures.node (ready (terms_of old) s stands.terms)).0)),
+          (c.in_ok-checked.ensures.node (ready (terms_in (contents_of old)) s stands.terms)).0)),
     )

@@ -20,4 +20,11 @@ loop-label-preserved c =
     (next_left c.args.labels.now c.loop-label.label-index c.label-item.result
     (omega (arith, c.loop-label-test.true)) c.label-item.is)
     c.in_ok-add_label.ensures.added c.in_ok-add_label.ensures.ranks c.in_ok-add_label.ensures.bodies
-    c.in_ok-add_label.ensures.grown
+    c.in_ok-add_label.ensures.grown c.add_label.ensures.transient
+
+pub returns-in_err-add_label-clause-transient : goal.returns-in_err-add_label-clause-transient
+returns-in_err-add_label-clause-transient c =
+    c.add_label.ensures.transient ∙ c.loop-label.invariant.transient
+
+pub returns-clause-transient : goal.returns-clause-transient
+returns-clause-transient c = c.loop-label.invariant.transient

@@ -2,12 +2,12 @@ use Rattle.std.proofs.Common.{ℕ, List, ◌++◌, [], map, refl, ap, sym, subst
 use Rattle.std.proofs.lemmas.Result.{err_from_is_err_and}
 use Rattle.smt_nodes.specs.Nodes.{rows_of}
 use Rattle.smt_trees.specs.Tree.{sexp_of}
-use Rattle.smt_terms.specs.Contents.{Extends, contents_of}
+use Rattle.smt_terms.specs.Contents.{Extends, contents_of, terms_in}
 use Rattle.smt_terms.specs.Internal.Growing.{AreFitUnder, HoldsUnder}
 use Rattle.smt_terms.specs.Internal.LabelsView.{AreNew, label_entry, labels_view}
 use Rattle.smt_terms.specs.Internal.LibraryView.{ranks_of_library}
 use Rattle.smt_terms.specs.Internal.TableView.{table_with}
-use Rattle.smt_terms.specs.Library.{Holds, terms_of}
+use Rattle.smt_terms.specs.Library.{Holds}
 use Rattle.smt_terms.specs.Signature.{with_entries}
 use Rattle.smt_terms.specs.declared.labels.Label.{Label}
 use Rattle.smt_terms.proofs.AssertionLemmas.{asserted_by, asserted_fault, asserted_ill, given_are_new}
@@ -93,7 +93,7 @@ returns-in-Ok-clause-asserted c = λ s stands.
     let fits =
     given_named old labels given term sort rows bodies now s stands c.new.ensures.view
     c.in_ok-checked.ensures.sort c.in_ok-checked.ensures.given.0 longer
-    (c.in_ok-checked.ensures.node (ready (terms_of old) s stands.terms)).1 in (
+    (c.in_ok-checked.ensures.node (ready (terms_in (contents_of old)) s stands.terms)).1 in (
       map label_entry given,
       asserted_by old s labels given term sort stands c.new.ensures.view c.in_ok-checked.ensures.sort
           (sym c.are_equal.ensures ∙ c.if-not-are_equal.false) c.in_ok-checked.ensures.given.0
@@ -126,9 +126,9 @@ returns-in-Ok-clause-term c = λ s stands.
     (c.in-Ok.ensures.bodies ∙ ap (λ (bs : List ℕ). bs ++ map (λ l. l.node) c.as_slice.result.now) kept.bodies
     ∙ ap (λ (ls : List Label). old.bodies.items ++ map (λ l. l.node) ls) c.as_slice.ensures.value))
     c.in-Ok.ensures.grown.rows in
-    denotes_kept (table_with old given rows) (terms_of c.add_labels.new.self) longer [] 0 0
+    denotes_kept (table_with old given rows) (terms_in (contents_of c.add_labels.new.self)) longer [] 0 0
     c.in_ok-checked.checked.node (sexp_of c.args.term.now)
-    (c.in_ok-checked.ensures.node (ready (terms_of old) s stands.terms)).0
+    (c.in_ok-checked.ensures.node (ready (terms_in (contents_of old)) s stands.terms)).0
 
 pub returns-in-Ok-clause-grown : goal.returns-in-Ok-clause-grown
 returns-in-Ok-clause-grown c =
@@ -143,7 +143,7 @@ returns-clause-unchanged c =
     λ s stands. subst (λ d. Holds d s)
     (sym (undone c.mark-mark.result (contents_of c.check_whole.new.self) (contents_of c.add_labels.new.self)
     (contents_of c.cut.new.self) c.mark-mark.ensures.all c.mark-mark.ensures.within c.in-Err.ensures.grown
-    c.cut.ensures))
+    c.cut.ensures.left))
     (stands_still (contents_of c.args.self.now) (contents_of c.check_whole.new.self) s
     (checked_keeps c.check_whole.result c.args.self.now c.check_whole.new.self e.grown e.unchanged e.names e.sorts
     e.declared e.definitions e.bodies) stands)
@@ -154,7 +154,7 @@ returns-clause-grown c =
     subst (λ d. Extends (contents_of c.args.self.now) d)
     (sym (undone c.mark-mark.result (contents_of c.check_whole.new.self) (contents_of c.add_labels.new.self)
     (contents_of c.cut.new.self) c.mark-mark.ensures.all c.mark-mark.ensures.within c.in-Err.ensures.grown
-    c.cut.ensures))
+    c.cut.ensures.left))
     (grown_by (contents_of c.args.self.now) (contents_of c.check_whole.new.self)
     (checked_keeps c.check_whole.result c.args.self.now c.check_whole.new.self e.grown e.unchanged e.names e.sorts
     e.declared e.definitions e.bodies))

@@ -2,10 +2,9 @@ use Rattle.std.proofs.Common.{[], ap, refl, sym, ◌∙◌}
 use Rattle.smt_nodes.specs.Nodes.{rows_of}
 use Rattle.smt_trees.specs.Tree.{sexp_of}
 use Rattle.smt_terms.specs.Checking.{sort_in}
-use Rattle.smt_terms.specs.Contents.{contents_of}
+use Rattle.smt_terms.specs.Contents.{contents_of, terms_in}
 use Rattle.smt_terms.specs.Internal.LabelsView.{labels_view}
 use Rattle.smt_terms.specs.Internal.TableView.{table_with}
-use Rattle.smt_terms.specs.Library.{terms_of}
 use Rattle.smt_terms.proofs.BodyLemmas.{ready}
 use Rattle.smt_terms.proofs.ContentsLemmas.{grown_by, nothing_more}
 use Rattle.smt_terms.proofs.DenotesLemmas.{denotes_kept}
@@ -63,6 +62,6 @@ returns-clause-answer c = λ s stands.
       ap (λ n. sort_in n [] t) (sym (names_as old s stands))
           ∙ without_labels old (labels_view c.refused.result) [] t _ c.refused.ensures.view
           c.in_ok-checked.ensures.sort,
-      denotes_kept (table_with old given rows) (terms_of new) longer [] 0 0 c.in_ok-checked.checked.node t
-          (c.in_ok-checked.ensures.node (ready (terms_of old) s stands.terms)).0,
+      denotes_kept (table_with old given rows) (terms_in (contents_of new)) longer [] 0 0 c.in_ok-checked.checked.node t
+          (c.in_ok-checked.ensures.node (ready (terms_in (contents_of old)) s stands.terms)).0,
     )

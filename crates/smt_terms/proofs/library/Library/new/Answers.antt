@@ -3,8 +3,8 @@ use Rattle.smt_terms.specs.Contents.{declaration_view}
 use Rattle.smt_terms.proofs.StandsLemmas.{nothing_stands}
 use Rattle.smt_terms.proofs.library.Library.new.Goals as goal
 
-pub returns : goal.returns
-returns c = nothing_stands _ c.args.theories
+pub returns-clause-stands : goal.returns-clause-stands
+returns-clause-stands c = nothing_stands _ c.args.theories
     (ap (λ z. z.theories) c.new.ensures) (ap (λ z. z.abbreviations) c.new.ensures)
     (rw c.new-2.ensures.empty refl) (rw c.new-2.ensures.empty refl)
     (ap (map declaration_view) c.new-3.ensures.items) c.new-4.ensures.items c.new-5.ensures.items

@@ -30,7 +30,7 @@ returns-in_ok-push-in-Some-clause-node c =
     variable_stands c.args.self.now c.args.draft.now c.push.new.self c.args.name.now c.in-Some.variable
     c.in_ok-push-in-Some.field-0 c.requires (sym c.find.ensures ∙ c.in-Some.is)
     c.in_ok-push-in-Some.ensures.open c.push.ensures.longer
-    (subst (λ n. AddsNode c.args.draft.now c.push.new.self (node.Slot n) c.in_ok-push-in-Some.field-0)
+    (subst (λ n. AddsNode c.args.self.now.nodes c.args.draft.now c.push.new.self (node.Slot n) c.in_ok-push-in-Some.field-0)
     c.saturating_sub.ensures c.in_ok-push-in-Some.ensures.added)
 
 pub returns-in-None-clause-sort : goal.returns-in-None-clause-sort
