@@ -100,11 +100,11 @@ impl<'a> Tables<'a> {
     // A place in one of the script's tables.
     #[inline(always)]
     fn place_among(&self, shift: usize, nodes: &'a Nodes, number: usize) -> Place<'a>
-        ensures nodes { result.nodes ≡ nodes }
+        ensures nodes { result.nodes.now ≡ nodes.now }
         ensures number { result.number ≡ number }
         ensures shift { result.shift ≡ shift }
-        ensures bodies { result.bodies ≡ self.now.script_bodies }
-        ensures declared { result.declared ≡ self.now.declared }
+        ensures bodies { result.bodies.now ≡ self.now.script_bodies.now }
+        ensures declared { result.declared.now ≡ self.now.declared.now }
     {
         Place {
             nodes,

@@ -36,7 +36,7 @@ use Rattle.smt_script.specs.Stack.{global_after, global_by, global_in_force, nam
 use Rattle.smt_script.specs.Stack.{assertions_stand, is_logic_set, is_too_late}
 use Rattle.smt_script.specs.StackView.{AreAs, AreAssertions, AreNamesAlike, HasInForce, IsLevel}
 use Rattle.smt_script.specs.StackView.{assertions_to_level, names_level, names_to_level, signature_to_level, to_level}
-use Rattle.smt_script.specs.Internal.Effect.{ContentsAreKept, HasEffect, HasMore, HasNotesOf, logic_after, with_notes}
+use Rattle.smt_script.specs.Internal.Effect.{ContentsAreKept, HasEffect, HasMore, logic_after, with_notes}
 use Rattle.smt_faults.specs.declared.command_fault.CommandFault.{CommandFault}
 use Rattle.smt_faults.specs.declared.command_flaw.CommandFlaw.{CommandFlaw}
 use Rattle.smt_faults.specs.declared.command_flaw.CommandFlaw.TheVariants.{Term}
@@ -232,11 +232,6 @@ pub assertions_left : (k : ℕ) (cs : List Numbered) (c : Numbered) → Keeps c.
 assertions_left k cs c keeps inside =
     ap assertions_of (ap (to_level k) (assertions_grow cs c keeps.no_reset (keeps.level (depth_in_force cs)))
     ∙ to_level-push level_of k (in_force assertions_stand (history cs)) (brought_by cs (history cs) c) inside)
-
--- the notes of a stack are its own
-pub same_notes : (s : Stack) → HasNotesOf s s
-same_notes s =
-    record { logic = refl; global = refl; print_success = refl; start = refl; exited = refl; last = refl }
 
 -- a level as the contents and the assertions grow; global names grow with them
 pub level_grows : ContentsAreKept → (global : Bool)
@@ -639,7 +634,7 @@ unchanged_by old l as' grown transient same = record {
   assertions = same;
   assumptions = refl;
   levels = refl;
-  notes = same_notes old;
+  notes = record { logic = refl; global = refl; print_success = refl; start = refl; exited = refl; last = refl };
 }
 
 -- ---- logics

@@ -33,7 +33,7 @@ use Rattle.smt_script.specs.declared.stack.LogicState.{LogicState}
 use Rattle.smt_script.specs.declared.stack.levels.Level.{Level}
 use Rattle.smt_script.specs.declared.stack.Stack.{Stack}
 use Rattle.smt_script.proofs.EffectLemmas.{Keeps, assertions-add, assertions_left, extends_itself, no_names_left}
-use Rattle.smt_script.proofs.EffectLemmas.{none_more, same_notes}
+use Rattle.smt_script.proofs.EffectLemmas.{none_more}
 use Rattle.smt_script.proofs.EffectLemmas.{nothing_brought, same_signature, signature-add, within}
 use Rattle.smt_script.proofs.HistoryLemmas.{all_to_level, assertion_stands_after, assertions-push, assertions_rule}
 use Rattle.smt_script.proofs.HistoryLemmas.{exited-push, global-push, history-push, in_force-left, in_force-push}
@@ -622,7 +622,7 @@ levels_unchanged old v same = record {
   assertions = refl;
   assumptions = refl;
   levels = same;
-  notes = same_notes old;
+  notes = record { logic = refl; global = refl; print_success = refl; start = refl; exited = refl; last = refl };
 }
 
 pub same_unchanged : (s : Stack) → HasMore s s

@@ -1,5 +1,5 @@
 -- A stack whose library keeps the nodes that definitions need, and those that levels and assertions note.
-use Rattle.std.proofs.Common.{◌≡◌, ◌≤◌, ◌<◌, ℕ, zero, suc, List, [], ◌∷◌, ◌++◌, Bool, true, false, cond, Some, length, max}
+use Rattle.std.proofs.Common.{◌≡◌, ◌≤◌, ◌<◌, ◌-◌, ℕ, zero, suc, List, [], ◌∷◌, ◌++◌, Bool, true, false, cond, Some, length, max}
 use Rattle.std.proofs.Common.{slice_get, take, refl, ap, sym, subst, ◌∙◌, ◌||◌, arith}
 use Rattle.std.specs.List.{All}
 use Rattle.std.proofs.lemmas.List.{length-take}
@@ -10,11 +10,12 @@ use Rattle.smt_terms.specs.Library.{Holds, IsTermOf}
 use Rattle.smt_terms.specs.Signature.{Signature}
 use Rattle.smt_terms.specs.declared.library.Library.{Library}
 use Rattle.smt_terms.specs.declared.library.marks.Mark.{Mark}
-use Rattle.smt_script.specs.Command.{Command, Pop}
+use Rattle.smt_script.specs.Command.{Pop, Pops}
 use Rattle.smt_script.specs.Stack as spec
-use Rattle.smt_script.specs.Stack.{Numbered, assertions_in_force, print_success_after, signature_in_force}
+use Rattle.smt_script.specs.Stack.{Numbered, assertions_in_force, signature_in_force}
 use Rattle.smt_script.specs.Stack.{is_exit, print_success_in_force}
-use Rattle.smt_script.specs.StackView.{AreAssertions, HasInForce, IsLevel, assertions_to_level, signature_to_level}
+use Rattle.smt_script.specs.StackView.{AreAssertions, HasInForce, HoldsAfter, IsLevel, IsPopped, assertions_to_level}
+use Rattle.smt_script.specs.StackView.{contents_left, contents_needed, signature_to_level}
 use Rattle.smt_script.specs.Internal.Effect.{HasEffect, HasNotesOf, IsCut, NeededIsEnough, NeedsLeft, logic_after}
 use Rattle.smt_script.specs.Internal.Effect.{with_notes}
 use Rattle.smt_script.specs.declared.stack.Assertion.{Assertion}
@@ -150,6 +151,42 @@ needs_noted mid new count m left = record {
     last = left.notes.last;
   };
 }
+
+-- what a `pop` leaves of levels, and then of nodes
+pub needs_popped : (old mid new : Stack) (d : ℕ) (level : Level) → slice_get old.levels d ≡ Some level
+    → IsCut old mid d → NeedsLeft mid new level.mark.nodes → HasNotesOf old mid
+    → IsPopped old (contents_of new.library) d
+needs_popped old mid new d level at cut left notes = record {
+  level = level;
+  at = at;
+  library = left.library
+      ∙ ap (λ (g : Bool). cond g (needed_of level.mark.nodes (contents_of mid.library)) (contents_of mid.library))
+      notes.global
+      ∙ ap (λ (x : Contents). cond old.global (needed_of level.mark.nodes x) x)
+      (cut.library ∙ ap (λ (l : Level). contents_left old.global l.mark c) (same_level cut.level cut.at))
+      ∙ both old.global;
+}
+  where
+    c : Contents
+    c = contents_of old.library
+
+    same_level : (l : Level) → slice_get old.levels d ≡ Some l → l ≡ level
+    same_level l is = cc
+
+    both : (g : Bool)
+        → cond g (needed_of level.mark.nodes (contents_left g level.mark c)) (contents_left g level.mark c)
+        ≡ contents_needed g level.mark c
+    both true = refl
+    both false = refl
+
+-- so a library holds behind a `pop` of some levels, and of none
+pub popped_some : (old : Stack) (now : Contents) (d m : ℕ) → 0 < m → d ≡ length old.levels - m
+    → IsPopped old now d → HoldsAfter old (Pops m) now
+popped_some old now d zero some is h = absurd (omega (arith, some))
+popped_some old now d (suc m) some is h = subst (IsPopped old now) is h
+
+pub popped_none : (old : Stack) (m : ℕ) → m ≡ 0 → HoldsAfter old (Pops m) (contents_of old.library)
+popped_none old m none = subst (λ (k : ℕ). HoldsAfter old (Pops k) (contents_of old.library)) (sym none) refl
 
 -- an element of the first so many
 taken : {A : Type 0} (n : ℕ) (xs : List A) (k : ℕ) (x : A) → slice_get (take n xs) k ≡ Some x

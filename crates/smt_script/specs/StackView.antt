@@ -1,5 +1,5 @@
 -- What a contract sees of a stack, and the commands that it stands for.
-use Rattle.std.specs.Prelude.{◌≡◌, ◌≤◌, ◌<◌, ◌-◌, ◌⊎◌, ℕ, zero, suc, List, [], ◌∷◌, Bool, Some, length, nat_le}
+use Rattle.std.specs.Prelude.{◌≡◌, ◌≤◌, ◌<◌, ◌-◌, ◌⊎◌, ℕ, zero, suc, List, [], ◌∷◌, Bool, true, false, Some, length, nat_le}
 use Rattle.std.specs.Prelude.{if◌then◌else◌, slice_get, take}
 use Rattle.std.specs.List.{All, filter}
 use Rattle.smt_trees.specs.Sexp.{Sexp}
@@ -90,6 +90,11 @@ pub record IsPopped (old : Stack) (now : Contents) (depth : ℕ) : Type 0 where
   pub at : slice_get old.levels depth ≡ Some level
   pub library : now ≡ contents_needed old.global level.mark (contents_of (library_of old))
 
+-- the one where declarations are global, the other where they are not
+abbrev pub WhenGlobal : Bool → (everywhere inside : Type 0) → Type 0
+WhenGlobal true everywhere inside = everywhere
+WhenGlobal false everywhere inside = inside
+
 -- what a library holds behind a command of this effect: the same where it brings and removes nothing, and more
 -- where it brings something; what a removal of assertions leaves has the nodes that definitions need
 abbrev pub HoldsAfter : (old : Stack) → Effect → (now : Contents) → Type 0
@@ -100,7 +105,7 @@ HoldsAfter old (Pops zero) now = now ≡ contents_of (library_of old)
 HoldsAfter old (Pops (suc n)) now = IsPopped old now (length old.levels - suc n)
 HoldsAfter old (Removing Nothing) now = now ≡ contents_of (library_of old)
 HoldsAfter old (Removing AllButOptions) now =
-    if old.global then now ≡ needed_of 0 (contents_of (library_of old)) else now.rows ≡ []
+    WhenGlobal old.global (now ≡ needed_of 0 (contents_of (library_of old))) (now.rows ≡ [])
 HoldsAfter old (Removing Everything) now = now.rows ≡ []
 HoldsAfter old (SetsGlobal on) now = now ≡ contents_of (library_of old)
 HoldsAfter old (Assumes literals) now = now ≡ contents_of (library_of old)

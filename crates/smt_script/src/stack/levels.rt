@@ -77,7 +77,7 @@ impl Stack {
         };
         if count > 0 {
             let level = self.cut_to(depth - count);
-            self.drop_unneeded(level.mark.nodes);
+            self.drop_unneeded(level.mark);
         }
         Ok(())
     }
@@ -98,12 +98,12 @@ impl Stack {
         level
     }
 
-    // Leaves the first so many nodes and those that definitions need, if declarations are global.
-    fn drop_unneeded(&mut self, count: usize)
-        ensures { NeedsLeft self.old self.new count }
+    // Leaves as many nodes as a mark counts and those that definitions need, if declarations are global.
+    fn drop_unneeded(&mut self, mark: Mark)
+        ensures { NeedsLeft self.old self.new mark.nodes }
     {
         if self.global {
-            self.library.cut_nodes(count);
+            self.library.cut_nodes(mark);
         }
     }
 
@@ -141,7 +141,7 @@ impl Stack {
     {
         needed_nodes_are_enough();
         if self.global {
-            self.library.cut_nodes(0);
+            self.library.drop_unneeded();
         } else {
             self.library = Library::new(self.alloc, self.library.theories());
         }

@@ -35,8 +35,25 @@ impl Library {
         }
     }
 
-    /// Leaves the first so many nodes, and those that the bodies of definitions need, at the cost of what goes.
-    pub fn cut_nodes(&mut self, count: usize)
+    /// Leaves as many nodes as a mark counts, and those that the bodies of definitions need, at the cost of what
+    /// goes.
+    pub fn cut_nodes(&mut self, mark: Mark)
+        ensures left { contents_of self.new ≡ needed_of mark.nodes (contents_of self.old) }
+        ensures transient { transient_of self.new ≡ transient_of self.old }
+    {
+        self.leave_nodes(mark.nodes);
+    }
+
+    /// Leaves the nodes that the bodies of definitions need, at the cost of what goes.
+    pub fn drop_unneeded(&mut self)
+        ensures left { contents_of self.new ≡ needed_of 0 (contents_of self.old) }
+        ensures transient { transient_of self.new ≡ transient_of self.old }
+    {
+        self.leave_nodes(0);
+    }
+
+    // Leaves the first so many nodes, and those that the bodies of definitions need.
+    fn leave_nodes(&mut self, count: usize)
         ensures left { contents_of self.new ≡ needed_of count (contents_of self.old) }
         ensures transient { transient_of self.new ≡ transient_of self.old }
     {

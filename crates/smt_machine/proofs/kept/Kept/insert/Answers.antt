@@ -1,5 +1,5 @@
-use Rattle.std.proofs.Common.{◌≡◌, ◌∙◌, ◌<◌, ℕ, List, Option, Some, ap, arith, cond, length, length-set, nat_eq, refl}
-use Rattle.std.proofs.Common.{slice_get, slice_set, subst, sym}
+use Rattle.std.proofs.Common.{◌≡◌, ◌∙◌, ℕ, List, Some, ap, arith, cond, length, length-set, nat_eq, refl}
+use Rattle.std.proofs.Common.{slice_get, slice_set}
 use Rattle.std.proofs.lemmas.List.{with_items_is}
 use Rattle.smt_values.specs.Element.{known_element}
 use Rattle.smt_machine.specs.Internal.KeptView.{found_by, kept_at}

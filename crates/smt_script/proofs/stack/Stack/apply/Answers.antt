@@ -1,4 +1,5 @@
 use Rattle.std.proofs.Common.{sym, subst, ◌∙◌, ap}
+use Rattle.std.proofs.lemmas.Result.{err_from_is_err_and}
 use Rattle.smt_terms.specs.Contents.{Contents, contents_of}
 use Rattle.smt_script.specs.Command.{effect_of}
 use Rattle.smt_script.specs.CommandView.{command_view}
@@ -23,3 +24,13 @@ pub returns-clause-ended : goal.returns-clause-ended
 returns-clause-ended c = λ ends.
     none_left (command_view c.args.command.now) c.note.new.self c.end_assumptions.new.self c.end_assumptions.ensures
     ends
+
+pub returns-in_err-try_effect-clause-unchanged : goal.returns-in_err-try_effect-clause-unchanged
+returns-in_err-try_effect-clause-unchanged c =
+    let p = err_from_is_err_and c.from_residual.result c.from_residual.ensures.1 in
+    let same = c.in_err-try_effect.ensures.unchanged in
+    rw p.1 (
+      λ commands h. unchanged_stands c.args.self.now c.try_effect.new.self same commands h,
+      same.notes.last,
+      same.library,
+    )

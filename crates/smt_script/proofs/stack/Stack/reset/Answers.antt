@@ -16,7 +16,7 @@ returns-clause-effect c =
     })
     (record {
       library = subst (λ (t : Theories). library.StandsFor c.new.result (no_names t))
-          c.all_theories.ensures c.new.ensures;
+          c.all_theories.ensures c.new.ensures.stands;
       assertions = c.truncate.ensures.items;
       levels = c.clear.ensures;
     })

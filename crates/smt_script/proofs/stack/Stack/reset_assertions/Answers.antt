@@ -3,7 +3,7 @@ use Rattle.smt_script.proofs.stack.Stack.reset_assertions.Goals as goal
 
 pub returns-clause-effect : goal.returns-clause-effect
 returns-clause-effect c =
-    let dropped = c.drop_names.ensures in
+    let dropped = c.drop_names.ensures.dropped in
     let notes = dropped.notes in
     let before = c.drop_names.new.self in
     reset_assertions_effect c.args.self.now

@@ -1,11 +1,13 @@
-use Rattle.std.proofs.Common.{◌≡◌, ℕ, List, Result, Ok, Err, IfErr, OnOk, ap, sym, ◌∙◌}
+use Rattle.std.proofs.Common.{◌≡◌, ℕ, List, Result, Ok, Err, IfErr, OnOk, refl, ap, sym, ◌∙◌}
 use Rattle.std.specs.Str.Parse.{digits_value}
 use Rattle.smt_trees.specs.Tree.{sexp_of, sexps_of}
 use Rattle.smt_forms.specs.Bindings.{named_trees}
+use Rattle.smt_terms.specs.Contents.{Contents, contents_of}
 use Rattle.smt_script.specs.Command.{CheckSatAssuming, Command, DefineFun, DefineSort, Pop, Push, Reset, ResetAssertions}
-use Rattle.smt_script.specs.Command.{SetGlobalDeclarations, SetLogic, effect_of}
+use Rattle.smt_script.specs.Command.{Nothing, Removing, SetGlobalDeclarations, SetLogic, effect_of}
 use Rattle.smt_script.specs.CommandView.{command_view}
 use Rattle.smt_script.specs.Internal.Effect.{HasEffect, IsRefused}
+use Rattle.smt_script.specs.StackView.{HoldsAfter}
 use Rattle.smt_faults.specs.declared.command_fault.CommandFault.{CommandFault}
 use Rattle.smt_script.specs.declared.stack.Stack.{Stack}
 use Rattle.smt_script.proofs.EffectLemmas.{idle_effect, no_effect_is_idle}
@@ -23,6 +25,20 @@ effect_at : (r : Result (Unit {0}) CommandFault) (old new : Stack) (given comman
     → OnOk r ((number : ℕ) → HasEffect old new number given) → OnOk r (HasEffect old new n command)
 effect_at (Ok x) old new given command n e h = rw e (h n)
 effect_at (Err fault) old new given command n e h = tt
+
+held_at : (r : Result (Unit {0}) CommandFault) (old : Stack) (given command : Command) (now : Contents)
+    → command ≡ given → OnOk r (HoldsAfter old (effect_of given) now)
+    → OnOk r (HoldsAfter old (effect_of command) now)
+held_at (Ok x) old given command now e h = rw e h
+held_at (Err fault) old given command now e h = tt
+
+idle_held : (old : Stack) (command : Command) → effect_of command ≡ Removing Nothing
+    → HoldsAfter old (effect_of command) (contents_of old.library)
+idle_held old command e = rw e refl
+
+on_ok : {A : Type 0} (r : Result (Unit {0}) CommandFault) → A → OnOk r A
+on_ok (Ok x) a = a
+on_ok (Err fault) a = tt
 
 pub returns-in-SetLogic-clause-effect : goal.returns-in-SetLogic-clause-effect
 returns-in-SetLogic-clause-effect c =
@@ -207,3 +223,106 @@ returns-in-CheckSatAssuming-clause-refused c =
     c.args.number
     (ap command_view c.in-CheckSatAssuming.is ∙ ap CheckSatAssuming (sym c.as_slice-in-CheckSatAssuming.ensures))
     c.assume.ensures.refused
+
+-- ---- what the library holds
+
+pub returns-in-SetLogic-clause-held : goal.returns-in-SetLogic-clause-held
+returns-in-SetLogic-clause-held c =
+    held_at c.set_logic.result c.args.self.now _ (command_view c.args.command.now)
+    (contents_of c.set_logic.new.self.library) (ap command_view c.in-SetLogic.is) c.set_logic.ensures.held
+
+pub returns-in-DeclareConst-clause-held : goal.returns-in-DeclareConst-clause-held
+returns-in-DeclareConst-clause-held c =
+    held_at c.declare_const.result c.args.self.now _ (command_view c.args.command.now)
+    (contents_of c.declare_const.new.self.library) (ap command_view c.in-DeclareConst.is) (on_ok c.declare_const.result c.declare_const.ensures.grown)
+
+pub returns-in-DeclareFun-clause-held : goal.returns-in-DeclareFun-clause-held
+returns-in-DeclareFun-clause-held c =
+    held_at c.declare_fun.result c.args.self.now _ (command_view c.args.command.now)
+    (contents_of c.declare_fun.new.self.library) (ap command_view c.in-DeclareFun.is) (on_ok c.declare_fun.result c.declare_fun.ensures.grown)
+
+pub returns-in-DefineFun-clause-held : goal.returns-in-DefineFun-clause-held
+returns-in-DefineFun-clause-held c =
+    held_at c.define.result c.args.self.now _ (command_view c.args.command.now)
+    (contents_of c.define.new.self.library) (ap command_view c.in-DefineFun.is) (on_ok c.define.result c.define.ensures.grown)
+
+pub returns-in-DefineSort-clause-held : goal.returns-in-DefineSort-clause-held
+returns-in-DefineSort-clause-held c =
+    held_at c.define_sort.result c.args.self.now _ (command_view c.args.command.now)
+    (contents_of c.define_sort.new.self.library) (ap command_view c.in-DefineSort.is) (on_ok c.define_sort.result c.define_sort.ensures.grown)
+
+pub returns-in-Assert-clause-held : goal.returns-in-Assert-clause-held
+returns-in-Assert-clause-held c =
+    held_at c.assert.result c.args.self.now _ (command_view c.args.command.now)
+    (contents_of c.assert.new.self.library) (ap command_view c.in-Assert.is) (on_ok c.assert.result c.assert.ensures.grown)
+
+pub returns-in-Push-clause-held : goal.returns-in-Push-clause-held
+returns-in-Push-clause-held c =
+    held_at c.push.result c.args.self.now _ (command_view c.args.command.now)
+    (contents_of c.push.new.self.library) (ap command_view c.in-Push.is) (on_ok c.push.result c.push.ensures.held)
+
+pub returns-in-Pop-clause-held : goal.returns-in-Pop-clause-held
+returns-in-Pop-clause-held c =
+    held_at c.pop.result c.args.self.now (Pop (digits_value 10 c.as_slice-in-Pop.result.now)) (command_view c.args.command.now)
+    (contents_of c.pop.new.self.library) (ap command_view c.in-Pop.is
+    ∙ ap (λ (x : List ℕ). Pop (digits_value 10 x)) (sym c.as_slice-in-Pop.ensures)) c.pop.ensures.held
+
+pub returns-in-Reset-clause-held : goal.returns-in-Reset-clause-held
+returns-in-Reset-clause-held c =
+    held_at c.reset.result c.args.self.now _ (command_view c.args.command.now)
+    (contents_of c.reset.new.self.library) (ap command_view c.in-Reset.is) (on_ok c.reset.result c.reset.ensures.held)
+
+pub returns-in-ResetAssertions-clause-held : goal.returns-in-ResetAssertions-clause-held
+returns-in-ResetAssertions-clause-held c =
+    held_at c.reset_assertions.result c.args.self.now _ (command_view c.args.command.now)
+    (contents_of c.reset_assertions.new.self.library) (ap command_view c.in-ResetAssertions.is) (on_ok c.reset_assertions.result c.reset_assertions.ensures.held)
+
+pub returns-in-SetGlobalDeclarations-clause-held : goal.returns-in-SetGlobalDeclarations-clause-held
+returns-in-SetGlobalDeclarations-clause-held c =
+    held_at c.set_global.result c.args.self.now _ (command_view c.args.command.now)
+    (contents_of c.set_global.new.self.library) (ap command_view c.in-SetGlobalDeclarations.is) (on_ok c.set_global.result c.set_global.ensures.held)
+
+pub returns-in-CheckSatAssuming-clause-held : goal.returns-in-CheckSatAssuming-clause-held
+returns-in-CheckSatAssuming-clause-held c =
+    held_at c.assume.result c.args.self.now _ (command_view c.args.command.now)
+    (contents_of c.assume.new.self.library) (ap command_view c.in-CheckSatAssuming.is) (on_ok c.assume.result c.assume.ensures.held)
+
+pub returns-in-SetPrintSuccess-clause-held : goal.returns-in-SetPrintSuccess-clause-held
+returns-in-SetPrintSuccess-clause-held c =
+    idle_held c.args.self.now (command_view c.args.command.now)
+    (ap (λ d. effect_of (command_view d)) c.in-SetPrintSuccess.is)
+
+pub returns-in-SetOption-clause-held : goal.returns-in-SetOption-clause-held
+returns-in-SetOption-clause-held c =
+    idle_held c.args.self.now (command_view c.args.command.now)
+    (ap (λ d. effect_of (command_view d)) c.in-SetOption.is)
+
+pub returns-in-SetInfo-clause-held : goal.returns-in-SetInfo-clause-held
+returns-in-SetInfo-clause-held c =
+    idle_held c.args.self.now (command_view c.args.command.now)
+    (ap (λ d. effect_of (command_view d)) c.in-SetInfo.is)
+
+pub returns-in-Exit-clause-held : goal.returns-in-Exit-clause-held
+returns-in-Exit-clause-held c =
+    idle_held c.args.self.now (command_view c.args.command.now)
+    (ap (λ d. effect_of (command_view d)) c.in-Exit.is)
+
+pub returns-in-CheckSat-clause-held : goal.returns-in-CheckSat-clause-held
+returns-in-CheckSat-clause-held c =
+    idle_held c.args.self.now (command_view c.args.command.now)
+    (ap (λ d. effect_of (command_view d)) c.in-CheckSat.is)
+
+pub returns-in-GetModel-clause-held : goal.returns-in-GetModel-clause-held
+returns-in-GetModel-clause-held c =
+    idle_held c.args.self.now (command_view c.args.command.now)
+    (ap (λ d. effect_of (command_view d)) c.in-GetModel.is)
+
+pub returns-in-Echo-clause-held : goal.returns-in-Echo-clause-held
+returns-in-Echo-clause-held c =
+    idle_held c.args.self.now (command_view c.args.command.now)
+    (ap (λ d. effect_of (command_view d)) c.in-Echo.is)
+
+pub returns-in-Get-clause-held : goal.returns-in-Get-clause-held
+returns-in-Get-clause-held c =
+    idle_held c.args.self.now (command_view c.args.command.now)
+    (ap (λ d. effect_of (command_view d)) c.in-Get.is)
