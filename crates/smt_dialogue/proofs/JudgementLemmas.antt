@@ -4,8 +4,7 @@ use Rattle.std.proofs.Common.{ℕ, ◌+◌, ◌-◌, ◌<◌, ◌≤◌, Bool, c
 use Rattle.std.proofs.Common.{refl, ap, sym, subst, ◌∙◌}
 use Rattle.std.proofs.lemmas.Bool.{le-leb, leb-false, leb-true, lt-leb, lt-ltb, ltb-true}
 use Rattle.smt_trees.specs.Sexp.{Sexp}
-use Rattle.smt_terms.specs.Contents.{Contents}
-use Rattle.smt_terms.specs.Library.{IsTermOf}
+use Rattle.smt_terms.specs.Denotes.{Denotes, Table}
 use Rattle.smt_dialogue.specs.Internal.Claims.{AreClaimed}
 use Rattle.smt_dialogue.specs.Judgement.{first_claim, is_false_over, is_open_over}
 use Rattle.smt_dialogue.specs.Judgement.{Claimed, claims_cost, judged_over, judged_within, open_or_confirmed}
@@ -59,26 +58,26 @@ judged_from-open d None a rest e1 e =
 judged_from-open d (Some n) a rest e1 e = rw e1 refl
 
 -- the claims that are left, where the first is known
-pub next_term : (l : Contents) (a : ReadClaim) (as' : List ReadClaim) (bs : List Claimed)
+pub next_term : (l : Table) (a : ReadClaim) (as' : List ReadClaim) (bs : List Claimed)
     → AreClaimed l (a ∷ as') bs
     → (b : Claimed) × (rest : List Claimed) × (bs ≡ b ∷ rest) × (a.claim ≡ b.claim)
-    × IsTermOf l a.term b.term × AreClaimed l as' rest
+    × Denotes l [] 0 0 a.term b.term × AreClaimed l as' rest
 next_term l a as' [] h = absurd h
 next_term l a as' (b ∷ bs) h = (b, bs, refl, h.0, h.1, h.2)
 
-pub none_left : (l : Contents) (bs : List Claimed) → AreClaimed l [] bs → bs ≡ []
+pub none_left : (l : Table) (bs : List Claimed) → AreClaimed l [] bs → bs ≡ []
 none_left l [] h = refl
 none_left l (b ∷ bs) h = absurd h
 
 -- what is left to find of the claims that are left, behind those so far
-abbrev pub IsLeft : Contents → List ReadClaim → Signature → Option Claim → Judgement → Type 0
+abbrev pub IsLeft : Table → List ReadClaim → Signature → Option Claim → Judgement → Type 0
 IsLeft l left d first found =
     (rest : List Claimed) × AreClaimed l left rest × (judged_from d first rest ≡ found)
 
 -- the next claim is known to be true
-pub left-true : (l : Contents) (left as' : List ReadClaim) (a : ReadClaim) (d : Signature)
+pub left-true : (l : Table) (left as' : List ReadClaim) (a : ReadClaim) (d : Signature)
     (first : Option Claim) (found : Judgement) → left ≡ a ∷ as'
-    → ((t : Sexp) → IsTermOf l a.term t → known_over d t ≡ Some (Truth true)) → IsLeft l left d first found
+    → ((t : Sexp) → Denotes l [] 0 0 a.term t → known_over d t ≡ Some (Truth true)) → IsLeft l left d first found
     → IsLeft l as' d first found
 left-true l left as' a d first found here is h =
     let next = next_term l a as' h.0 (subst (λ ls. AreClaimed l ls h.0) here h.1) in (
@@ -89,9 +88,9 @@ left-true l left as' a d first found here is h =
     )
 
 -- it is known to be false, which decides
-pub left-false : (l : Contents) (left as' : List ReadClaim) (a : ReadClaim) (d : Signature)
+pub left-false : (l : Table) (left as' : List ReadClaim) (a : ReadClaim) (d : Signature)
     (first : Option Claim) (found : Judgement) → left ≡ a ∷ as'
-    → ((t : Sexp) → IsTermOf l a.term t → known_over d t ≡ Some (Truth false)) → IsLeft l left d first found
+    → ((t : Sexp) → Denotes l [] 0 0 a.term t → known_over d t ≡ Some (Truth false)) → IsLeft l left d first found
     → Refuted a.claim ≡ found
 left-false l left as' a d first found here is h =
     let next = next_term l a as' h.0 (subst (λ ls. AreClaimed l ls h.0) here h.1) in
@@ -103,9 +102,9 @@ left-false l left as' a d first found here is h =
 abbrev pub IsOpen : Option Element → Type 0
 IsOpen v = (is_known false v ≡ false) × (is_known true v ≡ false)
 
-pub left-open : (l : Contents) (left as' : List ReadClaim) (a : ReadClaim) (d : Signature)
+pub left-open : (l : Table) (left as' : List ReadClaim) (a : ReadClaim) (d : Signature)
     (first : Option Claim) (found : Judgement) → left ≡ a ∷ as'
-    → ((t : Sexp) → IsTermOf l a.term t → IsOpen (known_over d t)) → is_some first ≡ true
+    → ((t : Sexp) → Denotes l [] 0 0 a.term t → IsOpen (known_over d t)) → is_some first ≡ true
     → IsLeft l left d first found → IsLeft l as' d first found
 left-open l left as' a d None found here is some h = cc
 left-open l left as' a d (Some n) found here is some h =
@@ -118,9 +117,9 @@ left-open l left as' a d (Some n) found here is some h =
     )
 
 -- the first that is open
-pub left-opened : (l : Contents) (left as' : List ReadClaim) (a : ReadClaim) (d : Signature)
+pub left-opened : (l : Table) (left as' : List ReadClaim) (a : ReadClaim) (d : Signature)
     (first : Option Claim) (found : Judgement) → left ≡ a ∷ as'
-    → ((t : Sexp) → IsTermOf l a.term t → IsOpen (known_over d t)) → is_some first ≡ false
+    → ((t : Sexp) → Denotes l [] 0 0 a.term t → IsOpen (known_over d t)) → is_some first ≡ false
     → IsLeft l left d first found → IsLeft l as' d (Some a.claim) found
 left-opened l left as' a d None found here is none h =
     let next = next_term l a as' h.0 (subst (λ ls. AreClaimed l ls h.0) here h.1) in
@@ -134,14 +133,14 @@ left-opened l left as' a d None found here is none h =
 left-opened l left as' a d (Some n) found here is none h = cc
 
 -- the next is a term
-pub term_left : (l : Contents) (left as' : List ReadClaim) (a : ReadClaim) → left ≡ a ∷ as'
-    → (all : List Claimed) × AreClaimed l left all → (t : Sexp) × IsTermOf l a.term t
+pub term_left : (l : Table) (left as' : List ReadClaim) (a : ReadClaim) → left ≡ a ∷ as'
+    → (all : List Claimed) × AreClaimed l left all → (t : Sexp) × Denotes l [] 0 0 a.term t
 term_left l left as' a here h =
     let next = next_term l a as' h.0 (subst (λ ls. AreClaimed l ls h.0) here h.1) in
     (next.0.term, next.4)
 
 -- those that are left behind the next
-pub terms_left : (l : Contents) (left as' : List ReadClaim) (a : ReadClaim) → left ≡ a ∷ as'
+pub terms_left : (l : Table) (left as' : List ReadClaim) (a : ReadClaim) → left ≡ a ∷ as'
     → (all : List Claimed) × AreClaimed l left all
     → (all : List Claimed) × AreClaimed l as' all
 terms_left l left as' a here h =
@@ -149,7 +148,7 @@ terms_left l left as' a here h =
     (next.1, next.5)
 
 -- none is left
-pub left-none : (l : Contents) (left : List ReadClaim) (d : Signature) (first : Option Claim)
+pub left-none : (l : Table) (left : List ReadClaim) (d : Signature) (first : Option Claim)
     (found : Judgement) → left ≡ [] → IsLeft l left d first found → open_or_confirmed first ≡ found
 left-none l (a ∷ as') d first found here h = absurd (cc)
 left-none l [] d None found here h = sym (ap (judged_from d None) (none_left l h.0 h.1)) ∙ h.2
@@ -158,29 +157,29 @@ left-none l [] d (Some n) found here h = sym (ap (judged_from d (Some n)) (none_
 -- ---- what claims cost
 
 -- all that are left cost so many at most
-abbrev pub CostsLeft : Contents → List ReadClaim → Signature → ℕ → Type 0
+abbrev pub CostsLeft : Table → List ReadClaim → Signature → ℕ → Type 0
 CostsLeft l left d n = (rest : List Claimed) → AreClaimed l left rest
     → claims_cost d rest ≤ n
 
 -- the next with others behind it
-with_next : (l : Contents) (left as' : List ReadClaim) (a : ReadClaim) (t : Sexp)
-    (rest : List Claimed) → left ≡ a ∷ as' → IsTermOf l a.term t → AreClaimed l as' rest
+with_next : (l : Table) (left as' : List ReadClaim) (a : ReadClaim) (t : Sexp)
+    (rest : List Claimed) → left ≡ a ∷ as' → Denotes l [] 0 0 a.term t → AreClaimed l as' rest
     → AreClaimed l left (record { claim = a.claim; term = t } ∷ rest)
 with_next l left as' a t rest here term are =
     subst (λ ls. AreClaimed l ls (record { claim = a.claim; term = t } ∷ rest)) (sym here)
     (refl, term, are)
 
-pub cost_first : (l : Contents) (left as' : List ReadClaim) (a : ReadClaim) (d : Signature) (n : ℕ)
+pub cost_first : (l : Table) (left as' : List ReadClaim) (a : ReadClaim) (d : Signature) (n : ℕ)
     (t : Sexp) → left ≡ a ∷ as' → CostsLeft l left d n → (all : List Claimed) × AreClaimed l left all
-    → IsTermOf l a.term t → cost_over d t ≤ n
+    → Denotes l [] 0 0 a.term t → cost_over d t ≤ n
 cost_first l left as' a d n t here enough terms term =
     let next = terms_left l left as' a here terms in
     let most = enough (record { claim = a.claim; term = t } ∷ next.0)
     (with_next l left as' a t next.0 here term next.1) in
     omega (arith, most)
 
-pub cost_rest : (l : Contents) (left as' : List ReadClaim) (a : ReadClaim) (d : Signature) (n m : ℕ)
-    (t : Sexp) → left ≡ a ∷ as' → CostsLeft l left d n → IsTermOf l a.term t → n ≤ m + cost_over d t
+pub cost_rest : (l : Table) (left as' : List ReadClaim) (a : ReadClaim) (d : Signature) (n m : ℕ)
+    (t : Sexp) → left ≡ a ∷ as' → CostsLeft l left d n → Denotes l [] 0 0 a.term t → n ≤ m + cost_over d t
     → CostsLeft l as' d m
 cost_rest l left as' a d n m t here enough term paid = λ rest are.
     let most = enough (record { claim = a.claim; term = t } ∷ rest)
@@ -204,13 +203,13 @@ none_within limit n h = by (nat_le n limit) refl h
     by false e h = leb-false n limit e
 
 -- so many steps of the limit are left: what was counted, and what those cost that are left, is what all cost
-abbrev pub LeavesOf : Contents → List ReadClaim → Signature → (limit steps all : ℕ) → Type 0
+abbrev pub LeavesOf : Table → List ReadClaim → Signature → (limit steps all : ℕ) → Type 0
 LeavesOf l left d limit steps all = (rest : List Claimed) × AreClaimed l left rest
     × (limit + claims_cost d rest ≡ steps + all)
 
-pub leaves_next : (l : Contents) (left as' : List ReadClaim) (a : ReadClaim) (d : Signature)
+pub leaves_next : (l : Table) (left as' : List ReadClaim) (a : ReadClaim) (d : Signature)
     (limit steps cost after all : ℕ) → left ≡ a ∷ as'
-    → ((t : Sexp) → IsTermOf l a.term t → Some cost ≡ within steps (cost_over d t))
+    → ((t : Sexp) → Denotes l [] 0 0 a.term t → Some cost ≡ within steps (cost_over d t))
     → after + cost ≡ steps → LeavesOf l left d limit steps all → LeavesOf l as' d limit after all
 leaves_next l left as' a d limit steps cost after all here counted fewer h =
     let next = next_term l a as' h.0 (subst (λ ls. AreClaimed l ls h.0) here h.1) in
@@ -219,17 +218,17 @@ leaves_next l left as' a d limit steps cost after all here counted fewer h =
     let so_far = h.2 in (next.1, next.5, omega (arith, split, is, so_far, fewer))
 
 -- no more was counted than there was
-pub leaves_within : (l : Contents) (left as' : List ReadClaim) (a : ReadClaim) (d : Signature)
+pub leaves_within : (l : Table) (left as' : List ReadClaim) (a : ReadClaim) (d : Signature)
     (steps cost : ℕ) → left ≡ a ∷ as' → (all : List Claimed) × AreClaimed l left all
-    → ((t : Sexp) → IsTermOf l a.term t → Some cost ≡ within steps (cost_over d t)) → cost ≤ steps
+    → ((t : Sexp) → Denotes l [] 0 0 a.term t → Some cost ≡ within steps (cost_over d t)) → cost ≤ steps
 leaves_within l left as' a d steps cost here terms counted =
     let term = term_left l left as' a here terms in
     let is = some_within steps (cost_over d term.0) cost (counted term.0 term.1) in
     let same = is.0 in let most = is.1 in omega (arith, same, most)
 
-pub leaves_none : (l : Contents) (left as' : List ReadClaim) (a : ReadClaim) (d : Signature)
+pub leaves_none : (l : Table) (left as' : List ReadClaim) (a : ReadClaim) (d : Signature)
     (limit steps all : ℕ) → left ≡ a ∷ as'
-    → ((t : Sexp) → IsTermOf l a.term t → None ≡ within steps (cost_over d t))
+    → ((t : Sexp) → Denotes l [] 0 0 a.term t → None ≡ within steps (cost_over d t))
     → LeavesOf l left d limit steps all → None ≡ within limit all
 leaves_none l left as' a d limit steps all here counted h =
     let next = next_term l a as' h.0 (subst (λ ls. AreClaimed l ls h.0) here h.1) in
@@ -239,7 +238,7 @@ leaves_none l left as' a d limit steps all here counted h =
     let passed : limit < all = omega (arith, split, more, so_far) in
     sym (ap (λ b. cond b (Some all) None) (lt-leb all limit passed))
 
-pub leaves_end : (l : Contents) (left : List ReadClaim) (d : Signature) (limit steps all cost : ℕ)
+pub leaves_end : (l : Table) (left : List ReadClaim) (d : Signature) (limit steps all cost : ℕ)
     → left ≡ [] → steps ≤ limit → cost ≡ limit - steps → LeavesOf l left d limit steps all
     → Some cost ≡ within limit all
 leaves_end l (a ∷ as') d limit steps all cost here most is h = absurd (cc)

@@ -2,6 +2,8 @@
 use Rattle.std.proofs.Common.{◌≡◌, ℕ, ◌+◌, List, [], ◌∷◌, ◌++◌, refl}
 use Rattle.smt_trees.specs.Sexp.{Sexp}
 use Rattle.smt_terms.specs.Contents.{Contents}
+use Rattle.smt_terms.specs.Denotes.{Denotes, Table}
+use Rattle.smt_terms.specs.Library.{IsTermOf}
 use Rattle.smt_script.specs.Stack as stacks
 use Rattle.smt_script.specs.StackView.{AreAssertions, AreTerms}
 use Rattle.smt_script.specs.declared.stack.Assertion as code
@@ -9,7 +11,7 @@ use Rattle.smt_dialogue.specs.Internal.Claims.{AreClaimed, of_assertions, of_ass
 use Rattle.smt_dialogue.specs.Judgement.{all_claims, assumed_from}
 use Rattle.smt_report.specs.declared.claim.Claim.TheVariants.{Assertion}
 
-assumed_are_claimed : (l : Contents) (n : ℕ) (ids : List ℕ) (ts : List Sexp) → AreTerms l ids ts
+assumed_are_claimed : (l : Table) (n : ℕ) (ids : List ℕ) (ts : List Sexp) → AreTerms l ids ts
     → AreClaimed l (of_assumptions n ids) (assumed_from n ts)
 assumed_are_claimed l n [] [] h = tt
 assumed_are_claimed l n [] (t ∷ ts) h = absurd h
@@ -19,11 +21,15 @@ assumed_are_claimed l n (i ∷ ids) (t ∷ ts) h = (refl, h.0, assumed_are_claim
 number_same : (m n : ℕ) → m ≡ n → Assertion m ≡ Assertion n
 number_same m n e = cc
 
-pub all_are_claimed : (l : Contents) (as' : List code.Assertion) (ids : List ℕ) (bs : List stacks.Assertion)
-    (ts : List Sexp) → AreAssertions l as' bs → AreTerms l ids ts
+pub all_are_claimed : (c : Contents) (l : Table)
+    → ((i : ℕ) (t : Sexp) → IsTermOf c i t → Denotes l [] 0 0 i t) → (as' : List code.Assertion) (ids : List ℕ)
+    (bs : List stacks.Assertion) (ts : List Sexp) → AreAssertions c as' bs → AreTerms l ids ts
     → AreClaimed l (of_assertions as' ++ of_assumptions 1 ids) (all_claims bs ts)
-all_are_claimed l [] ids [] ts h terms = assumed_are_claimed l 1 ids ts terms
-all_are_claimed l [] ids (b ∷ bs) ts h terms = absurd h
-all_are_claimed l (a ∷ as') ids [] ts h terms = absurd h
-all_are_claimed l (a ∷ as') ids (b ∷ bs) ts h terms =
-    (number_same a.command b.command h.0, h.1, all_are_claimed l as' ids bs ts h.2 terms)
+all_are_claimed c l held [] ids [] ts h terms = assumed_are_claimed l 1 ids ts terms
+all_are_claimed c l held [] ids (b ∷ bs) ts h terms = absurd h
+all_are_claimed c l held (a ∷ as') ids [] ts h terms = absurd h
+all_are_claimed c l held (a ∷ as') ids (b ∷ bs) ts h terms = (
+  number_same a.command b.command h.0,
+  held a.term b.term h.1,
+  all_are_claimed c l held as' ids bs ts h.2 terms,
+)

@@ -1,7 +1,7 @@
 //! What the last check claims of each of its models, one claim after another. This file evaluates nothing.
 
 ghost use Rattle.std.specs.Prelude.{◌≡◌, ◌∷◌, ℕ, List, [], MatchOption};
-ghost use Rattle.smt_terms.specs.Contents.{contents_of};
+ghost use Rattle.smt_terms.specs.Library.{terms_of};
 ghost use Rattle.smt_script.specs.Stack.{Numbered};
 ghost use Rattle.smt_script.specs.StackView.{StandsFor, library_of};
 ghost use Rattle.smt_dialogue.specs.Internal.Claims.{AreClaimed, claims_in_force, claims_left};
@@ -9,6 +9,7 @@ ghost use Rattle.smt_dialogue.specs.Internal.Claims.{AreClaimed, claims_in_force
 use smt_report::Claim;
 use smt_script::{Assertion, Stack};
 use smt_terms::TermId;
+use smt_terms::laws::held_terms_are_terms;
 
 /// A claim, and its term in the library of a stack.
 #[derive(Clone, Copy)]
@@ -30,8 +31,9 @@ impl<'a> Claims<'a> {
     /// All of them.
     pub(crate) fn new(stack: &'a Stack) -> Claims<'a>
         ensures { (commands : List Numbered) → StandsFor stack.now commands
-            → AreClaimed (contents_of (library_of stack.now)) (claims_left result) (claims_in_force commands) }
+            → AreClaimed (terms_of (library_of stack.now)) (claims_left result) (claims_in_force commands) }
     {
+        held_terms_are_terms();
         Claims {
             assertions: stack.assertions(),
             assumptions: stack.assumptions(),

@@ -4,7 +4,7 @@ ghost use Rattle.std.specs.Prelude.{◌≡◌, ◌≤◌, List, Some, true, fals
 ghost use Rattle.smt_values.specs.Element.{Truth, known_element};
 ghost use Rattle.smt_values.specs.KnownOperations.{is_known};
 ghost use Rattle.smt_machine.specs.Costs.{within};
-ghost use Rattle.smt_terms.specs.Contents.{contents_of};
+ghost use Rattle.smt_terms.specs.Library.{terms_of};
 ghost use Rattle.smt_terms.specs.Library as libraries;
 ghost use Rattle.smt_terms.specs.Signature.{Signature};
 ghost use Rattle.smt_eval.specs.Interpretation.{Fits, IsInterpretation, KeepsCosts, Serves};
@@ -26,6 +26,7 @@ use smt_script::Stack;
 use smt_terms::Library;
 use smt_trees::Trees;
 use smt_values::Value;
+use std::mem;
 
 // How many nodes a pass over all counts in the time that one step of a walk takes.
 const NODES_A_STEP: u64 = 16;
@@ -98,12 +99,12 @@ fn judge_read(
     claims: Claims<'_>,
     limit: Limit,
 ) -> Result<Judgement, Memory>
-    requires terms { (all : List Claimed) × AreClaimed (contents_of library.now) (claims_left claims) all }
+    requires terms { (all : List Claimed) × AreClaimed (terms_of library.now) (claims_left claims) all }
     requires fits { Fits interpretation.old library.now }
     requires costs { KeepsCosts interpretation.old library.now }
     ensures { (script definitions : Signature) (all : List Claimed)
         → libraries.StandsFor library.now script → IsInterpretation interpretation.old script definitions
-        → AreClaimed (contents_of library.now) (claims_left claims.entry) all
+        → AreClaimed (terms_of library.now) (claims_left claims.entry) all
         → IfOk result (λ j. j
         ≡ judged_within limit.steps all (structure_of script definitions)) }
 {
@@ -123,12 +124,12 @@ fn judge_over(
     claims: Claims<'_>,
     limit: Limit,
 ) -> Result<Judgement, Memory>
-    requires terms { (all : List Claimed) × AreClaimed (contents_of library.now) (claims_left claims) all }
+    requires terms { (all : List Claimed) × AreClaimed (terms_of library.now) (claims_left claims) all }
     requires fits { Fits interpretation.old library.now }
     requires costs { KeepsCosts interpretation.old library.now }
     ensures { (script definitions : Signature) (all : List Claimed)
         → libraries.StandsFor library.now script → IsInterpretation interpretation.old script definitions
-        → AreClaimed (contents_of library.now) (claims_left claims.entry) all
+        → AreClaimed (terms_of library.now) (claims_left claims.entry) all
         → IfOk result (λ j. j
         ≡ judged_within limit.steps all (structure_of script definitions)) }
 {
@@ -167,20 +168,47 @@ fn judge_within(
     claims: Claims<'_>,
     limit: Limit,
 ) -> Result<Judgement, Memory>
-    requires terms { (all : List Claimed) × AreClaimed (contents_of library.now) (claims_left claims) all }
+    requires terms { (all : List Claimed) × AreClaimed (terms_of library.now) (claims_left claims) all }
     requires fits { Fits interpretation.now library.now }
     requires costs { KeepsCosts interpretation.now library.now }
     ensures { (script definitions : Signature) (all : List Claimed)
         → libraries.StandsFor library.now script → IsInterpretation interpretation.now script definitions
-        → AreClaimed (contents_of library.now) (claims_left claims.entry) all
+        → AreClaimed (terms_of library.now) (claims_left claims.entry) all
         → IfOk result (λ j. j
         ≡ judged_within limit.steps all (structure_of script definitions)) }
 {
-    let Some(mut steps) = cost_of_all(library, interpretation, claims, limit)? else {
+    let Some(steps) = cost_of_all(library, interpretation, claims, limit)? else {
         return Ok(Judgement::TooLong);
     };
-    machine.forget();
-    judge_claims(machine, library, interpretation, claims, &mut steps)
+    judge_counted(machine, library, interpretation, claims, steps)
+}
+
+// The first claim that is false, else the first that is open, where there are steps enough for all. The machine
+// is a local while it evaluates, since its fields are then held in registers.
+fn judge_counted(
+    machine: &mut Machine,
+    library: &Library,
+    interpretation: &Interpretation,
+    claims: Claims<'_>,
+    steps: u64,
+) -> Result<Judgement, Memory>
+    requires terms { (all : List Claimed) × AreClaimed (terms_of library.now) (claims_left claims) all }
+    requires fits { Fits interpretation.now library.now }
+    requires enough { (script definitions : Signature) (all : List Claimed)
+        → libraries.StandsFor library.now script → IsInterpretation interpretation.now script definitions
+        → AreClaimed (terms_of library.now) (claims_left claims) all
+        → claims_cost (structure_of script definitions) all ≤ steps }
+    ensures { (script definitions : Signature) (all : List Claimed)
+        → libraries.StandsFor library.now script → IsInterpretation interpretation.now script definitions
+        → AreClaimed (terms_of library.now) (claims_left claims.entry) all
+        → IfOk result (λ j. j ≡ judged_over all (structure_of script definitions)) }
+{
+    let mut left = steps;
+    let mut own = mem::replace(machine, Machine::new(library.alloc()));
+    own.forget();
+    let judgement = judge_claims(&mut own, library, interpretation, claims, &mut left);
+    *machine = own;
+    judgement
 }
 
 // What the evaluation of all claims costs, if it is no more than the limit.
@@ -190,12 +218,12 @@ fn cost_of_all(
     claims: Claims<'_>,
     limit: Limit,
 ) -> Result<Option<u64>, Memory>
-    requires terms { (all : List Claimed) × AreClaimed (contents_of library.now) (claims_left claims) all }
+    requires terms { (all : List Claimed) × AreClaimed (terms_of library.now) (claims_left claims) all }
     requires fits { Fits interpretation.now library.now }
     requires costs { KeepsCosts interpretation.now library.now }
     ensures { (script definitions : Signature) (all : List Claimed)
         → libraries.StandsFor library.now script → IsInterpretation interpretation.now script definitions
-        → AreClaimed (contents_of library.now) (claims_left claims.entry) all
+        → AreClaimed (terms_of library.now) (claims_left claims.entry) all
         → IfOk result (λ cost. cost
         ≡ within limit.steps (claims_cost (structure_of script definitions) all)) }
 {
@@ -219,16 +247,16 @@ fn judge_claims(
     claims: Claims<'_>,
     steps: &mut u64,
 ) -> Result<Judgement, Memory>
-    requires terms { (all : List Claimed) × AreClaimed (contents_of library.now) (claims_left claims) all }
+    requires terms { (all : List Claimed) × AreClaimed (terms_of library.now) (claims_left claims) all }
     requires fits { Fits interpretation.now library.now }
     requires enough { (script definitions : Signature) (all : List Claimed)
         → libraries.StandsFor library.now script → IsInterpretation interpretation.now script definitions
-        → AreClaimed (contents_of library.now) (claims_left claims) all
+        → AreClaimed (terms_of library.now) (claims_left claims) all
         → claims_cost (structure_of script definitions) all ≤ steps.old }
     requires serves { Serves machine.old interpretation.now library.now }
     ensures { (script definitions : Signature) (all : List Claimed)
         → libraries.StandsFor library.now script → IsInterpretation interpretation.now script definitions
-        → AreClaimed (contents_of library.now) (claims_left claims.entry) all
+        → AreClaimed (terms_of library.now) (claims_left claims.entry) all
         → IfOk result (λ j. j ≡ judged_over all (structure_of script definitions)) }
 {
     let mut first_open = None;

@@ -1,8 +1,8 @@
 -- Values that are kept by the numbers of nodes.
 use Rattle.std.proofs.Common.{◌≡◌, ℕ, zero, suc, ◌<◌, ◌≤◌, Bool, true, false, cond, List, [], ◌∷◌, ◌++◌, length}
-use Rattle.std.proofs.Common.{slice_get, slice_set, Option, None, Some, refl, ap, sym, ◌∙◌, arith, nat_eq}
+use Rattle.std.proofs.Common.{slice_get, slice_set, Option, None, Some, refl, ap, ◌∙◌, arith, nat_eq}
 use Rattle.std.proofs.lemmas.Bool.Decides.{nat_tests}
-use Rattle.smt_values.specs.Element.{Element, known_element}
+use Rattle.smt_values.specs.Element.{known_element}
 use Rattle.smt_values.specs.declared.value.Value.{Value}
 use Rattle.smt_machine.specs.Internal.KeptView.{found_at, found_by, found_for}
 use Rattle.smt_machine.specs.declared.kept.Found.{Found}

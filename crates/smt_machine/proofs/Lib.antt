@@ -6,3 +6,4 @@ pub mod KeptLemmas
 pub mod PartLemmas
 pub mod SumLemmas
 pub mod WalkLemmas
+pub mod ScriptLemmas

@@ -5,7 +5,6 @@ use Rattle.std.specs.Prelude.{nat_le, nat_lt, ◌<◌}
 use Rattle.std.specs.List.{All}
 use Rattle.std.proofs.lemmas.List.{append-nil, length-append, length-take}
 use Rattle.std.proofs.lemmas.List.Elements.{All-cons, All-nil}
-use Rattle.std.specs.Global.{Vec}
 use Rattle.smt_theory.specs.declared.sort.Sort.{Sort}
 use Rattle.smt_terms.specs.Contents.{Contents, IsBelow, IsWithin, contents_of, first_of}
 use Rattle.smt_terms.specs.Library as library
@@ -144,7 +143,7 @@ note_is_level law s l cs k h notes le =
           (sym (ap (λ (n : ℕ). take n s.assertions.items) notes.assertions ∙ take_all s.assertions.items))
           (terms_within law c (assertions_in_force cs) s.assertions.items l.mark.nodes
           (let e = ap (λ (x : Contents). length x.rows) notes.all in let m =
-              length-take l.mark.nodes c.rows in omega arith) h.assertions);
+          length-take l.mark.nodes c.rows in omega arith) h.assertions);
     }
 
 push_level : TermsHaveNodes → (s : Stack) (l : Level) (cs : List Numbered) (k : ℕ) (x : Level) → HasInForce s cs → NotesAll s l

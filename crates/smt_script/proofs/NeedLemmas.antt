@@ -6,9 +6,8 @@ use Rattle.std.proofs.lemmas.List.{length-take}
 use Rattle.std.proofs.lemmas.List.Elements.{All-head, All-tail, All-weaker}
 use Rattle.smt_terms.specs.Contents.{Contents, IsWithin, contents_of, needed_of}
 use Rattle.smt_terms.specs.Ends.{end_of}
-use Rattle.smt_terms.specs.Library.{Holds, IsTermOf}
+use Rattle.smt_terms.specs.Library.{Holds}
 use Rattle.smt_terms.specs.Signature.{Signature}
-use Rattle.smt_terms.specs.declared.library.Library.{Library}
 use Rattle.smt_terms.specs.declared.library.marks.Mark.{Mark}
 use Rattle.smt_script.specs.Command.{Pop, Pops}
 use Rattle.smt_script.specs.Stack as spec

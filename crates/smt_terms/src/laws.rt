@@ -9,11 +9,12 @@ ghost use Rattle.smt_theory.specs.declared.sort.Sort.{Sort};
 ghost use Rattle.smt_theory.specs.declared.theories.Theories.{Theories};
 ghost use Rattle.smt_terms.specs.Checking.{sort_in};
 ghost use Rattle.smt_terms.specs.Assertions.{asserted_in};
-ghost use Rattle.smt_terms.specs.Contents.{Contents, Extends, IsBelow, IsWithin, first_of, needed_of};
+ghost use Rattle.smt_terms.specs.Contents.{Contents, Extends, IsBelow, IsWithin, contents_of, first_of};
+ghost use Rattle.smt_terms.specs.Contents.{needed_of};
 ghost use Rattle.smt_terms.specs.Definitions.{defined_in};
 ghost use Rattle.smt_terms.specs.Denotes.{Denotes, IsLonger, Slots, Table};
 ghost use Rattle.smt_forms.specs.Labels.{labels_in};
-ghost use Rattle.smt_terms.specs.Library.{Holds, IsTermOf, StandsFor, terms_of};
+ghost use Rattle.smt_terms.specs.Library.{Holds, IsTerm, IsTermOf, StandsFor, terms_of};
 ghost use Rattle.smt_terms.specs.Items.{item_in};
 ghost use Rattle.smt_terms.specs.Declarations.{declared_in};
 ghost use Rattle.smt_terms.specs.Signature.{Entry, KeepsRank, Names, Signature, declared_named, entry_named};
@@ -146,6 +147,11 @@ pub fn nodes_stand_for_their_terms_still()
 /// signature that it stands for.
 pub fn transient_terms_change_no_names()
     ensures { (library : Library) (s : Signature) → StandsFor library s → AreTermsOf (terms_of library) s }
+{}
+
+/// A term that a library holds is one of all its terms, the transient ones too.
+pub fn held_terms_are_terms()
+    ensures { (library : Library) (i : ℕ) (t : Sexp) → IsTermOf (contents_of library) i t → IsTerm library i t }
 {}
 
 /// The number of a term is that of a node.

@@ -3,8 +3,7 @@ use Rattle.std.specs.Prelude.{◌≡◌, ℕ, ◌+◌, List, [], ◌∷◌, ◌+
 use Rattle.smt_script.specs.Stack.{Numbered, assertions_in_force, assumptions_in_force}
 use Rattle.smt_script.specs.declared.stack.Assertion.{Assertion}
 use Rattle.smt_report.specs.declared.claim.Claim.TheVariants as claiming
-use Rattle.smt_terms.specs.Contents.{Contents}
-use Rattle.smt_terms.specs.Library.{IsTermOf}
+use Rattle.smt_terms.specs.Denotes.{Denotes, Table}
 use Rattle.smt_dialogue.specs.InForce.{assertions_after, assumptions_after}
 use Rattle.smt_dialogue.specs.Judgement.{Claimed, all_claims}
 use Rattle.smt_dialogue.specs.Pairs.{Pair}
@@ -33,7 +32,8 @@ claims_left c =
     of_assertions c.assertions.now ++ of_assumptions (c.taken + 1) (drop c.taken c.assumptions.now)
 
 -- one by one they are of the same claim, and the second's term stands under the first's number
-abbrev pub AreClaimed : Contents → List ReadClaim → List Claimed → Type 0
+abbrev pub AreClaimed : Table → List ReadClaim → List Claimed → Type 0
 AreClaimed terms [] [] = Unit {0}
-AreClaimed terms (a ∷ as') (b ∷ bs) = (a.claim ≡ b.claim) × IsTermOf terms a.term b.term × AreClaimed terms as' bs
+AreClaimed terms (a ∷ as') (b ∷ bs) =
+    (a.claim ≡ b.claim) × Denotes terms [] 0 0 a.term b.term × AreClaimed terms as' bs
 AreClaimed terms _ _ = ⊥

@@ -1,6 +1,6 @@
 -- What a command did to a stack, before it was noted whether a logic may be set, whether `success` is
 -- printed, and that it was applied.
-use Rattle.std.specs.Prelude.{◌≡◌, ℕ, zero, suc, List, [], ◌∷◌, ◌++◌, Bool, false, ◌||◌, None, Some, length}
+use Rattle.std.specs.Prelude.{◌≡◌, ℕ, List, [], ◌∷◌, ◌++◌, ◌||◌, None, Some, length}
 use Rattle.std.specs.Prelude.{if◌then◌else◌}
 use Rattle.std.specs.Prelude.{slice_get, take, ◌<◌}
 use Rattle.smt_nodes.specs.Node.{Row}
@@ -11,11 +11,10 @@ use Rattle.smt_terms.specs.Library as library
 use Rattle.smt_terms.specs.Library.{Holds, IsTermOf, terms_of, transient_of}
 use Rattle.smt_terms.specs.Signature.{Signature, no_names}
 use Rattle.smt_terms.specs.declared.library.marks.Mark.{Mark}
-use Rattle.smt_script.specs.Command.{Assumes, CheckSatAssuming, Command, Effect, Nothing, Removing, SetsGlobal}
-use Rattle.smt_script.specs.Command.{closes_window, is_check}
+use Rattle.smt_script.specs.Command.{Assumes, Command, Effect, Nothing, Removing, SetsGlobal}
 use Rattle.smt_script.specs.Stack.{Numbered, flaw_of_effect, is_exit, is_late_after, is_set_after, trees_of}
 use Rattle.smt_script.specs.Stack.{ends_assumptions, global_after, print_success_after}
-use Rattle.smt_script.specs.StackView.{AreNamesAlike, AreTerms, HasInForce, contents_left, last_of}
+use Rattle.smt_script.specs.StackView.{AreNamesAlike, AreTerms, HasInForce, contents_left}
 use Rattle.smt_script.specs.StackView.{initial_print_success_of}
 use Rattle.smt_faults.specs.declared.command_fault.CommandFault.{CommandFault}
 use Rattle.smt_faults.specs.Outcome.{TellsCommand}

@@ -290,15 +290,11 @@ impl Stack {
         ensures grown { Extends (contents_of self.old.library) (contents_of self.new.library) }
     {
         contents_are_kept();
-        let mark = self.library.mark();
         let term = self.library.assert(term)?;
         let command = number;
         match self.assertions.push(Assertion { command, term }) {
             Ok(()) => Ok(()),
-            Err(_) => {
-                self.library.cut(mark);
-                Err(CommandFault::Memory)
-            }
+            Err(_) => Err(CommandFault::Memory),
         }
     }
 }

@@ -1,18 +1,18 @@
 use Rattle.std.proofs.Common.{arith, sym, ◌∙◌}
-use Rattle.smt_terms.specs.Contents.{contents_of}
+use Rattle.smt_terms.specs.Library.{terms_of}
 use Rattle.smt_eval.specs.Structure.{structure_of}
 use Rattle.smt_dialogue.specs.Internal.Claims.{claims_left}
 use Rattle.smt_dialogue.proofs.JudgementLemmas.{leaves_next, leaves_within, term_left, terms_left}
 use Rattle.smt_dialogue.proofs.judgement.cost_of_all.Goals as goal
 
 pub cost_within-requires-clause-term : goal.cost_within-requires-clause-term
-cost_within-requires-clause-term c = term_left (contents_of c.args.library.now)
+cost_within-requires-clause-term c = term_left (terms_of c.args.library.now)
     (claims_left c.loop-next.left) (claims_left c.next.new.self) c.in-Some.next c.in-Some.ensures
     c.loop-next.invariant.terms
 
 pub loop-next-preserved : goal.loop-next-preserved
 loop-next-preserved c =
-    let l = contents_of c.args.library.now in
+    let l = terms_of c.args.library.now in
     let fits = c.requires.fits in
     let before = claims_left c.loop-next.left in
     let after = claims_left c.next.new.self in

@@ -1,6 +1,6 @@
 -- what was counted and what is left cost what all do
 use Rattle.std.proofs.Common.{◌≤◌, List, length}
-use Rattle.smt_terms.specs.Contents.{contents_of}
+use Rattle.smt_terms.specs.Library.{terms_of}
 use Rattle.smt_terms.specs.Library as libraries
 use Rattle.smt_terms.specs.Signature.{Signature}
 use Rattle.smt_eval.specs.Interpretation.{IsInterpretation}
@@ -13,11 +13,11 @@ use Rattle.smt_dialogue.proofs.judgement.cost_of_all.Given as goal
 
 abbrev pub invariant-loop-next : goal.invariant-loop-next
 invariant-loop-next l = record {
-  terms : (rest : List Claimed) × AreClaimed (contents_of l.library) (claims_left l.left) rest;
+  terms : (rest : List Claimed) × AreClaimed (terms_of l.library) (claims_left l.left) rest;
   summed : (script definitions : Signature) (all : List Claimed)
       → libraries.StandsFor l.library script → IsInterpretation l.interpretation script definitions
-      → AreClaimed (contents_of l.library) (claims_left l.claims) all
-      → LeavesOf (contents_of l.library) (claims_left l.left) (structure_of script definitions) l.limit.steps l.steps
+      → AreClaimed (terms_of l.library) (claims_left l.claims) all
+      → LeavesOf (terms_of l.library) (claims_left l.left) (structure_of script definitions) l.limit.steps l.steps
       (claims_cost (structure_of script definitions) all);
   most : l.steps ≤ l.limit.steps;
 }

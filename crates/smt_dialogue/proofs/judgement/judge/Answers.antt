@@ -1,6 +1,6 @@
 use Rattle.std.proofs.Common.{◌≡◌, ap, sym, ◌∙◌, subst}
 use Rattle.std.proofs.lemmas.Result.{IfOk-weaker}
-use Rattle.smt_terms.specs.Contents.{contents_of}
+use Rattle.smt_terms.specs.Library.{terms_of}
 use Rattle.smt_script.specs.Stack.{signature_in_force}
 use Rattle.smt_dialogue.specs.Internal.Claims.{AreClaimed, claims_in_force, claims_left}
 use Rattle.smt_dialogue.specs.Judgement.{judged_in, judgement_of}
@@ -12,7 +12,7 @@ returns-in-Ok c = λ commands stands.
     let all = claims_in_force commands in
     let names = c.library-library.ensures.stands commands stands in
     let read = c.in-Ok.ensures.model script names in
-    let terms = subst (λ l. AreClaimed (contents_of l) (claims_left c.new-claims.result) all)
+    let terms = subst (λ l. AreClaimed (terms_of l) (claims_left c.new-claims.result) all)
     (sym c.library-library.ensures.view) (c.new-claims.ensures commands stands) in
     IfOk-weaker c.judge_read-judgement.result _
     (λ j. j ≡ judgement_of c.args.limit.steps script all c.args.model.now)

@@ -1,6 +1,6 @@
 -- what is found of the assertions that are left, behind those so far, is what is found of all
 use Rattle.std.proofs.Common.{◌≡◌, List, None, length}
-use Rattle.smt_terms.specs.Contents.{contents_of}
+use Rattle.smt_terms.specs.Library.{terms_of}
 use Rattle.smt_terms.specs.Library as libraries
 use Rattle.smt_terms.specs.Signature.{Signature}
 use Rattle.smt_eval.specs.Interpretation.{IsInterpretation, Serves}
@@ -13,14 +13,14 @@ use Rattle.smt_dialogue.proofs.judgement.judge_claims.Given as goal
 abbrev pub invariant-loop-next : goal.invariant-loop-next
 invariant-loop-next l = record {
   serves : Serves l.machine l.interpretation l.library;
-  terms : (rest : List Claimed) × AreClaimed (contents_of l.library) (claims_left l.left) rest;
+  terms : (rest : List Claimed) × AreClaimed (terms_of l.library) (claims_left l.left) rest;
   enough : (script definitions : Signature) → libraries.StandsFor l.library script
       → IsInterpretation l.interpretation script definitions
-      → CostsLeft (contents_of l.library) (claims_left l.left) (structure_of script definitions) l.steps;
+      → CostsLeft (terms_of l.library) (claims_left l.left) (structure_of script definitions) l.steps;
   judged : (script definitions : Signature) (all : List Claimed)
       → libraries.StandsFor l.library script → IsInterpretation l.interpretation script definitions
-      → AreClaimed (contents_of l.library) (claims_left l.claims) all
-      → (rest : List Claimed) × AreClaimed (contents_of l.library) (claims_left l.left) rest
+      → AreClaimed (terms_of l.library) (claims_left l.claims) all
+      → (rest : List Claimed) × AreClaimed (terms_of l.library) (claims_left l.left) rest
       × (judged_from (structure_of script definitions) l.first_open rest
       ≡ judged_from (structure_of script definitions) None all);
 }

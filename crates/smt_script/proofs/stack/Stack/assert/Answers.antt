@@ -32,20 +32,5 @@ returns-in-Ok-clause-effect c =
 
 pub returns-in-Err-clause-unchanged : goal.returns-in-Err-clause-unchanged
 returns-in-Err-clause-unchanged c =
-    let before = contents_of c.args.self.now.library in
-    let after = contents_of c.assert.new.self in
-    let same = c.cut.ensures.left
-    ∙ c.contents_are_kept.ensures.first c.mark-mark.result before after c.mark-mark.ensures.within
-    c.in_ok-term.ensures.grown ∙ c.mark-mark.ensures.all in
-    unchanged_by c.args.self.now c.cut.new.self c.push.new.self
-    (subst (λ (x : Contents). Extends before x) (sym same) (extends_itself before))
-    (c.cut.ensures.transient ∙ c.assert.ensures.transient) c.in-Err.ensures.items
-
-pub returns-in-Err-clause-grown : goal.returns-in-Err-clause-grown
-returns-in-Err-clause-grown c =
-    let before = contents_of c.args.self.now.library in
-    let after = contents_of c.assert.new.self in
-    let same = c.cut.ensures.left
-    ∙ c.contents_are_kept.ensures.first c.mark-mark.result before after c.mark-mark.ensures.within
-    c.in_ok-term.ensures.grown ∙ c.mark-mark.ensures.all in
-    subst (λ (x : Contents). Extends before x) (sym same) (extends_itself before)
+    unchanged_by c.args.self.now c.assert.new.self c.push.new.self c.assert.ensures.grown c.assert.ensures.transient
+    c.in-Err.ensures.items

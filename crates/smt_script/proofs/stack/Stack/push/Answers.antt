@@ -2,7 +2,7 @@ use Rattle.std.proofs.Common.{◌≤◌, ◌+◌, ℕ, ◌++◌, length, ap, ◌
 use Rattle.std.specs.Str.Parse.{digits_value}
 use Rattle.smt_script.specs.Internal.Runs.{copies}
 use Rattle.smt_script.specs.Stack.{limit}
-use Rattle.smt_script.proofs.LevelLemmas.{levels_unchanged, push_effect}
+use Rattle.smt_script.proofs.LevelLemmas.{push_effect}
 use Rattle.smt_script.proofs.stack.Stack.push.Goals as goal
 
 pub returns-clause-effect : goal.returns-clause-effect

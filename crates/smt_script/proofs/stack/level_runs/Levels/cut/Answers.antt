@@ -1,6 +1,5 @@
-use Rattle.std.proofs.Common.{◌≡◌, ◌≤◌, ◌<◌, ◌∙◌, ◌+◌, ◌++◌, ℕ, List, ap, append-nil, arith, length, refl, sym}
-use Rattle.smt_script.specs.Internal.Runs.{copies, levels_in}
-use Rattle.smt_script.specs.declared.stack.levels.Level.{Level}
+use Rattle.std.proofs.Common.{◌<◌, ◌∙◌, append-nil, arith, length, sym}
+use Rattle.smt_script.specs.Internal.Runs.{levels_in}
 use Rattle.smt_script.proofs.RunLemmas.{before_last, left_there, length_is, level_there, whole_is}
 use Rattle.smt_script.proofs.stack.level_runs.Levels.cut.Goals as goal
 
