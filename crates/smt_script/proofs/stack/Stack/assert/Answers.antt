@@ -1,11 +1,10 @@
-use Rattle.std.proofs.Common.{refl, sym, subst, ◌∙◌}
+use Rattle.std.proofs.Common.{refl}
 use Rattle.std.proofs.lemmas.Result.{err_from_is_err_and}
 use Rattle.smt_trees.specs.Tree.{sexp_of}
 use Rattle.smt_terms.specs.Assertions.{asserted_in}
-use Rattle.smt_terms.specs.Contents.{Contents, Extends, contents_of}
 use Rattle.smt_terms.specs.Signature.{names_of}
 use Rattle.smt_script.specs.Stack.{signature_in_force}
-use Rattle.smt_script.proofs.EffectLemmas.{assert_effect, extends_itself, refused_by, unchanged_by}
+use Rattle.smt_script.proofs.EffectLemmas.{assert_effect, refused_by, unchanged_by}
 use Rattle.smt_script.proofs.stack.Stack.assert.Goals as goal
 
 pub returns-in_err-term-clause-refused : goal.returns-in_err-term-clause-refused
