@@ -34,6 +34,17 @@ impl TermId {
     pub fn behind(self, count: usize) -> Result<TermId, Memory>
         ensures { IfOk result (λ id. id ≡ count + self) }
     {
+        if count == 0 {
+            return Ok(self);
+        }
+        self.behind_some(count)
+    }
+
+    // The same, out of line: most tables have no others before them.
+    #[inline(never)]
+    fn behind_some(self, count: usize) -> Result<TermId, Memory>
+        ensures { IfOk result (λ id. id ≡ count + self) }
+    {
         let sum = count.checked_add(self.number as usize);
         match sum {
             Some(number) if number <= u32::MAX as usize => Ok(TermId {
