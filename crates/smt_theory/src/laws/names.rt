@@ -20,8 +20,7 @@ ghost use Rattle.smt_theory.specs.declared.op.IntsOp.{IntsOp};
 ghost use Rattle.smt_theory.specs.declared.op.IntsOp.TheVariants as ints;
 ghost use Rattle.smt_theory.specs.declared.op.Op.TheVariants.{Core, Ints, Bits};
 
-/// What a symbol without indexes is (SMT-LIB 2.6, theories Core, Ints and FixedSizeBitVectors, and logic
-/// QF_BV).
+/// What a symbol without indexes is, of the theories Core and Ints (SMT-LIB 2.6).
 pub fn plain_names_are_the_standards()
     ensures core { All (λ (row : List ℕ × CoreOp). op_by record { ints = true; bits = true } row.0 []
         ≡ Ok (Core row.1))
@@ -37,6 +36,11 @@ pub fn plain_names_are_the_standards()
         ∷ (codes "<", ints.Comparison comparison.Less) ∷ (codes "<=", ints.Comparison comparison.AtMost)
         ∷ (codes ">", ints.Comparison comparison.Greater)
         ∷ (codes ">=", ints.Comparison comparison.AtLeast) ∷ []) }
+{}
+
+/// What a symbol without indexes is, of the operators on bit vectors (SMT-LIB 2.6, theory
+/// FixedSizeBitVectors and logic QF_BV).
+pub fn plain_names_of_vectors_are_the_standards()
     ensures arithmetic { All (λ (row : List ℕ × BitsOp). op_by record { ints = true; bits = true } row.0 []
         ≡ Ok (Bits row.1))
         ((codes "bvadd", bits.Folded folded.Add) ∷ (codes "bvsub", bits.Binary binary.Subtract)
