@@ -1,10 +1,10 @@
 -- What the lowest m of the machine's 128 bits are.
 use Rattle.std.proofs.Common.{◌≡◌, ℕ, ◌+◌, ◌-◌, ◌*◌, ◌/◌, ◌%◌, ◌^◌, ◌<◌, ◌≤◌, sym, ap, ◌∙◌, arith, ne_eqb}
 use Rattle.std.proofs.Common.{div-le_self, lt_of_le_of_lt, pow_pos, pow-add, add-mul, one-mul, div-add-mod'}
-use Rattle.std.proofs.Math.Nat.{add-mod_right, add-mul-mod_self_right, mod-eq_of_lt, mod-le}
-use Rattle.std.proofs.lemmas.Nat.{div-mul-add, mod-mul-add}
+use Rattle.std.proofs.Math.Nat.{add-mod, add-mod_right, add-mul-mod_self_right, mod-eq_of_lt, mod-le, mul-add}
+use Rattle.std.proofs.lemmas.Nat.{div-mul-add, mod-mul-add, mul-mod_second}
 use Rattle.std.proofs.Math.Pow.{mod-mod-pow}
-use Rattle.smt_bits.specs.Operators.{bvudiv, bvurem}
+use Rattle.smt_bits.specs.Operators.{bvadd, bvmul, bvudiv, bvurem}
 
 whole : (m : ℕ) → m ≤ 128 → 2 ^ 128 ≡ 2 ^ m + (2 ^ (128 - m) - 1) * 2 ^ m
 whole m within =
@@ -64,3 +64,9 @@ quotient_one m s t q r is less =
       rw (ne_eqb t 0 some)
           (sym (ap (λ n. n % t) is ∙ mod-mul-add q t r less)),
     )
+
+-- a product with a sum
+pub product_of_sum : (m s t u : ℕ) → bvmul m s (bvadd m t u) ≡ bvadd m (bvmul m s t) (bvmul m s u)
+product_of_sum m s t u =
+    mul-mod_second s (t + u) (2 ^ m) ∙ ap (λ n. n % 2 ^ m) (mul-add s t u)
+    ∙ add-mod (s * t) (s * u) (2 ^ m)

@@ -1,4 +1,5 @@
 pub mod ArithmeticLemmas
+pub mod BitLawLemmas
 pub mod BitwiseLemmas
 pub mod LiteralLemmas
 pub mod PartLemmas

@@ -27,3 +27,4 @@ pub mod NodeNameCostLemmas
 pub mod StructureCostLemmas
 pub mod TermCostLemmas
 pub mod CostExampleLemmas
+pub mod LetLemmas

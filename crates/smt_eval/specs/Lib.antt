@@ -8,6 +8,7 @@ pub mod Model
 pub mod ModelFaults
 pub mod CompleteModel
 pub mod Structure
+pub mod Substitution
 pub mod Interpretation
 pub mod ClosedTerm
 pub mod PlainTerm

@@ -1,5 +1,7 @@
 //! What holds of the definitions that the contracts name. Nothing here does anything: each contract is a law.
 
+pub mod terms;
+
 ghost use Rattle.std.specs.Prelude.{◌≡◌, ◌↔◌, ℕ, ◌+◌, ◌*◌, ◌^◌, List, [], ◌∷◌, Ok, Err, Option, length};
 ghost use Rattle.smt_trees.specs.Sexp.{Sexp, Sexps};
 ghost use Rattle.smt_trees.specs.Tree.{sexp_of};

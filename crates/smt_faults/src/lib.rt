@@ -8,6 +8,7 @@
 mod command_fault;
 mod command_flaw;
 mod failure;
+pub mod laws;
 mod memory;
 mod term_fault;
 mod term_flaw;

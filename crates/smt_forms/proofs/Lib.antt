@@ -6,3 +6,4 @@ pub mod PartLemmas
 pub mod PlaceLemmas
 pub mod ScopeLemmas
 pub mod RepeatedLemmas
+pub mod RefusalLemmas

@@ -1,5 +1,7 @@
 //! What holds of the definitions that the contracts name. Nothing here does anything: each contract is a law.
 
+pub mod refusals;
+
 ghost use Rattle.std.specs.List.{AllPairs, Contains, flat_map};
 ghost use Rattle.std.specs.Prelude.{◌≡◌, ◌≢◌, ◌↔◌, ◌++◌, ℕ, List, [], None, map, true};
 ghost use Rattle.smt_trees.specs.Sexp.{Sexp, Sexps, Nil};

@@ -3,10 +3,9 @@ use Rattle.std.proofs.Common.{◌≡◌, ℕ, ◌+◌, ◌<◌, Bool, true, fals
 use Rattle.std.proofs.Common.{arith, subst}
 use Rattle.std.proofs.lemmas.List.Sums.{sum_by-cons}
 use Rattle.std.specs.List.{count_by, list_any}
-use Rattle.smt_report.specs.Verdict.{is_refuted_line, is_undecided_line, tally_of, verdict_of}
+use Rattle.smt_report.specs.Verdict.{is_refuted_line, is_undecided_line, tally_of}
 use Rattle.smt_report.specs.declared.line.Line.{Line}
 use Rattle.smt_report.specs.declared.verdict.Tally.{Tally}
-use Rattle.smt_report.specs.declared.verdict.Verdict.{Verdict}
 use Rattle.smt_report.specs.declared.verdict.Verdict.TheVariants as verdicts
 
 no_first : (b rest : Bool) (n : ℕ) → (n ≡ 0 → rest ≡ false) → cond b 1 0 + n ≡ 0 → b || rest ≡ false

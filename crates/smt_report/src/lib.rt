@@ -8,6 +8,7 @@
 #![tactic(auto)]
 
 mod claim;
+pub mod laws;
 mod line;
 mod report;
 mod verdict;

@@ -1,5 +1,7 @@
 //! What holds of the definitions that the contracts name. Nothing here does anything: each contract is a law.
 
+pub mod commands;
+
 ghost use Rattle.std.specs.Prelude.{◌≡◌, ◌+◌, ◌-◌, ℕ, List, [], ◌∷◌, ◌++◌, Bool, true, false, Ok, Some};
 ghost use Rattle.std.specs.List.{list_any};
 ghost use Rattle.smt_trees.specs.Sexp.{Sexp, Sexps, Nil};

@@ -1,5 +1,7 @@
 //! What holds of the definitions that the contracts name. Nothing here does anything: each contract is a law.
 
+pub mod names;
+
 ghost use Rattle.std.specs.Prelude.{◌≡◌, ◌≢◌, ◌↔◌, ℕ, List, [], ◌∷◌, IsTrue, Ok, Err, Some};
 ghost use Rattle.smt_theory.specs.Operators.{IsIndexedName, IsOperatorBy, IsPlainName, op_by};
 ghost use Rattle.smt_theory.specs.Ranks.{HasRank, rank_of};

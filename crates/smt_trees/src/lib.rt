@@ -13,6 +13,7 @@
 #![tactic(auto)]
 
 mod bytes;
+pub mod laws;
 mod reserved;
 mod tree;
 

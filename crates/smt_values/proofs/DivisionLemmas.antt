@@ -1,14 +1,16 @@
 -- The quotient and the remainder are the only ones, and those by 0 are free.
 use Rattle.std.proofs.Common.{◌≡◌, ◌≢◌, ℕ, zero, suc, ◌+◌, ◌-◌, ◌*◌, ◌%◌, ◌<◌, ℤ, pos, negsuc, ◌+ℤ◌, ◌*ℤ◌}
 use Rattle.std.proofs.Common.{neg_ℤ, ◌≤ℤ◌, ◌<ℤ◌, Bool, true, false, cond, List, ◌∷◌, refl, sym, ap, ◌∙◌}
-use Rattle.std.proofs.Common.{arith}
+use Rattle.std.proofs.Common.{◌↔◌, ◌≤◌, ◌/◌, arith, ⊎_elim, div-add-mod', nat_eq}
 use Rattle.std.proofs.lemmas.Int.{ints}
-use Rattle.std.proofs.lemmas.Nat.{div-mul-add, mod-mul-add}
-use Rattle.std.proofs.lemmas.Bool.Decides.{Decides-int_eq}
+use Rattle.std.proofs.lemmas.Nat.{div-mul-add, mod-mul-add, mod_below}
+use Rattle.std.proofs.lemmas.Bool.{cases_lt}
+use Rattle.std.proofs.lemmas.Bool.Decides.{Decides-int_eq, nat_tests}
 use Rattle.std.specs.Int.{int_div_euclid, int_rem_euclid}
 use Rattle.std.specs.Ordering.{int_eq}
 use Rattle.std.specs.Prelude.{unsigned_abs}
-use Rattle.smt_values.specs.Operations.{DivisionByZero, at_zero, quotient, remainder}
+use Rattle.smt_values.specs.Element.{Integer, Truth}
+use Rattle.smt_values.specs.Operations.{DivisionByZero, at_zero, divides, quotient, remainder}
 
 -- of a dividend from 0 on, and of one below it
 from_zero : (a d : ℤ) (b m k : ℕ) → k < suc m → unsigned_abs d ≡ suc m → a ≡ pos (b * suc m + k)
@@ -108,3 +110,54 @@ remainder_free z a r = (
   λ b n other. ap (λ x. cond (int_eq n (pos 0)) x (int_rem_euclid b n)) (beside_row z.remainders a r b other),
   λ b n. refl,
 )
+
+-- ---- divisors
+
+remainder_is : (z : DivisionByZero) (n : ℕ) (x : ℤ) → 0 < n → remainder z x (pos n) ≡ int_rem_euclid x (pos n)
+remainder_is z n x some = by (int_eq (pos n) (pos 0)) (Decides-int_eq (pos n) (pos 0)).0
+  where
+    by : (b : Bool) → (b ≡ true → pos n ≡ pos 0)
+        → cond b (at_zero z.remainders x) (int_rem_euclid x (pos n)) ≡ int_rem_euclid x (pos n)
+    by true none = absurd (let e : pos n ≡ pos 0 = none refl in omega (arith, ints))
+    by false none = refl
+
+-- one more than a number leaves nothing where the number leaves the most
+next_leaves : (a m : ℕ) → (suc a % suc m ≡ 0) ↔ (suc m - 1 - a % suc m ≡ 0)
+next_leaves a m = (⊎_elim less most (cases_lt r m), back)
+  where
+    r : ℕ
+    r = a % suc m
+
+    less : a % suc m < m → suc a % suc m ≡ 0 → suc m - 1 - a % suc m ≡ 0
+    less h e =
+        let is : suc a ≡ a / suc m * suc m + suc (a % suc m) = omega (arith, div-add-mod' a (suc m)) in
+        let left : suc a % suc m ≡ suc (a % suc m)
+        = ap (λ x. x % suc m) is ∙ mod-mul-add (a / suc m) (suc m) (suc (a % suc m)) (omega arith) in
+        absurd (omega arith)
+
+    most : m ≤ a % suc m → suc a % suc m ≡ 0 → suc m - 1 - a % suc m ≡ 0
+    most h e = omega arith
+
+    back : suc m - 1 - a % suc m ≡ 0 → suc a % suc m ≡ 0
+    back h =
+        let is : suc a ≡ suc (a / suc m) * suc m + 0 = omega (arith, div-add-mod' a (suc m), mod_below a (suc m) (omega arith)) in
+        ap (λ x. x % suc m) is ∙ mod-mul-add (suc (a / suc m)) (suc m) 0 (omega arith)
+
+leaves_nothing : (n : ℕ) (x : ℤ) → 0 < n → (unsigned_abs x % n ≡ 0) ↔ (int_rem_euclid x (pos n) ≡ pos 0)
+leaves_nothing n (pos a) some = (λ h. ap pos h, λ h. cc)
+leaves_nothing zero (negsuc a) some = absurd (omega arith)
+leaves_nothing (suc m) (negsuc a) some =
+    let next = next_leaves a m in (λ h. ap pos (next.0 h), λ h. next.1 (cc))
+
+pub divides_is : (z : DivisionByZero) (n : ℕ) (x : ℤ) → 0 < n
+    → (Truth (divides n x) ≡ Truth true) ↔ (Integer (remainder z x (pos n)) ≡ Integer (pos 0))
+divides_is z n x some =
+    let all = leaves_nothing n x some in
+    let is = remainder_is z n x some in
+    (λ h. ap Integer (is ∙ all.0 (zero_of (unsigned_abs x % n) (cc))), λ h. ap Truth (of_zero _ (all.1 (cc))))
+  where
+    zero_of : (k : ℕ) → nat_eq k 0 ≡ true → k ≡ 0
+    zero_of k h = grind (arith, nat_tests)
+
+    of_zero : (k : ℕ) → k ≡ 0 → nat_eq k 0 ≡ true
+    of_zero k h = rw h refl

@@ -7,3 +7,4 @@ pub mod AllKnownLemmas
 pub mod BitMeaningLemmas
 pub mod MeaningLemmas
 pub mod SortLemmas
+pub mod ConnectiveLemmas

@@ -1,6 +1,10 @@
 //! What holds of the definitions that the contracts name. Nothing here does anything: each contract is a law,
 //! and a body calls only the laws that it rests on.
 
+pub mod connectives;
+pub mod known;
+pub mod numbers;
+
 ghost use Rattle.std.specs.Prelude.{◌≡◌, ◌≢◌, not, ℕ, ◌≤ℤ◌, ◌<ℤ◌, ℤ, pos, ◌+ℤ◌, ◌*ℤ◌, unsigned_abs, All};
 ghost use Rattle.std.specs.Prelude.{IsSome, List, map, Option, Some};
 ghost use Rattle.smt_theory.specs.Ranks.{HasRank};

@@ -1,8 +1,9 @@
 //! Laws of the arithmetic modulo powers of two. Nothing here does anything.
 
-ghost use Rattle.std.specs.Prelude.{◌≡◌, ◌≢◌, ℕ, ◌+◌, ◌*◌, ◌^◌, ◌<◌};
-ghost use Rattle.smt_bits.specs.Operators.{bvadd, bvashr, bvlshr, bvmul, bvneg, bvnot, bvshl, bvsub, bvudiv};
-ghost use Rattle.smt_bits.specs.Operators.{bvurem};
+ghost use Rattle.std.specs.Prelude.{◌≡◌, ◌≢◌, ℕ, ◌+◌, ◌*◌, ◌^◌, ◌<◌, pos, ◌<ℤ◌, ◌≤ℤ◌};
+ghost use Rattle.smt_bits.specs.BitVector.{signed};
+ghost use Rattle.smt_bits.specs.Operators.{bvadd, bvashr, bvlshr, bvmul, bvneg, bvnot, bvsdiv, bvshl, bvsmod};
+ghost use Rattle.smt_bits.specs.Operators.{bvsrem, bvsub, bvudiv, bvurem};
 
 /// The negative is the complement plus one.
 pub fn negation_is_the_complement_and_one()
@@ -37,4 +38,21 @@ pub fn shifts_fit()
     ensures shl { (m s t : ℕ) → bvshl m s t < 2 ^ m }
     ensures lshr { (m s t : ℕ) → s < 2 ^ m → bvlshr m s t < 2 ^ m }
     ensures ashr { (m s t : ℕ) → bvashr m s t < 2 ^ m }
+{}
+
+/// Multiplication is the one that adds up: by 1 it changes nothing, and it goes into sums.
+pub fn multiplication_adds_up()
+    ensures by_one { (m s : ℕ) → s < 2 ^ m → bvmul m s 1 ≡ s }
+    ensures by_sum { (m s t u : ℕ) → bvmul m s (bvadd m t u) ≡ bvadd m (bvmul m s t) (bvmul m s u) }
+{}
+
+/// What the five divisions give by 0 (SMT-LIB 2.6, theory FixedSizeBitVectors and logic QF_BV): all bits set,
+/// and the dividend; of the signed quotient 1 for a dividend below 0, and -1 for another.
+pub fn division_by_zero_is_as_the_standard_has_it()
+    ensures quotient { (m s : ℕ) → bvudiv m s 0 ≡ bvnot m 0 }
+    ensures remainder { (m s : ℕ) → bvurem m s 0 ≡ s }
+    ensures negative { (m s : ℕ) → signed m s <ℤ pos 0 → bvsdiv m s 0 ≡ 1 }
+    ensures positive { (m s : ℕ) → s < 2 ^ m → pos 0 ≤ℤ signed m s → bvsdiv m s 0 ≡ bvneg m 1 }
+    ensures signed_remainder { (m s : ℕ) → bvsrem m s 0 ≡ s }
+    ensures modulus { (m s : ℕ) → bvsmod m s 0 ≡ s }
 {}

@@ -1,6 +1,6 @@
 //! Laws of the operators that go bit by bit. Nothing here does anything.
 
-ghost use Rattle.std.specs.Prelude.{◌≡◌, ℕ, ◌^◌, ◌<◌, ◌≤◌};
+ghost use Rattle.std.specs.Prelude.{◌≡◌, ◌≢◌, ◌↔◌, ◌⊎◌, ℕ, ◌+◌, ◌*◌, ◌^◌, ◌<◌, ◌≤◌};
 ghost use Rattle.std.specs.Int.{bit_at};
 ghost use Rattle.smt_bits.specs.BitVector.{from_bits};
 ghost use Rattle.smt_bits.specs.Operators.{bvand, bvnand, bvnor, bvnot, bvor, bvxnor, bvxor};
@@ -21,4 +21,32 @@ pub fn bitwise_fits()
     ensures nand { (m s t : ℕ) → bvnand m s t < 2 ^ m }
     ensures nor { (m s t : ℕ) → bvnor m s t < 2 ^ m }
     ensures xnor { (m s t : ℕ) → bvxnor m s t < 2 ^ m }
+{}
+
+/// One bit of each result is what the operator makes of the two bits at its place (SMT-LIB 2.6, theory
+/// FixedSizeBitVectors and logic QF_BV).
+pub fn bits_are_taken_by_place()
+    ensures not { (m s k : ℕ) → k < m → (bit_at (bvnot m s) k ≡ 1) ↔ (bit_at s k ≡ 0) }
+    ensures and { (m s t k : ℕ) → k < m
+        → (bit_at (bvand m s t) k ≡ 1) ↔ ((bit_at s k ≡ 1) × (bit_at t k ≡ 1)) }
+    ensures or { (m s t k : ℕ) → k < m
+        → (bit_at (bvor m s t) k ≡ 1) ↔ ((bit_at s k ≡ 1) ⊎ (bit_at t k ≡ 1)) }
+    ensures xor { (m s t k : ℕ) → k < m → (bit_at (bvxor m s t) k ≡ 1) ↔ (bit_at s k ≢ bit_at t k) }
+    ensures nand { (m s t k : ℕ) → k < m
+        → (bit_at (bvnand m s t) k ≡ 0) ↔ ((bit_at s k ≡ 1) × (bit_at t k ≡ 1)) }
+    ensures nor { (m s t k : ℕ) → k < m
+        → (bit_at (bvnor m s t) k ≡ 0) ↔ ((bit_at s k ≡ 1) ⊎ (bit_at t k ≡ 1)) }
+    ensures xnor { (m s t k : ℕ) → k < m → (bit_at (bvxnor m s t) k ≡ 1) ↔ (bit_at s k ≡ bit_at t k) }
+{}
+
+/// The complement of what both have is what either lacks, and the other way round.
+pub fn complements_exchange_and_with_or()
+    ensures and { (m s t : ℕ) → bvnot m (bvand m s t) ≡ bvor m (bvnot m s) (bvnot m t) }
+    ensures or { (m s t : ℕ) → bvnot m (bvor m s t) ≡ bvand m (bvnot m s) (bvnot m t) }
+    ensures twice { (m s : ℕ) → s < 2 ^ m → bvnot m (bvnot m s) ≡ s }
+{}
+
+/// A sum is what one of the two numbers has alone, and twice what both have.
+pub fn sums_are_carried()
+    ensures { (m s t : ℕ) → s < 2 ^ m → t < 2 ^ m → s + t ≡ bvxor m s t + 2 * bvand m s t }
 {}

@@ -1,0 +1,99 @@
+//! The table of names once more, from the name to the operator and from the theories to the logics. Nothing
+//! here does anything.
+
+ghost use Rattle.std.specs.Prelude.{◌≡◌, ◌↔◌, ℕ, List, [], ◌∷◌, Bool, true, false, Ok, Some, All};
+ghost use Rattle.std.specs.Prelude.{◌⊎◌, codes};
+ghost use Rattle.smt_theory.specs.Index.{Number};
+ghost use Rattle.smt_theory.specs.Operators.{op_by};
+ghost use Rattle.smt_theory.specs.Theories.{theories_named};
+ghost use Rattle.smt_theory.specs.declared.op.Arithmetic.TheVariants as arithmetic;
+ghost use Rattle.smt_theory.specs.declared.op.BitsBinary.TheVariants as binary;
+ghost use Rattle.smt_theory.specs.declared.op.BitsComparison.TheVariants as compare;
+ghost use Rattle.smt_theory.specs.declared.op.BitsFolded.TheVariants as folded;
+ghost use Rattle.smt_theory.specs.declared.op.BitsOp.{BitsOp};
+ghost use Rattle.smt_theory.specs.declared.op.BitsOp.TheVariants as bits;
+ghost use Rattle.smt_theory.specs.declared.op.BitsUnary.TheVariants as unary;
+ghost use Rattle.smt_theory.specs.declared.op.Comparison.TheVariants as comparison;
+ghost use Rattle.smt_theory.specs.declared.op.CoreOp.{CoreOp};
+ghost use Rattle.smt_theory.specs.declared.op.CoreOp.TheVariants as core;
+ghost use Rattle.smt_theory.specs.declared.op.IntsOp.{IntsOp};
+ghost use Rattle.smt_theory.specs.declared.op.IntsOp.TheVariants as ints;
+ghost use Rattle.smt_theory.specs.declared.op.Op.TheVariants.{Core, Ints, Bits};
+
+/// What a symbol without indexes is, of the theories Core and Ints (SMT-LIB 2.6).
+pub fn plain_names_are_the_standards()
+    ensures core { All (λ (row : List ℕ × CoreOp). op_by record { ints = true; bits = true } row.0 []
+        ≡ Ok (Core row.1))
+        ((codes "true", core.True) ∷ (codes "false", core.False) ∷ (codes "not", core.Not)
+        ∷ (codes "and", core.And) ∷ (codes "or", core.Or) ∷ (codes "xor", core.Xor)
+        ∷ (codes "=>", core.Implies) ∷ (codes "=", core.Equal) ∷ (codes "distinct", core.Distinct)
+        ∷ (codes "ite", core.Ite) ∷ []) }
+    ensures ints { All (λ (row : List ℕ × IntsOp). op_by record { ints = true; bits = true } row.0 []
+        ≡ Ok (Ints row.1))
+        ((codes "+", ints.Arithmetic arithmetic.Plus) ∷ (codes "-", ints.Arithmetic arithmetic.Minus)
+        ∷ (codes "*", ints.Arithmetic arithmetic.Times) ∷ (codes "div", ints.Arithmetic arithmetic.Div)
+        ∷ (codes "mod", ints.Mod) ∷ (codes "abs", ints.Abs)
+        ∷ (codes "<", ints.Comparison comparison.Less) ∷ (codes "<=", ints.Comparison comparison.AtMost)
+        ∷ (codes ">", ints.Comparison comparison.Greater)
+        ∷ (codes ">=", ints.Comparison comparison.AtLeast) ∷ []) }
+{}
+
+/// What a symbol without indexes is, of the operators on bit vectors (SMT-LIB 2.6, theory
+/// FixedSizeBitVectors and logic QF_BV).
+pub fn plain_names_of_vectors_are_the_standards()
+    ensures arithmetic { All (λ (row : List ℕ × BitsOp). op_by record { ints = true; bits = true } row.0 []
+        ≡ Ok (Bits row.1))
+        ((codes "bvadd", bits.Folded folded.Add) ∷ (codes "bvsub", bits.Binary binary.Subtract)
+        ∷ (codes "bvneg", bits.Unary unary.Negate) ∷ (codes "bvmul", bits.Folded folded.Multiply)
+        ∷ (codes "bvudiv", bits.Binary binary.DivideUnsigned)
+        ∷ (codes "bvurem", bits.Binary binary.RemainderUnsigned)
+        ∷ (codes "bvsdiv", bits.Binary binary.DivideSigned)
+        ∷ (codes "bvsrem", bits.Binary binary.RemainderSigned)
+        ∷ (codes "bvsmod", bits.Binary binary.ModuloSigned) ∷ []) }
+    ensures bitwise { All (λ (row : List ℕ × BitsOp). op_by record { ints = true; bits = true } row.0 []
+        ≡ Ok (Bits row.1))
+        ((codes "bvnot", bits.Unary unary.Not) ∷ (codes "bvand", bits.Folded folded.And)
+        ∷ (codes "bvnand", bits.Binary binary.Nand) ∷ (codes "bvor", bits.Folded folded.Or)
+        ∷ (codes "bvnor", bits.Binary binary.Nor) ∷ (codes "bvxor", bits.Folded folded.Xor)
+        ∷ (codes "bvxnor", bits.Binary binary.Xnor) ∷ (codes "bvshl", bits.Binary binary.ShiftLeft)
+        ∷ (codes "bvlshr", bits.Binary binary.ShiftRight)
+        ∷ (codes "bvashr", bits.Binary binary.ShiftRightSigned) ∷ (codes "concat", bits.Concat) ∷ []) }
+    ensures comparisons { All (λ (row : List ℕ × BitsOp). op_by record { ints = true; bits = true } row.0 []
+        ≡ Ok (Bits row.1))
+        ((codes "bvult", bits.Comparison compare.UnsignedLess)
+        ∷ (codes "bvule", bits.Comparison compare.UnsignedAtMost)
+        ∷ (codes "bvugt", bits.Comparison compare.UnsignedGreater)
+        ∷ (codes "bvuge", bits.Comparison compare.UnsignedAtLeast)
+        ∷ (codes "bvslt", bits.Comparison compare.SignedLess)
+        ∷ (codes "bvsle", bits.Comparison compare.SignedAtMost)
+        ∷ (codes "bvsgt", bits.Comparison compare.SignedGreater)
+        ∷ (codes "bvsge", bits.Comparison compare.SignedAtLeast) ∷ (codes "bvcomp", bits.Comp) ∷ []) }
+{}
+
+/// What a symbol with indexes is (SMT-LIB 2.6, theory Ints and logic QF_BV).
+pub fn indexed_names_are_the_standards()
+    ensures divisible { op_by record { ints = true; bits = true } (codes "divisible") (Number 3 ∷ [])
+        ≡ Ok (Ints (ints.Divisible 3)) }
+    ensures extract { op_by record { ints = true; bits = true } (codes "extract") (Number 7 ∷ Number 4 ∷ [])
+        ≡ Ok (Bits (bits.Extract 7 4)) }
+    ensures constant { op_by record { ints = true; bits = true } (codes "bv10") (Number 4 ∷ [])
+        ≡ Ok (Bits (bits.Constant 10 4)) }
+    ensures by_one { All (λ (row : List ℕ × BitsOp). op_by record { ints = true; bits = true } row.0
+        (Number 3 ∷ []) ≡ Ok (Bits row.1))
+        ((codes "repeat", bits.Repeat 3) ∷ (codes "zero_extend", bits.ZeroExtend 3)
+        ∷ (codes "sign_extend", bits.SignExtend 3) ∷ (codes "rotate_left", bits.RotateLeft 3)
+        ∷ (codes "rotate_right", bits.RotateRight 3) ∷ []) }
+{}
+
+/// Which logics have these theories, and no others: which are supported is this project's own choice.
+pub fn logics_are_those_of_their_theories()
+    ensures core { (logic : List ℕ) → (theories_named logic ≡ Some record { ints = false; bits = false })
+        ↔ (logic ≡ codes "QF_UF") }
+    ensures ints { (logic : List ℕ) → (theories_named logic ≡ Some record { ints = true; bits = false })
+        ↔ ((logic ≡ codes "QF_LIA") ⊎ (logic ≡ codes "QF_NIA") ⊎ (logic ≡ codes "QF_IDL")
+        ⊎ (logic ≡ codes "QF_UFLIA") ⊎ (logic ≡ codes "QF_UFNIA") ⊎ (logic ≡ codes "QF_UFIDL")) }
+    ensures bits { (logic : List ℕ) → (theories_named logic ≡ Some record { ints = false; bits = true })
+        ↔ ((logic ≡ codes "QF_BV") ⊎ (logic ≡ codes "QF_UFBV")) }
+    ensures all { (logic : List ℕ) → (theories_named logic ≡ Some record { ints = true; bits = true })
+        ↔ (logic ≡ codes "ALL") }
+{}
