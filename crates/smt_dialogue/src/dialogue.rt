@@ -1,7 +1,7 @@
 //! The dialogue so far: what is in force, the checks, and the lines of the report.
 
 ghost use Rattle.std.specs.Prelude.{Bool, ◌≡◌, ◌≤◌, ◌<◌, ◌+◌, ◌^◌, ◌++◌, ◌∷◌, List, [], None, Some, true};
-ghost use Rattle.std.specs.Prelude.{IfOk, IfErr, OnErr, OnOk, false, option_map};
+ghost use Rattle.std.specs.Prelude.{IfOk, IfErr, OnErr, OnOk, false, is_some, option_map};
 ghost use Rattle.std.specs.List.{list_any};
 ghost use Rattle.smt_trees.specs.Tree.{sexp_of};
 ghost use Rattle.smt_script.specs.Command.{is_check};
@@ -127,6 +127,16 @@ impl Dialogue {
         }
         self.decided.gather(&mut self.checks.lines)?;
         Ok(())
+    }
+
+    /// Whether so many lines wait, and a model may be judged next.
+    pub(crate) fn has_enough(&self, enough: Option<usize>) -> bool
+        ensures { result ≡ true → is_some enough ≡ true }
+    {
+        match enough {
+            Some(lines) => self.checks.pending.is_some() && self.decided.lines.len() >= lines,
+            None => false,
+        }
     }
 
     /// Has every line gathered that is decided where the dialogue waits, with every window closed or not.

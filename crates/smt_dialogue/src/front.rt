@@ -1,16 +1,17 @@
 //! Texts whose trees are taken as their pieces come. This file knows no commands.
 
-ghost use Rattle.std.specs.Prelude.{◌≡◌, List, [], ℕ, IfOk, MatchOption, None, Some, false};
+ghost use Rattle.std.specs.Prelude.{◌≡◌, ◌<◌, ◌+◌, ◌++◌, ◌^◌, List, [], ℕ, IfOk, MatchOption, None, Some, false};
+ghost use Rattle.std.specs.Prelude.{length, true};
 ghost use Rattle.smt_text.specs.Reader.{bytes_fed, is_finished};
 ghost use Rattle.smt_trees.specs.Sexp.{Cons, Sexps};
 ghost use Rattle.smt_trees.specs.Tree.{sexp_of};
 ghost use Rattle.smt_dialogue.specs.FirstFault.{TextSoFar};
 ghost use Rattle.smt_dialogue.specs.Report.{IsRead};
-ghost use Rattle.smt_dialogue.specs.Internal.FrontView.{HasFront, IsAhead};
+ghost use Rattle.smt_dialogue.specs.Internal.FrontView.{GoesOnFrom, HasFront, IsAhead};
 
 use smt_eval::Memory;
 use smt_faults::TextFlaw;
-use smt_text::laws::one_reading;
+use smt_text::laws::{one_reading, read_faults_stay, read_trees_stay};
 use smt_text::{Next, Reader};
 use smt_trees::Tree;
 use std::alloc::Global;
@@ -44,6 +45,32 @@ impl Front {
             reader: Reader::new(alloc),
             next: None,
         }
+    }
+
+    /// Feeds a piece of the text.
+    pub(crate) fn feed(&mut self, piece: &[u8])
+        requires open { is_finished self.old.reader ≡ false }
+        requires room { bytes_fed self.old.reader + length piece.now < 2 ^ 64 }
+        ensures goes_on { (bytes : List ℕ) → GoesOnFrom self.old self.new bytes false (bytes ++ piece.now) }
+        ensures next { self.new.next ≡ self.old.next }
+    {
+        // Laws: what is read of a text is one answer, and trees and faults that are read stay.
+        one_reading();
+        read_faults_stay();
+        read_trees_stay();
+        self.reader.feed(piece);
+    }
+
+    /// Tells the end of the text.
+    pub(crate) fn finish(&mut self)
+        requires open { is_finished self.old.reader ≡ false }
+        ensures goes_on { (bytes : List ℕ) → GoesOnFrom self.old self.new bytes true bytes }
+        ensures next { self.new.next ≡ self.old.next }
+    {
+        one_reading();
+        read_faults_stay();
+        read_trees_stay();
+        self.reader.finish();
     }
 
     /// What comes next, which is not taken.
