@@ -57,7 +57,8 @@ pub struct Exchange {
 impl Exchange {
     /// Of texts of which nothing has come.
     pub(crate) fn new(alloc: Global, options: Options) -> Self
-        ensures way { (script answers : TextSoFar) → IsRead false [] script → IsRead false [] answers
+        ensures way { (script answers : TextSoFar) → IsRead false [] script
+            → IsRead false [] answers
             → IsUnderWay result (record {
               script_bytes = [];
               script = script;
@@ -86,7 +87,8 @@ impl Exchange {
         ensures rest { waiting self.new ≡ [] }
         ensures way { (texts : Texts) (pairs : List Pair) (later rest : Sexps)
             → IsUnderWay self.old texts pairs later rest
-            → IsUnderWay self.new (record texts { taken = texts.taken ++ result.items }) pairs later rest }
+            → IsUnderWay self.new (record texts { taken = texts.taken ++ result.items }) pairs later
+            rest }
         ensures start { options_of self.new.dialogue ≡ options_of self.old.dialogue }
         ensures script { self.new.script ≡ self.old.script }
         ensures answers { self.new.answers ≡ self.old.answers }
@@ -104,7 +106,8 @@ impl Exchange {
         requires answers_room { bytes_fed self.old.answers.reader < 2 ^ 64 }
         requires way { (texts : Texts) × (pairs : List Pair) × (later : Sexps) × (rest : Sexps)
             × IsUnderWay self.old texts pairs later rest }
-        ensures advanced { IfOk result (λ advance. (texts : Texts) (pairs : List Pair) (later rest : Sexps)
+        ensures advanced { IfOk result (λ advance. (texts : Texts) (pairs : List Pair)
+            (later rest : Sexps)
             → IsUnderWay self.old texts pairs later rest
             → HasAdvanced advance (options_of self.old.dialogue) self.new texts) }
         ensures paused { IfOk result (λ advance.
@@ -153,7 +156,8 @@ impl Exchange {
     /// Tells the end of a text.
     pub(crate) fn finish(&mut self, side: Side)
         requires open { is_finished (front_at side self.old).reader ≡ false }
-        ensures way { (texts : Texts) → GoesOnWith side self.old self.new texts true (bytes_at side texts) }
+        ensures way { (texts : Texts) → GoesOnWith side self.old self.new texts true
+            (bytes_at side texts) }
         ensures dialogue { self.new.dialogue ≡ self.old.dialogue }
     {
         match side {
@@ -172,8 +176,10 @@ impl Exchange {
             → IsUnderWay self.old texts pairs later rest
             → IsTurned turn self.old self.new texts pairs later rest) }
         ensures script_fed { bytes_fed self.new.script.reader ≡ bytes_fed self.old.script.reader }
-        ensures answers_fed { bytes_fed self.new.answers.reader ≡ bytes_fed self.old.answers.reader }
-        ensures start { IfOk result (λ _. options_of self.new.dialogue ≡ options_of self.old.dialogue) }
+        ensures answers_fed { bytes_fed self.new.answers.reader
+            ≡ bytes_fed self.old.answers.reader }
+        ensures start { IfOk result (λ _. options_of self.new.dialogue
+            ≡ options_of self.old.dialogue) }
         ensures decided { self.new.dialogue.decided ≡ self.old.dialogue.decided }
     {
         match self.ready_command()? {
@@ -190,7 +196,8 @@ impl Exchange {
             × IsUnderWay self.old texts pairs later rest }
         ensures dialogue { self.new.dialogue ≡ self.old.dialogue }
         ensures script_fed { bytes_fed self.new.script.reader ≡ bytes_fed self.old.script.reader }
-        ensures answers_fed { bytes_fed self.new.answers.reader ≡ bytes_fed self.old.answers.reader }
+        ensures answers_fed { bytes_fed self.new.answers.reader
+            ≡ bytes_fed self.old.answers.reader }
         ensures next { IfOk result (λ turn. (texts : Texts) (pairs : List Pair) (later rest : Sexps)
             → IsUnderWay self.old texts pairs later rest
             → IsNext turn self.old self.new texts pairs later rest) }
@@ -210,7 +217,8 @@ impl Exchange {
             × IsUnderWay self.old texts pairs later rest }
         ensures dialogue { self.new.dialogue ≡ self.old.dialogue }
         ensures script_fed { bytes_fed self.new.script.reader ≡ bytes_fed self.old.script.reader }
-        ensures answers_fed { bytes_fed self.new.answers.reader ≡ bytes_fed self.old.answers.reader }
+        ensures answers_fed { bytes_fed self.new.answers.reader
+            ≡ bytes_fed self.old.answers.reader }
         ensures next { IfOk result (λ turn. (texts : Texts) (pairs : List Pair) (later rest : Sexps)
             → IsUnderWay self.old texts pairs later rest
             → IsNext turn self.old self.new texts pairs later rest) }
@@ -235,7 +243,8 @@ impl Exchange {
             × IsUnderWay self.old texts pairs later rest }
         ensures dialogue { self.new.dialogue ≡ self.old.dialogue }
         ensures script_fed { bytes_fed self.new.script.reader ≡ bytes_fed self.old.script.reader }
-        ensures answers_fed { bytes_fed self.new.answers.reader ≡ bytes_fed self.old.answers.reader }
+        ensures answers_fed { bytes_fed self.new.answers.reader
+            ≡ bytes_fed self.old.answers.reader }
         ensures turn { IfOk result (λ turn. (texts : Texts) (pairs : List Pair) (later rest : Sexps)
             → IsUnderWay self.old texts pairs later rest
             → later ≡ Nil → texts.script.fault ≡ None → texts.script.told ≡ true
@@ -263,7 +272,8 @@ impl Exchange {
         requires commands { self.old.dialogue.commands + 1 < 2 ^ 64 }
         ensures dialogue { self.new.dialogue ≡ self.old.dialogue }
         ensures script_fed { bytes_fed self.new.script.reader ≡ bytes_fed self.old.script.reader }
-        ensures answers_fed { bytes_fed self.new.answers.reader ≡ bytes_fed self.old.answers.reader }
+        ensures answers_fed { bytes_fed self.new.answers.reader
+            ≡ bytes_fed self.old.answers.reader }
         ensures next { (texts : Texts) (pairs : List Pair) (later rest : Sexps)
             → IsUnderWay self.old texts pairs later rest
             → IsNext result self.old self.new texts pairs later rest }
@@ -295,8 +305,10 @@ impl Exchange {
             → IsUnderWay self.old texts pairs later rest
             → IsTurned turn self.old self.new texts pairs later rest) }
         ensures script_fed { bytes_fed self.new.script.reader ≡ bytes_fed self.old.script.reader }
-        ensures answers_fed { bytes_fed self.new.answers.reader ≡ bytes_fed self.old.answers.reader }
-        ensures start { IfOk result (λ _. options_of self.new.dialogue ≡ options_of self.old.dialogue) }
+        ensures answers_fed { bytes_fed self.new.answers.reader
+            ≡ bytes_fed self.old.answers.reader }
+        ensures start { IfOk result (λ _. options_of self.new.dialogue
+            ≡ options_of self.old.dialogue) }
         ensures decided { self.new.dialogue.decided ≡ self.old.dialogue.decided }
     {
         trees_are_few();

@@ -37,7 +37,8 @@ pub enum Ahead {
 impl Front {
     /// A text of which nothing has come.
     pub(crate) fn new(alloc: Global) -> Self
-        ensures front { (text : TextSoFar) → IsRead false [] text → HasFront result [] text text.trees }
+        ensures front { (text : TextSoFar) → IsRead false [] text
+            → HasFront result [] text text.trees }
         ensures fed { bytes_fed result.reader ≡ 0 }
         ensures open { is_finished result.reader ≡ false }
     {
@@ -51,7 +52,8 @@ impl Front {
     pub(crate) fn feed(&mut self, piece: &[u8])
         requires open { is_finished self.old.reader ≡ false }
         requires room { bytes_fed self.old.reader + length piece.now < 2 ^ 64 }
-        ensures goes_on { (bytes : List ℕ) → GoesOnFrom self.old self.new bytes false (bytes ++ piece.now) }
+        ensures goes_on { (bytes : List ℕ)
+            → GoesOnFrom self.old self.new bytes false (bytes ++ piece.now) }
         ensures next { self.new.next ≡ self.old.next }
     {
         // Laws: what is read of a text is one answer, and trees and faults that are read stay.
@@ -103,8 +105,10 @@ impl Front {
     /// Takes the tree that stands ready.
     pub(crate) fn take(&mut self) -> Option<Tree>
         ensures taken { MatchOption result (self.old.next ≡ None)
-            (λ tree. (self.old.next ≡ Some tree) × ((bytes : List ℕ) (text : TextSoFar) (later : Sexps)
-            → HasFront self.old bytes text (Cons (sexp_of tree) later) → HasFront self.new bytes text later)) }
+            (λ tree. (self.old.next ≡ Some tree)
+            × ((bytes : List ℕ) (text : TextSoFar) (later : Sexps)
+            → HasFront self.old bytes text (Cons (sexp_of tree) later)
+            → HasFront self.new bytes text later)) }
         ensures fed { bytes_fed self.new.reader ≡ bytes_fed self.old.reader }
         ensures finished { is_finished self.new.reader ≡ is_finished self.old.reader }
     {

@@ -114,7 +114,8 @@ fn follow<R1: Source, R2: Source, W: Sink>(
         (tap (R2.to_come answers.old) (R2.has_ended answers.old)) (W.taken out.old))
         (devices (tap (R1.to_come script.new) (R1.has_ended script.new))
         (tap (R2.to_come answers.new) (R2.has_ended answers.new)) (W.taken out.new)) verdict) }
-    ensures stopped { IfErr result (λ fault. (options : Given) → StandsFor session.old (begun options)
+    ensures stopped { IfErr result (λ fault. (options : Given)
+        → StandsFor session.old (begun options)
         → HasStopped options
         (devices (tap (R1.to_come script.old) (R1.has_ended script.old))
         (tap (R2.to_come answers.old) (R2.has_ended answers.old)) (W.taken out.old))
@@ -168,7 +169,8 @@ fn step<R1: Source, R2: Source, W: Sink>(
         → IsRunning options before
         (devices (tap (R1.to_come script.new) (R1.has_ended script.new))
         (tap (R2.to_come answers.new) (R2.has_ended answers.new)) (W.taken out.new)) session.new) }
-    ensures stopped { IfErr result (λ fault. (options : Given) (before : Devices) → IsRunning options before
+    ensures stopped { IfErr result (λ fault. (options : Given) (before : Devices)
+        → IsRunning options before
         (devices (tap (R1.to_come script.old) (R1.has_ended script.old))
         (tap (R2.to_come answers.old) (R2.has_ended answers.old)) (W.taken out.old)) session.old
         → HasStopped options before
@@ -211,21 +213,28 @@ fn step_text<R: Source, W: Sink>(
     requires source_open { R.has_ended source.old ≡ false }
     requires out_sound { W.is_broken out.old ≡ false }
     requires room { 0 < length block.old }
-    ensures goes_on { OnOk result ((options : Given) (before now : Devices) → IsRunning options before
-        (with_tap side (tap (R.to_come source.old) (R.has_ended source.old)) (W.taken out.old) now) session.old
+    ensures goes_on { OnOk result ((options : Given) (before now : Devices)
         → IsRunning options before
-        (with_tap side (tap (R.to_come source.new) (R.has_ended source.new)) (W.taken out.new) now) session.new) }
-    ensures stopped { IfErr result (λ fault. (options : Given) (before now : Devices) → IsRunning options before
-        (with_tap side (tap (R.to_come source.old) (R.has_ended source.old)) (W.taken out.old) now) session.old
+        (with_tap side (tap (R.to_come source.old) (R.has_ended source.old))
+        (W.taken out.old) now) session.old
+        → IsRunning options before
+        (with_tap side (tap (R.to_come source.new) (R.has_ended source.new))
+        (W.taken out.new) now) session.new) }
+    ensures stopped { IfErr result (λ fault. (options : Given) (before now : Devices)
+        → IsRunning options before
+        (with_tap side (tap (R.to_come source.old) (R.has_ended source.old))
+        (W.taken out.old) now) session.old
         → HasStopped options before
-        (with_tap side (tap (R.to_come source.new) (R.has_ended source.new)) (W.taken out.new) now) fault) }
+        (with_tap side (tap (R.to_come source.new) (R.has_ended source.new))
+        (W.taken out.new) now) fault) }
     ensures blamed { IfErr result (λ fault. (other : Bool) → IsBlamed fault
         (of_side side (R.is_broken source.new) other) (of_side side other (R.is_broken source.new))
         (W.is_broken out.new)) }
     ensures failure { OnOk result (failure_of session.new ≡ None) }
     ensures waiting { OnOk result (lines_waiting session.new ≡ []) }
     ensures ended { is_ended side session.new ≡ R.has_ended source.new }
-    ensures other { is_ended (other_side side) session.new ≡ is_ended (other_side side) session.old }
+    ensures other { is_ended (other_side side) session.new
+        ≡ is_ended (other_side side) session.old }
     ensures sound { OnOk result (R.is_broken source.new ≡ false) }
     ensures out_sound { OnOk result (W.is_broken out.new ≡ false) }
     ensures end { R.has_ended source.new ≡ true → IsAtEnd (R.to_come source.new) }
@@ -316,7 +325,8 @@ fn put_some<W: Sink>(
     ensures script_ended { is_script_ended session.new ≡ is_script_ended session.old }
     ensures answers_ended { is_answers_ended session.new ≡ is_answers_ended session.old }
     ensures left { left_of session.new ≡ left_of session.old }
-    ensures smaller { IfOk result (λ more. more ≡ true → turns_left session.new < turns_left session.old) }
+    ensures smaller { IfOk result (λ more. more ≡ true
+        → turns_left session.new < turns_left session.old) }
 {
     match session.take_turns(Some(enough)) {
         Ok(more) => match put_lines(alloc, session, out) {
@@ -346,7 +356,8 @@ fn put_lines<W: Sink>(alloc: Global, session: &mut Session, out: &mut W) -> Resu
         → IsGoingOn session.new (with_taken h (lines_waiting session.old)) }
     ensures none { lines_waiting session.new ≡ [] }
     ensures put { OnOk result
-        (Appends (W.taken out.old) (W.taken out.new) (runs.text_of_lines (lines_waiting session.old))) }
+        (Appends (W.taken out.old) (W.taken out.new) (runs.text_of_lines
+        (lines_waiting session.old))) }
     ensures part { OnErr result ((count : ℕ)
         × Appends (W.taken out.old) (W.taken out.new)
         (take count (runs.text_of_lines (lines_waiting session.old)))) }

@@ -93,11 +93,13 @@ impl Session {
     pub fn script(&mut self, piece: &[u8]) -> Result<(), Failed>
         requires stands { (h : History) × StandsFor self.old h }
         requires open { is_script_ended self.old ≡ false }
-        ensures stands { (h : History) → StandsFor self.old h → StandsFor self.new (with_script h piece.now) }
+        ensures stands { (h : History) → StandsFor self.old h
+            → StandsFor self.new (with_script h piece.now) }
         ensures failed { MatchResult result (λ _. failure_of self.new ≡ None)
             (λ failed. failure_of self.new ≡ Some failed) }
         ensures stays { (failed : Failure) → failure_of self.old ≡ Some failed
-            → (failure_of self.new ≡ Some failed) × (lines_waiting self.new ≡ lines_waiting self.old) }
+            → (failure_of self.new ≡ Some failed)
+            × (lines_waiting self.new ≡ lines_waiting self.old) }
         ensures kept { IsBeginning (lines_waiting self.old) (lines_waiting self.new) }
         ensures script_ended { is_script_ended self.new ≡ is_script_ended self.old }
         ensures answers_ended { is_answers_ended self.new ≡ is_answers_ended self.old }
@@ -110,11 +112,13 @@ impl Session {
     pub fn answers(&mut self, piece: &[u8]) -> Result<(), Failed>
         requires stands { (h : History) × StandsFor self.old h }
         requires open { is_answers_ended self.old ≡ false }
-        ensures stands { (h : History) → StandsFor self.old h → StandsFor self.new (with_answers h piece.now) }
+        ensures stands { (h : History) → StandsFor self.old h
+            → StandsFor self.new (with_answers h piece.now) }
         ensures failed { MatchResult result (λ _. failure_of self.new ≡ None)
             (λ failed. failure_of self.new ≡ Some failed) }
         ensures stays { (failed : Failure) → failure_of self.old ≡ Some failed
-            → (failure_of self.new ≡ Some failed) × (lines_waiting self.new ≡ lines_waiting self.old) }
+            → (failure_of self.new ≡ Some failed)
+            × (lines_waiting self.new ≡ lines_waiting self.old) }
         ensures kept { IsBeginning (lines_waiting self.old) (lines_waiting self.new) }
         ensures script_ended { is_script_ended self.new ≡ is_script_ended self.old }
         ensures answers_ended { is_answers_ended self.new ≡ is_answers_ended self.old }
@@ -126,11 +130,13 @@ impl Session {
     pub fn end_script(&mut self) -> Result<(), Failed>
         requires stands { (h : History) × StandsFor self.old h }
         requires open { is_script_ended self.old ≡ false }
-        ensures stands { (h : History) → StandsFor self.old h → StandsFor self.new (with_script_end h) }
+        ensures stands { (h : History) → StandsFor self.old h
+            → StandsFor self.new (with_script_end h) }
         ensures failed { MatchResult result (λ _. failure_of self.new ≡ None)
             (λ failed. failure_of self.new ≡ Some failed) }
         ensures stays { (failed : Failure) → failure_of self.old ≡ Some failed
-            → (failure_of self.new ≡ Some failed) × (lines_waiting self.new ≡ lines_waiting self.old) }
+            → (failure_of self.new ≡ Some failed)
+            × (lines_waiting self.new ≡ lines_waiting self.old) }
         ensures kept { IsBeginning (lines_waiting self.old) (lines_waiting self.new) }
         ensures script_ended { is_script_ended self.new ≡ true }
         ensures answers_ended { is_answers_ended self.new ≡ is_answers_ended self.old }
@@ -142,11 +148,13 @@ impl Session {
     pub fn end_answers(&mut self) -> Result<(), Failed>
         requires stands { (h : History) × StandsFor self.old h }
         requires open { is_answers_ended self.old ≡ false }
-        ensures stands { (h : History) → StandsFor self.old h → StandsFor self.new (with_answers_end h) }
+        ensures stands { (h : History) → StandsFor self.old h
+            → StandsFor self.new (with_answers_end h) }
         ensures failed { MatchResult result (λ _. failure_of self.new ≡ None)
             (λ failed. failure_of self.new ≡ Some failed) }
         ensures stays { (failed : Failure) → failure_of self.old ≡ Some failed
-            → (failure_of self.new ≡ Some failed) × (lines_waiting self.new ≡ lines_waiting self.old) }
+            → (failure_of self.new ≡ Some failed)
+            × (lines_waiting self.new ≡ lines_waiting self.old) }
         ensures kept { IsBeginning (lines_waiting self.old) (lines_waiting self.new) }
         ensures script_ended { is_script_ended self.new ≡ is_script_ended self.old }
         ensures answers_ended { is_answers_ended self.new ≡ true }
@@ -158,11 +166,13 @@ impl Session {
     pub fn take_lines(&mut self) -> Vec<Line>
         ensures lines { result.items ≡ lines_waiting self.old }
         ensures none { lines_waiting self.new ≡ [] }
-        ensures stands { (h : History) → StandsFor self.old h → StandsFor self.new (with_taken h result.items) }
+        ensures stands { (h : History) → StandsFor self.old h
+            → StandsFor self.new (with_taken h result.items) }
         ensures failure { failure_of self.new ≡ failure_of self.old }
         ensures script_ended { is_script_ended self.new ≡ is_script_ended self.old }
         ensures answers_ended { is_answers_ended self.new ≡ is_answers_ended self.old }
-        ensures going_on { (h : History) → IsGoingOn self.old h → IsGoingOn self.new (with_taken h result.items) }
+        ensures going_on { (h : History) → IsGoingOn self.old h
+            → IsGoingOn self.new (with_taken h result.items) }
         ensures left { left_of self.new ≡ left_of self.old }
         ensures turns { turns_left self.new ≡ turns_left self.old }
     {
@@ -176,7 +186,8 @@ impl Session {
         ensures valid { (h : History) → StandsFor self.now h → result ≡ Some Verdict.Valid
             → IsValid h.options h.script.bytes h.answers.bytes }
         ensures invalid { (h : History) → StandsFor self.now h → result ≡ Some Verdict.Invalid
-            → IsInvalid h.options h.script.bytes h.answers.bytes (h.taken ++ lines_waiting self.now) }
+            → IsInvalid h.options h.script.bytes h.answers.bytes
+            (h.taken ++ lines_waiting self.now) }
     {
         // Laws: the texts have no other trees, models that are read are complete and give structures, the
         // assertions in force are those of the commands that stand, and what is known of a term is its value.
@@ -216,11 +227,13 @@ impl Session {
     fn feed(&mut self, side: Side, piece: &[u8]) -> Result<(), Failed>
         requires stands { (h : History) × StandsFor self.old h }
         requires open { is_ended side self.old ≡ false }
-        ensures stands { (h : History) → StandsFor self.old h → StandsFor self.new (with_piece side h piece.now) }
+        ensures stands { (h : History) → StandsFor self.old h
+            → StandsFor self.new (with_piece side h piece.now) }
         ensures failed { MatchResult result (λ _. failure_of self.new ≡ None)
             (λ failed. failure_of self.new ≡ Some failed) }
         ensures stays { (failed : Failure) → failure_of self.old ≡ Some failed
-            → (failure_of self.new ≡ Some failed) × (lines_waiting self.new ≡ lines_waiting self.old) }
+            → (failure_of self.new ≡ Some failed)
+            × (lines_waiting self.new ≡ lines_waiting self.old) }
         ensures kept { IsBeginning (lines_waiting self.old) (lines_waiting self.new) }
         ensures script_ended { is_script_ended self.new ≡ is_script_ended self.old }
         ensures answers_ended { is_answers_ended self.new ≡ is_answers_ended self.old }
@@ -233,14 +246,18 @@ impl Session {
     fn end(&mut self, side: Side) -> Result<(), Failed>
         requires stands { (h : History) × StandsFor self.old h }
         requires open { is_ended side self.old ≡ false }
-        ensures stands { (h : History) → StandsFor self.old h → StandsFor self.new (with_end side h) }
+        ensures stands { (h : History) → StandsFor self.old h
+            → StandsFor self.new (with_end side h) }
         ensures failed { MatchResult result (λ _. failure_of self.new ≡ None)
             (λ failed. failure_of self.new ≡ Some failed) }
         ensures stays { (failed : Failure) → failure_of self.old ≡ Some failed
-            → (failure_of self.new ≡ Some failed) × (lines_waiting self.new ≡ lines_waiting self.old) }
+            → (failure_of self.new ≡ Some failed)
+            × (lines_waiting self.new ≡ lines_waiting self.old) }
         ensures kept { IsBeginning (lines_waiting self.old) (lines_waiting self.new) }
-        ensures script_ended { is_script_ended self.new ≡ of_side side true (is_script_ended self.old) }
-        ensures answers_ended { is_answers_ended self.new ≡ of_side side (is_answers_ended self.old) true }
+        ensures script_ended { is_script_ended self.new
+            ≡ of_side side true (is_script_ended self.old) }
+        ensures answers_ended { is_answers_ended self.new
+            ≡ of_side side (is_answers_ended self.old) true }
     {
         self.take_end(side);
         self.rest()
@@ -288,8 +305,10 @@ impl Session {
         requires open { is_ended side self.old ≡ false }
         ensures fed { (h : History) → StandsFor self.old h
             → IsFed self.new (with_piece side h piece.now) }
-        ensures smaller { failure_of self.new ≡ None → 0 < length piece.now → left_of self.new < left_of self.old }
-        ensures stays { (failed : Failure) → failure_of self.old ≡ Some failed → failure_of self.new ≡ Some failed }
+        ensures smaller { failure_of self.new ≡ None → 0 < length piece.now
+            → left_of self.new < left_of self.old }
+        ensures stays { (failed : Failure) → failure_of self.old ≡ Some failed
+            → failure_of self.new ≡ Some failed }
         ensures waiting { lines_waiting self.new ≡ lines_waiting self.old }
         ensures script_ended { is_script_ended self.new ≡ is_script_ended self.old }
         ensures answers_ended { is_answers_ended self.new ≡ is_answers_ended self.old }
@@ -318,8 +337,10 @@ impl Session {
         ensures smaller { left_of self.new < left_of self.old }
         ensures failure { failure_of self.new ≡ failure_of self.old }
         ensures waiting { lines_waiting self.new ≡ lines_waiting self.old }
-        ensures script_ended { is_script_ended self.new ≡ of_side side true (is_script_ended self.old) }
-        ensures answers_ended { is_answers_ended self.new ≡ of_side side (is_answers_ended self.old) true }
+        ensures script_ended { is_script_ended self.new
+            ≡ of_side side true (is_script_ended self.old) }
+        ensures answers_ended { is_answers_ended self.new
+            ≡ of_side side (is_answers_ended self.old) true }
     {
         text_laws();
         self.close(side);
@@ -344,7 +365,8 @@ impl Session {
 
     // Counts the bytes of a text.
     fn count(&mut self, side: Side, bytes: u64)
-        ensures fed { self.new ≡ with_fed side (record (fed_at side self.old) { bytes = bytes }) self.old }
+        ensures fed { self.new ≡ with_fed side (record
+            (fed_at side self.old) { bytes = bytes }) self.old }
         ensures script_ended { is_script_ended self.new ≡ is_script_ended self.old }
         ensures answers_ended { is_answers_ended self.new ≡ is_answers_ended self.old }
         ensures exchange { self.new.exchange ≡ self.old.exchange }
@@ -359,9 +381,12 @@ impl Session {
 
     // Notes the end of a text.
     fn close(&mut self, side: Side)
-        ensures fed { self.new ≡ with_fed side (record (fed_at side self.old) { ended = true }) self.old }
-        ensures script_ended { is_script_ended self.new ≡ of_side side true (is_script_ended self.old) }
-        ensures answers_ended { is_answers_ended self.new ≡ of_side side (is_answers_ended self.old) true }
+        ensures fed { self.new ≡ with_fed side (record
+            (fed_at side self.old) { ended = true }) self.old }
+        ensures script_ended { is_script_ended self.new
+            ≡ of_side side true (is_script_ended self.old) }
+        ensures answers_ended { is_answers_ended self.new
+            ≡ of_side side (is_answers_ended self.old) true }
         ensures exchange { self.new.exchange ≡ self.old.exchange }
         ensures verdict { self.new.verdict ≡ self.old.verdict }
         ensures failure { self.new.failure ≡ self.old.failure }
@@ -380,7 +405,8 @@ impl Session {
         ensures failed { MatchResult result (λ _. failure_of self.new ≡ None)
             (λ failed. failure_of self.new ≡ Some failed) }
         ensures stays { (failed : Failure) → failure_of self.old ≡ Some failed
-            → (failure_of self.new ≡ Some failed) × (lines_waiting self.new ≡ lines_waiting self.old) }
+            → (failure_of self.new ≡ Some failed)
+            × (lines_waiting self.new ≡ lines_waiting self.old) }
         ensures kept { IsBeginning (lines_waiting self.old) (lines_waiting self.new) }
         ensures script_ended { is_script_ended self.new ≡ is_script_ended self.old }
         ensures answers_ended { is_answers_ended self.new ≡ is_answers_ended self.old }
@@ -398,11 +424,13 @@ impl Session {
         requires fed { (h : History) × IsFed self.old h }
         ensures turned { (h : History) → IsFed self.old h
             → HasTurned result self.new h }
-        ensures paused { IfOk result (λ more. IsPause more enough (turns_left self.old) (turns_left self.new)) }
+        ensures paused { IfOk result (λ more. IsPause more enough (turns_left self.old)
+            (turns_left self.new)) }
         ensures failed { MatchResult result (λ _. failure_of self.new ≡ None)
             (λ failed. failure_of self.new ≡ Some failed) }
         ensures stays { (failed : Failure) → failure_of self.old ≡ Some failed
-            → (failure_of self.new ≡ Some failed) × (lines_waiting self.new ≡ lines_waiting self.old) }
+            → (failure_of self.new ≡ Some failed)
+            × (lines_waiting self.new ≡ lines_waiting self.old) }
         ensures kept { IsBeginning (lines_waiting self.old) (lines_waiting self.new) }
         ensures script_ended { is_script_ended self.new ≡ is_script_ended self.old }
         ensures answers_ended { is_answers_ended self.new ≡ is_answers_ended self.old }

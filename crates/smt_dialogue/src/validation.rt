@@ -29,9 +29,11 @@ pub fn validate(
 ) -> Result<Report, Memory>
     ensures report { IfOk result (λ r. IsReport options script.now answers.now r.lines.items) }
     ensures verdict { IfOk result (λ r. IsVerdictOf r.verdict r.lines.items) }
-    ensures valid { IfOk result (λ r. r.verdict ≡ Verdict.Valid → IsValid options script.now answers.now) }
+    ensures valid { IfOk result (λ r. r.verdict ≡ Verdict.Valid
+        → IsValid options script.now answers.now) }
     ensures invalid { IfOk result
-        (λ r. r.verdict ≡ Verdict.Invalid → IsInvalid options script.now answers.now r.lines.items) }
+        (λ r. r.verdict ≡ Verdict.Invalid
+        → IsInvalid options script.now answers.now r.lines.items) }
 {
     let mut session = Session::new(alloc, options);
     let report = match tell(&mut session, script, answers) {
@@ -75,7 +77,8 @@ fn tell_text<'a>(session: &mut Session, side: Side, left: &'a [u8]) -> Result<&'
     ensures smaller { IfOk result (λ rest.
         length rest.now + (if is_ended side session.new then 0 else 1) < length left.now + 1) }
     ensures failure { OnOk result (failure_of session.new ≡ None) }
-    ensures other { is_ended (other_side side) session.new ≡ is_ended (other_side side) session.old }
+    ensures other { is_ended (other_side side) session.new
+        ≡ is_ended (other_side side) session.old }
 {
     let (piece, rest) = left.split_at(left.len().min(PIECE));
     session.tell(side, piece)?;
