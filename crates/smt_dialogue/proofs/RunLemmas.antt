@@ -14,7 +14,7 @@ use Rattle.smt_dialogue.specs.SoFar.{IsBeginning, IsSoFar}
 use Rattle.smt_dialogue.specs.Run.{Devices, HasRun, HasStopped, IsBlamed, IsPulled, IsPut, Tap, text_of_lines}
 use Rattle.smt_dialogue.specs.Session.{AreLines, IsVerdictIn, StandsFor, failure_of, lines_waiting}
 use Rattle.smt_dialogue.specs.Validity.{IsInvalid, IsValid}
-use Rattle.smt_dialogue.specs.Internal.RunStep.{IsFailure, IsFedRun, IsOutputFailure, IsPutFault, IsPutRun}
+use Rattle.smt_dialogue.specs.Internal.RunStep.{HasStepped, IsFailure, IsFedRun, IsSound, IsOutputFailure, IsPutFault, IsPutRun}
 use Rattle.smt_dialogue.specs.Internal.RunStep.{IsRunning, IsRunningBy, fault_at, history, with_tap}
 use Rattle.smt_dialogue.specs.Internal.SessionStep.{IsFed, IsGoingOn, IsLeftOpen}
 use Rattle.smt_dialogue.specs.declared.live.RunFault.{RunFault}
@@ -368,6 +368,27 @@ map_ok (Err e) p f = tt
 pub map_err : {T E : Type 0} {P Q : E → Type 0} (r : Result T E) → IfErr r P → ((e : E) → P e → Q e) → IfErr r Q
 map_err (Ok x) p f = tt
 map_err (Err e) p f = f e p
+
+pub on_ok : {T E P : Type 0} (r : Result T E) → P → OnOk r P
+on_ok (Ok x) p = p
+on_ok (Err e) p = tt
+
+-- lines were put, or a fault stopped it
+pub stepped : (r : Result Unit RunFault) (options : Options) (before now : Devices) (s : Session)
+    → OnOk r (IsRunning options before now s) → IfErr r (λ fault. HasStopped options before now fault)
+    → HasStepped r options before now s
+stepped (Ok unit) options before now s on stopped = on
+stepped (Err fault) options before now s on stopped = stopped
+
+pub ok_stepped : (r : Result Unit RunFault) (options : Options) (before now : Devices) (s : Session)
+    → HasStepped r options before now s → OnOk r (IsRunning options before now s)
+ok_stepped (Ok unit) options before now s h = h
+ok_stepped (Err fault) options before now s h = tt
+
+pub sound_kept : (told now_told : Bool) (now : Tap) (broken : Bool) → now_told ≡ told → IsSound told now broken
+    → IsSound now_told now broken
+sound_kept told now_told now broken same h =
+    record { ended = same ∙ h.ended; sound = h.sound; end = h.end }
 
 pub none_before : (o new : Option Failed) → ((failed : Failed) → o ≡ Some failed → new ≡ Some failed) → new ≡ None
     → o ≡ None

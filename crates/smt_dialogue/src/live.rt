@@ -10,8 +10,9 @@ ghost use Rattle.smt_dialogue.specs.Run as runs;
 ghost use Rattle.smt_dialogue.specs.Run.{Devices, HasRun, HasStopped, IsBlamed, devices, tap};
 ghost use Rattle.smt_dialogue.specs.Session.{StandsFor, failure_of, is_answers_ended, is_ended, is_script_ended};
 ghost use Rattle.smt_dialogue.specs.Session.{lines_waiting};
-ghost use Rattle.smt_dialogue.specs.Internal.RunStep.{IsFailure, IsFedRun, IsOutputFailure, IsPutFault, IsPutRun};
-ghost use Rattle.smt_dialogue.specs.Internal.RunStep.{IsRunning, fault_at, with_tap};
+ghost use Rattle.smt_dialogue.specs.Internal.RunStep.{HasStepped, IsAtRest, IsFailure, IsFedRun};
+ghost use Rattle.smt_dialogue.specs.Internal.RunStep.{IsOutputFailure, IsPutFault, IsPutRun, IsRunning};
+ghost use Rattle.smt_dialogue.specs.Internal.RunStep.{IsSound, fault_at, with_tap};
 ghost use Rattle.smt_dialogue.specs.Internal.SessionStep.{IsFed, IsGoingOn, IsWanted, left_of, turns_left};
 ghost use Rattle.smt_dialogue.specs.declared.options.Options.{Options as Given};
 ghost use Rattle.smt_dialogue.specs.declared.session.Failed.{Failed as Failure};
@@ -153,40 +154,27 @@ fn step<R1: Source, R2: Source, W: Sink>(
 ) -> Result<(), RunFault>
     requires wanted { IsWanted (Some side) session.old }
     requires stands { (h : History) × StandsFor session.old h }
-    requires failure { failure_of session.old ≡ None }
-    requires waiting { lines_waiting session.old ≡ [] }
-    requires script_ended { is_script_ended session.old ≡ R1.has_ended script.old }
-    requires answers_ended { is_answers_ended session.old ≡ R2.has_ended answers.old }
-    requires script_sound { R1.is_broken script.old ≡ false }
-    requires answers_sound { R2.is_broken answers.old ≡ false }
+    requires rest { IsAtRest session.old }
+    requires script { IsSound (is_script_ended session.old)
+        (tap (R1.to_come script.old) (R1.has_ended script.old)) (R1.is_broken script.old) }
+    requires answers { IsSound (is_answers_ended session.old)
+        (tap (R2.to_come answers.old) (R2.has_ended answers.old)) (R2.is_broken answers.old) }
     requires out_sound { W.is_broken out.old ≡ false }
     requires room { 0 < length block.old }
-    requires script_end { R1.has_ended script.old ≡ true → IsAtEnd (R1.to_come script.old) }
-    requires answers_end { R2.has_ended answers.old ≡ true → IsAtEnd (R2.to_come answers.old) }
-    ensures goes_on { OnOk result ((options : Given) (before : Devices) → IsRunning options before
+    ensures stepped { (options : Given) (before : Devices) → IsRunning options before
         (devices (tap (R1.to_come script.old) (R1.has_ended script.old))
         (tap (R2.to_come answers.old) (R2.has_ended answers.old)) (W.taken out.old)) session.old
-        → IsRunning options before
+        → HasStepped result options before
         (devices (tap (R1.to_come script.new) (R1.has_ended script.new))
-        (tap (R2.to_come answers.new) (R2.has_ended answers.new)) (W.taken out.new)) session.new) }
-    ensures stopped { IfErr result (λ fault. (options : Given) (before : Devices)
-        → IsRunning options before
-        (devices (tap (R1.to_come script.old) (R1.has_ended script.old))
-        (tap (R2.to_come answers.old) (R2.has_ended answers.old)) (W.taken out.old)) session.old
-        → HasStopped options before
-        (devices (tap (R1.to_come script.new) (R1.has_ended script.new))
-        (tap (R2.to_come answers.new) (R2.has_ended answers.new)) (W.taken out.new)) fault) }
+        (tap (R2.to_come answers.new) (R2.has_ended answers.new)) (W.taken out.new)) session.new }
     ensures blamed { IfErr result (λ fault.
         IsBlamed fault (R1.is_broken script.new) (R2.is_broken answers.new) (W.is_broken out.new)) }
-    ensures failure { OnOk result (failure_of session.new ≡ None) }
-    ensures waiting { OnOk result (lines_waiting session.new ≡ []) }
-    ensures script_ended { is_script_ended session.new ≡ R1.has_ended script.new }
-    ensures answers_ended { is_answers_ended session.new ≡ R2.has_ended answers.new }
-    ensures script_sound { OnOk result (R1.is_broken script.new ≡ false) }
-    ensures answers_sound { OnOk result (R2.is_broken answers.new ≡ false) }
+    ensures rest { OnOk result (IsAtRest session.new) }
+    ensures script { OnOk result (IsSound (is_script_ended session.new)
+        (tap (R1.to_come script.new) (R1.has_ended script.new)) (R1.is_broken script.new)) }
+    ensures answers { OnOk result (IsSound (is_answers_ended session.new)
+        (tap (R2.to_come answers.new) (R2.has_ended answers.new)) (R2.is_broken answers.new)) }
     ensures out_sound { OnOk result (W.is_broken out.new ≡ false) }
-    ensures script_end { R1.has_ended script.new ≡ true → IsAtEnd (R1.to_come script.new) }
-    ensures answers_end { R2.has_ended answers.new ≡ true → IsAtEnd (R2.to_come answers.new) }
     ensures smaller { OnOk result (left_of session.new < left_of session.old) }
 {
     match side {
@@ -207,37 +195,25 @@ fn step_text<R: Source, W: Sink>(
 ) -> Result<(), RunFault>
     requires stands { (h : History) × StandsFor session.old h }
     requires open { is_ended side session.old ≡ false }
-    requires failure { failure_of session.old ≡ None }
-    requires waiting { lines_waiting session.old ≡ [] }
+    requires rest { IsAtRest session.old }
     requires sound { R.is_broken source.old ≡ false }
     requires source_open { R.has_ended source.old ≡ false }
     requires out_sound { W.is_broken out.old ≡ false }
     requires room { 0 < length block.old }
-    ensures goes_on { OnOk result ((options : Given) (before now : Devices)
-        → IsRunning options before
-        (with_tap side (tap (R.to_come source.old) (R.has_ended source.old))
-        (W.taken out.old) now) session.old
-        → IsRunning options before
-        (with_tap side (tap (R.to_come source.new) (R.has_ended source.new))
-        (W.taken out.new) now) session.new) }
-    ensures stopped { IfErr result (λ fault. (options : Given) (before now : Devices)
-        → IsRunning options before
-        (with_tap side (tap (R.to_come source.old) (R.has_ended source.old))
-        (W.taken out.old) now) session.old
-        → HasStopped options before
-        (with_tap side (tap (R.to_come source.new) (R.has_ended source.new))
-        (W.taken out.new) now) fault) }
+    ensures stepped { (options : Given) (before now : Devices) → IsRunning options before
+        (with_tap side (tap (R.to_come source.old) (R.has_ended source.old)) (W.taken out.old) now)
+        session.old
+        → HasStepped result options before
+        (with_tap side (tap (R.to_come source.new) (R.has_ended source.new)) (W.taken out.new) now)
+        session.new }
     ensures blamed { IfErr result (λ fault. (other : Bool) → IsBlamed fault
         (of_side side (R.is_broken source.new) other) (of_side side other (R.is_broken source.new))
         (W.is_broken out.new)) }
-    ensures failure { OnOk result (failure_of session.new ≡ None) }
-    ensures waiting { OnOk result (lines_waiting session.new ≡ []) }
-    ensures ended { is_ended side session.new ≡ R.has_ended source.new }
-    ensures other { is_ended (other_side side) session.new
-        ≡ is_ended (other_side side) session.old }
-    ensures sound { OnOk result (R.is_broken source.new ≡ false) }
+    ensures rest { OnOk result (IsAtRest session.new) }
+    ensures source { OnOk result (IsSound (is_ended side session.new)
+        (tap (R.to_come source.new) (R.has_ended source.new)) (R.is_broken source.new)) }
+    ensures other { is_ended (other_side side) session.new ≡ is_ended (other_side side) session.old }
     ensures out_sound { OnOk result (W.is_broken out.new ≡ false) }
-    ensures end { R.has_ended source.new ≡ true → IsAtEnd (R.to_come source.new) }
     ensures smaller { OnOk result (left_of session.new < left_of session.old) }
 {
     match source.pull(block) {

@@ -1,9 +1,9 @@
 -- One step of a run.
-use Rattle.std.specs.Prelude.{◌≡◌, ℕ, List, Bool, Option, Some, None, true, false}
-use Rattle.std.specs.Io.KnownBytes.{Appends}
+use Rattle.std.specs.Prelude.{◌≡◌, ℕ, List, [], Bool, Option, Some, None, Result, Ok, Err, true, false}
+use Rattle.std.specs.Io.KnownBytes.{Appends, IsAtEnd}
 use Rattle.smt_dialogue.specs.History.{History, of_side}
-use Rattle.smt_dialogue.specs.Run.{ArePulled, Devices, Tap, text_of_lines}
-use Rattle.smt_dialogue.specs.Session.{StandsFor}
+use Rattle.smt_dialogue.specs.Run.{ArePulled, Devices, HasStopped, Tap, text_of_lines}
+use Rattle.smt_dialogue.specs.Session.{StandsFor, failure_of, lines_waiting}
 use Rattle.smt_dialogue.specs.Internal.SessionStep.{IsFed, IsLeftOpen}
 use Rattle.smt_dialogue.specs.declared.live.RunFault.{RunFault}
 use Rattle.smt_dialogue.specs.declared.live.RunFault.TheVariants as faults
@@ -44,6 +44,22 @@ IsFedRun options before now s = IsRunningBy (IsFed s) options before now
 -- the same, and turns are left to take or are not
 abbrev pub IsPutRun : (more : Bool) → Options → (before now : Devices) → Session → Type 0
 IsPutRun more options before now s = IsRunningBy (IsLeftOpen more s) options before now
+
+-- no call of the session has failed, and every line that is decided was put
+pub record IsAtRest (s : Session) : Type 0 where
+  pub failure : failure_of s ≡ None
+  pub waiting : lines_waiting s ≡ []
+
+-- a source has not failed, and where it has told its end, the session was told it, and nothing is left to come
+pub record IsSound (told : Bool) (now : Tap) (broken : Bool) : Type 0 where
+  pub ended : told ≡ now.ended
+  pub sound : broken ≡ false
+  pub end : now.ended ≡ true → IsAtEnd now.to_come
+
+-- a step of a run comes to this
+abbrev pub HasStepped : Result Unit RunFault → Options → (before now : Devices) → Session → Type 0
+HasStepped (Ok unit) options before now s = IsRunning options before now s
+HasStepped (Err fault) options before now s = HasStopped options before now fault
 
 -- with another source on this side, and with another sink
 abbrev pub with_tap : Side → Tap → (out : Option (List ℕ)) → Devices → Devices
