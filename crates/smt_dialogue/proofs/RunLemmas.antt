@@ -1,6 +1,6 @@
 -- Runs: what was pulled and put so far, and what a fault leaves.
 use Rattle.std.proofs.Common.{◌≡◌, ◌≤◌, ℕ, ◌+◌, Bool, true, false, List, [], ◌∷◌, ◌++◌, length, drop, take, Option, Some}
-use Rattle.std.proofs.Common.{Result, Ok, Err, IfErr, OnErr, OnOk, MatchResult, None, refl, ap, sym, ◌∙◌, subst, append_assoc}
+use Rattle.std.proofs.Common.{Result, Ok, Err, IfErr, OnOk, None, refl, ap, sym, ◌∙◌, subst, append_assoc}
 use Rattle.std.proofs.Math.Seq.{take-append-add}
 use Rattle.std.proofs.lemmas.List.{append-nil, length-take-le, take-append-drop}
 use Rattle.std.specs.Io.KnownBytes.{Appends, Consumes, IsAtEnd}

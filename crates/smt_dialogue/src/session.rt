@@ -1,7 +1,8 @@
 //! Sessions: a dialogue whose two texts come piece by piece, and whose lines are handed out as they are decided.
 //! This file decides nothing.
 
-ghost use Rattle.std.specs.Prelude.{◌≡◌, ◌<◌, ◌++◌, List, [], None, Some, false, true, IfOk, MatchResult, length, nat_eq};
+ghost use Rattle.std.specs.Prelude.{◌≡◌, ◌<◌, ◌++◌, List, [], None, Some, false, true, IfOk, MatchResult, length};
+ghost use Rattle.std.specs.Prelude.{nat_eq};
 ghost use Rattle.smt_dialogue.specs.History.{History, begun, with_answers, with_answers_end, with_script};
 ghost use Rattle.smt_dialogue.specs.History.{of_side, other_side, with_end, with_more, with_piece, with_script_end};
 ghost use Rattle.smt_dialogue.specs.History.{with_taken};

@@ -2,7 +2,6 @@ use Rattle.std.proofs.Common.{refl, subst}
 use Rattle.smt_dialogue.proofs.SessionLemmas.{cut_stands, open_fed, pause_less, paused_going, rests_stands}
 use Rattle.smt_dialogue.specs.Internal.ExchangeView.{HasAdvanced, IsCut}
 use Rattle.smt_dialogue.specs.Internal.SessionView.{texts_of}
-use Rattle.smt_dialogue.specs.declared.exchange.Advance.TheVariants.{Pauses, Rests}
 use Rattle.smt_dialogue.proofs.session.Session.take_turns.Goals as goal
 
 pub returns-in-Ok-Pauses-clause-turned : goal.returns-in-Ok-Pauses-clause-turned
