@@ -361,8 +361,7 @@ fn text_of_lines(alloc: Global, lines: &[Line]) -> Result<String, Memory>
 {
     let mut text = String::new(alloc);
     for line in lines {
-        let shown = format!(in alloc; "{line}\n")?;
-        text.push_str(shown.as_str())?;
+        writeln!(text, "{line}")?;
     }
     Ok(text)
 }
