@@ -239,6 +239,26 @@ echo "$model" >&4
 ended 'a full device' 4 'smtcheck: output'
 exec 3>&- 4>&-
 
+# Each line comes once it is decided, though its answer was pulled with many others: each of 500 models takes long to judge, by functions that
+# call one another, and what came of the one before stands by then. Where the run is stopped, whole lines are left.
+awk 'BEGIN {
+    printf "(define-fun f0 ((x Int)) Int (+ x x))"
+    for (i = 1; i < 21; i++) printf "(define-fun f%d ((x Int)) Int (f%d (f%d x)))", i, i - 1, i - 1
+    printf "(assert (= (f20 0) 0))"
+    for (i = 0; i < 500; i++) printf "(check-sat)(get-model)"
+}' >"$work/long_script"
+lines 500 'sat ()' >"$work/long_answers"
+: >"$work/output"
+timeout 5 "$program" --print-success off "$work/long_script" "$work/long_answers" >"$work/output" 2>"$work/errors" &
+running=$!
+until_true 'a line before the next model' test -s "$work/output"
+kill -0 "$running" || fail 'a line before the next model: the run has ended'
+[ "$(wc -l <"$work/output")" -lt 20 ] || fail 'a line before the next model: it comes with others'
+ended 'a run that is stopped' 124 ''
+[ "$(wc -l <"$work/output")" -gt 1 ] || fail "a run that is stopped: $(cat "$work/output")"
+awk '$0 != "check " NR " at command " 2 * NR + 21 ": sat, confirmed" { exit 1 }' "$work/output" ||
+    fail "a run that is stopped: $(cat "$work/output")"
+
 # A text that fails behind lines that were written: these stay.
 rm -f "$work/script" "$work/answers"
 echo '(foo)' >"$work/script"

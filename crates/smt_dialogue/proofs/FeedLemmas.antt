@@ -11,14 +11,18 @@ use Rattle.smt_script.specs.declared.command.Command.{Command}
 use Rattle.smt_dialogue.proofs.SoFarLemmas.{paired_more}
 use Rattle.smt_dialogue.proofs.TreesLemmas.{append_assoc, append_nil}
 use Rattle.smt_dialogue.specs.FirstFault.{TextSoFar, is_over}
+use Rattle.smt_dialogue.specs.History.{of_side}
 use Rattle.smt_dialogue.specs.Pairs.{Pair}
 use Rattle.smt_dialogue.specs.Report.{ArePaired, IsRead}
 use Rattle.smt_dialogue.specs.SoFar.{IsGrown}
 use Rattle.smt_dialogue.specs.Internal.DialogueState.{Stands, state_behind}
-use Rattle.smt_dialogue.specs.Internal.ExchangeView.{IsClosing, IsInTurn, IsUnderWay, Texts}
-use Rattle.smt_dialogue.specs.Internal.FrontView.{HasFront, next_trees}
+use Rattle.smt_dialogue.specs.Internal.ExchangeView.{GoesOnWith, IsClosing, IsInTurn, IsUnderWay, Texts, bytes_at}
+use Rattle.smt_dialogue.specs.Internal.ExchangeView.{front_at, with_read}
+use Rattle.smt_dialogue.specs.Internal.FrontView.{GoesOnFrom, HasFront, next_trees}
 use Rattle.smt_dialogue.specs.declared.exchange.Exchange.{Exchange}
 use Rattle.smt_dialogue.specs.declared.front.Front.{Front}
+use Rattle.smt_report.specs.declared.line.Side.{Side}
+use Rattle.smt_report.specs.declared.line.Side.TheVariants.{Answers, Script}
 
 -- a text that did not grow
 abbrev pub no_more : (text : TextSoFar) → IsGrown text text
@@ -52,78 +56,68 @@ in_turn_more : (o : Option Command) (pairs : List Pair) (later left more : Sexps
 in_turn_more None pairs later left more h = ap (λ ts. append ts more) h
 in_turn_more (Some c) pairs later left more h = (h.0, ap (λ ts. append ts more) h.1, h.2, h.3)
 
--- the exchange with more of the script
 over_told : (text : TextSoFar) → text.told ≡ true → is_over text ≡ true
 over_told text told = ap (λ b. b || is_some text.fault) told
 
-closing_more : (o : Option Command) (texts : Texts) (bytes : List ℕ) (grown : TextSoFar) (later : Sexps)
-    (s : IsGrown texts.script grown) → IsClosing o texts later
-    → IsClosing o (record texts { script_bytes = bytes; script = grown }) (append later s.later)
-closing_more (Some c) texts bytes grown later s h = h
-closing_more None texts bytes grown later s h =
+closing_more : (o : Option Command) (texts grown : Texts) (later : Sexps) (s : IsGrown texts.script grown.script)
+    → IsClosing o texts later → IsClosing o grown (append later s.later)
+closing_more (Some c) texts grown later s h = h
+closing_more None texts grown later s h =
     let over = s.over (over_told texts.script h.2) in
     (ap (λ ts. append ts s.later) h.0 ∙ over.0, over.1 ∙ h.1, s.told h.2)
 
-pub script_more : (x y : Exchange) (texts : Texts) (bytes : List ℕ) (grown : TextSoFar) (pairs : List Pair)
-    (later rest : Sexps) (s : IsGrown texts.script grown) → y.dialogue ≡ x.dialogue → y.command ≡ x.command
-    → y.answers ≡ x.answers → y.script.next ≡ x.script.next
-    → ((taken : Sexps) → readers.StandsFor x.script.reader texts.script_bytes taken
-    → readers.StandsFor y.script.reader bytes taken)
-    → IsRead (is_finished y.script.reader) bytes grown
-    → IsUnderWay x texts pairs later rest
-    → IsUnderWay y (record texts { script_bytes = bytes; script = grown }) pairs (append later s.later) rest
-script_more x y texts bytes grown pairs later rest s dialogue command answers next stands read h =
-    let start = initial_print_success_of x.dialogue.stack in
-    let paired = paired_more start texts.script texts.answers grown texts.answers pairs later rest s
-    (no_more texts.answers) h.paired in
-    record {
-      left = append h.left s.later;
-      in_turn = subst (λ o. IsInTurn o pairs (append later s.later) (append h.left s.later)) (sym command)
-          (in_turn_more x.command pairs later h.left s.later h.in_turn);
-      script_front = front_more x.script y.script texts.script_bytes bytes texts.script grown h.left s next stands
-          read h.script_front;
-      answers_front = subst (λ f. HasFront f texts.answers_bytes texts.answers rest) (sym answers) h.answers_front;
-      early = h.early;
-      stands = subst (λ d. Stands h.early (state_behind texts.taken d) pairs) (sym dialogue) h.stands;
-      closing = λ e. subst (λ o. IsClosing o (record texts { script_bytes = bytes; script = grown })
-          (append later s.later)) (sym command) (closing_more x.command texts bytes grown later s (h.closing e));
-      paired = subst (λ d. ArePaired (initial_print_success_of d.stack) grown texts.answers pairs
-          (append later s.later) rest) (sym dialogue)
-          (subst (ArePaired start grown texts.answers pairs (append later s.later)) (append_nil rest) paired);
-    }
+-- both texts have more, or one of them
+both_more : (x y : Exchange) (texts grown : Texts) (pairs : List Pair) (later rest : Sexps)
+    → grown.taken ≡ texts.taken → y.dialogue ≡ x.dialogue → y.command ≡ x.command
+    → (h : IsUnderWay x texts pairs later rest)
+    → (s : IsGrown texts.script grown.script) → (a : IsGrown texts.answers grown.answers)
+    → HasFront y.script grown.script_bytes grown.script (append h.left s.later)
+    → HasFront y.answers grown.answers_bytes grown.answers (append rest a.later)
+    → IsUnderWay y grown pairs (append later s.later) (append rest a.later)
+both_more x y texts grown pairs later rest taken dialogue command h s a script_front answers_front = record {
+  left = append h.left s.later;
+  in_turn = subst (λ o. IsInTurn o pairs (append later s.later) (append h.left s.later)) (sym command)
+      (in_turn_more x.command pairs later h.left s.later h.in_turn);
+  script_front = script_front;
+  answers_front = answers_front;
+  early = h.early;
+  stands = subst (λ ls. Stands h.early (state_behind ls y.dialogue) pairs) (sym taken)
+      (subst (λ d. Stands h.early (state_behind texts.taken d) pairs) (sym dialogue) h.stands);
+  closing = λ e. subst (λ o. IsClosing o grown (append later s.later)) (sym command)
+      (closing_more x.command texts grown later s (h.closing e));
+  paired = subst (λ d. ArePaired (initial_print_success_of d.stack) grown.script grown.answers pairs
+      (append later s.later) (append rest a.later)) (sym dialogue)
+      (paired_more (initial_print_success_of x.dialogue.stack) texts.script texts.answers grown.script grown.answers
+      pairs later rest s a h.paired);
+}
 
-closing_same : (o : Option Command) (texts : Texts) (bytes : List ℕ) (grown : TextSoFar) (later : Sexps)
-    → IsClosing o texts later → IsClosing o (record texts { answers_bytes = bytes; answers = grown }) later
-closing_same (Some c) texts bytes grown later h = h
-closing_same None texts bytes grown later h = h
+front_same : (f g : Front) (bytes : List ℕ) (text : TextSoFar) (rest : Sexps) → g ≡ f → HasFront f bytes text rest
+    → HasFront g bytes text (append rest Nil)
+front_same f g bytes text rest same h =
+    subst (HasFront g bytes text) (sym (append_nil rest)) (subst (λ f'. HasFront f' bytes text rest) (sym same) h)
 
--- with more of the answers
-pub answers_more : (x y : Exchange) (texts : Texts) (bytes : List ℕ) (grown : TextSoFar) (pairs : List Pair)
-    (later rest : Sexps) (s : IsGrown texts.answers grown) → y.dialogue ≡ x.dialogue → y.command ≡ x.command
-    → y.script ≡ x.script → y.answers.next ≡ x.answers.next
-    → ((taken : Sexps) → readers.StandsFor x.answers.reader texts.answers_bytes taken
-    → readers.StandsFor y.answers.reader bytes taken)
-    → IsRead (is_finished y.answers.reader) bytes grown
-    → IsUnderWay x texts pairs later rest
-    → IsUnderWay y (record texts { answers_bytes = bytes; answers = grown }) pairs later (append rest s.later)
-answers_more x y texts bytes grown pairs later rest s dialogue command script next stands read h =
-    let start = initial_print_success_of x.dialogue.stack in
-    let paired = paired_more start texts.script texts.answers texts.script grown pairs later rest
-    (no_more texts.script) s h.paired in
-    record {
-      left = h.left;
-      in_turn = subst (λ o. IsInTurn o pairs later h.left) (sym command) h.in_turn;
-      script_front = subst (λ f. HasFront f texts.script_bytes texts.script h.left) (sym script) h.script_front;
-      answers_front = front_more x.answers y.answers texts.answers_bytes bytes texts.answers grown rest s next stands
-          read h.answers_front;
-      early = h.early;
-      stands = subst (λ d. Stands h.early (state_behind texts.taken d) pairs) (sym dialogue) h.stands;
-      closing = λ e. subst (λ o. IsClosing o (record texts { answers_bytes = bytes; answers = grown }) later)
-          (sym command) (closing_same x.command texts bytes grown later (h.closing e));
-      paired = subst (λ d. ArePaired (initial_print_success_of d.stack) texts.script grown pairs later
-          (append rest s.later)) (sym dialogue)
-          (subst (λ ts. ArePaired start texts.script grown pairs ts (append rest s.later)) (append_nil later) paired);
-    }
+-- the text of this side has more, and the other stays
+pub goes_on_with : (side : Side) (x y : Exchange) (texts : Texts) (told : Bool) (bytes : List ℕ)
+    → y.dialogue ≡ x.dialogue → y.command ≡ x.command
+    → of_side side y.answers y.script ≡ of_side side x.answers x.script
+    → GoesOnFrom (front_at side x) (front_at side y) (bytes_at side texts) told bytes
+    → GoesOnWith side x y texts told bytes
+goes_on_with Script x y texts told bytes dialogue command same goes = λ pairs later rest text h read.
+    let f = goes texts.script text h.left h.script_front read in (
+      append later f.0.later,
+      append rest Nil,
+      both_more x y texts (with_read Script bytes text texts) pairs later rest refl dialogue command h f.0
+          (no_more texts.answers) f.1
+          (front_same x.answers y.answers texts.answers_bytes texts.answers rest same h.answers_front),
+    )
+goes_on_with Answers x y texts told bytes dialogue command same goes = λ pairs later rest text h read.
+    let f = goes texts.answers text rest h.answers_front read in (
+      append later Nil,
+      append rest f.0.later,
+      both_more x y texts (with_read Answers bytes text texts) pairs later rest refl dialogue command h
+          (no_more texts.script) f.0
+          (front_same x.script y.script texts.script_bytes texts.script h.left same h.script_front) f.1,
+    )
 
 -- what is read of a text whose end was not told
 pub read_open : (f : Front) (bytes : List ℕ) (text : TextSoFar) (rest : Sexps) → is_finished f.reader ≡ false

@@ -1,27 +1,31 @@
 -- Runs: what was pulled and put so far, and what a fault leaves.
-use Rattle.std.proofs.Common.{◌≡◌, ℕ, ◌+◌, Bool, true, false, List, [], ◌∷◌, ◌++◌, length, take, Option, Some}
-use Rattle.std.proofs.Common.{Result, Ok, Err, IfErr, OnErr, OnOk, MatchResult, None, refl, ap, sym, ◌∙◌, subst, append_assoc}
+use Rattle.std.proofs.Common.{◌≡◌, ◌≤◌, ℕ, ◌+◌, Bool, true, false, List, [], ◌∷◌, ◌++◌, length, drop, take, Option, Some}
+use Rattle.std.proofs.Common.{Result, Ok, Err, IfErr, OnOk, None, refl, ap, sym, ◌∙◌, subst, append_assoc}
 use Rattle.std.proofs.Math.Seq.{take-append-add}
-use Rattle.std.proofs.lemmas.List.{append-nil}
+use Rattle.std.proofs.lemmas.List.{append-nil, length-take-le, take-append-drop}
 use Rattle.std.specs.Io.KnownBytes.{Appends, Consumes, IsAtEnd}
+use Rattle.std.specs.Prelude.{nat_eq}
 use Rattle.smt_dialogue.proofs.ReadSoFarLemmas.{so_far_is_report}
 use Rattle.smt_dialogue.proofs.SessionVerdictLemmas.{reported}
-use Rattle.smt_dialogue.specs.History.{AreDecided, AreFirstDecided, History, begun, with_taken}
+use Rattle.smt_dialogue.proofs.SessionLemmas.{any_first, first_going, going_fed}
+use Rattle.smt_dialogue.specs.History.{AreDecided, AreFirstDecided, History, IsLong, begun, with_more, with_taken}
 use Rattle.smt_dialogue.specs.Report.{IsReport}
-use Rattle.smt_dialogue.specs.SoFar.{IsSoFar}
-use Rattle.smt_dialogue.specs.Run.{Devices, HasRun, HasStopped, text_of_lines}
-use Rattle.smt_dialogue.specs.Session.{AreLines, IsVerdictIn, StandsFor, failure_of, is_script_ended, lines_waiting}
-use Rattle.smt_dialogue.specs.Session.{is_answers_ended}
+use Rattle.smt_dialogue.specs.SoFar.{IsBeginning, IsSoFar}
+use Rattle.smt_dialogue.specs.Run.{Devices, HasRun, HasStopped, IsBlamed, IsPulled, IsPut, Tap, text_of_lines}
+use Rattle.smt_dialogue.specs.Session.{AreLines, IsVerdictIn, StandsFor, failure_of, lines_waiting}
 use Rattle.smt_dialogue.specs.Validity.{IsInvalid, IsValid}
-use Rattle.smt_dialogue.specs.Internal.RunStep.{IsAnswersFailure, IsOutputFailure, IsRunning, IsScriptFailure}
+use Rattle.smt_dialogue.specs.Internal.RunStep.{HasStepped, IsFailure, IsFedRun, IsSound, IsOutputFailure, IsPutFault, IsPutRun}
+use Rattle.smt_dialogue.specs.Internal.RunStep.{IsRunning, IsRunningBy, fault_at, history, with_tap}
+use Rattle.smt_dialogue.specs.Internal.SessionStep.{IsFed, IsGoingOn, IsLeftOpen}
 use Rattle.smt_dialogue.specs.declared.live.RunFault.{RunFault}
 use Rattle.smt_dialogue.specs.declared.live.RunFault.TheVariants as faults
 use Rattle.smt_dialogue.specs.declared.options.Options.{Options}
 use Rattle.smt_dialogue.specs.declared.session.Failed.{Failed}
-use Rattle.smt_dialogue.specs.declared.session.Failed.TheVariants as failures
 use Rattle.smt_dialogue.specs.declared.session.Session.{Session}
 use Rattle.smt_report.specs.LineText.{text_of}
 use Rattle.smt_report.specs.declared.line.Line.{Line}
+use Rattle.smt_report.specs.declared.line.Side.{Side}
+use Rattle.smt_report.specs.declared.line.Side.TheVariants.{Answers, Script}
 use Rattle.smt_report.specs.declared.verdict.Verdict.{Verdict}
 use Rattle.smt_report.specs.declared.verdict.Verdict.TheVariants.{Invalid, Valid}
 
@@ -67,233 +71,293 @@ taken_front xs ys n = take-append-add xs ys n
 -- ---- steps
 
 -- nothing was pulled or put
-pub running_new : (options : Options) (now : Devices) (s : Session) → now.script_ended ≡ false
-    → now.answers_ended ≡ false → StandsFor s (begun options) → IsRunning options now now s
+pub running_new : (options : Options) (now : Devices) (s : Session) → now.script.ended ≡ false
+    → now.answers.ended ≡ false → StandsFor s (begun options) → IsRunning options now now s
 running_new options now s script answers k = record {
   script = [];
   answers = [];
   taken = [];
-  pulled = record { script_given = consumes_none now.script; answers_given = consumes_none now.answers };
+  pulled = record { script_given = consumes_none now.script.to_come; answers_given = consumes_none now.answers.to_come };
   written = appends_none now.out;
-  stands = subst (λ b. StandsFor s (record (begun options) { script_told = b; answers_told = now.answers_ended }))
-      (sym script) (subst (λ b. StandsFor s (record (begun options) { answers_told = b })) (sym answers) k);
+  stands = subst (λ b. StandsFor s (record (begun options) {
+    script = record { bytes = []; ended = b };
+    answers = record { bytes = []; ended = now.answers.ended };
+  })) (sym script)
+      (subst (λ b. StandsFor s (record (begun options) { answers = record { bytes = []; ended = b } })) (sym answers) k);
 }
 
--- more of the script was pulled
-pub running_script : (options : Options) (before now : Devices) (s t : Session) (to_come : Option (List ℕ))
-    (ended : Bool) → is_script_ended t ≡ ended
-    → ((h : History) → StandsFor s h → (given : List ℕ) × Consumes now.script to_come given
-    × StandsFor t (record h { script = h.script ++ given; script_told = is_script_ended t }))
-    → IsRunning options before now s → IsRunning options before (record now { script = to_come; script_ended = ended }) t
-running_script options before now s t to_come ended same pulls r =
-    let p = pulls _ r.stands in
-    record {
-      script = r.script ++ p.0;
-      answers = r.answers;
-      taken = r.taken;
-      pulled = record {
-        script_given = consumes_both before.script now.script to_come r.script p.0 r.pulled.script_given p.1;
-        answers_given = r.pulled.answers_given;
-      };
-      written = r.written;
-      stands = subst (λ b. StandsFor t (record {
-        options = options;
-        script_told = b;
-        script = r.script ++ p.0;
-        answers_told = now.answers_ended;
-        answers = r.answers;
-        taken = r.taken;
-      })) same p.2;
-    }
+-- this was pulled of a source, and the session was told it
+pub running_text : (side : Side) (options : Options) (before all : Devices) (s t : Session) (old new : Tap)
+    (out : Option (List ℕ)) (given : List ℕ) → IsPulled old new given
+    → ((h : History) → StandsFor s h → IsFed t (with_more side h given new.ended))
+    → IsRunning options before (with_tap side old out all) s → IsFedRun options before (with_tap side new out all) t
+running_text Script options before all s t old new out given pulls told r = record {
+  script = r.script ++ given;
+  answers = r.answers;
+  taken = r.taken;
+  pulled = record {
+    script_given = consumes_both before.script.to_come old.to_come new.to_come r.script given r.pulled.script_given pulls;
+    answers_given = r.pulled.answers_given;
+  };
+  written = r.written;
+  stands = told _ r.stands;
+}
+running_text Answers options before all s t old new out given pulls told r = record {
+  script = r.script;
+  answers = r.answers ++ given;
+  taken = r.taken;
+  pulled = record {
+    script_given = r.pulled.script_given;
+    answers_given =
+        consumes_both before.answers.to_come old.to_come new.to_come r.answers given r.pulled.answers_given pulls;
+  };
+  written = r.written;
+  stands = told _ r.stands;
+}
 
--- more of the answers was pulled
-pub running_answers : (options : Options) (before now : Devices) (s t : Session) (to_come : Option (List ℕ))
-    (ended : Bool) → is_answers_ended t ≡ ended
-    → ((h : History) → StandsFor s h → (given : List ℕ) × Consumes now.answers to_come given
-    × StandsFor t (record h { answers = h.answers ++ given; answers_told = is_answers_ended t }))
-    → IsRunning options before now s
-    → IsRunning options before (record now { answers = to_come; answers_ended = ended }) t
-running_answers options before now s t to_come ended same pulls r =
-    let p = pulls _ r.stands in
-    record {
-      script = r.script;
-      answers = r.answers ++ p.0;
-      taken = r.taken;
-      pulled = record {
-        script_given = r.pulled.script_given;
-        answers_given = consumes_both before.answers now.answers to_come r.answers p.0 r.pulled.answers_given p.1;
-      };
-      written = r.written;
-      stands = subst (λ b. StandsFor t (record {
-        options = options;
-        script_told = now.script_ended;
-        script = r.script;
-        answers_told = b;
-        answers = r.answers ++ p.0;
-        taken = r.taken;
-      })) same p.2;
-    }
+-- an empty piece is the end
+pub pulled_end : (told ended : Bool) (block : List ℕ) (count : ℕ) → count ≤ length block
+    → told ≡ nat_eq (length (take count block)) 0 → ended ≡ nat_eq count 0 → told ≡ ended
+pulled_end told ended block count fits told_is ended_is =
+    told_is ∙ ap (λ n. nat_eq n 0) (length-take-le count block fits) ∙ sym ended_is
 
--- the lines that were decided were put
-pub running_put : (options : Options) (before now : Devices) (s t : Session) (out : Option (List ℕ))
-    → ((h : History) → StandsFor s h → StandsFor t (with_taken h (lines_waiting s)))
-    → Appends now.out out (text_of_lines (lines_waiting s)) → IsRunning options before now s
-    → IsRunning options before (record now { out = out }) t
-running_put options before now s t out takes puts r = record {
+-- these lines were put
+running_put : (P Q : History → Type 0) (options : Options) (before now : Devices) (out : Option (List ℕ))
+    (ls : List Line) → ((h : History) → P h → Q (with_taken h ls)) → Appends now.out out (text_of_lines ls)
+    → IsRunningBy P options before now → IsRunningBy Q options before (record now { out = out })
+running_put P Q options before now out ls takes puts r = record {
   script = r.script;
   answers = r.answers;
-  taken = r.taken ++ lines_waiting s;
+  taken = r.taken ++ ls;
   pulled = record { script_given = r.pulled.script_given; answers_given = r.pulled.answers_given };
-  written = subst (Appends before.out out) (sym (text_append r.taken (lines_waiting s)))
-      (appends_both before.out now.out out (text_of_lines r.taken) (text_of_lines (lines_waiting s)) r.written puts);
+  written = subst (Appends before.out out) (sym (text_append r.taken ls))
+      (appends_both before.out now.out out (text_of_lines r.taken) (text_of_lines ls) r.written puts);
   stands = takes _ r.stands;
+}
+
+running_so : (P Q : History → Type 0) (options : Options) (before now : Devices) → ((h : History) → P h → Q h)
+    → IsRunningBy P options before now → IsRunningBy Q options before now
+running_so P Q options before now so r = record {
+  script = r.script;
+  answers = r.answers;
+  taken = r.taken;
+  pulled = record { script_given = r.pulled.script_given; answers_given = r.pulled.answers_given };
+  written = r.written;
+  stands = so _ r.stands;
 }
 
 -- ---- faults
 
 all_lines : (options : Options) (before now : Devices) (s : Session) → failure_of s ≡ None
-    → (r : IsRunning options before now s) → AreDecided (record {
-      options = options;
-      script_told = now.script_ended;
-      script = r.script;
-      answers_told = now.answers_ended;
-      answers = r.answers;
-      taken = r.taken;
-    }) (r.taken ++ lines_waiting s)
+    → (r : IsRunning options before now s)
+    → AreDecided (history options now r.script r.answers r.taken) (r.taken ++ lines_waiting s)
 all_lines options before now s none r =
-    subst (λ f. AreLines f (record {
-      options = options;
-      script_told = now.script_ended;
-      script = r.script;
-      answers_told = now.answers_ended;
-      answers = r.answers;
-      taken = r.taken;
-    }) (r.taken ++ lines_waiting s)) none r.stands.lines
+    subst (λ f. AreLines f (history options now r.script r.answers r.taken) (r.taken ++ lines_waiting s)) none
+    r.stands.lines
+
+all_put : (options : Options) (before now : Devices) (s : Session) → lines_waiting s ≡ []
+    → (r : IsRunning options before now s) → Appends before.out now.out (text_of_lines (r.taken ++ lines_waiting s))
+all_put options before now s empty r =
+    subst (λ ls. Appends before.out now.out (text_of_lines ls))
+    (sym (ap (λ ls. r.taken ++ ls) empty ∙ append-nil r.taken)) r.written
 
 -- a source has failed, and every line was put
-pub stopped_script : (options : Options) (before now : Devices) (s : Session) → failure_of s ≡ None
-    → lines_waiting s ≡ [] → IsRunning options before now s → HasStopped options before now faults.Script
-stopped_script options before now s none empty r = record {
+pub stopped_source : (side : Side) (options : Options) (before all : Devices) (s : Session) (old new : Tap)
+    (out : Option (List ℕ)) → failure_of s ≡ None → lines_waiting s ≡ [] → IsPulled old new []
+    → old.ended ≡ new.ended → IsRunning options before (with_tap side old out all) s
+    → HasStopped options before (with_tap side new out all) (fault_at side)
+stopped_source Script options before all s old new out none empty pulls same r = record {
   script = r.script;
   answers = r.answers;
-  pulled = r.pulled;
+  pulled = record {
+    script_given = subst (Consumes before.script.to_come new.to_come) (append-nil r.script)
+        (consumes_both before.script.to_come old.to_come new.to_come r.script [] r.pulled.script_given pulls);
+    answers_given = r.pulled.answers_given;
+  };
   lines = r.taken ++ lines_waiting s;
-  so_far = all_lines options before now s none r;
-  written = subst (λ ls. Appends before.out now.out (text_of_lines ls))
-      (sym (ap (λ ls. r.taken ++ ls) empty ∙ append-nil r.taken)) r.written;
+  so_far = subst (λ b. IsSoFar options b r.script all.answers.ended r.answers (r.taken ++ lines_waiting s)) same
+      (all_lines options before (with_tap Script old out all) s none r);
+  written = all_put options before (with_tap Script old out all) s empty r;
+  long = λ is. absurd (cc);
+}
+stopped_source Answers options before all s old new out none empty pulls same r = record {
+  script = r.script;
+  answers = r.answers;
+  pulled = record {
+    script_given = r.pulled.script_given;
+    answers_given = subst (Consumes before.answers.to_come new.to_come) (append-nil r.answers)
+        (consumes_both before.answers.to_come old.to_come new.to_come r.answers [] r.pulled.answers_given pulls);
+  };
+  lines = r.taken ++ lines_waiting s;
+  so_far = subst (λ b. IsSoFar options all.script.ended r.script b r.answers (r.taken ++ lines_waiting s)) same
+      (all_lines options before (with_tap Answers old out all) s none r);
+  written = all_put options before (with_tap Answers old out all) s empty r;
   long = λ is. absurd (cc);
 }
 
-pub stopped_answers : (options : Options) (before now : Devices) (s : Session) → failure_of s ≡ None
-    → lines_waiting s ≡ [] → IsRunning options before now s → HasStopped options before now faults.Answers
-stopped_answers options before now s none empty r = record {
-  script = r.script;
-  answers = r.answers;
-  pulled = r.pulled;
-  lines = r.taken ++ lines_waiting s;
-  so_far = all_lines options before now s none r;
-  written = subst (λ ls. Appends before.out now.out (text_of_lines ls))
-      (sym (ap (λ ls. r.taken ++ ls) empty ∙ append-nil r.taken)) r.written;
-  long = λ is. absurd (cc);
-}
-
--- lines with which others begin are the first bytes of their text
-first_bytes : (before after : Option (List ℕ)) (xs ys all : List Line) → all ≡ xs ++ ys
-    → Appends before after (text_of_lines xs) → (count : ℕ) × Appends before after (take count (text_of_lines all))
+-- what begins bytes are the first of them
+first_bytes : (before after : Option (List ℕ)) (xs ys all : List ℕ) → all ≡ xs ++ ys → Appends before after xs
+    → (count : ℕ) × Appends before after (take count all)
 first_bytes before after xs ys all is h = (
-  length (text_of_lines xs) + 0,
-  subst (Appends before after) (sym (ap (λ ls. take (length (text_of_lines xs) + 0) (text_of_lines ls)) is
-      ∙ ap (take (length (text_of_lines xs) + 0)) (text_append xs ys)
-      ∙ taken_front (text_of_lines xs) (text_of_lines ys) 0
-      ∙ append-nil (text_of_lines xs))) h,
+  length xs + 0,
+  subst (Appends before after)
+      (sym (ap (take (length xs + 0)) is ∙ taken_front xs ys 0 ∙ append-nil xs)) h,
 )
 
-first_lines : (options : Options) (before now : Devices) (s : Session) (failed : Failed)
-    → failure_of s ≡ Some failed → (r : IsRunning options before now s) → AreFirstDecided (record {
-      options = options;
-      script_told = now.script_ended;
-      script = r.script;
-      answers_told = now.answers_ended;
-      answers = r.answers;
-      taken = r.taken;
-    }) (r.taken ++ lines_waiting s)
-first_lines options before now s failed some r =
-    subst (λ f. AreLines f (record {
-      options = options;
-      script_told = now.script_ended;
-      script = r.script;
-      answers_told = now.answers_ended;
-      answers = r.answers;
-      taken = r.taken;
-    }) (r.taken ++ lines_waiting s)) some r.stands.lines
+-- lines were put, and the first bytes of others, with which the lines so far begin
+pub part_put : (before now after : Option (List ℕ)) (taken ls all : List Line) (count : ℕ)
+    → Appends before now (text_of_lines taken) → Appends now after (take count (text_of_lines ls))
+    → IsBeginning (taken ++ ls) all → (n : ℕ) × Appends before after (take n (text_of_lines all))
+part_put before now after taken ls all count h g begins =
+    let put = take count (text_of_lines ls) in
+    let left = drop count (text_of_lines ls) in
+    first_bytes before after (text_of_lines taken ++ put) (left ++ text_of_lines begins.0) (text_of_lines all)
+    (ap text_of_lines begins.1
+    ∙ text_append (taken ++ ls) begins.0
+    ∙ ap (λ t. t ++ text_of_lines begins.0)
+    (text_append taken ls
+    ∙ ap (λ t. text_of_lines taken ++ t) (sym (take-append-drop count (text_of_lines ls)))
+    ∙ sym (append_assoc (text_of_lines taken) put left))
+    ∙ append_assoc (text_of_lines taken ++ put) left (text_of_lines begins.0))
+    (appends_both before now after (text_of_lines taken) put h g)
 
--- the session has failed
-pub stopped_memory : (options : Options) (before now : Devices) (s : Session) → failure_of s ≡ Some failures.Memory
-    → IsRunning options before now s → HasStopped options before now faults.Memory
-stopped_memory options before now s some r =
-    let f = first_lines options before now s failures.Memory some r in
+-- a fault that leaves a part of a text put
+abbrev pub IsPartFault : RunFault → Type 0
+IsPartFault faults.Script = ⊥
+IsPartFault faults.Answers = ⊥
+IsPartFault _ = Unit {0}
+
+part_at : (fault : RunFault) → IsPartFault fault → (before after : Option (List ℕ)) (text : List ℕ)
+    → (count : ℕ) × Appends before after (take count text) → IsPut fault before after text
+part_at faults.Script h before after text part = absurd h
+part_at faults.Answers h before after text part = absurd h
+part_at faults.Output h before after text part = part
+part_at faults.Memory h before after text part = part
+part_at faults.Long h before after text part = part
+
+-- it stops where the first bytes of some lines were put, with which those begin that wait
+stopped_part : (P : History → Type 0) (options : Options) (before now : Devices) (out : Option (List ℕ))
+    (ls : List Line) (count : ℕ) (fault : RunFault) → IsPartFault fault
+    → ((h : History) → P h → AreFirstDecided h (h.taken ++ ls))
+    → ((h : History) → P h → fault ≡ faults.Long → IsLong h)
+    → Appends now.out out (take count (text_of_lines ls)) → IsRunningBy P options before now
+    → HasStopped options before (record now { out = out }) fault
+stopped_part P options before now out ls count fault part first long puts r =
+    let f = first _ r.stands in
     record {
       script = r.script;
       answers = r.answers;
-      pulled = r.pulled;
+      pulled = record { script_given = r.pulled.script_given; answers_given = r.pulled.answers_given };
       lines = f.0;
       so_far = f.1;
-      written = first_bytes before.out now.out r.taken (lines_waiting s ++ f.2.0) f.0
-          (f.2.1 ∙ append_assoc r.taken (lines_waiting s) f.2.0) r.written;
-      long = λ is. absurd (cc);
+      written = part_at fault part before.out out (text_of_lines f.0)
+          (part_put before.out now.out out r.taken ls f.0 count r.written puts f.2);
+      long = long _ r.stands;
     }
 
-pub stopped_long : (options : Options) (before now : Devices) (s : Session) → failure_of s ≡ Some failures.Long
-    → IsRunning options before now s → HasStopped options before now faults.Long
-stopped_long options before now s some r =
-    let f = first_lines options before now s failures.Long some r in
-    record {
-      script = r.script;
-      answers = r.answers;
-      pulled = r.pulled;
-      lines = f.0;
-      so_far = f.1;
-      written = first_bytes before.out now.out r.taken (lines_waiting s ++ f.2.0) f.0
-          (f.2.1 ∙ append_assoc r.taken (lines_waiting s) f.2.0) r.written;
-      long = λ is. r.stands.long some;
-    }
+-- the session has failed, and no line was put
+failed_lines : (s : Session) (failed : Failed) → failure_of s ≡ Some failed → (h : History) → StandsFor s h
+    → AreFirstDecided h (h.taken ++ lines_waiting s)
+failed_lines s failed some h k = subst (λ f. AreLines f h (h.taken ++ lines_waiting s)) some k.lines
 
--- a line was not written
-part_bytes : (a b c : Option (List ℕ)) (xs ys : List Line) (count : ℕ) → Appends a b (text_of_lines xs)
-    → Appends b c (take count (text_of_lines ys))
-    → (n : ℕ) × Appends a c (take n (text_of_lines (xs ++ ys)))
-part_bytes a b c xs ys count h g = (
-  length (text_of_lines xs) + count,
-  subst (Appends a c) (sym (ap (take (length (text_of_lines xs) + count)) (text_append xs ys)
-      ∙ taken_front (text_of_lines xs) (text_of_lines ys) count))
-      (appends_both a b c (text_of_lines xs) (take count (text_of_lines ys)) h g),
-)
+failed_long : (fault : RunFault) (s : Session) (failed : Failed) → IsFailure fault (Some failed)
+    → failure_of s ≡ Some failed → (h : History) → StandsFor s h → fault ≡ faults.Long → IsLong h
+failed_long faults.Script s failed is some h k same = absurd is
+failed_long faults.Answers s failed is some h k same = absurd is
+failed_long faults.Output s failed is some h k same = absurd is
+failed_long faults.Memory s failed is some h k same = absurd (cc)
+failed_long faults.Long s failed is some h k same = k.long (some ∙ is)
 
-pub stopped_put : (options : Options) (before now : Devices) (s : Session) (out : Option (List ℕ)) (count : ℕ)
-    → failure_of s ≡ None → Appends now.out out (take count (text_of_lines (lines_waiting s)))
-    → IsRunning options before now s → HasStopped options before (record now { out = out }) faults.Output
-stopped_put options before now s out count none part r = record {
-  script = r.script;
-  answers = r.answers;
-  pulled = record { script_given = r.pulled.script_given; answers_given = r.pulled.answers_given };
-  lines = r.taken ++ lines_waiting s;
-  so_far = all_lines options before now s none r;
-  written = part_bytes before.out now.out out r.taken (lines_waiting s) count r.written part;
-  long = λ is. absurd (cc);
-}
+part_failure : (fault : RunFault) (failed : Failed) → IsFailure fault (Some failed) → IsPartFault fault
+part_failure faults.Script failed is = absurd is
+part_failure faults.Answers failed is = absurd is
+part_failure faults.Output failed is = absurd is
+part_failure faults.Memory failed is = tt
+part_failure faults.Long failed is = tt
 
-pub stopped_text : (options : Options) (before now : Devices) (s : Session) (out : Option (List ℕ)) (count : ℕ)
-    → failure_of s ≡ None → Appends now.out out (take count (text_of_lines (lines_waiting s)))
-    → IsRunning options before now s → HasStopped options before (record now { out = out }) faults.Memory
-stopped_text options before now s out count none part r = record {
-  script = r.script;
-  answers = r.answers;
-  pulled = record { script_given = r.pulled.script_given; answers_given = r.pulled.answers_given };
-  lines = r.taken ++ lines_waiting s;
-  so_far = all_lines options before now s none r;
-  written = part_bytes before.out now.out out r.taken (lines_waiting s) count r.written part;
-  long = λ is. absurd (cc);
-}
+pub stopped_failed : (options : Options) (before now : Devices) (s t : Session) (failed : Failed) (fault : RunFault)
+    → IsFailure fault (Some failed) → failure_of t ≡ Some failed → ((h : History) → IsFed s h → StandsFor t h)
+    → IsFedRun options before now s → HasStopped options before now fault
+stopped_failed options before now s t failed fault is some stands r =
+    stopped_part (StandsFor t) options before now now.out (lines_waiting t) 0 fault (part_failure fault failed is)
+    (failed_lines t failed some) (failed_long fault t failed is some) (appends_none now.out)
+    (running_so (IsFed s) (StandsFor t) options before now stands r)
+
+-- lines were not put, or not all
+open_lines : (more : Bool) (s : Session) → failure_of s ≡ None → (h : History) → IsLeftOpen more s h
+    → AreFirstDecided h (h.taken ++ lines_waiting s)
+open_lines true s none h on = first_going s h on
+open_lines false s none h k =
+    any_first (failure_of s) h (h.taken ++ lines_waiting s) k.lines
+
+part_output : (fault : RunFault) (broken : Bool) → IsOutputFailure fault broken → IsPartFault fault
+part_output faults.Script broken is = absurd is
+part_output faults.Answers broken is = absurd is
+part_output faults.Output broken is = tt
+part_output faults.Memory broken is = tt
+part_output faults.Long broken is = absurd is
+
+not_long : (fault : RunFault) (broken : Bool) → IsOutputFailure fault broken → fault ≡ faults.Long → ⊥
+not_long faults.Script broken is same = is
+not_long faults.Answers broken is same = is
+not_long faults.Output broken is same = absurd (cc)
+not_long faults.Memory broken is same = absurd (cc)
+not_long faults.Long broken is same = is
+
+pub stopped_put : (options : Options) (before now : Devices) (s t : Session) (out : Option (List ℕ)) (more : Bool)
+    (fault : RunFault) (broken : Bool) → IsOutputFailure fault broken → failure_of t ≡ None
+    → ((h : History) → IsFed s h → IsLeftOpen more t h)
+    → (count : ℕ) × Appends now.out out (take count (text_of_lines (lines_waiting t)))
+    → IsFedRun options before now s → HasStopped options before (record now { out = out }) fault
+stopped_put options before now s t out more fault broken is none turned part r =
+    stopped_part (IsLeftOpen more t) options before now out (lines_waiting t) part.0 fault (part_output fault broken is)
+    (open_lines more t none) (λ h k same. absurd (not_long fault broken is same)) part.1
+    (running_so (IsFed s) (IsLeftOpen more t) options before now turned r)
+
+-- ---- what was put
+
+open_taken : (more : Bool) (s t : Session)
+    → ((h : History) → StandsFor s h → StandsFor t (with_taken h (lines_waiting s)))
+    → ((h : History) → IsGoingOn s h → IsGoingOn t (with_taken h (lines_waiting s)))
+    → (h : History) → IsLeftOpen more s h → IsLeftOpen more t (with_taken h (lines_waiting s))
+open_taken true s t stands going h on = going h on
+open_taken false s t stands going h k = stands h k
+
+pub put_run : (options : Options) (before now : Devices) (s m t : Session) (out : Option (List ℕ)) (more : Bool)
+    → ((h : History) → IsFed s h → IsLeftOpen more m h)
+    → ((h : History) → StandsFor m h → StandsFor t (with_taken h (lines_waiting m)))
+    → ((h : History) → IsGoingOn m h → IsGoingOn t (with_taken h (lines_waiting m)))
+    → Appends now.out out (text_of_lines (lines_waiting m)) → IsFedRun options before now s
+    → IsPutRun more options before (record now { out = out }) t
+put_run options before now s m t out more turned stands going puts r =
+    running_put (IsLeftOpen more m) (IsLeftOpen more t) options before now out (lines_waiting m)
+    (open_taken more m t stands going) puts
+    (running_so (IsFed s) (IsLeftOpen more m) options before now turned r)
+
+pub put_fed : (s m t : Session) (more : Bool) → more ≡ true → ((h : History) → IsFed s h → IsLeftOpen more m h)
+    → ((h : History) → IsGoingOn m h → IsGoingOn t (with_taken h (lines_waiting m)))
+    → (h : History) × IsFed s h → (h : History) × IsFed t h
+put_fed s m t more is turned going k =
+    let on : IsGoingOn m k.0 = subst (λ b. IsLeftOpen b m k.0) is (turned k.0 k.1) in
+    (_, going_fed t _ (going k.0 on))
+
+pub more_fed : (options : Options) (before now : Devices) (s : Session) (more : Bool) → more ≡ true
+    → IsPutRun more options before now s → IsFedRun options before now s
+more_fed options before now s more is r =
+    running_so (IsGoingOn s) (IsFed s) options before now (going_fed s)
+    (subst (λ b. IsPutRun b options before now s) is r)
+
+pub none_left : (options : Options) (before now : Devices) (s : Session) (more : Bool) → more ≡ false
+    → IsPutRun more options before now s → IsRunning options before now s
+none_left options before now s more is r = subst (λ b. IsPutRun b options before now s) is r
+
+pub put_blamed : (fault : RunFault) (script answers out : Bool) → IsPutFault fault out
+    → IsBlamed fault script answers out
+put_blamed faults.Script script answers out h = absurd h
+put_blamed faults.Answers script answers out h = absurd h
+put_blamed faults.Output script answers out h = h
+put_blamed faults.Memory script answers out h = tt
+put_blamed faults.Long script answers out h = tt
 
 -- ---- what a call answered
 
@@ -301,71 +365,63 @@ pub map_ok : {T E P Q : Type 0} (r : Result T E) → OnOk r P → (P → Q) → 
 map_ok (Ok x) p f = f p
 map_ok (Err e) p f = tt
 
-pub stopped_by : (fault : RunFault) (broken : Bool) (options : Options) (before now : Devices) (s : Session)
-    (out : Option (List ℕ)) → IsOutputFailure fault broken → failure_of s ≡ None
-    → (count : ℕ) × Appends now.out out (take count (text_of_lines (lines_waiting s)))
-    → IsRunning options before now s → HasStopped options before (record now { out = out }) fault
-stopped_by faults.Script broken options before now s out h none part r = absurd h
-stopped_by faults.Answers broken options before now s out h none part r = absurd h
-stopped_by faults.Output broken options before now s out h none part r =
-    stopped_put options before now s out part.0 none part.1 r
-stopped_by faults.Memory broken options before now s out h none part r =
-    stopped_text options before now s out part.0 none part.1 r
-stopped_by faults.Long broken options before now s out h none part r = absurd h
+pub map_err : {T E : Type 0} {P Q : E → Type 0} (r : Result T E) → IfErr r P → ((e : E) → P e → Q e) → IfErr r Q
+map_err (Ok x) p f = tt
+map_err (Err e) p f = f e p
 
--- the lines were not put
-pub put_stopped : {P : Type 0} (Q : RunFault → Type 0) (r : Result Unit RunFault) (broken : Bool) (A : Type 0)
-    → MatchResult r (λ _. A) (λ fault. IsOutputFailure fault broken) → OnErr r P
-    → ((fault : RunFault) → IsOutputFailure fault broken → P → Q fault) → IfErr r Q
-put_stopped Q (Ok x) broken A m p f = tt
-put_stopped Q (Err fault) broken A m p f = f fault m p
+pub on_ok : {T E P : Type 0} (r : Result T E) → P → OnOk r P
+on_ok (Ok x) p = p
+on_ok (Err e) p = tt
 
-pub stopped_pull_script : (fault : RunFault) (broken : Bool) (options : Options) (before now : Devices) (s : Session)
-    → IsScriptFailure fault (failure_of s) broken → (broken ≡ true → lines_waiting s ≡ [])
-    → IsRunning options before now s → HasStopped options before now fault
-stopped_pull_script faults.Script broken options before now s h empty r =
-    stopped_script options before now s h.0 (empty h.1) r
-stopped_pull_script faults.Answers broken options before now s h empty r = absurd h.0
-stopped_pull_script faults.Output broken options before now s h empty r = absurd h.0
-stopped_pull_script faults.Memory broken options before now s h empty r = stopped_memory options before now s h.0 r
-stopped_pull_script faults.Long broken options before now s h empty r = stopped_long options before now s h.0 r
+-- lines were put, or a fault stopped it
+pub stepped : (r : Result Unit RunFault) (options : Options) (before now : Devices) (s : Session)
+    → OnOk r (IsRunning options before now s) → IfErr r (λ fault. HasStopped options before now fault)
+    → HasStepped r options before now s
+stepped (Ok unit) options before now s on stopped = on
+stepped (Err fault) options before now s on stopped = stopped
 
-pub stopped_pull_answers : (fault : RunFault) (broken : Bool) (options : Options) (before now : Devices) (s : Session)
-    → IsAnswersFailure fault (failure_of s) broken → (broken ≡ true → lines_waiting s ≡ [])
-    → IsRunning options before now s → HasStopped options before now fault
-stopped_pull_answers faults.Answers broken options before now s h empty r =
-    stopped_answers options before now s h.0 (empty h.1) r
-stopped_pull_answers faults.Script broken options before now s h empty r = absurd h.0
-stopped_pull_answers faults.Output broken options before now s h empty r = absurd h.0
-stopped_pull_answers faults.Memory broken options before now s h empty r = stopped_memory options before now s h.0 r
-stopped_pull_answers faults.Long broken options before now s h empty r = stopped_long options before now s h.0 r
+pub ok_stepped : (r : Result Unit RunFault) (options : Options) (before now : Devices) (s : Session)
+    → HasStepped r options before now s → OnOk r (IsRunning options before now s)
+ok_stepped (Ok unit) options before now s h = h
+ok_stepped (Err fault) options before now s h = tt
+
+pub sound_kept : (told now_told : Bool) (now : Tap) (broken : Bool) → now_told ≡ told → IsSound told now broken
+    → IsSound now_told now broken
+sound_kept told now_told now broken same h =
+    record { ended = same ∙ h.ended; sound = h.sound; end = h.end }
+
+pub none_before : (o new : Option Failed) → ((failed : Failed) → o ≡ Some failed → new ≡ Some failed) → new ≡ None
+    → o ≡ None
+none_before None new stays none = refl
+none_before (Some failed) new stays none =
+    absurd (let e : Some failed ≡ None = sym (stays failed refl) ∙ none in cc)
 
 -- ---- the end
 
 report_at : (options : Options) (before now : Devices) (s : Session) → failure_of s ≡ None
-    → now.script_ended ≡ true → now.answers_ended ≡ true → (r : IsRunning options before now s)
+    → now.script.ended ≡ true → now.answers.ended ≡ true → (r : IsRunning options before now s)
     → IsReport options r.script r.answers (r.taken ++ lines_waiting s)
 report_at options before now s none script answers r =
     so_far_is_report options r.script r.answers (r.taken ++ lines_waiting s)
     (subst (λ b. IsSoFar options b r.script true r.answers (r.taken ++ lines_waiting s)) script
-    (subst (λ b. IsSoFar options now.script_ended r.script b r.answers (r.taken ++ lines_waiting s)) answers
+    (subst (λ b. IsSoFar options now.script.ended r.script b r.answers (r.taken ++ lines_waiting s)) answers
     (all_lines options before now s none r)))
 
 -- the session has a verdict where both ends were told
 pub told_verdict : (options : Options) (before now : Devices) (s : Session) → failure_of s ≡ None
-    → now.script_ended ≡ true → now.answers_ended ≡ true → (r : IsRunning options before now s)
+    → now.script.ended ≡ true → now.answers.ended ≡ true → (r : IsRunning options before now s)
     → IsVerdictIn None (r.taken ++ lines_waiting s) → ⊥
 told_verdict options before now s none script answers r silent =
     reported options r.script r.answers (r.taken ++ lines_waiting s) (report_at options before now s none script answers r)
     silent
 
 pub has_run : (options : Options) (before now : Devices) (s : Session) (v : Verdict) → failure_of s ≡ None
-    → lines_waiting s ≡ [] → now.script_ended ≡ true → now.answers_ended ≡ true → IsAtEnd now.script
-    → IsAtEnd now.answers → (r : IsRunning options before now s)
+    → lines_waiting s ≡ [] → now.script.ended ≡ true → now.answers.ended ≡ true → IsAtEnd now.script.to_come
+    → IsAtEnd now.answers.to_come → (r : IsRunning options before now s)
     → ((h : History) → StandsFor s h → IsVerdictIn (Some v) (h.taken ++ lines_waiting s))
-    → ((h : History) → StandsFor s h → v ≡ Valid → IsValid h.options h.script h.answers)
+    → ((h : History) → StandsFor s h → v ≡ Valid → IsValid h.options h.script.bytes h.answers.bytes)
     → ((h : History) → StandsFor s h → v ≡ Invalid
-    → IsInvalid h.options h.script h.answers (h.taken ++ lines_waiting s))
+    → IsInvalid h.options h.script.bytes h.answers.bytes (h.taken ++ lines_waiting s))
     → HasRun options before now v
 has_run options before now s v none empty script answers script_end answers_end r told valid invalid = record {
   script = r.script;

@@ -32,7 +32,7 @@ pub has_ended : (s : Session) (h : History) (v : Verdict) → s.verdict ≡ Some
 has_ended s h v is k = subst (λ o. GoesOn o s.failure s.exchange h) is k.goes_on
 
 ended_told : (verdict : Verdict) (h : History) (ls : List Line) → (e : HasEnded verdict h ls) → e.fault ≡ None
-    → (h.script_told ≡ true) × (h.answers_told ≡ true)
+    → (h.script.ended ≡ true) × (h.answers.ended ≡ true)
 ended_told verdict h ls e none =
     let turn = e.ends.turn_is ∙ ap Ends none in
     let told = subst (IsToldTurn e.script.told e.answers.told) turn
@@ -67,23 +67,23 @@ lines_of : (v : Verdict) (h : History) (ls : List Line) → (e : HasEnded v h ls
 lines_of v h ls e = record { pairs = e.pairs; fault = e.fault; ends = e.ends; lines_are = e.lines_are }
 
 pub ended_valid : Laws → OneForest → (h : History) (ls : List Line) → HasEnded Valid h ls
-    → IsValid h.options h.script h.answers
+    → IsValid h.options h.script.bytes h.answers.bytes
 ended_valid laws one h ls e =
     let all = lines_in h.options.limit.steps true [] e.pairs [] ++ lines_of_end e.fault in
     let told = ended_told Valid h ls e (faultless_end Valid h ls e (valid_lines all (sym e.verdict_is)).0) in
-    valid_means laws one h.options h.script h.answers e.script e.answers ls Valid
-    (subst (λ b. IsRead b h.script e.script) told.0 e.read.script_read)
-    (subst (λ b. IsRead b h.answers e.answers) told.1 e.read.answers_read) (lines_of Valid h ls e)
+    valid_means laws one h.options h.script.bytes h.answers.bytes e.script e.answers ls Valid
+    (subst (λ b. IsRead b h.script.bytes e.script) told.0 e.read.script_read)
+    (subst (λ b. IsRead b h.answers.bytes e.answers) told.1 e.read.answers_read) (lines_of Valid h ls e)
     (ended_verdict Valid h ls e) refl
 
 pub ended_invalid : Laws → (h : History) (ls : List Line) → HasEnded Invalid h ls
-    → IsInvalid h.options h.script h.answers ls
+    → IsInvalid h.options h.script.bytes h.answers.bytes ls
 ended_invalid laws h ls e =
     let all = lines_in h.options.limit.steps true [] e.pairs [] ++ lines_of_end e.fault in
     let told = ended_told Invalid h ls e (faultless_end Invalid h ls e (invalid_lines all (sym e.verdict_is)).0) in
-    invalid_means laws h.options h.script h.answers e.script e.answers ls Invalid
-    (subst (λ b. IsRead b h.script e.script) told.0 e.read.script_read)
-    (subst (λ b. IsRead b h.answers e.answers) told.1 e.read.answers_read) (lines_of Invalid h ls e)
+    invalid_means laws h.options h.script.bytes h.answers.bytes e.script e.answers ls Invalid
+    (subst (λ b. IsRead b h.script.bytes e.script) told.0 e.read.script_read)
+    (subst (λ b. IsRead b h.answers.bytes e.answers) told.1 e.read.answers_read) (lines_of Invalid h ls e)
     (ended_verdict Invalid h ls e) refl
 
 -- ---- both texts were told to their ends

@@ -18,19 +18,31 @@ abbrev pub text_of_lines : List Line → List ℕ
 text_of_lines [] = []
 text_of_lines (line ∷ ls) = (text_of line ++ 10 ∷ []) ++ text_of_lines ls
 
--- what the devices of a run tell: the bytes that the sources have to come and that the sink has taken, where
--- they are known, and whether the sources have told their ends
+-- what a source tells: the bytes that it has to come, where they are known, and whether it has told its end
+pub record Tap : Type 0 where
+  pub to_come : Option (List ℕ)
+  pub ended : Bool
+
+-- what the devices of a run tell: both sources, and the bytes that the sink has taken, where they are known
 pub record Devices : Type 0 where
-  pub script : Option (List ℕ)
-  pub script_ended : Bool
-  pub answers : Option (List ℕ)
-  pub answers_ended : Bool
+  pub script : Tap
+  pub answers : Tap
   pub out : Option (List ℕ)
+
+abbrev pub tap : Option (List ℕ) → Bool → Tap
+tap to_come ended = record { to_come = to_come; ended = ended }
+
+abbrev pub devices : (script answers : Tap) → Option (List ℕ) → Devices
+devices script answers out = record { script = script; answers = answers; out = out }
+
+-- these bytes were pulled of a source
+abbrev pub IsPulled : Tap → Tap → List ℕ → Type 0
+IsPulled before after given = Consumes before.to_come after.to_come given
 
 -- these bytes were pulled of the two sources
 pub record ArePulled (before after : Devices) (script answers : List ℕ) : Type 0 where
-  pub script_given : Consumes before.script after.script script
-  pub answers_given : Consumes before.answers after.answers answers
+  pub script_given : IsPulled before.script after.script script
+  pub answers_given : IsPulled before.answers after.answers answers
 
 -- a run to the ends of both texts, with this verdict: what was put is the text of their report, and the verdict
 -- is that of its last line
@@ -38,8 +50,8 @@ pub record HasRun (options : Options) (before after : Devices) (verdict : Verdic
   pub script : List ℕ
   pub answers : List ℕ
   pub pulled : ArePulled before after script answers
-  pub script_end : IsAtEnd after.script
-  pub answers_end : IsAtEnd after.answers
+  pub script_end : IsAtEnd after.script.to_come
+  pub answers_end : IsAtEnd after.answers.to_come
   pub lines : List Line
   pub report : IsReport options script answers lines
   pub verdict_is : IsVerdictOf verdict lines
@@ -59,7 +71,7 @@ pub record HasStopped (options : Options) (before after : Devices) (fault : RunF
   pub answers : List ℕ
   pub pulled : ArePulled before after script answers
   pub lines : List Line
-  pub so_far : IsSoFar options after.script_ended script after.answers_ended answers lines
+  pub so_far : IsSoFar options after.script.ended script after.answers.ended answers lines
   pub written : IsPut fault before.out after.out (text_of_lines lines)
   pub long : fault ≡ faults.Long → (2 ^ 64 ≤ length script) ⊎ (2 ^ 64 ≤ length answers)
 

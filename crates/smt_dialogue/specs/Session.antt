@@ -1,14 +1,16 @@
 -- What a session stands for: the lines of what it was told, and their verdict.
 use Rattle.std.specs.Prelude.{◌≡◌, ◌<◌, ◌^◌, ℕ, List, ◌++◌, length, Bool, false, Option, Some, None}
 use Rattle.std.specs.List.{list_any}
-use Rattle.smt_dialogue.specs.History.{AreFirstDecided, AreDecided, History, IsLong}
+use Rattle.smt_dialogue.specs.History.{AreFirstDecided, AreDecided, History, IsLong, Told, of_side}
 use Rattle.smt_dialogue.specs.SoFar.{is_verdict_line}
 use Rattle.smt_dialogue.specs.Internal.SessionView.{GoesOn}
 use Rattle.smt_dialogue.specs.declared.session.Failed.{Failed}
 use Rattle.smt_dialogue.specs.declared.session.Failed.TheVariants.{Long}
+use Rattle.smt_dialogue.specs.declared.session.Fed.{Fed}
 use Rattle.smt_dialogue.specs.declared.session.Session.{Session}
 use Rattle.smt_report.specs.Verdict.{IsVerdictOf}
 use Rattle.smt_report.specs.declared.line.Line.{Line}
+use Rattle.smt_report.specs.declared.line.Side.{Side}
 use Rattle.smt_report.specs.declared.verdict.Verdict.{Verdict}
 
 -- the lines that are decided and were not taken
@@ -26,6 +28,9 @@ is_script_ended s = s.script.ended
 abbrev pub is_answers_ended : Session → Bool
 is_answers_ended s = s.answers.ended
 
+abbrev pub is_ended : Side → Session → Bool
+is_ended side s = of_side side (is_script_ended s) (is_answers_ended s)
+
 abbrev pub script_count : Session → ℕ
 script_count s = s.script.bytes
 
@@ -42,19 +47,21 @@ abbrev pub IsVerdictIn : Option Verdict → List Line → Type 0
 IsVerdictIn None ls = list_any is_verdict_line ls ≡ false
 IsVerdictIn (Some verdict) ls = IsVerdictOf verdict ls
 
--- all bytes of both texts were counted
+-- all bytes of a text were counted
+pub record IsCounted (fed : Fed) (told : Told) : Type 0 where
+  pub bytes : fed.bytes ≡ length told.bytes
+  pub fits : length told.bytes < 2 ^ 64
+
 pub record AreCounted (s : Session) (h : History) : Type 0 where
-  pub script : script_count s ≡ length h.script
-  pub script_fits : length h.script < 2 ^ 64
-  pub answers : answers_count s ≡ length h.answers
-  pub answers_fits : length h.answers < 2 ^ 64
+  pub script : IsCounted s.script h.script
+  pub answers : IsCounted s.answers h.answers
 
 -- the session was told this. How it goes on is said last, in the words of the code
 pub record StandsFor (s : Session) (h : History) : Type 0 where
   pub lines : AreLines (failure_of s) h (h.taken ++ lines_waiting s)
   pub verdict : IsVerdictIn s.verdict (h.taken ++ lines_waiting s)
-  pub script_ended : is_script_ended s ≡ h.script_told
-  pub answers_ended : is_answers_ended s ≡ h.answers_told
+  pub script_ended : is_script_ended s ≡ h.script.ended
+  pub answers_ended : is_answers_ended s ≡ h.answers.ended
   pub counted : failure_of s ≡ None → AreCounted s h
   pub long : failure_of s ≡ Some Long → IsLong h
   pub goes_on : GoesOn s.verdict s.failure s.exchange h

@@ -56,7 +56,8 @@ pub(crate) fn take_answer(need: Need, answers: &mut Front) -> Result<Answering, 
 
 // Takes the answer that stands ready, where it has this form.
 fn take_if(form: AnswerForm, answers: &mut Front) -> Option<Tree>
-    ensures taken { (bytes : List ℕ) (text : TextSoFar) (rest : Sexps) → HasFront answers.old bytes text rest
+    ensures taken { (bytes : List ℕ) (text : TextSoFar) (rest : Sexps)
+        → HasFront answers.old bytes text rest
         → IsFound form result answers.old.next text rest bytes answers.new }
     ensures fed { bytes_fed answers.new.reader ≡ bytes_fed answers.old.reader }
     ensures finished { is_finished answers.new.reader ≡ is_finished answers.old.reader }

@@ -37,7 +37,8 @@ impl Decided {
 
     /// Takes lines over, behind those that there are. Where memory is refused, nothing is changed.
     pub(crate) fn gather(&mut self, lines: &mut Vec<Line>) -> Result<(), Memory>
-        ensures lines { OnOk result (self.new.lines.items ≡ self.old.lines.items ++ lines.old.items) }
+        ensures lines { OnOk result (self.new.lines.items
+            ≡ self.old.lines.items ++ lines.old.items) }
         ensures left { OnOk result (lines.new.items ≡ []) }
         ensures tally { OnOk result ((earlier : List ReportLine) → self.old.tally ≡ tally_of earlier
             → length earlier + length lines.old.items < 2 ^ 64

@@ -1,7 +1,7 @@
 //! The dialogue so far: what is in force, the checks, and the lines of the report.
 
 ghost use Rattle.std.specs.Prelude.{Bool, ◌≡◌, ◌≤◌, ◌<◌, ◌+◌, ◌^◌, ◌++◌, ◌∷◌, List, [], None, Some, true};
-ghost use Rattle.std.specs.Prelude.{IfOk, IfErr, OnErr, OnOk, false, option_map};
+ghost use Rattle.std.specs.Prelude.{IfOk, IfErr, OnErr, OnOk, false, is_some, option_map};
 ghost use Rattle.std.specs.List.{list_any};
 ghost use Rattle.smt_trees.specs.Tree.{sexp_of};
 ghost use Rattle.smt_script.specs.Command.{is_check};
@@ -76,12 +76,14 @@ impl Dialogue {
         requires stands { (taken : List ReportLine) × (early : Bool) × (pairs : List Pair)
             × Stands early (state_behind taken self.old) pairs
             × (early ≡ true → is_check (command_view command.now) ≡ true) }
-        requires answered { IsAnswered (role_of (command_view command.now)) (option_map sexp_of answer.old) }
+        requires answered { IsAnswered (role_of (command_view command.now))
+            (option_map sexp_of answer.old) }
         ensures accepted { OnOk result ((taken : List ReportLine) (early : Bool) (pairs : List Pair)
             → Stands early (state_behind taken self.old) pairs
             → (early ≡ true → is_check (command_view command.now) ≡ true)
             → (flaw_of_pair pairs (answered command.now answer.old) ≡ None)
-            × StandsFor (state_behind taken self.new) (pairs ++ answered command.now answer.old ∷ [])) }
+            × StandsFor (state_behind taken self.new)
+            (pairs ++ answered command.now answer.old ∷ [])) }
         ensures refused { IfErr result
             (λ fault. (flaw : CommandFlaw) → flaw_of_command_fault fault ≡ Some flaw
             → (taken : List ReportLine) (early : Bool) (pairs : List Pair)
@@ -129,13 +131,24 @@ impl Dialogue {
         Ok(())
     }
 
+    /// Whether so many lines wait, and a model may be judged next.
+    pub(crate) fn has_enough(&self, enough: Option<usize>) -> bool
+        ensures { result ≡ true → is_some enough ≡ true }
+    {
+        match enough {
+            Some(lines) => self.checks.pending.is_some() && self.decided.lines.len() >= lines,
+            None => false,
+        }
+    }
+
     /// Has every line gathered that is decided where the dialogue waits, with every window closed or not.
     pub(crate) fn settle(&mut self, closed: bool) -> Result<(), Memory>
         requires few { self.old.checks.count < 2 ^ 64 }
         ensures settled { OnOk result ((taken : List ReportLine) (early : Bool) (pairs : List Pair)
             → Stands early (state_behind taken self.old) pairs → (early ≡ true → closed ≡ true)
             → Stands closed (state_behind taken self.new) pairs
-            × (taken ++ self.new.decided.lines.items ≡ lines_in self.new.checks.limit.steps closed [] pairs [])) }
+            × (taken ++ self.new.decided.lines.items
+            ≡ lines_in self.new.checks.limit.steps closed [] pairs [])) }
         ensures kept { IsBeginning self.old.decided.lines.items self.new.decided.lines.items }
         ensures cut { OnErr result (self.new.decided.lines.items ≡ self.old.decided.lines.items) }
         ensures start { options_of self.new ≡ options_of self.old }
@@ -152,13 +165,17 @@ impl Dialogue {
     pub(crate) fn end(&mut self, fault: Option<Line>) -> Result<Verdict, Memory>
         requires fault { IsFaultLine fault }
         requires few { self.old.checks.count < 2 ^ 64 }
-        ensures ended { IfOk result (λ verdict. (taken : List ReportLine) (early : Bool) (pairs : List Pair)
+        ensures ended { IfOk result (λ verdict. (taken : List ReportLine) (early : Bool)
+            (pairs : List Pair)
             → Stands early (state_behind taken self.old) pairs
-            → (taken ++ self.new.decided.lines.items ≡ lines_at_end self.old.checks.limit.steps pairs fault)
-            × (verdict ≡ verdict_of (lines_in self.old.checks.limit.steps true [] pairs [] ++ lines_of_end fault))) }
+            → (taken ++ self.new.decided.lines.items
+            ≡ lines_at_end self.old.checks.limit.steps pairs fault)
+            × (verdict ≡ verdict_of (lines_in self.old.checks.limit.steps true [] pairs [] ++
+            lines_of_end fault))) }
         ensures cut { OnErr result ((taken : List ReportLine) (early : Bool) (pairs : List Pair)
             → Stands early (state_behind taken self.old) pairs
-            → IsBeginning (taken ++ self.new.decided.lines.items) (lines_at_end self.old.checks.limit.steps pairs fault)
+            → IsBeginning (taken ++ self.new.decided.lines.items)
+            (lines_at_end self.old.checks.limit.steps pairs fault)
             × (list_any is_verdict_line (taken ++ self.new.decided.lines.items) ≡ false)) }
         ensures kept { IsBeginning self.old.decided.lines.items self.new.decided.lines.items }
     {
@@ -192,9 +209,11 @@ fn apply_if(
     requires { last_of stack.old < number }
     ensures applied { OnOk result ((commands : List Numbered) → stacks.StandsFor stack.old commands
         → (flaw_if effective commands number (command_view command.now) ≡ None)
-        × stacks.StandsFor stack.new (commands ++ numbered_if effective number (command_view command.now))) }
+        × stacks.StandsFor stack.new (commands ++ numbered_if effective number
+        (command_view command.now))) }
     ensures last { OnOk result (last_of stack.new ≤ number) }
-    ensures refused { IfErr result (λ fault. (commands : List Numbered) → stacks.StandsFor stack.old commands
+    ensures refused { IfErr result (λ fault. (commands : List Numbered)
+        → stacks.StandsFor stack.old commands
         → TellsCommand (flaw_if effective commands number (command_view command.now)) fault) }
     ensures unchanged { OnErr result
         (((commands : List Numbered) → stacks.StandsFor stack.old commands

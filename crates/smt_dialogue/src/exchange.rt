@@ -11,8 +11,8 @@ ghost use Rattle.smt_dialogue.specs.Pairs.{Pair};
 ghost use Rattle.smt_dialogue.specs.Report.{IsRead};
 ghost use Rattle.smt_dialogue.specs.SoFar.{IsBeginning};
 ghost use Rattle.smt_dialogue.specs.Internal.DialogueState.{options_of};
-ghost use Rattle.smt_dialogue.specs.Internal.ExchangeView.{HasRested, IsCut, IsNext, IsTurned, IsUnderWay};
-ghost use Rattle.smt_dialogue.specs.Internal.ExchangeView.{Texts, waiting};
+ghost use Rattle.smt_dialogue.specs.Internal.ExchangeView.{GoesOnWith, HasAdvanced, IsAdvance, IsCut, IsNext};
+ghost use Rattle.smt_dialogue.specs.Internal.ExchangeView.{IsTurned, IsUnderWay, Texts, bytes_at, front_at, waiting};
 ghost use Rattle.smt_faults.specs.declared.text_flaw.TextFlaw.{TextFlaw};
 
 use crate::dialogue::Dialogue;
@@ -22,9 +22,7 @@ use crate::turn::{Turn, refused, take_up};
 use smt_eval::Memory;
 use smt_report::{Line, Side, Verdict};
 use smt_script::{Command, CommandFlaw, read_command};
-use smt_text::laws::{
-    every_text_reads, one_reading, read_faults_stay, read_trees_stay, trees_are_no_more_than_bytes,
-};
+use smt_text::laws::{every_text_reads, read_trees_stay, trees_are_no_more_than_bytes};
 use std::alloc::Global;
 
 // A law: of a text no more trees are read than it has bytes, whether its end was told or not.
@@ -35,6 +33,15 @@ fn trees_are_few()
     every_text_reads();
     read_trees_stay();
     trees_are_no_more_than_bytes();
+}
+
+/// How far turns were taken.
+#[derive(Clone, Copy)]
+pub enum Advance {
+    /// More may be left: lines are decided that are worth handing out before.
+    Pauses,
+    /// As far as both texts have come, or to the end of the dialogue, with this verdict.
+    Rests(Option<Verdict>),
 }
 
 /// Both texts so far, and the dialogue of what was taken up of them.
@@ -50,7 +57,8 @@ pub struct Exchange {
 impl Exchange {
     /// Of texts of which nothing has come.
     pub(crate) fn new(alloc: Global, options: Options) -> Self
-        ensures way { (script answers : TextSoFar) → IsRead false [] script → IsRead false [] answers
+        ensures way { (script answers : TextSoFar) → IsRead false [] script
+            → IsRead false [] answers
             → IsUnderWay result (record {
               script_bytes = [];
               script = script;
@@ -79,25 +87,31 @@ impl Exchange {
         ensures rest { waiting self.new ≡ [] }
         ensures way { (texts : Texts) (pairs : List Pair) (later rest : Sexps)
             → IsUnderWay self.old texts pairs later rest
-            → IsUnderWay self.new (record texts { taken = texts.taken ++ result.items }) pairs later rest }
+            → IsUnderWay self.new (record texts { taken = texts.taken ++ result.items }) pairs later
+            rest }
         ensures start { options_of self.new.dialogue ≡ options_of self.old.dialogue }
         ensures script { self.new.script ≡ self.old.script }
         ensures answers { self.new.answers ≡ self.old.answers }
         ensures command { self.new.command ≡ self.old.command }
+        ensures commands { self.new.dialogue.commands ≡ self.old.dialogue.commands }
     {
         self.dialogue.decided.take()
     }
 
-    /// Takes turns until more of a text is waited for, or the dialogue ends, with this verdict. The lines that
-    /// are decided are gathered; where memory is refused, the first of them.
-    pub(crate) fn advance(&mut self) -> Result<Option<Verdict>, Memory>
+    /// Takes turns until more of a text is waited for, or the dialogue ends; but no further than to a check whose
+    /// models may come next, where so many lines wait by then. The lines that are decided are gathered; where
+    /// memory is refused, the first of them.
+    pub(crate) fn advance(&mut self, enough: Option<usize>) -> Result<Advance, Memory>
         requires script_room { bytes_fed self.old.script.reader < 2 ^ 64 }
         requires answers_room { bytes_fed self.old.answers.reader < 2 ^ 64 }
         requires way { (texts : Texts) × (pairs : List Pair) × (later : Sexps) × (rest : Sexps)
             × IsUnderWay self.old texts pairs later rest }
-        ensures rests { IfOk result (λ verdict. (texts : Texts) (pairs : List Pair) (later rest : Sexps)
+        ensures advanced { IfOk result (λ advance. (texts : Texts) (pairs : List Pair)
+            (later rest : Sexps)
             → IsUnderWay self.old texts pairs later rest
-            → HasRested verdict (options_of self.old.dialogue) self.new texts) }
+            → HasAdvanced advance (options_of self.old.dialogue) self.new texts) }
+        ensures paused { IfOk result (λ advance.
+            IsAdvance advance enough self.old.dialogue.commands self.new.dialogue.commands) }
         ensures cut { OnErr result ((texts : Texts) (pairs : List Pair) (later rest : Sexps)
             → IsUnderWay self.old texts pairs later rest
             → IsCut (options_of self.old.dialogue) (waiting self.new) texts) }
@@ -107,87 +121,49 @@ impl Exchange {
         trees_are_few();
         loop {
             match self.take_turn()? {
-                Turn::GoesOn => self.dialogue.gather()?,
+                Turn::GoesOn => {
+                    self.dialogue.gather()?;
+                    if self.dialogue.has_enough(enough) {
+                        return Ok(Advance::Pauses);
+                    }
+                }
                 Turn::Waits { closed } => {
                     self.dialogue.settle(closed)?;
-                    return Ok(None);
+                    return Ok(Advance::Rests(None));
                 }
-                Turn::Ends(fault) => return Ok(Some(self.dialogue.end(fault)?)),
+                Turn::Ends(fault) => {
+                    let verdict = self.dialogue.end(fault)?;
+                    return Ok(Advance::Rests(Some(verdict)));
+                }
             }
         }
     }
 
-    /// Feeds a piece of the script.
-    pub(crate) fn feed_script(&mut self, piece: &[u8])
-        requires open { is_finished self.old.script.reader ≡ false }
-        requires room { bytes_fed self.old.script.reader + length piece.now < 2 ^ 64 }
-        ensures way { (texts : Texts) (pairs : List Pair) (later rest : Sexps) (grown : TextSoFar)
-            → IsUnderWay self.old texts pairs later rest → IsRead false (texts.script_bytes ++ piece.now) grown
-            → (left : Sexps) × IsUnderWay self.new
-            (record texts { script_bytes = texts.script_bytes ++ piece.now; script = grown }) pairs left rest }
-        ensures fed { bytes_fed self.new.script.reader ≡ bytes_fed self.old.script.reader + length piece.now }
-        ensures open { is_finished self.new.script.reader ≡ false }
-        ensures answers { self.new.answers ≡ self.old.answers }
+    /// Feeds a piece of a text.
+    pub(crate) fn feed(&mut self, side: Side, piece: &[u8])
+        requires open { is_finished (front_at side self.old).reader ≡ false }
+        requires room { bytes_fed (front_at side self.old).reader + length piece.now < 2 ^ 64 }
+        ensures way { (texts : Texts)
+            → GoesOnWith side self.old self.new texts false (bytes_at side texts ++ piece.now) }
         ensures dialogue { self.new.dialogue ≡ self.old.dialogue }
     {
-        // Laws: what is read of a text is one answer, and trees and faults that are read stay.
-        one_reading();
-        read_faults_stay();
-        read_trees_stay();
-        self.script.reader.feed(piece);
+        match side {
+            Side::Script => self.script.feed(piece),
+            Side::Answers => self.answers.feed(piece),
+        }
     }
 
-    /// Tells the end of the script.
-    pub(crate) fn finish_script(&mut self)
-        requires open { is_finished self.old.script.reader ≡ false }
-        ensures way { (texts : Texts) (pairs : List Pair) (later rest : Sexps) (grown : TextSoFar)
-            → IsUnderWay self.old texts pairs later rest → IsRead true texts.script_bytes grown
-            → (left : Sexps) × IsUnderWay self.new (record texts { script = grown }) pairs left rest }
-        ensures fed { bytes_fed self.new.script.reader ≡ bytes_fed self.old.script.reader }
-        ensures ended { is_finished self.new.script.reader ≡ true }
-        ensures answers { self.new.answers ≡ self.old.answers }
+    /// Tells the end of a text.
+    pub(crate) fn finish(&mut self, side: Side)
+        requires open { is_finished (front_at side self.old).reader ≡ false }
+        ensures way { (texts : Texts) → GoesOnWith side self.old self.new texts true
+            (bytes_at side texts) }
         ensures dialogue { self.new.dialogue ≡ self.old.dialogue }
     {
-        one_reading();
-        read_faults_stay();
-        read_trees_stay();
-        self.script.reader.finish();
-    }
-
-    /// Feeds a piece of the answers.
-    pub(crate) fn feed_answers(&mut self, piece: &[u8])
-        requires open { is_finished self.old.answers.reader ≡ false }
-        requires room { bytes_fed self.old.answers.reader + length piece.now < 2 ^ 64 }
-        ensures way { (texts : Texts) (pairs : List Pair) (later rest : Sexps) (grown : TextSoFar)
-            → IsUnderWay self.old texts pairs later rest → IsRead false (texts.answers_bytes ++ piece.now) grown
-            → (left : Sexps) × IsUnderWay self.new
-            (record texts { answers_bytes = texts.answers_bytes ++ piece.now; answers = grown }) pairs later left }
-        ensures fed { bytes_fed self.new.answers.reader ≡ bytes_fed self.old.answers.reader + length piece.now }
-        ensures open { is_finished self.new.answers.reader ≡ false }
-        ensures script { self.new.script ≡ self.old.script }
-        ensures dialogue { self.new.dialogue ≡ self.old.dialogue }
-    {
-        one_reading();
-        read_faults_stay();
-        read_trees_stay();
-        self.answers.reader.feed(piece);
-    }
-
-    /// Tells the end of the answers.
-    pub(crate) fn finish_answers(&mut self)
-        requires open { is_finished self.old.answers.reader ≡ false }
-        ensures way { (texts : Texts) (pairs : List Pair) (later rest : Sexps) (grown : TextSoFar)
-            → IsUnderWay self.old texts pairs later rest → IsRead true texts.answers_bytes grown
-            → (left : Sexps) × IsUnderWay self.new (record texts { answers = grown }) pairs later left }
-        ensures fed { bytes_fed self.new.answers.reader ≡ bytes_fed self.old.answers.reader }
-        ensures ended { is_finished self.new.answers.reader ≡ true }
-        ensures script { self.new.script ≡ self.old.script }
-        ensures dialogue { self.new.dialogue ≡ self.old.dialogue }
-    {
-        one_reading();
-        read_faults_stay();
-        read_trees_stay();
-        self.answers.reader.finish();
+        match side {
+            Side::Script => self.script.finish(),
+            Side::Answers => self.answers.finish(),
+        }
     }
 
     /// One turn: the next command is taken up with what it takes of the answers, or it is told why not.
@@ -200,8 +176,10 @@ impl Exchange {
             → IsUnderWay self.old texts pairs later rest
             → IsTurned turn self.old self.new texts pairs later rest) }
         ensures script_fed { bytes_fed self.new.script.reader ≡ bytes_fed self.old.script.reader }
-        ensures answers_fed { bytes_fed self.new.answers.reader ≡ bytes_fed self.old.answers.reader }
-        ensures start { IfOk result (λ _. options_of self.new.dialogue ≡ options_of self.old.dialogue) }
+        ensures answers_fed { bytes_fed self.new.answers.reader
+            ≡ bytes_fed self.old.answers.reader }
+        ensures start { IfOk result (λ _. options_of self.new.dialogue
+            ≡ options_of self.old.dialogue) }
         ensures decided { self.new.dialogue.decided ≡ self.old.dialogue.decided }
     {
         match self.ready_command()? {
@@ -218,7 +196,8 @@ impl Exchange {
             × IsUnderWay self.old texts pairs later rest }
         ensures dialogue { self.new.dialogue ≡ self.old.dialogue }
         ensures script_fed { bytes_fed self.new.script.reader ≡ bytes_fed self.old.script.reader }
-        ensures answers_fed { bytes_fed self.new.answers.reader ≡ bytes_fed self.old.answers.reader }
+        ensures answers_fed { bytes_fed self.new.answers.reader
+            ≡ bytes_fed self.old.answers.reader }
         ensures next { IfOk result (λ turn. (texts : Texts) (pairs : List Pair) (later rest : Sexps)
             → IsUnderWay self.old texts pairs later rest
             → IsNext turn self.old self.new texts pairs later rest) }
@@ -238,7 +217,8 @@ impl Exchange {
             × IsUnderWay self.old texts pairs later rest }
         ensures dialogue { self.new.dialogue ≡ self.old.dialogue }
         ensures script_fed { bytes_fed self.new.script.reader ≡ bytes_fed self.old.script.reader }
-        ensures answers_fed { bytes_fed self.new.answers.reader ≡ bytes_fed self.old.answers.reader }
+        ensures answers_fed { bytes_fed self.new.answers.reader
+            ≡ bytes_fed self.old.answers.reader }
         ensures next { IfOk result (λ turn. (texts : Texts) (pairs : List Pair) (later rest : Sexps)
             → IsUnderWay self.old texts pairs later rest
             → IsNext turn self.old self.new texts pairs later rest) }
@@ -263,7 +243,8 @@ impl Exchange {
             × IsUnderWay self.old texts pairs later rest }
         ensures dialogue { self.new.dialogue ≡ self.old.dialogue }
         ensures script_fed { bytes_fed self.new.script.reader ≡ bytes_fed self.old.script.reader }
-        ensures answers_fed { bytes_fed self.new.answers.reader ≡ bytes_fed self.old.answers.reader }
+        ensures answers_fed { bytes_fed self.new.answers.reader
+            ≡ bytes_fed self.old.answers.reader }
         ensures turn { IfOk result (λ turn. (texts : Texts) (pairs : List Pair) (later rest : Sexps)
             → IsUnderWay self.old texts pairs later rest
             → later ≡ Nil → texts.script.fault ≡ None → texts.script.told ≡ true
@@ -291,7 +272,8 @@ impl Exchange {
         requires commands { self.old.dialogue.commands + 1 < 2 ^ 64 }
         ensures dialogue { self.new.dialogue ≡ self.old.dialogue }
         ensures script_fed { bytes_fed self.new.script.reader ≡ bytes_fed self.old.script.reader }
-        ensures answers_fed { bytes_fed self.new.answers.reader ≡ bytes_fed self.old.answers.reader }
+        ensures answers_fed { bytes_fed self.new.answers.reader
+            ≡ bytes_fed self.old.answers.reader }
         ensures next { (texts : Texts) (pairs : List Pair) (later rest : Sexps)
             → IsUnderWay self.old texts pairs later rest
             → IsNext result self.old self.new texts pairs later rest }
@@ -323,8 +305,10 @@ impl Exchange {
             → IsUnderWay self.old texts pairs later rest
             → IsTurned turn self.old self.new texts pairs later rest) }
         ensures script_fed { bytes_fed self.new.script.reader ≡ bytes_fed self.old.script.reader }
-        ensures answers_fed { bytes_fed self.new.answers.reader ≡ bytes_fed self.old.answers.reader }
-        ensures start { IfOk result (λ _. options_of self.new.dialogue ≡ options_of self.old.dialogue) }
+        ensures answers_fed { bytes_fed self.new.answers.reader
+            ≡ bytes_fed self.old.answers.reader }
+        ensures start { IfOk result (λ _. options_of self.new.dialogue
+            ≡ options_of self.old.dialogue) }
         ensures decided { self.new.dialogue.decided ≡ self.old.dialogue.decided }
     {
         trees_are_few();

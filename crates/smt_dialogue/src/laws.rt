@@ -43,20 +43,25 @@ use smt_text::laws::{every_text_reads, one_forest, one_reading};
 pub fn one_pairing()
     ensures { (start : Bool) (xs ys : List Pair) (trees answers later later' rest rest' : Sexps)
         → length xs ≡ length ys → IsPairing start xs trees later answers rest
-        → IsPairing start ys trees later' answers rest' → (xs ≡ ys) × (later ≡ later') × (rest ≡ rest') }
+        → IsPairing start ys trees later' answers rest'
+        → (xs ≡ ys) × (later ≡ later') × (rest ≡ rest') }
 {}
 
 /// A dialogue so far, with the ends of its texts told or not, is at rest behind some pairs, and behind no
 /// others: it waits there, or has ended. Where both ends were told it has ended.
 pub fn one_rest()
     ensures some { (start : Bool) (script answers : TextSoFar)
-        → (pairs : List Pair) × (turn : Turn) × IsRest turn × IsTurn start script answers pairs turn }
-    ensures one { (start : Bool) (script answers : TextSoFar) (xs ys : List Pair) (f g : Turn) → IsRest f
+        → (pairs : List Pair) × (turn : Turn) × IsRest turn
+        × IsTurn start script answers pairs turn }
+    ensures one { (start : Bool) (script answers : TextSoFar) (xs ys : List Pair) (f g : Turn)
+        → IsRest f
         → IsRest g
-        → IsTurn start script answers xs f → IsTurn start script answers ys g → (xs ≡ ys) × (f ≡ g) }
+        → IsTurn start script answers xs f → IsTurn start script answers ys g
+        → (xs ≡ ys) × (f ≡ g) }
     ensures ended { (start : Bool) (script answers : TextSoFar) (pairs : List Pair) (turn : Turn)
         → script.told ≡ true → answers.told ≡ true
-        → IsRest turn → IsTurn start script answers pairs turn → (fault : Option Line) × (turn ≡ Ends fault) }
+        → IsRest turn → IsTurn start script answers pairs turn
+        → (fault : Option Line) × (turn ≡ Ends fault) }
 {}
 
 /// A dialogue has at most one report.
@@ -89,7 +94,8 @@ pub fn no_second_pairing()
         (trees answered rest : Sexps)
         → IsFullyPaired options script answers pairs → Forest limit script trees
         → Forest limit answers answered
-        → IsPairing options.print_success others trees Nil answered rest → (others ≡ pairs) × (rest ≡ Nil) }
+        → IsPairing options.print_success others trees Nil answered rest
+        → (others ≡ pairs) × (rest ≡ Nil) }
 {
     one_forest();
 }
@@ -102,7 +108,8 @@ pub fn valid_is_not_invalid()
 
 /// A dialogue with a check that was answered `sat` and has no model in its window is not valid.
 pub fn sat_without_model_is_not_valid()
-    ensures { (options : Options) (script answers : List ℕ) (before after : List Pair) (check : Pair)
+    ensures { (options : Options) (script answers : List ℕ) (before after : List Pair)
+        (check : Pair)
         → IsSatOf options script answers before check after
         → models_from (length before + 2) (window after) ≡ []
         → IsValid options script answers → ⊥ }
@@ -111,16 +118,19 @@ pub fn sat_without_model_is_not_valid()
 /// A dialogue in which a model of a check that was answered `sat` has a fault, in an item or by lacking a
 /// name, is not valid.
 pub fn faulty_model_is_not_valid()
-    ensures { (options : Options) (script answers : List ℕ) (before after : List Pair) (check : Pair)
+    ensures { (options : Options) (script answers : List ℕ) (before after : List Pair)
+        (check : Pair)
         (model : Printed) (flaw : ModelFlaw)
         → IsSatOf options script answers before check after → IsModelIn before after model
-        → model_in (signature_after before) model.parts ≡ Err flaw → IsValid options script answers → ⊥ }
+        → model_in (signature_after before) model.parts ≡ Err flaw → IsValid options script answers
+        → ⊥ }
 {}
 
 /// A dialogue with an assertion that is in force at a check that was answered `sat`, and is no formula, is
 /// not valid.
 pub fn ill_sorted_assertion_is_not_valid()
-    ensures { (options : Options) (script answers : List ℕ) (before after earlier : List Pair) (check : Pair)
+    ensures { (options : Options) (script answers : List ℕ) (before after earlier : List Pair)
+        (check : Pair)
         (term : Sexp)
         → IsSatOf options script answers before check after → IsAsserted before earlier term
         → (sort_in (in_assertion (names_of (signature_after earlier))) [] term ≡ Ok Boolean → ⊥)
@@ -129,7 +139,8 @@ pub fn ill_sorted_assertion_is_not_valid()
 
 /// A dialogue with a check that was answered `sat`, of which an assumption is no formula, is not valid.
 pub fn ill_sorted_assumption_is_not_valid()
-    ensures { (options : Options) (script answers : List ℕ) (before after : List Pair) (check : Pair)
+    ensures { (options : Options) (script answers : List ℕ) (before after : List Pair)
+        (check : Pair)
         (place : ℕ) (term : Sexp)
         → IsSatOf options script answers before check after → IsAssumed check place term
         → (sort_in (names_of (signature_after before)) [] term ≡ Ok Boolean → ⊥)
@@ -140,10 +151,12 @@ pub fn ill_sorted_assumption_is_not_valid()
 /// with the script's own behind them they are a structure: each well sorted over the earlier ones, and none
 /// twice.
 pub fn definitions_of_valid_are_well_sorted()
-    ensures { (options : Options) (script answers : List ℕ) (before after : List Pair) (check : Pair)
+    ensures { (options : Options) (script answers : List ℕ) (before after : List Pair)
+        (check : Pair)
         (model : Printed) (definitions : Signature)
         → IsSatOf options script answers before check after → IsModelIn before after model
-        → model_in (signature_after before) model.parts ≡ Ok definitions → IsValid options script answers
+        → model_in (signature_after before) model.parts ≡ Ok definitions
+        → IsValid options script answers
         → IsModelOf (signature_after before) model.parts definitions
         × IsStructure (structure_at definitions before) }
 {}
@@ -151,11 +164,13 @@ pub fn definitions_of_valid_are_well_sorted()
 /// A dialogue in which a model of a check that was answered `sat` makes an assertion in force other than
 /// true, for one choice at least of what division by zero gives, is not valid.
 pub fn untrue_assertion_is_not_valid()
-    ensures { (options : Options) (script answers : List ℕ) (before after earlier : List Pair) (check : Pair)
+    ensures { (options : Options) (script answers : List ℕ) (before after earlier : List Pair)
+        (check : Pair)
         (model : Printed)
         (definitions : Signature) (term : Sexp) (z : DivisionByZero)
         → IsSatOf options script answers before check after → IsModelIn before after model
-        → model_in (signature_after before) model.parts ≡ Ok definitions → IsAsserted before earlier term
+        → model_in (signature_after before) model.parts ≡ Ok definitions
+        → IsAsserted before earlier term
         → (value_over z (structure_at definitions before) [] term ≡ Truth true → ⊥)
         → IsValid options script answers → ⊥ }
 {}
@@ -163,11 +178,13 @@ pub fn untrue_assertion_is_not_valid()
 /// A dialogue in which a model of a check that was answered `sat` makes an assumption of the check other than
 /// true, for one choice at least of what division by zero gives, is not valid.
 pub fn untrue_assumption_is_not_valid()
-    ensures { (options : Options) (script answers : List ℕ) (before after : List Pair) (check : Pair)
+    ensures { (options : Options) (script answers : List ℕ) (before after : List Pair)
+        (check : Pair)
         (model : Printed)
         (definitions : Signature) (place : ℕ) (term : Sexp) (z : DivisionByZero)
         → IsSatOf options script answers before check after → IsModelIn before after model
-        → model_in (signature_after before) model.parts ≡ Ok definitions → IsAssumed check place term
+        → model_in (signature_after before) model.parts ≡ Ok definitions
+        → IsAssumed check place term
         → (value_over z (structure_at definitions before) [] term ≡ Truth true → ⊥)
         → IsValid options script answers → ⊥ }
 {}
@@ -186,9 +203,11 @@ pub fn invalid_names_what_is_false()
         × IsStructure (structure_at definitions before)
         × IsClaimed before check claim earlier term
         × (sort_in (names_of_claim claim (names_of (signature_after earlier))) [] term ≡ Ok Boolean)
-        × ((z : DivisionByZero) → value_over z (structure_at definitions before) [] term ≡ Truth false)
+        × ((z : DivisionByZero) → value_over z (structure_at definitions before) [] term
+        ≡ Truth false)
         × (first : List Line) × (last : List Line)
-        × (ls ≡ first ++ Refuted (checks_in before + 1) (length before + 1) model.command claim ∷ last) }
+        × (ls ≡ first ++ Refuted (checks_in before + 1)
+        (length before + 1) model.command claim ∷ last) }
 {}
 
 /// A model is too long exactly where it is one of the names in force, and what is claimed of it costs more than
@@ -207,11 +226,13 @@ pub fn too_long_models_cost_more_than_the_limit()
 /// In the window of a check nothing that is in force changes, nor do its assumptions, where it took effect, and
 /// it goes on to the first command that ends it.
 pub fn nothing_changes_in_a_window()
-    ensures unchanged { (before after first last : List Pair) (check : Pair) → is_check check.command ≡ true
+    ensures unchanged { (before after first last : List Pair) (check : Pair)
+        → is_check check.command ≡ true
         → window after ≡ first ++ last
         → (signature_after (before ++ check ∷ first) ≡ signature_after before)
         × (assertions_after (before ++ check ∷ first) ≡ assertions_after before) }
-    ensures assumed { (before after first last : List Pair) (check : Pair) → is_check check.command ≡ true
+    ensures assumed { (before after first last : List Pair) (check : Pair)
+        → is_check check.command ≡ true
         → is_effective check ≡ true → window after ≡ first ++ last
         → assumptions_after (before ++ check ∷ first) ≡ literals_of check.command }
     ensures ends { (pairs : List Pair) → (rest : List Pair) × (pairs ≡ window pairs ++ rest)
@@ -223,10 +244,12 @@ pub fn nothing_changes_in_a_window()
 pub fn assertions_in_force_are_asserted()
     ensures found { (before : List Pair) (first last : List Asserted) (a : Asserted)
         → assertions_after before ≡ first ++ a ∷ last
-        → (earlier : List Pair) × IsAsserted before earlier a.term × (a.command ≡ length earlier + 1) }
+        → (earlier : List Pair) × IsAsserted before earlier a.term
+        × (a.command ≡ length earlier + 1) }
     ensures stand { (before earlier : List Pair) (term : Sexp) → IsAsserted before earlier term
         → (first : List Asserted) × (last : List Asserted)
-        × (assertions_after before ≡ first ++ record { command = length earlier + 1; term = term } ∷ last) }
+        × (assertions_after before ≡ first ++ record { command = length earlier + 1; term = term } ∷
+        last) }
     ensures here { (before : List Pair) (pair : Pair) (term : Sexp) → pair.command ≡ Assert term
         → is_effective pair ≡ true
         → IsAsserted (before ++ pair ∷ []) before term }

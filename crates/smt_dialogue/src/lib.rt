@@ -27,4 +27,5 @@ pub use options::{Limit, Options};
 pub use session::{Failed, Session};
 pub use smt_eval::Memory;
 pub use smt_report::{CheckAnswer, Claim, Line, Report, Side, Tally, Verdict};
+pub use smt_streams::{Device, Sink, Source};
 pub use validation::validate;

@@ -1,17 +1,20 @@
 //! Sessions: a dialogue whose two texts come piece by piece, and whose lines are handed out as they are decided.
 //! This file decides nothing.
 
-ghost use Rattle.std.specs.Prelude.{◌≡◌, ◌++◌, List, [], None, Some, false, true, IfOk, MatchOption, MatchResult};
+ghost use Rattle.std.specs.Prelude.{◌≡◌, ◌<◌, ◌++◌, List, [], None, Some, false, true, IfOk, MatchResult, length};
+ghost use Rattle.std.specs.Prelude.{nat_eq};
 ghost use Rattle.smt_dialogue.specs.History.{History, begun, with_answers, with_answers_end, with_script};
-ghost use Rattle.smt_dialogue.specs.History.{with_script_end, with_taken};
+ghost use Rattle.smt_dialogue.specs.History.{of_side, other_side, with_end, with_more, with_piece, with_script_end};
+ghost use Rattle.smt_dialogue.specs.History.{with_taken};
 ghost use Rattle.smt_dialogue.specs.Session.{IsVerdictIn, StandsFor, failure_of, is_answers_ended, is_script_ended};
-ghost use Rattle.smt_dialogue.specs.Session.{lines_waiting};
+ghost use Rattle.smt_dialogue.specs.Session.{is_ended, lines_waiting};
 ghost use Rattle.smt_dialogue.specs.SoFar.{IsBeginning};
 ghost use Rattle.smt_dialogue.specs.Validity.{IsInvalid, IsValid};
-ghost use Rattle.smt_dialogue.specs.Internal.SessionStep.{IsGoingOn, IsWanted, left_of};
+ghost use Rattle.smt_dialogue.specs.Internal.SessionStep.{HasTurned, IsFed, IsGoingOn, IsPause, IsWanted, TextLaws};
+ghost use Rattle.smt_dialogue.specs.Internal.SessionStep.{fed_at, left_of, turns_left, with_fed};
 ghost use Rattle.smt_dialogue.specs.declared.session.Failed.{Failed as Failure};
 
-use crate::exchange::Exchange;
+use crate::exchange::{Advance, Exchange};
 use crate::options::Options;
 use smt_eval::Memory;
 use smt_eval::laws::{known_values_are_true, models_are_complete, models_give_structures};
@@ -30,6 +33,16 @@ pub enum Failed {
     Memory,
     /// A text has more than 2^64 - 1 bytes.
     Long,
+}
+
+// Laws: of each text something is read, and it is one answer that stays.
+fn text_laws()
+    ensures { TextLaws }
+{
+    every_text_reads();
+    one_reading();
+    read_faults_stay();
+    read_trees_stay();
 }
 
 /// A solver's dialogue that is checked as it comes: pieces of the script that the solver reads, and of the
@@ -81,33 +94,18 @@ impl Session {
     pub fn script(&mut self, piece: &[u8]) -> Result<(), Failed>
         requires stands { (h : History) × StandsFor self.old h }
         requires open { is_script_ended self.old ≡ false }
-        ensures stands { (h : History) → StandsFor self.old h → StandsFor self.new (with_script h piece.now) }
+        ensures stands { (h : History) → StandsFor self.old h
+            → StandsFor self.new (with_script h piece.now) }
         ensures failed { MatchResult result (λ _. failure_of self.new ≡ None)
             (λ failed. failure_of self.new ≡ Some failed) }
         ensures stays { (failed : Failure) → failure_of self.old ≡ Some failed
-            → (failure_of self.new ≡ Some failed) × (lines_waiting self.new ≡ lines_waiting self.old) }
+            → (failure_of self.new ≡ Some failed)
+            × (lines_waiting self.new ≡ lines_waiting self.old) }
         ensures kept { IsBeginning (lines_waiting self.old) (lines_waiting self.new) }
         ensures script_ended { is_script_ended self.new ≡ is_script_ended self.old }
         ensures answers_ended { is_answers_ended self.new ≡ is_answers_ended self.old }
     {
-        // Laws: of each text something is read, and it is one answer that stays.
-        every_text_reads();
-        one_reading();
-        read_faults_stay();
-        read_trees_stay();
-        if let Some(failed) = self.failure {
-            return Err(failed);
-        }
-        let Some(bytes) = self.script.bytes.checked_add(piece.len() as u64) else {
-            self.failure = Some(Failed::Long);
-            return Err(Failed::Long);
-        };
-        self.script.bytes = bytes;
-        if self.verdict.is_some() {
-            return Ok(());
-        }
-        self.exchange.feed_script(piece);
-        self.advance()
+        self.feed(Side::Script, piece)
     }
 
     /// Takes the next piece of the answers, of which the end was not told. A session that has failed answers the
@@ -115,102 +113,69 @@ impl Session {
     pub fn answers(&mut self, piece: &[u8]) -> Result<(), Failed>
         requires stands { (h : History) × StandsFor self.old h }
         requires open { is_answers_ended self.old ≡ false }
-        ensures stands { (h : History) → StandsFor self.old h → StandsFor self.new (with_answers h piece.now) }
+        ensures stands { (h : History) → StandsFor self.old h
+            → StandsFor self.new (with_answers h piece.now) }
         ensures failed { MatchResult result (λ _. failure_of self.new ≡ None)
             (λ failed. failure_of self.new ≡ Some failed) }
         ensures stays { (failed : Failure) → failure_of self.old ≡ Some failed
-            → (failure_of self.new ≡ Some failed) × (lines_waiting self.new ≡ lines_waiting self.old) }
+            → (failure_of self.new ≡ Some failed)
+            × (lines_waiting self.new ≡ lines_waiting self.old) }
         ensures kept { IsBeginning (lines_waiting self.old) (lines_waiting self.new) }
         ensures script_ended { is_script_ended self.new ≡ is_script_ended self.old }
         ensures answers_ended { is_answers_ended self.new ≡ is_answers_ended self.old }
     {
-        // Laws: of each text something is read, and it is one answer that stays.
-        every_text_reads();
-        one_reading();
-        read_faults_stay();
-        read_trees_stay();
-        if let Some(failed) = self.failure {
-            return Err(failed);
-        }
-        let Some(bytes) = self.answers.bytes.checked_add(piece.len() as u64) else {
-            self.failure = Some(Failed::Long);
-            return Err(Failed::Long);
-        };
-        self.answers.bytes = bytes;
-        if self.verdict.is_some() {
-            return Ok(());
-        }
-        self.exchange.feed_answers(piece);
-        self.advance()
+        self.feed(Side::Answers, piece)
     }
 
     /// Takes the end of the script, which was not told before. An end that answers a failure counts.
     pub fn end_script(&mut self) -> Result<(), Failed>
         requires stands { (h : History) × StandsFor self.old h }
         requires open { is_script_ended self.old ≡ false }
-        ensures stands { (h : History) → StandsFor self.old h → StandsFor self.new (with_script_end h) }
+        ensures stands { (h : History) → StandsFor self.old h
+            → StandsFor self.new (with_script_end h) }
         ensures failed { MatchResult result (λ _. failure_of self.new ≡ None)
             (λ failed. failure_of self.new ≡ Some failed) }
         ensures stays { (failed : Failure) → failure_of self.old ≡ Some failed
-            → (failure_of self.new ≡ Some failed) × (lines_waiting self.new ≡ lines_waiting self.old) }
+            → (failure_of self.new ≡ Some failed)
+            × (lines_waiting self.new ≡ lines_waiting self.old) }
         ensures kept { IsBeginning (lines_waiting self.old) (lines_waiting self.new) }
         ensures script_ended { is_script_ended self.new ≡ true }
         ensures answers_ended { is_answers_ended self.new ≡ is_answers_ended self.old }
     {
-        // Laws: of each text something is read, and it is one answer that stays.
-        every_text_reads();
-        one_reading();
-        read_faults_stay();
-        read_trees_stay();
-        self.script.ended = true;
-        if let Some(failed) = self.failure {
-            return Err(failed);
-        }
-        if self.verdict.is_some() {
-            return Ok(());
-        }
-        self.exchange.finish_script();
-        self.advance()
+        self.end(Side::Script)
     }
 
     /// Takes the end of the answers, which was not told before. An end that answers a failure counts.
     pub fn end_answers(&mut self) -> Result<(), Failed>
         requires stands { (h : History) × StandsFor self.old h }
         requires open { is_answers_ended self.old ≡ false }
-        ensures stands { (h : History) → StandsFor self.old h → StandsFor self.new (with_answers_end h) }
+        ensures stands { (h : History) → StandsFor self.old h
+            → StandsFor self.new (with_answers_end h) }
         ensures failed { MatchResult result (λ _. failure_of self.new ≡ None)
             (λ failed. failure_of self.new ≡ Some failed) }
         ensures stays { (failed : Failure) → failure_of self.old ≡ Some failed
-            → (failure_of self.new ≡ Some failed) × (lines_waiting self.new ≡ lines_waiting self.old) }
+            → (failure_of self.new ≡ Some failed)
+            × (lines_waiting self.new ≡ lines_waiting self.old) }
         ensures kept { IsBeginning (lines_waiting self.old) (lines_waiting self.new) }
         ensures script_ended { is_script_ended self.new ≡ is_script_ended self.old }
         ensures answers_ended { is_answers_ended self.new ≡ true }
     {
-        // Laws: of each text something is read, and it is one answer that stays.
-        every_text_reads();
-        one_reading();
-        read_faults_stay();
-        read_trees_stay();
-        self.answers.ended = true;
-        if let Some(failed) = self.failure {
-            return Err(failed);
-        }
-        if self.verdict.is_some() {
-            return Ok(());
-        }
-        self.exchange.finish_answers();
-        self.advance()
+        self.end(Side::Answers)
     }
 
     /// Takes the lines that are decided and were not taken, in order.
     pub fn take_lines(&mut self) -> Vec<Line>
         ensures lines { result.items ≡ lines_waiting self.old }
         ensures none { lines_waiting self.new ≡ [] }
-        ensures stands { (h : History) → StandsFor self.old h → StandsFor self.new (with_taken h result.items) }
+        ensures stands { (h : History) → StandsFor self.old h
+            → StandsFor self.new (with_taken h result.items) }
         ensures failure { failure_of self.new ≡ failure_of self.old }
         ensures script_ended { is_script_ended self.new ≡ is_script_ended self.old }
         ensures answers_ended { is_answers_ended self.new ≡ is_answers_ended self.old }
+        ensures going_on { (h : History) → IsGoingOn self.old h
+            → IsGoingOn self.new (with_taken h result.items) }
         ensures left { left_of self.new ≡ left_of self.old }
+        ensures turns { turns_left self.new ≡ turns_left self.old }
     {
         self.exchange.take_lines()
     }
@@ -220,9 +185,10 @@ impl Session {
         ensures told { (h : History) → StandsFor self.now h
             → IsVerdictIn result (h.taken ++ lines_waiting self.now) }
         ensures valid { (h : History) → StandsFor self.now h → result ≡ Some Verdict.Valid
-            → IsValid h.options h.script h.answers }
+            → IsValid h.options h.script.bytes h.answers.bytes }
         ensures invalid { (h : History) → StandsFor self.now h → result ≡ Some Verdict.Invalid
-            → IsInvalid h.options h.script h.answers (h.taken ++ lines_waiting self.now) }
+            → IsInvalid h.options h.script.bytes h.answers.bytes
+            (h.taken ++ lines_waiting self.now) }
     {
         // Laws: the texts have no other trees, models that are read are complete and give structures, the
         // assertions in force are those of the commands that stand, and what is known of a term is its value.
@@ -258,20 +224,230 @@ impl Session {
         }
     }
 
-    // Takes turns as far as both texts have come.
-    fn advance(&mut self) -> Result<(), Failed>
-        requires open { (h : History) × IsGoingOn self.old h }
-        ensures stands { (h : History) → IsGoingOn self.old h → StandsFor self.new h }
+    // Takes the next piece of a text, and turns as far as both texts have come.
+    fn feed(&mut self, side: Side, piece: &[u8]) -> Result<(), Failed>
+        requires stands { (h : History) × StandsFor self.old h }
+        requires open { is_ended side self.old ≡ false }
+        ensures stands { (h : History) → StandsFor self.old h
+            → StandsFor self.new (with_piece side h piece.now) }
         ensures failed { MatchResult result (λ _. failure_of self.new ≡ None)
             (λ failed. failure_of self.new ≡ Some failed) }
+        ensures stays { (failed : Failure) → failure_of self.old ≡ Some failed
+            → (failure_of self.new ≡ Some failed)
+            × (lines_waiting self.new ≡ lines_waiting self.old) }
         ensures kept { IsBeginning (lines_waiting self.old) (lines_waiting self.new) }
         ensures script_ended { is_script_ended self.new ≡ is_script_ended self.old }
         ensures answers_ended { is_answers_ended self.new ≡ is_answers_ended self.old }
     {
-        match self.exchange.advance() {
-            Ok(verdict) => {
+        self.take_in(side, piece);
+        self.rest()
+    }
+
+    // Takes the end of a text, and turns as far as both texts have come.
+    fn end(&mut self, side: Side) -> Result<(), Failed>
+        requires stands { (h : History) × StandsFor self.old h }
+        requires open { is_ended side self.old ≡ false }
+        ensures stands { (h : History) → StandsFor self.old h
+            → StandsFor self.new (with_end side h) }
+        ensures failed { MatchResult result (λ _. failure_of self.new ≡ None)
+            (λ failed. failure_of self.new ≡ Some failed) }
+        ensures stays { (failed : Failure) → failure_of self.old ≡ Some failed
+            → (failure_of self.new ≡ Some failed)
+            × (lines_waiting self.new ≡ lines_waiting self.old) }
+        ensures kept { IsBeginning (lines_waiting self.old) (lines_waiting self.new) }
+        ensures script_ended { is_script_ended self.new
+            ≡ of_side side true (is_script_ended self.old) }
+        ensures answers_ended { is_answers_ended self.new
+            ≡ of_side side (is_answers_ended self.old) true }
+    {
+        self.take_end(side);
+        self.rest()
+    }
+
+    /// Takes the next piece of a text, of which the end was not told, or its end where the piece is empty.
+    pub(crate) fn tell(&mut self, side: Side, piece: &[u8]) -> Result<(), Failed>
+        requires stands { (h : History) × StandsFor self.old h }
+        requires open { is_ended side self.old ≡ false }
+        requires failure { failure_of self.old ≡ None }
+        ensures stands { (h : History) → StandsFor self.old h
+            → StandsFor self.new (with_more side h piece.now (is_ended side self.new)) }
+        ensures failed { MatchResult result (λ _. failure_of self.new ≡ None)
+            (λ failed. failure_of self.new ≡ Some failed) }
+        ensures ended { is_ended side self.new ≡ nat_eq (length piece.now) 0 }
+        ensures other { is_ended (other_side side) self.new ≡ is_ended (other_side side) self.old }
+    {
+        self.take_next(side, piece);
+        self.rest()
+    }
+
+    /// Takes in the next piece of a text, of which the end was not told, or its end where the piece is empty. No
+    /// turn is taken.
+    pub(crate) fn take_next(&mut self, side: Side, piece: &[u8])
+        requires stands { (h : History) × StandsFor self.old h }
+        requires open { is_ended side self.old ≡ false }
+        requires failure { failure_of self.old ≡ None }
+        ensures fed { (h : History) → StandsFor self.old h → IsFed self.new
+            (with_more side h piece.now (is_ended side self.new)) }
+        ensures ended { is_ended side self.new ≡ nat_eq (length piece.now) 0 }
+        ensures other { is_ended (other_side side) self.new ≡ is_ended (other_side side) self.old }
+        ensures waiting { lines_waiting self.new ≡ lines_waiting self.old }
+        ensures smaller { failure_of self.new ≡ None → left_of self.new < left_of self.old }
+    {
+        if piece.is_empty() {
+            self.take_end(side);
+        } else {
+            self.take_in(side, piece);
+        }
+    }
+
+    // Takes in the next piece of a text.
+    fn take_in(&mut self, side: Side, piece: &[u8])
+        requires stands { (h : History) × StandsFor self.old h }
+        requires open { is_ended side self.old ≡ false }
+        ensures fed { (h : History) → StandsFor self.old h
+            → IsFed self.new (with_piece side h piece.now) }
+        ensures smaller { failure_of self.new ≡ None → 0 < length piece.now
+            → left_of self.new < left_of self.old }
+        ensures stays { (failed : Failure) → failure_of self.old ≡ Some failed
+            → failure_of self.new ≡ Some failed }
+        ensures waiting { lines_waiting self.new ≡ lines_waiting self.old }
+        ensures script_ended { is_script_ended self.new ≡ is_script_ended self.old }
+        ensures answers_ended { is_answers_ended self.new ≡ is_answers_ended self.old }
+    {
+        text_laws();
+        if self.failure.is_some() {
+            return;
+        }
+        let Some(bytes) = self.bytes(side).checked_add(piece.len() as u64) else {
+            self.failure = Some(Failed::Long);
+            return;
+        };
+        self.count(side, bytes);
+        if self.verdict.is_some() {
+            return;
+        }
+        self.exchange.feed(side, piece);
+    }
+
+    // Takes in the end of a text.
+    fn take_end(&mut self, side: Side)
+        requires stands { (h : History) × StandsFor self.old h }
+        requires open { is_ended side self.old ≡ false }
+        ensures fed { (h : History) → StandsFor self.old h
+            → IsFed self.new (with_end side h) }
+        ensures smaller { left_of self.new < left_of self.old }
+        ensures failure { failure_of self.new ≡ failure_of self.old }
+        ensures waiting { lines_waiting self.new ≡ lines_waiting self.old }
+        ensures script_ended { is_script_ended self.new
+            ≡ of_side side true (is_script_ended self.old) }
+        ensures answers_ended { is_answers_ended self.new
+            ≡ of_side side (is_answers_ended self.old) true }
+    {
+        text_laws();
+        self.close(side);
+        if self.failure.is_some() {
+            return;
+        }
+        if self.verdict.is_some() {
+            return;
+        }
+        self.exchange.finish(side);
+    }
+
+    // How many bytes were fed of a text.
+    fn bytes(&self, side: Side) -> u64
+        ensures { result ≡ (fed_at side self.now).bytes }
+    {
+        match side {
+            Side::Script => self.script.bytes,
+            Side::Answers => self.answers.bytes,
+        }
+    }
+
+    // Counts the bytes of a text.
+    fn count(&mut self, side: Side, bytes: u64)
+        ensures fed { self.new ≡ with_fed side (record
+            (fed_at side self.old) { bytes = bytes }) self.old }
+        ensures script_ended { is_script_ended self.new ≡ is_script_ended self.old }
+        ensures answers_ended { is_answers_ended self.new ≡ is_answers_ended self.old }
+        ensures exchange { self.new.exchange ≡ self.old.exchange }
+        ensures verdict { self.new.verdict ≡ self.old.verdict }
+        ensures failure { self.new.failure ≡ self.old.failure }
+    {
+        match side {
+            Side::Script => self.script.bytes = bytes,
+            Side::Answers => self.answers.bytes = bytes,
+        }
+    }
+
+    // Notes the end of a text.
+    fn close(&mut self, side: Side)
+        ensures fed { self.new ≡ with_fed side (record
+            (fed_at side self.old) { ended = true }) self.old }
+        ensures script_ended { is_script_ended self.new
+            ≡ of_side side true (is_script_ended self.old) }
+        ensures answers_ended { is_answers_ended self.new
+            ≡ of_side side (is_answers_ended self.old) true }
+        ensures exchange { self.new.exchange ≡ self.old.exchange }
+        ensures verdict { self.new.verdict ≡ self.old.verdict }
+        ensures failure { self.new.failure ≡ self.old.failure }
+    {
+        match side {
+            Side::Script => self.script.ended = true,
+            Side::Answers => self.answers.ended = true,
+        }
+    }
+
+    // Takes turns as far as both texts have come.
+    fn rest(&mut self) -> Result<(), Failed>
+        requires fed { (h : History) × IsFed self.old h }
+        ensures stands { (h : History) → IsFed self.old h
+            → StandsFor self.new h }
+        ensures failed { MatchResult result (λ _. failure_of self.new ≡ None)
+            (λ failed. failure_of self.new ≡ Some failed) }
+        ensures stays { (failed : Failure) → failure_of self.old ≡ Some failed
+            → (failure_of self.new ≡ Some failed)
+            × (lines_waiting self.new ≡ lines_waiting self.old) }
+        ensures kept { IsBeginning (lines_waiting self.old) (lines_waiting self.new) }
+        ensures script_ended { is_script_ended self.new ≡ is_script_ended self.old }
+        ensures answers_ended { is_answers_ended self.new ≡ is_answers_ended self.old }
+    {
+        match self.take_turns(None) {
+            Ok(false) => Ok(()),
+            Ok(true) => unreachable!(),
+            Err(failed) => Err(failed),
+        }
+    }
+
+    /// Takes turns as far as both texts have come; but no further than to a check whose models may come next,
+    /// where so many lines wait by then. Returns whether turns may be left.
+    pub(crate) fn take_turns(&mut self, enough: Option<usize>) -> Result<bool, Failed>
+        requires fed { (h : History) × IsFed self.old h }
+        ensures turned { (h : History) → IsFed self.old h
+            → HasTurned result self.new h }
+        ensures paused { IfOk result (λ more. IsPause more enough (turns_left self.old)
+            (turns_left self.new)) }
+        ensures failed { MatchResult result (λ _. failure_of self.new ≡ None)
+            (λ failed. failure_of self.new ≡ Some failed) }
+        ensures stays { (failed : Failure) → failure_of self.old ≡ Some failed
+            → (failure_of self.new ≡ Some failed)
+            × (lines_waiting self.new ≡ lines_waiting self.old) }
+        ensures kept { IsBeginning (lines_waiting self.old) (lines_waiting self.new) }
+        ensures script_ended { is_script_ended self.new ≡ is_script_ended self.old }
+        ensures answers_ended { is_answers_ended self.new ≡ is_answers_ended self.old }
+        ensures left { left_of self.new ≡ left_of self.old }
+    {
+        if let Some(failed) = self.failure {
+            return Err(failed);
+        }
+        if self.verdict.is_some() {
+            return Ok(false);
+        }
+        match self.exchange.advance(enough) {
+            Ok(Advance::Pauses) => Ok(true),
+            Ok(Advance::Rests(verdict)) => {
                 self.verdict = verdict;
-                Ok(())
+                Ok(false)
             }
             Err(Memory) => {
                 self.failure = Some(Failed::Memory);

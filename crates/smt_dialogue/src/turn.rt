@@ -55,10 +55,12 @@ pub(crate) fn take_up(
     requires front { (bytes : List ℕ) × (text : TextSoFar) × (rest : Sexps)
         × HasFront answers.old bytes text rest }
     ensures turn { IfOk result (λ turn. (bytes : List ℕ) (text : TextSoFar) (rest : Sexps)
-        (taken : List ReportLine) (early : Bool) (pairs : List Pair) → HasFront answers.old bytes text rest
+        (taken : List ReportLine) (early : Bool) (pairs : List Pair)
+        → HasFront answers.old bytes text rest
         → Stands early (state_behind taken dialogue.old) pairs
         → (early ≡ true → commands.is_check (command_view command.now) ≡ true)
-        → IsTakenUp turn early (initial_print_success_of dialogue.old.stack) pairs (command_view command.now)
+        → IsTakenUp turn early (initial_print_success_of dialogue.old.stack) pairs
+        (command_view command.now)
         text rest bytes answers.new (state_behind taken dialogue.new)) }
     ensures start { IfOk result
         (λ _. options_of dialogue.new ≡ options_of dialogue.old) }
@@ -94,12 +96,14 @@ fn take_up_with(
     requires stands { (taken : List ReportLine) × (early : Bool) × (pairs : List Pair)
         × Stands early (state_behind taken dialogue.old) pairs
         × (early ≡ true → commands.is_check (command_view command.now) ≡ true) }
-    requires answered { IsAnswered (role_of (command_view command.now)) (option_map sexp_of answer.old) }
+    requires answered { IsAnswered (role_of (command_view command.now))
+        (option_map sexp_of answer.old) }
     ensures turn { IfOk result (λ turn. (taken : List ReportLine) (early : Bool) (pairs : List Pair)
         → Stands early (state_behind taken dialogue.old) pairs
         → (early ≡ true → commands.is_check (command_view command.now) ≡ true)
         → (line : Option ReportLine) × (turn ≡ turn_of_line line)
-        × IsDone line early pairs (answered command.now answer.old) (state_behind taken dialogue.new)) }
+        × IsDone line early pairs (answered command.now answer.old)
+        (state_behind taken dialogue.new)) }
     ensures start { IfOk result
         (λ _. options_of dialogue.new ≡ options_of dialogue.old) }
     ensures decided { dialogue.new.decided ≡ dialogue.old.decided }

@@ -2,9 +2,9 @@
 
 ghost use Rattle.std.specs.Prelude.{◌≡◌, ◌+◌, ◌<◌, ◌++◌, ℕ, List, [], None, true, false, IfOk, OnOk, length};
 ghost use Rattle.std.specs.Prelude.{if◌then◌else◌};
-ghost use Rattle.smt_dialogue.specs.History.{History, begun, whole};
+ghost use Rattle.smt_dialogue.specs.History.{History, begun, other_side, whole, with_more};
 ghost use Rattle.smt_dialogue.specs.Report.{IsReport};
-ghost use Rattle.smt_dialogue.specs.Session.{StandsFor, failure_of, is_answers_ended, is_script_ended};
+ghost use Rattle.smt_dialogue.specs.Session.{StandsFor, failure_of, is_answers_ended, is_ended, is_script_ended};
 ghost use Rattle.smt_dialogue.specs.Validity.{IsValid, IsInvalid};
 ghost use Rattle.smt_dialogue.specs.declared.options.Options.{Options as Given};
 ghost use Rattle.smt_report.specs.Verdict.{IsVerdictOf};
@@ -29,9 +29,11 @@ pub fn validate(
 ) -> Result<Report, Memory>
     ensures report { IfOk result (λ r. IsReport options script.now answers.now r.lines.items) }
     ensures verdict { IfOk result (λ r. IsVerdictOf r.verdict r.lines.items) }
-    ensures valid { IfOk result (λ r. r.verdict ≡ Verdict.Valid → IsValid options script.now answers.now) }
+    ensures valid { IfOk result (λ r. r.verdict ≡ Verdict.Valid
+        → IsValid options script.now answers.now) }
     ensures invalid { IfOk result
-        (λ r. r.verdict ≡ Verdict.Invalid → IsInvalid options script.now answers.now r.lines.items) }
+        (λ r. r.verdict ≡ Verdict.Invalid
+        → IsInvalid options script.now answers.now r.lines.items) }
 {
     let mut session = Session::new(alloc, options);
     let report = match tell(&mut session, script, answers) {
@@ -56,57 +58,30 @@ fn tell(session: &mut Session, script: &[u8], answers: &[u8]) -> Result<(), Fail
     let mut answers = answers;
     while let Some(side) = session.wanted() {
         match side {
-            Side::Script => script = tell_script(session, script)?,
-            Side::Answers => answers = tell_answers(session, answers)?,
+            Side::Script => script = tell_text(session, side, script)?,
+            Side::Answers => answers = tell_text(session, side, answers)?,
         }
     }
     Ok(())
 }
 
-// Tells the next piece of the script, or its end, and answers what is left.
-fn tell_script<'a>(session: &mut Session, left: &'a [u8]) -> Result<&'a [u8], Failed>
+// Tells the next piece of a text, or its end, and answers what is left.
+fn tell_text<'a>(session: &mut Session, side: Side, left: &'a [u8]) -> Result<&'a [u8], Failed>
     requires stands { (h : History) × StandsFor session.old h }
-    requires open { is_script_ended session.old ≡ false }
+    requires open { is_ended side session.old ≡ false }
+    requires failure { failure_of session.old ≡ None }
     ensures told { IfOk result (λ rest. (h : History) → StandsFor session.old h
         → (given : List ℕ) × (left.now ≡ given ++ rest.now)
-        × StandsFor session.new (record h { script = h.script ++ given; script_told = is_script_ended session.new })) }
-    ensures done { IfOk result (λ rest. is_script_ended session.new ≡ true → rest.now ≡ []) }
+        × StandsFor session.new (with_more side h given (is_ended side session.new))) }
+    ensures done { IfOk result (λ rest. is_ended side session.new ≡ true → rest.now ≡ []) }
     ensures smaller { IfOk result (λ rest.
-        length rest.now + (if is_script_ended session.new then 0 else 1) < length left.now + 1) }
+        length rest.now + (if is_ended side session.new then 0 else 1) < length left.now + 1) }
     ensures failure { OnOk result (failure_of session.new ≡ None) }
-    ensures other { is_answers_ended session.new ≡ is_answers_ended session.old }
+    ensures other { is_ended (other_side side) session.new
+        ≡ is_ended (other_side side) session.old }
 {
-    if left.is_empty() {
-        session.end_script()?;
-        return Ok(left);
-    }
     let (piece, rest) = left.split_at(left.len().min(PIECE));
-    session.script(piece)?;
-    Ok(rest)
-}
-
-// Tells the next piece of the answers, or their end, and answers what is left.
-fn tell_answers<'a>(session: &mut Session, left: &'a [u8]) -> Result<&'a [u8], Failed>
-    requires stands { (h : History) × StandsFor session.old h }
-    requires open { is_answers_ended session.old ≡ false }
-    ensures told { IfOk result (λ rest. (h : History) → StandsFor session.old h
-        → (given : List ℕ) × (left.now ≡ given ++ rest.now)
-        × StandsFor session.new (record h {
-          answers = h.answers ++ given;
-          answers_told = is_answers_ended session.new;
-        })) }
-    ensures done { IfOk result (λ rest. is_answers_ended session.new ≡ true → rest.now ≡ []) }
-    ensures smaller { IfOk result (λ rest.
-        length rest.now + (if is_answers_ended session.new then 0 else 1) < length left.now + 1) }
-    ensures failure { OnOk result (failure_of session.new ≡ None) }
-    ensures other { is_script_ended session.new ≡ is_script_ended session.old }
-{
-    if left.is_empty() {
-        session.end_answers()?;
-        return Ok(left);
-    }
-    let (piece, rest) = left.split_at(left.len().min(PIECE));
-    session.answers(piece)?;
+    session.tell(side, piece)?;
     Ok(rest)
 }
 

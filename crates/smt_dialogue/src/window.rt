@@ -187,7 +187,8 @@ impl Checks {
             → checks_state self.new
             ≡ with_line (checks_state self.old) pending
             (check_lines.line_of_judgement pending.check pending.command number
-            (judgement_of self.old.limit.steps (signature_in_force commands) (claims_in_force commands)
+            (judgement_of self.old.limit.steps (signature_in_force commands)
+            (claims_in_force commands)
             model.old))) }
     {
         let judgement = judge(&mut self.machine, stack, model, self.limit)?;
@@ -210,7 +211,8 @@ impl Checks {
     fn end_window_if(&mut self, effective: bool) -> Result<(), Memory>
         ensures limit { self.new.limit ≡ self.old.limit }
         ensures checks { OnOk result (checks_state self.new
-            ≡ (if effective then with_window_ended (checks_state self.old) else checks_state self.old)) }
+            ≡ (if effective then with_window_ended
+            (checks_state self.old) else checks_state self.old)) }
     {
         if effective { self.end_window() } else { Ok(()) }
     }
@@ -218,7 +220,8 @@ impl Checks {
     /// Ends the window of the last check, if it has not ended: each model in it is confirmed.
     pub(crate) fn end_window(&mut self) -> Result<(), Memory>
         ensures limit { self.new.limit ≡ self.old.limit }
-        ensures ended { OnOk result (checks_state self.new ≡ with_window_ended (checks_state self.old)) }
+        ensures ended { OnOk result (checks_state self.new
+            ≡ with_window_ended (checks_state self.old)) }
         ensures count { self.new.count ≡ self.old.count }
     {
         if let Some(pending) = self.pending {

@@ -48,8 +48,8 @@ StaysFailed before after =
 pub record IsNumberOf (number : ℕ) (f : Feed) (h : History) : Type 0 where
   pub range : (number ≤ 4) ⊎ ((number ≡ 6) ⊎ (number ≡ 7))
   pub verdict : number < 4 → (v : Verdict) × (number ≡ status_number (Ok v)) × IsVerdictIn (Some v) (lines_of f h)
-  pub valid : number ≡ 0 → IsValid h.options h.script h.answers
-  pub invalid : number ≡ 1 → IsInvalid h.options h.script h.answers (lines_of f h)
+  pub valid : number ≡ 0 → IsValid h.options h.script.bytes h.answers.bytes
+  pub invalid : number ≡ 1 → IsInvalid h.options h.script.bytes h.answers.bytes (lines_of f h)
   pub memory : number ≡ 4 → failure_of f.session ≡ Some Memory
   pub none : number ≡ 6 → IsVerdictIn None (lines_of f h)
   pub long : number ≡ 7 → failure_of f.session ≡ Some Long

@@ -1,5 +1,5 @@
 -- What a session keeps of two texts so far, and what it has taken up of them.
-use Rattle.std.specs.Prelude.{◌≡◌, ℕ, List, [], ◌∷◌, ◌++◌, Bool, Option, Some, None, false, true, is_some, Ok}
+use Rattle.std.specs.Prelude.{◌≡◌, ◌<◌, ◌^◌, ℕ, List, [], ◌∷◌, ◌++◌, Bool, Option, Some, None, false, true, is_some, Ok}
 use Rattle.std.specs.List.{list_any}
 use Rattle.smt_trees.specs.Sexp.{Sexp, Sexps, Nil, Cons}
 use Rattle.smt_script.specs.Command.{command_of, is_check}
@@ -8,19 +8,24 @@ use Rattle.smt_script.specs.declared.command.Command.{Command}
 use Rattle.smt_script.specs.StackView.{initial_print_success_of}
 use Rattle.smt_dialogue.specs.FirstFault.{TextSoFar, turn_after}
 use Rattle.smt_dialogue.specs.FirstFault as first_fault
+use Rattle.smt_dialogue.specs.History.{of_side}
 use Rattle.smt_dialogue.specs.InForce.{has_exited_after}
 use Rattle.smt_dialogue.specs.Pairs.{Pair}
 use Rattle.smt_dialogue.specs.Lines.{lines_in}
-use Rattle.smt_dialogue.specs.Report.{ArePaired, IsTurn, lines_at_end, lines_of_end}
+use Rattle.smt_dialogue.specs.Report.{ArePaired, IsRead, IsTurn, lines_at_end, lines_of_end}
 use Rattle.smt_dialogue.specs.SoFar.{AreLinesSoFar, IsBeginning, is_verdict_line, lines_at}
 use Rattle.smt_dialogue.specs.Internal.DialogueState.{Stands, options_of, state_behind}
 use Rattle.smt_dialogue.specs.Internal.FrontView.{HasFront}
+use Rattle.smt_dialogue.specs.declared.exchange.Advance.{Advance}
+use Rattle.smt_dialogue.specs.declared.exchange.Advance.TheVariants as advances
 use Rattle.smt_dialogue.specs.declared.exchange.Exchange.{Exchange}
+use Rattle.smt_dialogue.specs.declared.front.Front.{Front}
 use Rattle.smt_dialogue.specs.declared.options.Options.{Options}
 use Rattle.smt_dialogue.specs.declared.turn.Turn.{Turn}
 use Rattle.smt_dialogue.specs.declared.turn.Turn.TheVariants as turns
 use Rattle.smt_report.specs.Verdict.{verdict_of}
 use Rattle.smt_report.specs.declared.line.Line.{Line}
+use Rattle.smt_report.specs.declared.line.Side.{Side}
 use Rattle.smt_report.specs.declared.verdict.Verdict.{Verdict}
 
 -- the bytes of both texts so far, what is read of them, and the lines that were handed out
@@ -30,6 +35,21 @@ pub record Texts : Type 0 where
   pub answers_bytes : List ℕ
   pub answers : TextSoFar
   pub taken : List Line
+
+abbrev pub bytes_at : Side → Texts → List ℕ
+bytes_at side texts = of_side side texts.script_bytes texts.answers_bytes
+
+-- with these bytes of a text, and what is read of them
+abbrev pub with_read : Side → List ℕ → TextSoFar → Texts → Texts
+with_read side bytes text texts = record texts {
+  script_bytes = of_side side bytes texts.script_bytes;
+  script = of_side side text texts.script;
+  answers_bytes = of_side side texts.answers_bytes bytes;
+  answers = of_side side texts.answers text;
+}
+
+abbrev pub front_at : Side → Exchange → Front
+front_at side x = of_side side x.script x.answers
 
 -- the command in turn, if it was read, is the first of the trees that are left, and no `exit` came before it
 abbrev pub IsInTurn : Option Command → List Pair → (later left : Sexps) → Type 0
@@ -53,6 +73,13 @@ pub record IsUnderWay (x : Exchange) (texts : Texts) (pairs : List Pair) (later 
   pub stands : Stands early (state_behind texts.taken x.dialogue) pairs
   pub closing : early ≡ true → IsClosing x.command texts later
   pub paired : ArePaired (initial_print_success_of x.dialogue.stack) texts.script texts.answers pairs later rest
+
+-- it goes on as this comes of a text
+abbrev pub GoesOnWith : Side → (x y : Exchange) → Texts → (told : Bool) → (bytes : List ℕ) → Type 0
+GoesOnWith side x y texts told bytes =
+    (pairs : List Pair) (later rest : Sexps) (text : TextSoFar) → IsUnderWay x texts pairs later rest
+    → IsRead told bytes text
+    → (left : Sexps) × (after : Sexps) × IsUnderWay y (with_read side bytes text texts) pairs left after
 
 -- the turn of what is left
 abbrev pub turn_of : Exchange → Texts → List Pair → (later rest : Sexps) → first_fault.Turn
@@ -94,6 +121,18 @@ HasRested (Some verdict) options new texts =
     × IsTurn options.print_success texts.script texts.answers pairs (first_fault.Ends fault)
     × (texts.taken ++ waiting new ≡ lines_at_end options.limit.steps pairs fault)
     × (verdict ≡ verdict_of (lines_in options.limit.steps true [] pairs [] ++ lines_of_end fault))
+
+-- turns were taken: more are left, since lines are to be handed out before; or they came to rest
+abbrev pub HasAdvanced : Advance → Options → Exchange → Texts → Type 0
+HasAdvanced advances.Pauses options new texts =
+    (pairs : List Pair) × (later : Sexps) × (rest : Sexps) × IsUnderWay new texts pairs later rest
+    × (options_of new.dialogue ≡ options)
+HasAdvanced (advances.Rests verdict) options new texts = HasRested verdict options new texts
+
+-- turns are left only where this was asked for, and a command was taken up
+abbrev pub IsAdvance : Advance → Option ℕ → (before after : ℕ) → Type 0
+IsAdvance advances.Pauses enough before after = (is_some enough ≡ true) × (before < after) × (after < 2 ^ 64)
+IsAdvance (advances.Rests verdict) enough before after = Unit {0}
 
 -- what is decided where memory was refused: the first of the lines so far, and not the verdict
 abbrev pub IsCut : Options → List Line → Texts → Type 0

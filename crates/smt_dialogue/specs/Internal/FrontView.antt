@@ -1,5 +1,5 @@
 -- What is left of a text so far, whose trees are taken as its pieces come.
-use Rattle.std.specs.Prelude.{◌≡◌, ℕ, List, Option, Some, None, false, true}
+use Rattle.std.specs.Prelude.{◌≡◌, ℕ, Bool, List, Option, Some, None, false, true}
 use Rattle.smt_text.specs.Grammar.{limit}
 use Rattle.smt_text.specs.Reader as readers
 use Rattle.smt_text.specs.Reader.{is_finished}
@@ -8,6 +8,8 @@ use Rattle.smt_trees.specs.Sexp.{Sexps, Nil, Cons, append}
 use Rattle.smt_trees.specs.Tree.{sexp_of}
 use Rattle.smt_trees.specs.declared.tree.Tree.{Tree}
 use Rattle.smt_dialogue.specs.FirstFault.{TextSoFar, is_over}
+use Rattle.smt_dialogue.specs.Report.{IsRead}
+use Rattle.smt_dialogue.specs.SoFar.{IsGrown}
 use Rattle.smt_dialogue.specs.declared.front.Ahead.{Ahead}
 use Rattle.smt_dialogue.specs.declared.front.Ahead.TheVariants as comes
 use Rattle.smt_dialogue.specs.declared.front.Front.{Front}
@@ -26,6 +28,12 @@ pub record HasFront (front : Front) (bytes : List ℕ) (text : TextSoFar) (rest 
   pub trees : text.trees ≡ append taken rest
   pub behind : Sexps
   pub begins : rest ≡ append (next_trees front.next) behind
+
+-- it is the same text with more of it
+abbrev pub GoesOnFrom : (f g : Front) → (bytes : List ℕ) → (told : Bool) → (more : List ℕ) → Type 0
+GoesOnFrom f g bytes told more =
+    (text grown : TextSoFar) (rest : Sexps) → HasFront f bytes text rest → IsRead told more grown
+    → (s : IsGrown text grown) × HasFront g more grown (append rest s.later)
 
 -- what comes next, where these trees are left: the first of them, which was looked at, or none
 abbrev pub IsAhead : Ahead → Option Tree → TextSoFar → Sexps → Type 0

@@ -1,8 +1,10 @@
 -- One step of a run.
-use Rattle.std.specs.Prelude.{◌≡◌, ℕ, List, Bool, Option, Some, None, true, false}
-use Rattle.std.specs.Io.KnownBytes.{Appends}
-use Rattle.smt_dialogue.specs.Run.{ArePulled, Devices, text_of_lines}
-use Rattle.smt_dialogue.specs.Session.{StandsFor}
+use Rattle.std.specs.Prelude.{◌≡◌, ℕ, List, [], Bool, Option, Some, None, Result, Ok, Err, true, false}
+use Rattle.std.specs.Io.KnownBytes.{Appends, IsAtEnd}
+use Rattle.smt_dialogue.specs.History.{History, of_side}
+use Rattle.smt_dialogue.specs.Run.{ArePulled, Devices, HasStopped, Tap, text_of_lines}
+use Rattle.smt_dialogue.specs.Session.{StandsFor, failure_of, lines_waiting}
+use Rattle.smt_dialogue.specs.Internal.SessionStep.{IsFed, IsLeftOpen}
 use Rattle.smt_dialogue.specs.declared.live.RunFault.{RunFault}
 use Rattle.smt_dialogue.specs.declared.live.RunFault.TheVariants as faults
 use Rattle.smt_dialogue.specs.declared.options.Options.{Options}
@@ -10,22 +12,62 @@ use Rattle.smt_dialogue.specs.declared.session.Failed.{Failed}
 use Rattle.smt_dialogue.specs.declared.session.Failed.TheVariants.{Long, Memory}
 use Rattle.smt_dialogue.specs.declared.session.Session.{Session}
 use Rattle.smt_report.specs.declared.line.Line.{Line}
+use Rattle.smt_report.specs.declared.line.Side.{Side}
+use Rattle.smt_report.specs.declared.line.Side.TheVariants.{Answers, Script}
 
--- so far the session was told what was pulled, and the lines that were taken of it were put
-pub record IsRunning (options : Options) (before now : Devices) (s : Session) : Type 0 where
+-- what a session was told that was told all that was pulled
+abbrev pub history : Options → Devices → (script answers : List ℕ) → List Line → History
+history options now script answers taken = record {
+  options = options;
+  script = record { bytes = script; ended = now.script.ended };
+  answers = record { bytes = answers; ended = now.answers.ended };
+  taken = taken;
+}
+
+-- so far this holds of what was pulled and of the lines that were put
+pub record IsRunningBy (holds : History → Type 0) (options : Options) (before now : Devices) : Type 0 where
   pub script : List ℕ
   pub answers : List ℕ
   pub taken : List Line
   pub pulled : ArePulled before now script answers
   pub written : Appends before.out now.out (text_of_lines taken)
-  pub stands : StandsFor s (record {
-    options = options;
-    script_told = now.script_ended;
-    script = script;
-    answers_told = now.answers_ended;
-    answers = answers;
-    taken = taken;
-  })
+  pub stands : holds (history options now script answers taken)
+
+-- the session was told what was pulled, and the lines that were taken of it were put
+abbrev pub IsRunning : Options → (before now : Devices) → Session → Type 0
+IsRunning options before now s = IsRunningBy (StandsFor s) options before now
+
+-- the same, and turns may be left to take
+abbrev pub IsFedRun : Options → (before now : Devices) → Session → Type 0
+IsFedRun options before now s = IsRunningBy (IsFed s) options before now
+
+-- the same, and turns are left to take or are not
+abbrev pub IsPutRun : (more : Bool) → Options → (before now : Devices) → Session → Type 0
+IsPutRun more options before now s = IsRunningBy (IsLeftOpen more s) options before now
+
+-- no call of the session has failed, and every line that is decided was put
+pub record IsAtRest (s : Session) : Type 0 where
+  pub failure : failure_of s ≡ None
+  pub waiting : lines_waiting s ≡ []
+
+-- a source has not failed, and where it has told its end, the session was told it, and nothing is left to come
+pub record IsSound (told : Bool) (now : Tap) (broken : Bool) : Type 0 where
+  pub ended : told ≡ now.ended
+  pub sound : broken ≡ false
+  pub end : now.ended ≡ true → IsAtEnd now.to_come
+
+-- a step of a run comes to this
+abbrev pub HasStepped : Result Unit RunFault → Options → (before now : Devices) → Session → Type 0
+HasStepped (Ok unit) options before now s = IsRunning options before now s
+HasStepped (Err fault) options before now s = HasStopped options before now fault
+
+-- with another source on this side, and with another sink
+abbrev pub with_tap : Side → Tap → (out : Option (List ℕ)) → Devices → Devices
+with_tap side now out all = record {
+  script = of_side side now all.script;
+  answers = of_side side all.answers now;
+  out = out;
+}
 
 -- the session has failed so, and no device has
 abbrev pub IsFailure : RunFault → Option Failed → Type 0
@@ -33,15 +75,17 @@ IsFailure faults.Memory failure = failure ≡ Some Memory
 IsFailure faults.Long failure = failure ≡ Some Long
 IsFailure _ failure = ⊥
 
--- the script's source has failed, and the session has not; or the session has
-abbrev pub IsScriptFailure : RunFault → Option Failed → Bool → Type 0
-IsScriptFailure faults.Script failure broken = (failure ≡ None) × (broken ≡ true)
-IsScriptFailure fault failure broken = IsFailure fault failure × (broken ≡ false)
+-- how a source that fails is told
+abbrev pub fault_at : Side → RunFault
+fault_at Script = faults.Script
+fault_at Answers = faults.Answers
 
--- the same of the answers
-abbrev pub IsAnswersFailure : RunFault → Option Failed → Bool → Type 0
-IsAnswersFailure faults.Answers failure broken = (failure ≡ None) × (broken ≡ true)
-IsAnswersFailure fault failure broken = IsFailure fault failure × (broken ≡ false)
+-- a fault where lines are put
+abbrev pub IsPutFault : RunFault → Bool → Type 0
+IsPutFault faults.Output broken = broken ≡ true
+IsPutFault faults.Memory broken = Unit {0}
+IsPutFault faults.Long broken = Unit {0}
+IsPutFault _ broken = ⊥
 
 -- a line was not written, since the sink has failed, or memory was refused
 abbrev pub IsOutputFailure : RunFault → Bool → Type 0

@@ -2,7 +2,7 @@
 use Rattle.std.specs.Prelude.{◌≡◌, List, [], ◌++◌, true, Option, Some, None}
 use Rattle.smt_trees.specs.Sexp.{Sexps}
 use Rattle.smt_dialogue.specs.FirstFault.{Ends, TextSoFar}
-use Rattle.smt_dialogue.specs.History.{History}
+use Rattle.smt_dialogue.specs.History.{History, Told}
 use Rattle.smt_dialogue.specs.Lines.{lines_in}
 use Rattle.smt_dialogue.specs.Pairs.{Pair}
 use Rattle.smt_dialogue.specs.Report.{IsRead, IsTurn, lines_at_end, lines_of_end}
@@ -14,16 +14,20 @@ use Rattle.smt_report.specs.Verdict.{verdict_of}
 use Rattle.smt_report.specs.declared.line.Line.{Line}
 use Rattle.smt_report.specs.declared.verdict.Verdict.{Verdict}
 
+-- this is read of a text
+abbrev pub IsToldText : Told → TextSoFar → Type 0
+IsToldText told text = IsRead told.ended told.bytes text
+
 -- this is read of both texts
 pub record AreRead (h : History) (script answers : TextSoFar) : Type 0 where
-  pub script_read : IsRead h.script_told h.script script
-  pub answers_read : IsRead h.answers_told h.answers answers
+  pub script_read : IsToldText h.script script
+  pub answers_read : IsToldText h.answers answers
 
 abbrev pub texts_of : History → (script answers : TextSoFar) → Texts
 texts_of h script answers = record {
-  script_bytes = h.script;
+  script_bytes = h.script.bytes;
   script = script;
-  answers_bytes = h.answers;
+  answers_bytes = h.answers.bytes;
   answers = answers;
   taken = h.taken;
 }

@@ -34,13 +34,15 @@ pub fn told_lines_are_the_report()
 pub fn decided_lines_stay()
     ensures { (options : Options) (script answers grown_script grown_answers : TextSoFar)
         (ls ms : List Line) → IsGrown script grown_script → IsGrown answers grown_answers
-        → AreLinesSoFar options script answers ls → AreLinesSoFar options grown_script grown_answers ms
+        → AreLinesSoFar options script answers ls
+        → AreLinesSoFar options grown_script grown_answers ms
         → IsBeginning ls ms }
 {}
 
 /// The same of bytes: the lines so far are the first of those of more of both texts.
 pub fn lines_so_far_stay()
-    ensures { (options : Options) (script_told answers_told grown_script_told grown_answers_told : Bool)
+    ensures { (options : Options) (script_told answers_told grown_script_told grown_answers_told :
+        Bool)
         (script answers grown_script grown_answers : List ℕ) (ls ms : List Line)
         → AreGrown script_told script grown_script_told grown_script
         → AreGrown answers_told answers grown_answers_told grown_answers

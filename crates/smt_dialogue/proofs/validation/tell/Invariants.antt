@@ -14,10 +14,8 @@ invariant-loop-side l = record {
       → (script : List ℕ) × (answers : List ℕ) × (l.fn.script ≡ script ++ l.script)
       × (l.fn.answers ≡ answers ++ l.answers) × StandsFor l.session (record {
         options = options;
-        script_told = is_script_ended l.session;
-        script = script;
-        answers_told = is_answers_ended l.session;
-        answers = answers;
+        script = record { bytes = script; ended = is_script_ended l.session };
+        answers = record { bytes = answers; ended = is_answers_ended l.session };
         taken = [];
       });
 }

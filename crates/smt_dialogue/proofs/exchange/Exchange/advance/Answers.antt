@@ -68,7 +68,18 @@ loop-self-preserved c =
     let x = c.loop-self.self in
     let y = c.take_turn.new.self in
     let z = record y { dialogue = c.gather.new.self } in
+    let w = c.requires.way in
+    let now = c.loop-self.invariant.way w.0 w.1 w.2 w.3 w.4 in
+    let next = turned_on c.in_ok-take_turn.field-0 x y w.0 now.0 now.1 now.2 c.in-GoesOn.is
+    (c.in_ok-take_turn.ensures.turn w.0 now.0 now.1 now.2 now.3) in
+    let on = gathered y z w.0 _ next.1 next.2 refl refl refl c.in_ok-gather-in-GoesOn.ensures.start
+    (λ early stands. c.in_ok-gather-in-GoesOn.ensures.stands w.0.taken early _ stands) next.3 in
     record {
+      commands = omega (
+        arith,
+        c.loop-self.invariant.commands,
+        one_more x z w.0 now.0 next.0 now.1 now.2 next.1 next.2 now.3 on,
+      );
       script_fed = c.take_turn.ensures.script_fed ∙ c.loop-self.invariant.script_fed;
       answers_fed = c.take_turn.ensures.answers_fed ∙ c.loop-self.invariant.answers_fed;
       start = c.in_ok-gather-in-GoesOn.ensures.start ∙ c.in_ok-take_turn.ensures.start
@@ -123,8 +134,8 @@ returns-in_err-settle-in-Waits-clause-cut c =
     (options_of c.args.self.now.dialogue) c.loop-self.invariant.start
     (c.in_err-settle-in-Waits.ensures.cut ∙ ap (λ (k : Decided). k.lines.items) c.take_turn.ensures.decided) h.3)
 
-pub returns-in-Waits-clause-rests : goal.returns-in-Waits-clause-rests
-returns-in-Waits-clause-rests c = λ texts pairs later rest first.
+pub returns-in-Waits-clause-advanced : goal.returns-in-Waits-clause-advanced
+returns-in-Waits-clause-advanced c = λ texts pairs later rest first.
     let x = c.loop-self.self in
     let y = c.take_turn.new.self in
     let z = record y { dialogue = c.settle.new.self } in
@@ -165,16 +176,16 @@ end-requires-clause-few c =
       c.requires.script_room,
     )
 
-pub returns-in_err-end-in-Ends-clause-cut : goal.returns-in_err-end-in-Ends-clause-cut
-returns-in_err-end-in-Ends-clause-cut c =
-    on_err c.from_residual-in_err-end-in-Ends.result (λ texts pairs later rest first.
+pub returns-in_err-verdict-in-Ends-clause-cut : goal.returns-in_err-verdict-in-Ends-clause-cut
+returns-in_err-verdict-in-Ends-clause-cut c =
+    on_err c.from_residual-in_err-verdict-in-Ends.result (λ texts pairs later rest first.
     let x = c.loop-self.self in
     let y = c.take_turn.new.self in
     let start = options_of c.args.self.now.dialogue in
     let h = c.loop-self.invariant.way texts pairs later rest first in
     let t = subst (λ (turn : Turn). IsTurned turn x y texts h.0 h.1 h.2) c.in-Ends.is
     (c.in_ok-take_turn.ensures.turn texts h.0 h.1 h.2 h.3) in
-    let cut = c.in_err-end-in-Ends.ensures.cut texts.taken t.0 h.0 t.1 in
+    let cut = c.in_err-verdict-in-Ends.ensures.cut texts.taken t.0 h.0 t.1 in
     cut_ended texts h.0 c.in-Ends.fault c.end.new.self.decided.lines.items start
     (ends_at x y texts h.0 h.1 h.2 start c.in-Ends.fault c.loop-self.invariant.start h.3 t) (
       subst (λ (o : Options). IsBeginning (texts.taken ++ c.end.new.self.decided.lines.items)
@@ -183,15 +194,15 @@ returns-in_err-end-in-Ends-clause-cut c =
       cut.1,
     ))
 
-pub returns-in-Ends-clause-rests : goal.returns-in-Ends-clause-rests
-returns-in-Ends-clause-rests c = λ texts pairs later rest first.
+pub returns-in-Ends-clause-advanced : goal.returns-in-Ends-clause-advanced
+returns-in-Ends-clause-advanced c = λ texts pairs later rest first.
     let x = c.loop-self.self in
     let y = c.take_turn.new.self in
     let start = options_of c.args.self.now.dialogue in
     let h = c.loop-self.invariant.way texts pairs later rest first in
     let t = subst (λ (turn : Turn). IsTurned turn x y texts h.0 h.1 h.2) c.in-Ends.is
     (c.in_ok-take_turn.ensures.turn texts h.0 h.1 h.2 h.3) in
-    let done = c.in_ok-end-in-Ends.ensures.ended texts.taken t.0 h.0 t.1 in
+    let done = c.in_ok-verdict-in-Ends.ensures.ended texts.taken t.0 h.0 t.1 in
     let same = c.in_ok-take_turn.ensures.start ∙ c.loop-self.invariant.start in (
       c.in-Ends.fault,
       h.0,
@@ -199,4 +210,42 @@ returns-in-Ends-clause-rests c = λ texts pairs later rest first.
       done.0 ∙ ap (λ (o : Options). lines_at_end o.limit.steps h.0 c.in-Ends.fault) same,
       done.1 ∙ ap (λ (o : Options). verdict_of (lines_in o.limit.steps true [] h.0 [] ++ lines_of_end c.in-Ends.fault))
           same,
+    )
+
+pub returns-then-has_enough-clause-advanced : goal.returns-then-has_enough-clause-advanced
+returns-then-has_enough-clause-advanced c = λ texts pairs later rest first.
+    let x = c.loop-self.self in
+    let y = c.take_turn.new.self in
+    let z = record y { dialogue = c.gather.new.self } in
+    let h = c.loop-self.invariant.way texts pairs later rest first in
+    let g = turned_on c.in_ok-take_turn.field-0 x y texts h.0 h.1 h.2 c.in-GoesOn.is
+    (c.in_ok-take_turn.ensures.turn texts h.0 h.1 h.2 h.3) in (
+      _,
+      g.1,
+      g.2,
+      gathered y z texts _ g.1 g.2 refl refl refl c.in_ok-gather-in-GoesOn.ensures.start
+          (λ early stands. c.in_ok-gather-in-GoesOn.ensures.stands texts.taken early _ stands) g.3,
+      c.in_ok-gather-in-GoesOn.ensures.start ∙ c.in_ok-take_turn.ensures.start ∙ c.loop-self.invariant.start,
+    )
+
+pub returns-then-has_enough-clause-paused : goal.returns-then-has_enough-clause-paused
+returns-then-has_enough-clause-paused c =
+    let x = c.loop-self.self in
+    let y = c.take_turn.new.self in
+    let z = record y { dialogue = c.gather.new.self } in
+    let w = c.requires.way in
+    let h = c.loop-self.invariant.way w.0 w.1 w.2 w.3 w.4 in
+    let g = turned_on c.in_ok-take_turn.field-0 x y w.0 h.0 h.1 h.2 c.in-GoesOn.is
+    (c.in_ok-take_turn.ensures.turn w.0 h.0 h.1 h.2 h.3) in
+    let on = gathered y z w.0 _ g.1 g.2 refl refl refl c.in_ok-gather-in-GoesOn.ensures.start
+    (λ early stands. c.in_ok-gather-in-GoesOn.ensures.stands w.0.taken early _ stands) g.3 in (
+      c.if-has_enough.ensures refl,
+      omega (arith, c.loop-self.invariant.commands, one_more x z w.0 h.0 g.0 h.1 h.2 g.1 g.2 h.3 on),
+      omega (
+        arith,
+        commands_at_most c.trees_are_few.ensures.few z w.0 _ g.1 g.2 on,
+        c.take_turn.ensures.script_fed,
+        c.loop-self.invariant.script_fed,
+        c.requires.script_room,
+      ),
     )
