@@ -34,3 +34,4 @@ pub mod SessionVerdictLemmas
 pub mod RunLemmas
 pub mod ClaimLemmas
 pub mod TakenClaimLemmas
+pub mod AnswerLawLemmas

@@ -1,7 +1,9 @@
 //! What holds of the definitions of a dialogue. Nothing here does anything: each contract is a law, and each
 //! call is of a law that it rests on.
 
+pub mod answers;
 pub mod so_far;
+pub mod windows;
 
 ghost use Rattle.std.specs.Prelude.{◌≡◌, ◌≤◌, ◌<◌, ℕ, ◌+◌, List, [], ◌∷◌, ◌++◌, length, Bool, true, false, ◌&&◌};
 ghost use Rattle.std.specs.Prelude.{Option, Ok, Err};

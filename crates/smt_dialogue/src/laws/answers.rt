@@ -1,0 +1,64 @@
+//! Laws of answers: which command takes which, and which say that their command took no effect. Nothing here
+//! does anything: each contract is a law.
+
+ghost use Rattle.std.specs.Prelude.{◌≡◌, ◌⊎◌, ◌↔◌, ℕ, List, [], ◌∷◌, true, false, codes, map};
+ghost use Rattle.smt_trees.specs.Sexp.{Atom, Cons, Items, Nil, Sexp, Sexps, Symbol, Text};
+ghost use Rattle.smt_script.specs.declared.command.Kind.TheVariants as kinds;
+ghost use Rattle.smt_dialogue.specs.Answers.{has_form, is_refusal, need_of_kind};
+ghost use Rattle.smt_dialogue.specs.declared.answer.AnswerForm.TheVariants as forms;
+ghost use Rattle.smt_dialogue.specs.declared.answer.Need.TheVariants.{Nothing, Optional, Needed};
+
+/// An answer says that its command took no effect exactly where it is the symbol `unsupported`, or a list of the
+/// symbol `error` and a string (SMT-LIB 2.6, section 3.9.1).
+pub fn refusals_are_unsupported_or_errors()
+    ensures { (answer : Sexp) → (is_refusal answer ≡ true) ↔ ((answer ≡ Atom Symbol (codes "unsupported"))
+        ⊎ ((message : List ℕ) × (answer
+        ≡ Items (Cons (Atom Symbol (codes "error")) (Cons (Atom Text message) Nil))))) }
+{}
+
+/// Which forms an answer has (SMT-LIB 2.6, section 3.9.1), from the answer's side: in this order the forms are
+/// `General`, `Success`, `Unsupported`, `Check`, `Model`, `Echo` and `Other`.
+pub fn answers_have_their_forms()
+    ensures success { map (λ f. has_form f (Atom Symbol (codes "success")))
+        (forms.General ∷ forms.Success ∷ forms.Unsupported ∷ forms.Check ∷ forms.Model ∷ forms.Echo
+        ∷ forms.Other ∷ []) ≡ true ∷ true ∷ false ∷ false ∷ false ∷ false ∷ false ∷ [] }
+    ensures unsupported { map (λ f. has_form f (Atom Symbol (codes "unsupported")))
+        (forms.General ∷ forms.Success ∷ forms.Unsupported ∷ forms.Check ∷ forms.Model ∷ forms.Echo
+        ∷ forms.Other ∷ []) ≡ true ∷ false ∷ true ∷ true ∷ true ∷ true ∷ true ∷ [] }
+    ensures error { (message : List ℕ)
+        → map (λ f. has_form f (Items (Cons (Atom Symbol (codes "error")) (Cons (Atom Text message) Nil))))
+        (forms.General ∷ forms.Success ∷ forms.Unsupported ∷ forms.Check ∷ forms.Model ∷ forms.Echo
+        ∷ forms.Other ∷ []) ≡ true ∷ false ∷ false ∷ true ∷ true ∷ true ∷ true ∷ [] }
+    ensures sat { map (λ f. has_form f (Atom Symbol (codes "sat")))
+        (forms.General ∷ forms.Success ∷ forms.Unsupported ∷ forms.Check ∷ forms.Model ∷ forms.Echo
+        ∷ forms.Other ∷ []) ≡ false ∷ false ∷ false ∷ true ∷ false ∷ false ∷ true ∷ [] }
+    ensures unsat { map (λ f. has_form f (Atom Symbol (codes "unsat")))
+        (forms.General ∷ forms.Success ∷ forms.Unsupported ∷ forms.Check ∷ forms.Model ∷ forms.Echo
+        ∷ forms.Other ∷ []) ≡ false ∷ false ∷ false ∷ true ∷ false ∷ false ∷ true ∷ [] }
+    ensures unknown { map (λ f. has_form f (Atom Symbol (codes "unknown")))
+        (forms.General ∷ forms.Success ∷ forms.Unsupported ∷ forms.Check ∷ forms.Model ∷ forms.Echo
+        ∷ forms.Other ∷ []) ≡ false ∷ false ∷ false ∷ true ∷ false ∷ false ∷ true ∷ [] }
+    ensures text { (bytes : List ℕ) → map (λ f. has_form f (Atom Text bytes))
+        (forms.General ∷ forms.Success ∷ forms.Unsupported ∷ forms.Check ∷ forms.Model ∷ forms.Echo
+        ∷ forms.Other ∷ []) ≡ false ∷ false ∷ false ∷ false ∷ false ∷ true ∷ true ∷ [] }
+    ensures list { (parts : Sexps) → map (λ f. has_form f (Items parts)) (forms.Model ∷ forms.Other ∷ [])
+        ≡ true ∷ true ∷ [] }
+{}
+
+/// What a command of each kind needs of the answers where `success` is printed, and where it is not: in this
+/// order `check-sat`, `get-model`, `echo`, other queries, `exit`, the option set to true and to false, other
+/// settings, the logic, changes and `reset`.
+pub fn needs_go_by_the_kind()
+    ensures printed { map (need_of_kind true)
+        (kinds.Check ∷ kinds.Model ∷ kinds.Echo ∷ kinds.Query ∷ kinds.Exit ∷ kinds.PrintSuccess true
+        ∷ kinds.PrintSuccess false ∷ kinds.Setting ∷ kinds.Logic ∷ kinds.Change ∷ kinds.Reset ∷ [])
+        ≡ Needed forms.Check ∷ Needed forms.Model ∷ Needed forms.Echo ∷ Needed forms.Other
+        ∷ Optional forms.Success ∷ Needed forms.General ∷ Optional forms.General ∷ Needed forms.General
+        ∷ Needed forms.General ∷ Needed forms.General ∷ Needed forms.General ∷ [] }
+    ensures silent { map (need_of_kind false)
+        (kinds.Check ∷ kinds.Model ∷ kinds.Echo ∷ kinds.Query ∷ kinds.Exit ∷ kinds.PrintSuccess true
+        ∷ kinds.PrintSuccess false ∷ kinds.Setting ∷ kinds.Logic ∷ kinds.Change ∷ kinds.Reset ∷ [])
+        ≡ Needed forms.Check ∷ Needed forms.Model ∷ Needed forms.Echo ∷ Needed forms.Other
+        ∷ Optional forms.Success ∷ Needed forms.General ∷ Optional forms.General
+        ∷ Optional forms.Unsupported ∷ Nothing ∷ Nothing ∷ Nothing ∷ [] }
+{}
