@@ -8,7 +8,7 @@ use crate::told::{
     Dialogue, answer_of, index_of_number, model_of, put_place, tell_answer, tell_command,
 };
 use crate::walk::all_in;
-use crate::world::{has_label, places_in, tree_of};
+use crate::world::{has_label, labels_of, places_in, tree_of};
 use smt_faults::{CommandFlaw, Memory, TermFlaw, TextFlaw};
 use smt_report::{Line, Side};
 use smt_theory::{Theories, op_of};
@@ -168,7 +168,7 @@ fn tell_term(
         }
         TermFlaw::NotFresh => {
             if head_of(text) == Head::Assert {
-                return Ok(());
+                return tell_label_in_use(page, dialogue, place, &tree);
             }
             tell_earlier(page, dialogue, place, word(text, 1))
         }
@@ -287,40 +287,108 @@ fn is_indexed_operator(name: &[u8]) -> bool {
     )
 }
 
-// The command before a place that brought a name which stands.
+// The first label of an assertion that is in use: by a command before it, by an operator, or by another label of it.
+fn tell_label_in_use(
+    page: &mut Page,
+    dialogue: &Dialogue<'_>,
+    place: usize,
+    tree: &Tree,
+) -> Result<(), Memory> {
+    let alloc = page.alloc;
+    let labels = labels_of(alloc, tree)?;
+    let standing = standing_before(alloc, dialogue, place)?;
+    for (index, label) in labels.as_slice().iter().enumerate() {
+        if tell_bringer(page, dialogue, standing.as_slice(), label.as_slice())? {
+            return Ok(());
+        }
+        for (other, earlier) in labels.as_slice().iter().enumerate() {
+            if other < index && earlier.as_slice() == label.as_slice() {
+                page.put(b"  in use: a label before it, ")?;
+                page.put(label.as_slice())?;
+                return page.end();
+            }
+        }
+    }
+    Ok(())
+}
+
+fn standing_before(
+    alloc: Global,
+    dialogue: &Dialogue<'_>,
+    place: usize,
+) -> Result<Vec<usize>, Memory> {
+    in_force(
+        alloc,
+        dialogue.texts.script,
+        dialogue.commands,
+        dialogue.pairs,
+        place,
+    )
+}
+
+// The command before a place that brought a name which stands, by a label too.
 fn tell_earlier(
     page: &mut Page,
     dialogue: &Dialogue<'_>,
     place: usize,
     name: &[u8],
 ) -> Result<(), Memory> {
-    let standing = in_force(
-        page.alloc,
-        dialogue.texts.script,
-        dialogue.commands,
-        dialogue.pairs,
-        place,
-    )?;
-    for each in standing.as_slice() {
-        if is_brought(dialogue, *each, name) {
-            let number = (*each as u64).saturating_add(1);
-            return tell_command(page, dialogue, b"  in use: ", number);
-        }
-    }
-    if is_operator(name) {
-        return page.line(b"  it is an operator's name");
-    }
+    let standing = standing_before(page.alloc, dialogue, place)?;
+    tell_bringer(page, dialogue, standing.as_slice(), name)?;
     Ok(())
 }
 
-// Whether a command declares or defines a name.
-fn is_brought(dialogue: &Dialogue<'_>, place: usize, name: &[u8]) -> bool {
-    match (dialogue.commands.get(place), dialogue.pairs.get(place)) {
-        (Some(span), Some(pair)) => {
-            pair.head != Head::Assert && word(text_at(dialogue.texts.script, *span), 1) == name
+// Tells the command among these that brought a name, or that it is an operator's, and answers whether it is either.
+fn tell_bringer(
+    page: &mut Page,
+    dialogue: &Dialogue<'_>,
+    standing: &[usize],
+    name: &[u8],
+) -> Result<bool, Memory> {
+    for place in standing {
+        if is_brought(page.alloc, dialogue, *place, name)? {
+            let number = (*place as u64).saturating_add(1);
+            tell_command(page, dialogue, b"  in use: ", number)?;
+            return Ok(true);
         }
-        _ => false,
     }
+    if !is_operator(name) {
+        return Ok(false);
+    }
+    page.line(b"  it is an operator's name")?;
+    Ok(true)
+}
+
+// Whether a command declares or defines a name, or has a label of it.
+fn is_brought(
+    alloc: Global,
+    dialogue: &Dialogue<'_>,
+    place: usize,
+    name: &[u8],
+) -> Result<bool, Memory> {
+    let (Some(span), Some(pair)) = (
+        dialogue.commands.get(place),
+        dialogue.pairs.get(place),
+    ) else {
+        return Ok(false);
+    };
+    let text = text_at(dialogue.texts.script, *span);
+    if pair.head != Head::Assert {
+        return Ok(word(text, 1) == name);
+    }
+    if !has_label(text) {
+        return Ok(false);
+    }
+    let Some(tree) = tree_of(alloc, text)? else {
+        return Ok(false);
+    };
+    let labels = labels_of(alloc, &tree)?;
+    for label in labels.as_slice() {
+        if label.as_slice() == name {
+            return Ok(true);
+        }
+    }
+    Ok(false)
 }
 
 // ---- items

@@ -9,6 +9,7 @@
 //! ```
 #![tactic(auto)]
 
+mod evaluation;
 mod faults;
 mod force;
 mod names;
@@ -18,6 +19,7 @@ mod parts;
 mod scan;
 mod show;
 mod told;
+mod values;
 mod walk;
 mod world;
 

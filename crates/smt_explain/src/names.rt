@@ -17,39 +17,72 @@ pub(crate) fn index_of<'a>(alloc: Global, world: &'a World) -> Result<Scope<'a, 
     Ok(index)
 }
 
-/// The definitions that a term uses, and those that these use, in order.
+/// Which definitions were met, by their places. Between two uses none is.
+#[derive(Drop)]
+pub(crate) struct Marks {
+    met: Vec<bool>,
+}
+
+impl Marks {
+    /// For the definitions of a world.
+    pub(crate) fn new(alloc: Global, world: &World) -> Result<Marks, Memory> {
+        let mut met = Vec::with_capacity(alloc, world.definitions.len())?;
+        for _ in world.definitions.as_slice() {
+            met.push(false)?;
+        }
+        Ok(Marks { met })
+    }
+
+    // Marks a place, and answers whether it was not marked before.
+    fn mark(&mut self, place: usize) -> bool {
+        match self.met.get_mut(place) {
+            Some(met) => {
+                let is_new = !*met;
+                *met = true;
+                is_new
+            }
+            None => false,
+        }
+    }
+
+    fn clear(&mut self, places: &[usize]) {
+        for place in places {
+            if let Some(met) = self.met.get_mut(*place) {
+                *met = false;
+            }
+        }
+    }
+}
+
+/// The definitions that a term uses, and those that these use, in order. It takes time in proportion to the term and
+/// to these.
 pub(crate) fn used_by<'a>(
     alloc: Global,
     world: &'a World,
     index: &Scope<'_, usize>,
     term: &Tree,
+    marks: &mut Marks,
 ) -> Result<Vec<Definition<'a>>, Memory> {
-    let mut marks: Vec<bool> = Vec::with_capacity(alloc, world.definitions.len())?;
-    for _ in world.definitions.as_slice() {
-        marks.push(false)?;
-    }
-    let mut left: Vec<usize> = Vec::new(alloc);
-    add_names(alloc, index, term, &mut marks, &mut left)?;
+    let mut places: Vec<usize> = Vec::new(alloc);
+    let mut found = find_names(alloc, index, term, marks, &mut places);
+    let mut next = 0usize;
     for _ in 0..world.definitions.len() {
-        let Some(place) = left.pop() else {
+        let Some(place) = places.get(next).copied() else {
             break;
         };
-        if let Some(defined) = world.definitions.get(place) {
-            add_names(alloc, index, &defined.body, &mut marks, &mut left)?;
+        next = next.saturating_add(1);
+        if found.is_ok()
+            && let Some(defined) = world.definitions.get(place)
+        {
+            found = find_names(alloc, index, &defined.body, marks, &mut places);
         }
     }
-    marked(alloc, world, marks.as_slice())
-}
-
-// The definitions at the places that are marked.
-fn marked<'a>(
-    alloc: Global,
-    world: &'a World,
-    marks: &[bool],
-) -> Result<Vec<Definition<'a>>, Memory> {
-    let mut used = Vec::new(alloc);
-    for (place, defined) in world.definitions.as_slice().iter().enumerate() {
-        if marks.get(place).copied() == Some(true) {
+    marks.clear(places.as_slice());
+    found?;
+    places.as_mut_slice().sort_unstable();
+    let mut used = Vec::with_capacity(alloc, places.len())?;
+    for place in places.as_slice() {
+        if let Some(defined) = world.definitions.get(*place) {
             push_definition(&mut used, defined)?;
         }
     }
@@ -69,60 +102,48 @@ fn push_definition<'a>(used: &mut Vec<Definition<'a>>, defined: &'a Defined) -> 
 }
 
 // Adds the places of the definitions that a term names and that are not marked, and marks them.
-fn add_names(
-    alloc: Global,
-    index: &Scope<'_, usize>,
-    term: &Tree,
-    marks: &mut Vec<bool>,
-    left: &mut Vec<usize>,
-) -> Result<(), Memory> {
-    let before = left.len();
-    find_names(alloc, index, term, left)?;
-    let mut kept = before;
-    for place in before..left.len() {
-        if let Some(found) = left.get(place).copied()
-            && mark(marks, found)
-            && let Some(slot) = left.get_mut(kept)
-        {
-            *slot = found;
-            kept = kept.saturating_add(1);
-        }
-    }
-    left.truncate(kept);
-    Ok(())
-}
-
-// Marks a place, and answers whether it was not marked before.
-fn mark(marks: &mut Vec<bool>, place: usize) -> bool {
-    match marks.get_mut(place) {
-        Some(mark) => {
-            let is_new = !*mark;
-            *mark = true;
-            is_new
-        }
-        None => false,
-    }
-}
-
 fn find_names(
     alloc: Global,
     index: &Scope<'_, usize>,
     tree: &Tree,
-    found: &mut Vec<usize>,
+    marks: &mut Marks,
+    places: &mut Vec<usize>,
 ) -> Result<(), Memory> {
     let all = all_in(alloc, tree)?;
     for part in all.as_slice() {
         if let Tree::Symbol(name) = *part
             && let Some(place) = index.find(name.as_slice())
+            && marks.mark(place)
         {
-            found.push(place)?;
+            // (a place that is marked is one of those to be cleared, or memory is refused for good)
+            places.push(place)?;
         }
     }
     Ok(())
 }
 
-/// What each definition's body costs, as in docs/LANGUAGE.md; 2^64 - 1 for that and more.
-pub(crate) fn costs_of<'a>(alloc: Global, world: &'a World) -> Result<Scope<'a, u64>, Memory> {
+/// What a term costs to evaluate: its steps, as in docs/LANGUAGE.md, 2^64 - 1 for that and more; and the most
+/// variables that a term in it sees, at most that too.
+#[derive(Clone, Copy)]
+pub(crate) struct Cost {
+    pub(crate) steps: u64,
+    pub(crate) width: u64,
+}
+
+// A term alone.
+const STEP: Cost = Cost { steps: 1, width: 0 };
+
+impl Cost {
+    fn and(self, other: Cost) -> Cost {
+        Cost {
+            steps: self.steps.saturating_add(other.steps),
+            width: self.width.max(other.width),
+        }
+    }
+}
+
+/// What each definition's body costs.
+pub(crate) fn costs_of<'a>(alloc: Global, world: &'a World) -> Result<Scope<'a, Cost>, Memory> {
     let mut costs = Scope::new(alloc);
     for defined in world.definitions.as_slice() {
         let cost = cost_of_body(alloc, &costs, defined)?;
@@ -131,22 +152,21 @@ pub(crate) fn costs_of<'a>(alloc: Global, world: &'a World) -> Result<Scope<'a, 
     Ok(costs)
 }
 
-fn cost_of_body(alloc: Global, costs: &Scope<'_, u64>, defined: &Defined) -> Result<u64, Memory> {
-    let mut bound = Vec::new(alloc);
+fn cost_of_body(
+    alloc: Global,
+    costs: &Scope<'_, Cost>,
+    defined: &Defined,
+) -> Result<Cost, Memory> {
+    let mut bound = Scope::new(alloc);
     for param in defined.params.as_slice() {
-        push_name(&mut bound, param.0.as_slice())?;
+        bound.push(param.0.as_slice(), ())?;
     }
     cost_behind(alloc, costs, bound, &defined.body)
 }
 
 /// What a closed term costs.
-pub(crate) fn cost_of(alloc: Global, costs: &Scope<'_, u64>, term: &Tree) -> Result<u64, Memory> {
-    cost_behind(alloc, costs, Vec::new(alloc), term)
-}
-
-fn push_name<'a>(names: &mut Vec<&'a [u8]>, name: &'a [u8]) -> Result<(), Memory> {
-    names.push(name)?;
-    Ok(())
+pub(crate) fn cost_of(alloc: Global, costs: &Scope<'_, Cost>, term: &Tree) -> Result<Cost, Memory> {
+    cost_behind(alloc, costs, Scope::new(alloc), term)
 }
 
 /// What is to be done next for a cost.
@@ -170,64 +190,65 @@ fn push_task<'a>(tasks: &mut Vec<Task<'a>>, task: Task<'a>) -> Result<(), Memory
 // What a term costs behind variables of these names.
 fn cost_behind<'a>(
     alloc: Global,
-    costs: &Scope<'_, u64>,
-    variables: Vec<&'a [u8]>,
+    costs: &Scope<'_, Cost>,
+    variables: Scope<'a, ()>,
     term: &'a Tree,
-) -> Result<u64, Memory> {
+) -> Result<Cost, Memory> {
     let mut bound = variables;
     let mut tasks = Vec::new(alloc);
     push_task(&mut tasks, Task::Count(term))?;
-    let mut sum = 0u64;
+    let mut sum = Cost {
+        steps: 0,
+        width: bound.len() as u64,
+    };
     for _ in 0..u64::MAX {
         let Some(task) = tasks.pop() else {
             break;
         };
         match task {
             Task::Count(term) => {
-                let own = own_cost(costs, bound.as_slice(), term);
-                sum = sum.saturating_add(own);
+                sum = sum.and(own_cost(costs, &bound, term));
                 push_parts(&mut tasks, bound.len(), term)?;
             }
             Task::Enter(bindings) => enter(&mut bound, bindings)?,
-            Task::Leave(count) => bound.truncate(count),
+            Task::Leave(count) => bound.cut(count),
         }
+        sum.width = sum.width.max(bound.len() as u64);
     }
     Ok(sum)
 }
 
-fn enter<'a>(bound: &mut Vec<&'a [u8]>, bindings: &'a [Tree]) -> Result<(), Memory> {
+fn enter<'a>(bound: &mut Scope<'a, ()>, bindings: &'a [Tree]) -> Result<(), Memory> {
     let mut left = bindings;
     for _ in 0..bindings.len() {
         let Some((name, _, rest)) = split_named(left) else {
             break;
         };
-        push_name(bound, name)?;
+        bound.push(name, ())?;
         left = rest;
     }
     Ok(())
 }
 
 // What a term costs beside the terms in it.
-fn own_cost(costs: &Scope<'_, u64>, bound: &[&[u8]], term: &Tree) -> u64 {
+fn own_cost(costs: &Scope<'_, Cost>, bound: &Scope<'_, ()>, term: &Tree) -> Cost {
     match term {
         Tree::Symbol(name) => cost_of_name(costs, bound, name.as_slice()),
         Tree::List(parts) => match split_first(parts.as_slice()) {
             Some((Tree::Symbol(name), _)) => cost_of_name(costs, bound, name.as_slice()),
-            _ => 1,
+            _ => STEP,
         },
-        _ => 1,
+        _ => STEP,
     }
 }
 
-fn cost_of_name(costs: &Scope<'_, u64>, bound: &[&[u8]], name: &[u8]) -> u64 {
-    for variable in bound {
-        if *variable == name {
-            return 1;
-        }
+fn cost_of_name(costs: &Scope<'_, Cost>, bound: &Scope<'_, ()>, name: &[u8]) -> Cost {
+    if bound.find(name).is_some() {
+        return STEP;
     }
     match costs.find(name) {
-        Some(body) => body.saturating_add(1),
-        None => 1,
+        Some(body) => STEP.and(body),
+        None => STEP,
     }
 }
 

@@ -1,11 +1,12 @@
 //! The explanation of a report, line by line. This file finds no line itself: it is handed them.
 
+use crate::evaluation::{Over, Stopped, Work, value_of};
 use crate::faults::{tell_command_fault, tell_item_fault, tell_pairing, tell_text_fault};
 use crate::force::in_force;
-use crate::names::{cost_of, costs_of, index_of, used_by};
+use crate::names::{Cost, Marks, cost_of, costs_of, index_of};
 use crate::page::Page;
 use crate::pairs::{Head, Pair, head_of, pair_up};
-use crate::parts::{Over, tell_parts, value_of};
+use crate::parts::{Known, tell_parts};
 use crate::scan::{Place, Scan, Span, find_trees, first_place, text_at};
 use crate::show::text_of;
 use crate::world::{World, tree_of, world_of};
@@ -22,7 +23,8 @@ const ROUNDS: u64 = 4;
 /// How many bytes are gone through where the texts are short.
 const LEAST: u64 = 10_000_000;
 
-/// Both texts of a dialogue, what the files are called, and whether the solver prints `success` from the start.
+/// Both texts of a dialogue, what the files are called, whether the solver prints `success` from the start, and how
+/// many steps of evaluation the explanation of a check may take.
 #[derive(Clone, Copy)]
 pub struct Texts<'a> {
     pub script: &'a [u8],
@@ -30,6 +32,7 @@ pub struct Texts<'a> {
     pub script_name: &'a [u8],
     pub answers_name: &'a [u8],
     pub prints_success: bool,
+    pub steps: u64,
 }
 
 /// What was found of both texts.
@@ -132,15 +135,19 @@ fn tell_line(
             command,
             model,
             claim,
+        } => {
+            tell_check(page, dialogue, check, command)?;
+            tell_claim(page, dialogue, command, model, claim, Known::False, left)?;
+            tell_model(page, dialogue, model)
         }
-        | Line::NotDecided {
+        Line::NotDecided {
             check,
             command,
             model,
             claim,
         } => {
             tell_check(page, dialogue, check, command)?;
-            tell_claim(page, dialogue, command, model, claim, left)?;
+            tell_claim(page, dialogue, command, model, claim, Known::Open, left)?;
             tell_model(page, dialogue, model)
         }
         Line::TextFault { side, flaw } => tell_text_fault(page, dialogue, side, flaw),
@@ -291,9 +298,9 @@ fn tell_claim(
     check: u64,
     model: u64,
     claim: Claim,
+    value: Known,
     left: &mut u64,
 ) -> Result<(), Memory> {
-    let alloc = page.alloc;
     let command = match claim {
         Claim::Assertion { command } => {
             tell_command(page, dialogue, b"  claim: ", command)?;
@@ -306,129 +313,60 @@ fn tell_claim(
             check
         }
     };
-    let Some(span) = dialogue.commands.get(index_of_number(command)) else {
-        return Ok(());
-    };
     if !take_work(dialogue, left) {
         return page.line(b"  (enough was looked at for the checks above)");
     }
-    let Some(tree) = tree_of(alloc, text_at(dialogue.texts.script, *span))? else {
+    let Some(tree) = tree_of_command(page.alloc, dialogue, command)? else {
         return Ok(());
     };
     let Some(term) = claim_term(&tree, claim) else {
         return Ok(());
     };
-    let standing = in_force(
-        alloc,
-        dialogue.texts.script,
-        dialogue.commands,
-        dialogue.pairs,
-        index_of_number(check),
-    )?;
-    let mut world = world_of(
-        alloc,
-        dialogue.texts.script,
-        dialogue.commands,
-        dialogue.pairs,
-        standing.as_slice(),
-        dialogue.texts.answers,
-        model_of(dialogue, model),
-    )?;
-    world.claim = Some(term.copy(alloc)?);
-    tell_in(page, dialogue, &world)?;
-    tell_others(page, dialogue, &world, standing.as_slice(), command, claim)
+    let claimed = Claimed {
+        check,
+        command,
+        claim,
+        value,
+    };
+    let (standing, mut world) = world_at(page.alloc, dialogue, check, model)?;
+    world.claim = Some(term.copy(page.alloc)?);
+    match tell_in(page, dialogue, &world, standing.as_slice(), claimed) {
+        Ok(()) => Ok(()),
+        Err(Stopped::Memory) => Err(Memory),
+        Err(Stopped::Steps) => {
+            page.line(b"  (no more was looked at: the steps are used up, and --steps sets how many there are)")
+        }
+    }
 }
 
-fn tell_in(page: &mut Page, dialogue: &Dialogue<'_>, world: &World) -> Result<(), Memory> {
-    let alloc = page.alloc;
-    let Some(term) = &world.claim else {
-        return Ok(());
-    };
-    let index = index_of(alloc, world)?;
-    let used = used_by(alloc, world, &index, term)?;
-    let over = Over {
-        alloc,
-        world,
-        index: &index,
-        used: used.as_slice(),
-        script_name: dialogue.texts.script_name,
-        answers_name: dialogue.texts.answers_name,
-    };
-    tell_parts(page, &over, term)
-}
-
-// The other assertions that are false, as far as they fit on the page.
-fn tell_others(
-    page: &mut Page,
-    dialogue: &Dialogue<'_>,
-    world: &World,
-    standing: &[usize],
-    told: u64,
+// A claim of a check, and what it is known to be.
+#[derive(Clone, Copy)]
+struct Claimed {
+    check: u64,
+    /// The command that has its term.
+    command: u64,
     claim: Claim,
-) -> Result<(), Memory> {
-    let Claim::Assertion { .. } = claim else {
-        return Ok(());
-    };
-    let index = index_of(page.alloc, world)?;
-    let size = (world.definitions.len() as u64).saturating_add(100);
-    let mut work = size_of_texts(dialogue.texts).saturating_add(LEAST);
-    for place in standing {
-        let number = (*place as u64).saturating_add(1);
-        if number <= told || !is_assertion(dialogue, *place) {
-            continue;
-        }
-        if work < size || !page.has_room() {
-            return page.line(b"  (the assertions behind these were not looked at)");
-        }
-        work = work.saturating_sub(size);
-        tell_other(page, dialogue, world, &index, number)?;
-    }
-    Ok(())
+    value: Known,
 }
 
-fn is_assertion(dialogue: &Dialogue<'_>, place: usize) -> bool {
-    match dialogue.pairs.get(place) {
-        Some(pair) => pair.head == Head::Assert,
-        None => false,
-    }
-}
-
-fn tell_other(
-    page: &mut Page,
+fn tree_of_command(
+    alloc: Global,
     dialogue: &Dialogue<'_>,
-    world: &World,
-    index: &Scope<'_, usize>,
-    number: u64,
-) -> Result<(), Memory> {
-    let Some(span) = dialogue.commands.get(index_of_number(number)) else {
-        return Ok(());
-    };
-    let Some(tree) = tree_of(page.alloc, text_at(dialogue.texts.script, *span))? else {
-        return Ok(());
-    };
-    let claim = Claim::Assertion { command: number };
-    let Some(term) = claim_term(&tree, claim) else {
-        return Ok(());
-    };
-    let used = used_by(page.alloc, world, index, term)?;
-    if value_of(page.alloc, used.as_slice(), term)? == Some(Value::Bool(false)) {
-        return tell_command(page, dialogue, b"  also false: ", number);
+    command: u64,
+) -> Result<Option<Tree>, Memory> {
+    match dialogue.commands.get(index_of_number(command)) {
+        Some(span) => tree_of(alloc, text_at(dialogue.texts.script, *span)),
+        None => Ok(None),
     }
-    Ok(())
 }
 
-// What the claims of a check cost, and which of them costs most.
-fn tell_cost(
-    page: &mut Page,
+// What stands at a check, and the definitions there, with those of the model that was printed for a command.
+fn world_at(
+    alloc: Global,
     dialogue: &Dialogue<'_>,
     check: u64,
     model: u64,
-    left: &mut u64,
-) -> Result<(), Memory> {
-    let alloc = page.alloc;
-    if !take_work(dialogue, left) {
-        return page.line(b"  (enough was looked at for the checks above)");
-    }
+) -> Result<(Vec<usize>, World), Memory> {
     let standing = in_force(
         alloc,
         dialogue.texts.script,
@@ -445,7 +383,128 @@ fn tell_cost(
         dialogue.texts.answers,
         model_of(dialogue, model),
     )?;
-    let costs = costs_of(alloc, &world)?;
+    Ok((standing, world))
+}
+
+fn tell_in(
+    page: &mut Page,
+    dialogue: &Dialogue<'_>,
+    world: &World,
+    standing: &[usize],
+    claimed: Claimed,
+) -> Result<(), Stopped> {
+    let alloc = page.alloc;
+    let Some(term) = &world.claim else {
+        return Ok(());
+    };
+    let index = index_of(alloc, world)?;
+    let costs = costs_of(alloc, world)?;
+    let over = Over {
+        alloc,
+        world,
+        index: &index,
+        costs: &costs,
+        script_name: dialogue.texts.script_name,
+        answers_name: dialogue.texts.answers_name,
+    };
+    let mut work = Work {
+        steps: dialogue.texts.steps,
+        marks: Marks::new(alloc, world)?,
+    };
+    tell_parts(page, &over, &mut work, term, claimed.value)?;
+    if claimed.value == Known::False {
+        tell_assertions(page, dialogue, &over, &mut work, standing, claimed)?;
+        tell_assumptions(page, dialogue, &over, &mut work, claimed)?;
+    }
+    Ok(())
+}
+
+// The assertions behind a claim that are false too, as far as they fit on the page.
+fn tell_assertions(
+    page: &mut Page,
+    dialogue: &Dialogue<'_>,
+    over: &Over<'_, '_>,
+    work: &mut Work,
+    standing: &[usize],
+    claimed: Claimed,
+) -> Result<(), Stopped> {
+    let Claim::Assertion { command } = claimed.claim else {
+        return Ok(());
+    };
+    for place in standing {
+        let number = (*place as u64).saturating_add(1);
+        if number <= command || !is_assertion(dialogue, *place) {
+            continue;
+        }
+        if !page.has_room() {
+            return Ok(());
+        }
+        let Some(tree) = tree_of_command(over.alloc, dialogue, number)? else {
+            continue;
+        };
+        if let Some(term) = claim_term(&tree, Claim::Assertion { command: number })
+            && value_of(over, work, term)? == Some(Value::Bool(false))
+        {
+            tell_command(page, dialogue, b"  also false: ", number)?;
+        }
+    }
+    Ok(())
+}
+
+// The assumptions of a check, behind a claim, that are false too.
+fn tell_assumptions(
+    page: &mut Page,
+    dialogue: &Dialogue<'_>,
+    over: &Over<'_, '_>,
+    work: &mut Work,
+    claimed: Claimed,
+) -> Result<(), Stopped> {
+    let Some(Tree::List(parts)) = tree_of_command(over.alloc, dialogue, claimed.check)? else {
+        return Ok(());
+    };
+    let [_, Tree::List(literals)] = parts.as_slice() else {
+        return Ok(());
+    };
+    let told = match claimed.claim {
+        Claim::Assumption { place } => place,
+        Claim::Assertion { .. } => 0,
+    };
+    for (index, literal) in literals.as_slice().iter().enumerate() {
+        let place = (index as u64).saturating_add(1);
+        if place <= told || !page.has_room() {
+            continue;
+        }
+        if value_of(over, work, literal)? == Some(Value::Bool(false)) {
+            page.put(b"  also false: assumption ")?;
+            page.put_number(place)?;
+            page.put(b" of the check: ")?;
+            page.put_cut(text_of(over.alloc, literal)?.as_slice())?;
+            page.end()?;
+        }
+    }
+    Ok(())
+}
+
+fn is_assertion(dialogue: &Dialogue<'_>, place: usize) -> bool {
+    match dialogue.pairs.get(place) {
+        Some(pair) => pair.head == Head::Assert,
+        None => false,
+    }
+}
+
+// What the claims of a check cost, and which of them costs most.
+fn tell_cost(
+    page: &mut Page,
+    dialogue: &Dialogue<'_>,
+    check: u64,
+    model: u64,
+    left: &mut u64,
+) -> Result<(), Memory> {
+    if !take_work(dialogue, left) {
+        return page.line(b"  (enough was looked at for the checks above)");
+    }
+    let (standing, world) = world_at(page.alloc, dialogue, check, model)?;
+    let costs = costs_of(page.alloc, &world)?;
     let mut sum = 0u64;
     let mut most = (0u64, 0u64);
     for place in standing.as_slice() {
@@ -471,7 +530,7 @@ fn tell_cost(
 fn cost_of_command(
     page: &Page,
     dialogue: &Dialogue<'_>,
-    costs: &Scope<'_, u64>,
+    costs: &Scope<'_, Cost>,
     number: u64,
 ) -> Result<u64, Memory> {
     let alloc = page.alloc;
@@ -492,7 +551,7 @@ fn cost_of_command(
     };
     let mut sum = 0u64;
     for term in terms {
-        sum = sum.saturating_add(cost_of(alloc, costs, term)?);
+        sum = sum.saturating_add(cost_of(alloc, costs, term)?.steps);
     }
     Ok(sum)
 }

@@ -2,12 +2,12 @@
 
 use crate::pairs::{Head, Pair};
 use crate::scan::{Place, Span, find_trees, part, text_at};
-use crate::walk::all_in;
+use crate::walk::all_inside_first;
 use smt_faults::{Memory, TextFault};
 use smt_forms::{ItemForm, is_bang, item_form, label_at, split_named};
 use smt_text::read_trees;
 use smt_theory::{Sort, Width};
-use smt_trees::{Tree, Trees, split_first};
+use smt_trees::{Tree, split_first};
 use std::alloc::Global;
 
 /// A name that a model, a command or a label defines.
@@ -161,42 +161,65 @@ fn add_form(
 
 // The labels inside a term, those inside an annotated term before its own.
 fn add_labels(alloc: Global, world: &mut World, tree: &Tree, place: Place) -> Result<(), Memory> {
-    let all = all_in(alloc, tree)?;
-    for part in all.as_slice().iter().rev() {
-        if let Tree::List(parts) = *part {
-            add_labels_of(alloc, world, parts, place)?;
+    let all = all_inside_first(alloc, tree)?;
+    for part in all.as_slice() {
+        if let Some((term, attributes)) = annotated(*part) {
+            let mut left = attributes;
+            for _ in 0..attributes.len() {
+                let Some((name, rest)) = next_label(left) else {
+                    break;
+                };
+                add_label(alloc, world, name, term, place)?;
+                left = rest;
+            }
         }
     }
     Ok(())
 }
 
-// The labels of an annotated term itself.
-fn add_labels_of(
-    alloc: Global,
-    world: &mut World,
-    parts: &Trees,
-    place: Place,
-) -> Result<(), Memory> {
-    let Some((head, rest)) = split_first(parts.as_slice()) else {
-        return Ok(());
-    };
-    if !is_bang(head) {
-        return Ok(());
+/// The names of the labels inside a term, in the order in which they are checked.
+pub(crate) fn labels_of(alloc: Global, tree: &Tree) -> Result<Vec<Vec<u8>>, Memory> {
+    let mut names = Vec::new(alloc);
+    let all = all_inside_first(alloc, tree)?;
+    for part in all.as_slice() {
+        if let Some((_, attributes)) = annotated(*part) {
+            let mut left = attributes;
+            for _ in 0..attributes.len() {
+                let Some((name, rest)) = next_label(left) else {
+                    break;
+                };
+                names.push(Vec::from_slice(alloc, name)?)?;
+                left = rest;
+            }
+        }
     }
-    let Some((term, attributes)) = split_first(rest) else {
-        return Ok(());
+    Ok(names)
+}
+
+// A term and its attributes, of an annotated one.
+fn annotated(tree: &Tree) -> Option<(&Tree, &[Tree])> {
+    let Tree::List(parts) = tree else {
+        return None;
     };
+    let (head, rest) = split_first(parts.as_slice())?;
+    if is_bang(head) {
+        split_first(rest)
+    } else {
+        None
+    }
+}
+
+// The next label among attributes, and what stands behind its keyword.
+fn next_label(attributes: &[Tree]) -> Option<(&[u8], &[Tree])> {
     let mut left = attributes;
     for _ in 0..attributes.len() {
-        let Some((attribute, rest)) = left.split_first() else {
-            break;
-        };
+        let (attribute, rest) = left.split_first()?;
         if let Some(name) = label_at(attribute, rest) {
-            add_label(alloc, world, name, term, place)?;
+            return Some((name, rest));
         }
         left = rest;
     }
-    Ok(())
+    None
 }
 
 fn add_label(
