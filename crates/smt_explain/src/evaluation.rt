@@ -1,7 +1,7 @@
 //! What is known of terms that see variables, over the definitions of a model and a script. This file evaluates no
 //! term itself: values are those of the plain evaluator.
 
-use crate::names::{Cost, Marks, cost_of, used_by};
+use crate::names::{Costs, used_by};
 use crate::show::constant;
 use crate::world::World;
 use smt_eval::plain::{Closed, Definition};
@@ -13,7 +13,7 @@ use smt_values::Value;
 use std::alloc::{AllocError, AllocFailed, Global};
 
 /// How many names are looked through for a step of evaluation.
-const NAMES: u64 = 16;
+const NAMES: u64 = 64;
 
 /// A variable that a part sees: what it has for a value, the term that gives it, and what that sees.
 #[derive(Drop)]
@@ -33,16 +33,16 @@ pub(crate) struct Over<'a, 'l> {
     pub(crate) alloc: Global,
     pub(crate) world: &'a World,
     pub(crate) index: &'l Scope<'a, usize>,
-    pub(crate) costs: &'l Scope<'a, Cost>,
     pub(crate) script_name: &'l [u8],
     pub(crate) answers_name: &'l [u8],
 }
 
-/// What is left of the steps of a check, and room for looking up definitions.
+/// What is left of the steps of a check and of the bytes of all of them, and what definitions cost.
 #[derive(Drop)]
 pub(crate) struct Work {
     pub(crate) steps: u64,
-    pub(crate) marks: Marks,
+    pub(crate) bytes: u64,
+    pub(crate) costs: Costs,
 }
 
 impl Work {
@@ -102,23 +102,21 @@ pub(crate) fn known(
 }
 
 /// What is known of a closed term over the definitions of a world. It takes as many steps as the term costs, as
-/// docs/LANGUAGE.md counts them, and one more of each for every sixteen names that are looked through.
+/// docs/LANGUAGE.md counts them, and one more of each for every 64 names that are looked through.
 pub(crate) fn value_of(
     over: &Over<'_, '_>,
     work: &mut Work,
     term: &Tree,
 ) -> Result<Option<Value>, Stopped> {
-    let cost = cost_of(over.alloc, over.costs, term)?;
-    work.take(cost.steps)?;
-    let used = used_by(
+    let (used, cost) = used_by(
         over.alloc,
         over.world,
         over.index,
+        &mut work.costs,
         term,
-        &mut work.marks,
     )?;
     let names = cost.width.saturating_add(used.len() as u64);
-    work.take(cost.steps.saturating_mul(names / NAMES))?;
+    work.take(cost.steps.saturating_mul(1 + names / NAMES))?;
     Ok(known(over.alloc, used.as_slice(), term)?)
 }
 

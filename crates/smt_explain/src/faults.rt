@@ -1,6 +1,6 @@
 //! What is told of faults: of a text, of a command, of an item of a model, and of the pairing.
 
-use crate::force::in_force;
+use crate::force::{Stand, has_label, in_force};
 use crate::page::Page;
 use crate::pairs::{Head, head_of, word};
 use crate::scan::{Place, Span, place_of, text_at};
@@ -8,7 +8,7 @@ use crate::told::{
     Dialogue, answer_of, index_of_number, model_of, put_place, tell_answer, tell_command,
 };
 use crate::walk::all_in;
-use crate::world::{has_label, labels_of, places_in, tree_of};
+use crate::world::{labels_of, places_in, tree_of};
 use smt_faults::{CommandFlaw, Memory, TermFlaw, TextFlaw};
 use smt_report::{Line, Side};
 use smt_theory::{Theories, op_of};
@@ -183,32 +183,28 @@ fn names_before(
     place: usize,
 ) -> Result<Vec<Vec<u8>>, Memory> {
     let alloc = page.alloc;
-    let standing = in_force(
-        alloc,
-        dialogue.texts.script,
-        dialogue.commands,
-        dialogue.pairs,
-        place,
-    )?;
+    let standing = in_force(alloc, dialogue.commands(), place)?;
     let mut names = Vec::new(alloc);
-    for each in standing.as_slice() {
-        if let (Some(span), Some(pair)) = (
-            dialogue.commands.get(*each),
-            dialogue.pairs.get(*each),
-        ) {
-            let text = text_at(dialogue.texts.script, *span);
-            if pair.head == Head::Assert {
-                if has_label(text)
-                    && let Some(tree) = tree_of(alloc, text)?
-                {
-                    bind_all(alloc, &tree, &mut names)?;
-                }
-            } else {
+    for stand in standing.as_slice() {
+        if let Some((head, text)) = dialogue.commands().at(stand.place) {
+            if head != Head::Assert {
                 names.push(Vec::from_slice(alloc, word(text, 1))?)?;
+            } else if has_label(text)
+                && let Some(tree) = tree_of(alloc, text)?
+            {
+                add_labels_of(alloc, &tree, &mut names)?;
             }
         }
     }
     Ok(names)
+}
+
+fn add_labels_of(alloc: Global, tree: &Tree, names: &mut Vec<Vec<u8>>) -> Result<(), Memory> {
+    let labels = labels_of(alloc, tree)?;
+    for label in labels.as_slice() {
+        add_name(alloc, names, label.as_slice())?;
+    }
+    Ok(())
 }
 
 // Adds every name that a term binds, in any part of it, and its labels.
@@ -296,7 +292,7 @@ fn tell_label_in_use(
 ) -> Result<(), Memory> {
     let alloc = page.alloc;
     let labels = labels_of(alloc, tree)?;
-    let standing = standing_before(alloc, dialogue, place)?;
+    let standing = in_force(alloc, dialogue.commands(), place)?;
     for (index, label) in labels.as_slice().iter().enumerate() {
         if tell_bringer(page, dialogue, standing.as_slice(), label.as_slice())? {
             return Ok(());
@@ -312,20 +308,6 @@ fn tell_label_in_use(
     Ok(())
 }
 
-fn standing_before(
-    alloc: Global,
-    dialogue: &Dialogue<'_>,
-    place: usize,
-) -> Result<Vec<usize>, Memory> {
-    in_force(
-        alloc,
-        dialogue.texts.script,
-        dialogue.commands,
-        dialogue.pairs,
-        place,
-    )
-}
-
 // The command before a place that brought a name which stands, by a label too.
 fn tell_earlier(
     page: &mut Page,
@@ -333,7 +315,7 @@ fn tell_earlier(
     place: usize,
     name: &[u8],
 ) -> Result<(), Memory> {
-    let standing = standing_before(page.alloc, dialogue, place)?;
+    let standing = in_force(page.alloc, dialogue.commands(), place)?;
     tell_bringer(page, dialogue, standing.as_slice(), name)?;
     Ok(())
 }
@@ -342,12 +324,12 @@ fn tell_earlier(
 fn tell_bringer(
     page: &mut Page,
     dialogue: &Dialogue<'_>,
-    standing: &[usize],
+    standing: &[Stand],
     name: &[u8],
 ) -> Result<bool, Memory> {
-    for place in standing {
-        if is_brought(page.alloc, dialogue, *place, name)? {
-            let number = (*place as u64).saturating_add(1);
+    for stand in standing {
+        if is_brought(page.alloc, dialogue, stand.place, name)? {
+            let number = (stand.place as u64).saturating_add(1);
             tell_command(page, dialogue, b"  in use: ", number)?;
             return Ok(true);
         }
@@ -366,14 +348,10 @@ fn is_brought(
     place: usize,
     name: &[u8],
 ) -> Result<bool, Memory> {
-    let (Some(span), Some(pair)) = (
-        dialogue.commands.get(place),
-        dialogue.pairs.get(place),
-    ) else {
+    let Some((head, text)) = dialogue.commands().at(place) else {
         return Ok(false);
     };
-    let text = text_at(dialogue.texts.script, *span);
-    if pair.head != Head::Assert {
+    if head != Head::Assert {
         return Ok(word(text, 1) == name);
     }
     if !has_label(text) {

@@ -1,6 +1,5 @@
 //! The definitions that a term needs, and what its evaluation costs. This file evaluates nothing.
 
-use crate::walk::all_in;
 use crate::world::{Defined, World};
 use smt_eval::plain::Definition;
 use smt_faults::Memory;
@@ -17,24 +16,37 @@ pub(crate) fn index_of<'a>(alloc: Global, world: &'a World) -> Result<Scope<'a, 
     Ok(index)
 }
 
-/// Which definitions were met, by their places. Between two uses none is.
+/// What a term costs to evaluate: its steps, as in docs/LANGUAGE.md, 2^64 - 1 for that and more; and the most
+/// variables that a term in it sees, or in a definition that it uses.
+#[derive(Clone, Copy)]
+pub(crate) struct Cost {
+    pub(crate) steps: u64,
+    pub(crate) width: u64,
+}
+
+/// What is known of each definition of a world, by its place: what its body costs, once that is asked, and whether it
+/// was met in a walk. Between two walks none was.
 #[derive(Drop)]
-pub(crate) struct Marks {
+pub(crate) struct Costs {
+    known: Vec<Option<Cost>>,
     met: Vec<bool>,
 }
 
-impl Marks {
+impl Costs {
     /// For the definitions of a world.
-    pub(crate) fn new(alloc: Global, world: &World) -> Result<Marks, Memory> {
-        let mut met = Vec::with_capacity(alloc, world.definitions.len())?;
-        for _ in world.definitions.as_slice() {
+    pub(crate) fn new(alloc: Global, world: &World) -> Result<Costs, Memory> {
+        let count = world.definitions.len();
+        let mut known = Vec::with_capacity(alloc, count)?;
+        let mut met = Vec::with_capacity(alloc, count)?;
+        for _ in 0..count {
+            push_cost(&mut known, None)?;
             met.push(false)?;
         }
-        Ok(Marks { met })
+        Ok(Costs { known, met })
     }
 
     // Marks a place, and answers whether it was not marked before.
-    fn mark(&mut self, place: usize) -> bool {
+    fn meet(&mut self, place: usize) -> bool {
         match self.met.get_mut(place) {
             Some(met) => {
                 let is_new = !*met;
@@ -45,48 +57,65 @@ impl Marks {
         }
     }
 
-    fn clear(&mut self, places: &[usize]) {
-        for place in places {
-            if let Some(met) = self.met.get_mut(*place) {
-                *met = false;
+    // What a term costs, whose outline this is.
+    fn cost(&self, outline: &Outline) -> Cost {
+        let mut cost = Cost {
+            steps: outline.own,
+            width: outline.width,
+        };
+        for place in outline.calls.as_slice() {
+            if let Some(Some(body)) = self.known.get(*place) {
+                cost.steps = cost.steps.saturating_add(body.steps);
+                cost.width = cost.width.max(body.width);
             }
         }
+        cost
     }
 }
 
-/// The definitions that a term uses, and those that these use, in order. It takes time in proportion to the term and
-/// to these.
+fn push_cost(costs: &mut Vec<Option<Cost>>, cost: Option<Cost>) -> Result<(), Memory> {
+    match costs.push(cost) {
+        Ok(()) => Ok(()),
+        Err(_) => Err(Memory),
+    }
+}
+
+/// The definitions that a closed term uses, and those that these use, in order, with what the term costs. It takes
+/// time in proportion to the term and to these.
 pub(crate) fn used_by<'a>(
     alloc: Global,
     world: &'a World,
     index: &Scope<'_, usize>,
+    costs: &mut Costs,
     term: &Tree,
-    marks: &mut Marks,
-) -> Result<Vec<Definition<'a>>, Memory> {
-    let mut places: Vec<usize> = Vec::new(alloc);
-    let mut found = find_names(alloc, index, term, marks, &mut places);
-    let mut next = 0usize;
-    for _ in 0..world.definitions.len() {
-        let Some(place) = places.get(next).copied() else {
-            break;
-        };
-        next = next.saturating_add(1);
-        if found.is_ok()
-            && let Some(defined) = world.definitions.get(place)
-        {
-            found = find_names(alloc, index, &defined.body, marks, &mut places);
+) -> Result<(Vec<Definition<'a>>, Cost), Memory> {
+    let outline = outline_of(alloc, index, Scope::new(alloc), term)?;
+    let mut places = Vec::new(alloc);
+    let found = find_all(alloc, world, index, costs, &outline, &mut places);
+    for place in places.as_slice() {
+        if let Some(met) = costs.met.get_mut(*place) {
+            *met = false;
         }
     }
-    marks.clear(places.as_slice());
     found?;
-    places.as_mut_slice().sort_unstable();
     let mut used = Vec::with_capacity(alloc, places.len())?;
     for place in places.as_slice() {
         if let Some(defined) = world.definitions.get(*place) {
             push_definition(&mut used, defined)?;
         }
     }
-    Ok(used)
+    Ok((used, costs.cost(&outline)))
+}
+
+/// What a closed term costs.
+pub(crate) fn cost_of(
+    alloc: Global,
+    world: &World,
+    index: &Scope<'_, usize>,
+    costs: &mut Costs,
+    term: &Tree,
+) -> Result<Cost, Memory> {
+    Ok(used_by(alloc, world, index, costs, term)?.1)
 }
 
 fn push_definition<'a>(used: &mut Vec<Definition<'a>>, defined: &'a Defined) -> Result<(), Memory> {
@@ -101,75 +130,81 @@ fn push_definition<'a>(used: &mut Vec<Definition<'a>>, defined: &'a Defined) -> 
     }
 }
 
-// Adds the places of the definitions that a term names and that are not marked, and marks them.
-fn find_names(
+// Finds the places of all that is used, in order, and what the bodies there cost. What was met stays marked.
+fn find_all(
     alloc: Global,
+    world: &World,
     index: &Scope<'_, usize>,
-    tree: &Tree,
-    marks: &mut Marks,
+    costs: &mut Costs,
+    outline: &Outline,
     places: &mut Vec<usize>,
 ) -> Result<(), Memory> {
-    let all = all_in(alloc, tree)?;
-    for part in all.as_slice() {
-        if let Tree::Symbol(name) = *part
-            && let Some(place) = index.find(name.as_slice())
-            && marks.mark(place)
-        {
-            // (a place that is marked is one of those to be cleared, or memory is refused for good)
-            places.push(place)?;
+    add_calls(costs, outline, places)?;
+    let mut next = 0usize;
+    for _ in 0..world.definitions.len() {
+        let Some(place) = places.get(next).copied() else {
+            break;
+        };
+        next = next.saturating_add(1);
+        if let Some(defined) = world.definitions.get(place) {
+            let body = outline_of_body(alloc, index, defined)?;
+            add_calls(costs, &body, places)?;
+        }
+    }
+    places.as_mut_slice().sort_unstable();
+    for place in places.as_slice() {
+        if let (Some(None), Some(defined)) = (
+            costs.known.get(*place),
+            world.definitions.get(*place),
+        ) {
+            let cost = costs.cost(&outline_of_body(alloc, index, defined)?);
+            if let Some(known) = costs.known.get_mut(*place) {
+                *known = Some(cost);
+            }
         }
     }
     Ok(())
 }
 
-/// What a term costs to evaluate: its steps, as in docs/LANGUAGE.md, 2^64 - 1 for that and more; and the most
-/// variables that a term in it sees, at most that too.
-#[derive(Clone, Copy)]
-pub(crate) struct Cost {
-    pub(crate) steps: u64,
-    pub(crate) width: u64,
-}
-
-// A term alone.
-const STEP: Cost = Cost { steps: 1, width: 0 };
-
-impl Cost {
-    fn and(self, other: Cost) -> Cost {
-        Cost {
-            steps: self.steps.saturating_add(other.steps),
-            width: self.width.max(other.width),
+// Adds the places that an outline names and that were not met. (Where memory is refused a place stays marked: then no
+// walk comes behind this one.)
+fn add_calls(
+    costs: &mut Costs,
+    outline: &Outline,
+    places: &mut Vec<usize>,
+) -> Result<(), Memory> {
+    for place in outline.calls.as_slice() {
+        if costs.meet(*place) {
+            places.push(*place)?;
         }
     }
+    Ok(())
 }
 
-/// What each definition's body costs.
-pub(crate) fn costs_of<'a>(alloc: Global, world: &'a World) -> Result<Scope<'a, Cost>, Memory> {
-    let mut costs = Scope::new(alloc);
-    for defined in world.definitions.as_slice() {
-        let cost = cost_of_body(alloc, &costs, defined)?;
-        costs.push(defined.name.as_slice(), cost)?;
-    }
-    Ok(costs)
+// ---- outlines
+
+/// What a term costs without the bodies of what it names, the most variables that a term in it sees, and the place of
+/// the definition of each name in it, at each use.
+#[derive(Drop)]
+struct Outline {
+    own: u64,
+    width: u64,
+    calls: Vec<usize>,
 }
 
-fn cost_of_body(
+fn outline_of_body(
     alloc: Global,
-    costs: &Scope<'_, Cost>,
+    index: &Scope<'_, usize>,
     defined: &Defined,
-) -> Result<Cost, Memory> {
+) -> Result<Outline, Memory> {
     let mut bound = Scope::new(alloc);
     for param in defined.params.as_slice() {
         bound.push(param.0.as_slice(), ())?;
     }
-    cost_behind(alloc, costs, bound, &defined.body)
+    outline_of(alloc, index, bound, &defined.body)
 }
 
-/// What a closed term costs.
-pub(crate) fn cost_of(alloc: Global, costs: &Scope<'_, Cost>, term: &Tree) -> Result<Cost, Memory> {
-    cost_behind(alloc, costs, Scope::new(alloc), term)
-}
-
-/// What is to be done next for a cost.
+/// What is to be done next for an outline.
 #[derive(Clone, Copy)]
 enum Task<'a> {
     /// Count a term.
@@ -187,19 +222,20 @@ fn push_task<'a>(tasks: &mut Vec<Task<'a>>, task: Task<'a>) -> Result<(), Memory
     }
 }
 
-// What a term costs behind variables of these names.
-fn cost_behind<'a>(
+// The outline of a term behind variables of these names.
+fn outline_of<'a>(
     alloc: Global,
-    costs: &Scope<'_, Cost>,
+    index: &Scope<'_, usize>,
     variables: Scope<'a, ()>,
     term: &'a Tree,
-) -> Result<Cost, Memory> {
+) -> Result<Outline, Memory> {
     let mut bound = variables;
     let mut tasks = Vec::new(alloc);
     push_task(&mut tasks, Task::Count(term))?;
-    let mut sum = Cost {
-        steps: 0,
+    let mut outline = Outline {
+        own: 0,
         width: bound.len() as u64,
+        calls: Vec::new(alloc),
     };
     for _ in 0..u64::MAX {
         let Some(task) = tasks.pop() else {
@@ -207,15 +243,18 @@ fn cost_behind<'a>(
         };
         match task {
             Task::Count(term) => {
-                sum = sum.and(own_cost(costs, &bound, term));
+                outline.own = outline.own.saturating_add(1);
+                add_call(index, &bound, term, &mut outline.calls)?;
                 push_parts(&mut tasks, bound.len(), term)?;
             }
-            Task::Enter(bindings) => enter(&mut bound, bindings)?,
+            Task::Enter(bindings) => {
+                enter(&mut bound, bindings)?;
+                outline.width = outline.width.max(bound.len() as u64);
+            }
             Task::Leave(count) => bound.cut(count),
         }
-        sum.width = sum.width.max(bound.len() as u64);
     }
-    Ok(sum)
+    Ok(outline)
 }
 
 fn enter<'a>(bound: &mut Scope<'a, ()>, bindings: &'a [Tree]) -> Result<(), Memory> {
@@ -230,25 +269,33 @@ fn enter<'a>(bound: &mut Scope<'a, ()>, bindings: &'a [Tree]) -> Result<(), Memo
     Ok(())
 }
 
-// What a term costs beside the terms in it.
-fn own_cost(costs: &Scope<'_, Cost>, bound: &Scope<'_, ()>, term: &Tree) -> Cost {
-    match term {
-        Tree::Symbol(name) => cost_of_name(costs, bound, name.as_slice()),
-        Tree::List(parts) => match split_first(parts.as_slice()) {
-            Some((Tree::Symbol(name), _)) => cost_of_name(costs, bound, name.as_slice()),
-            _ => STEP,
-        },
-        _ => STEP,
+// Adds the place of the definition that a term names, or that it calls.
+fn add_call(
+    index: &Scope<'_, usize>,
+    bound: &Scope<'_, ()>,
+    term: &Tree,
+    calls: &mut Vec<usize>,
+) -> Result<(), Memory> {
+    let Some(name) = name_of(term) else {
+        return Ok(());
+    };
+    if let Some(place) = index.find(name)
+        && bound.find(name).is_none()
+    {
+        calls.push(place)?;
     }
+    Ok(())
 }
 
-fn cost_of_name(costs: &Scope<'_, Cost>, bound: &Scope<'_, ()>, name: &[u8]) -> Cost {
-    if bound.find(name).is_some() {
-        return STEP;
-    }
-    match costs.find(name) {
-        Some(body) => STEP.and(body),
-        None => STEP,
+// The name that a term is, or that it begins with.
+fn name_of(term: &Tree) -> Option<&[u8]> {
+    match term {
+        Tree::Symbol(name) => Some(name.as_slice()),
+        Tree::List(parts) => match split_first(parts.as_slice()) {
+            Some((Tree::Symbol(name), _)) => Some(name.as_slice()),
+            _ => None,
+        },
+        _ => None,
     }
 }
 

@@ -2,8 +2,8 @@
 
 use crate::evaluation::{Over, Stopped, Work, value_of};
 use crate::faults::{tell_command_fault, tell_item_fault, tell_pairing, tell_text_fault};
-use crate::force::in_force;
-use crate::names::{Cost, Marks, cost_of, costs_of, index_of};
+use crate::force::{Commands, Stand, in_force};
+use crate::names::{Costs, cost_of, index_of};
 use crate::page::Page;
 use crate::pairs::{Head, Pair, head_of, pair_up};
 use crate::parts::{Known, tell_parts};
@@ -17,11 +17,12 @@ use smt_trees::{Tree, split_first};
 use smt_values::Value;
 use std::alloc::Global;
 
-/// How many bytes of texts and commands are gone through, all checks together, for each byte of both texts.
-const ROUNDS: u64 = 4;
-
-/// How many bytes are gone through where the texts are short.
+/// How many bytes of commands and models are gone through, all checks together, beside one and a half times those of
+/// both texts.
 const LEAST: u64 = 10_000_000;
+
+/// What is told of a check for which no work is left.
+const ENOUGH: &[u8] = b"  (enough was looked at for the checks above)";
 
 /// Both texts of a dialogue, what the files are called, whether the solver prints `success` from the start, and how
 /// many steps of evaluation the explanation of a check may take.
@@ -44,6 +45,16 @@ pub(crate) struct Dialogue<'a> {
     pub(crate) pairs: &'a [Pair],
     pub(crate) script_scan: &'a Scan,
     pub(crate) answers_scan: &'a Scan,
+}
+
+impl<'a> Dialogue<'a> {
+    pub(crate) fn commands(&self) -> Commands<'a> {
+        Commands {
+            script: self.texts.script,
+            spans: self.commands,
+            pairs: self.pairs,
+        }
+    }
 }
 
 /// The explanation of the lines that a report has on a dialogue: of each check that is not confirmed, and of the
@@ -69,9 +80,8 @@ pub fn explain(alloc: Global, texts: Texts<'_>, lines: &[Line]) -> Result<Vec<u8
         answers_scan: &answers_scan,
     };
     let mut page = Page::new(alloc);
-    let mut left = size_of_texts(texts)
-        .saturating_mul(ROUNDS)
-        .saturating_add(LEAST);
+    let size = size_of_texts(texts);
+    let mut left = size.saturating_add(size / 2).saturating_add(LEAST);
     for line in lines {
         page.begin();
         tell_line(&mut page, &dialogue, line, &mut left)?;
@@ -267,14 +277,24 @@ fn tell_model(page: &mut Page, dialogue: &Dialogue<'_>, model: u64) -> Result<()
 
 // ---- claims
 
-// Takes the work of one more check, or answers that too little is left.
-fn take_work(dialogue: &Dialogue<'_>, left: &mut u64) -> bool {
-    let work = size_of_texts(dialogue.texts);
-    if *left < work {
+// Takes so many bytes of what is left to be gone through, or answers that there are no so many.
+fn take_work(left: &mut u64, bytes: u64) -> bool {
+    if *left < bytes {
         return false;
     }
-    *left = left.saturating_sub(work);
+    *left = left.saturating_sub(bytes);
     true
+}
+
+// How many bytes what stands has.
+fn size_of(dialogue: &Dialogue<'_>, standing: &[Stand]) -> u64 {
+    let mut size = 0u64;
+    for stand in standing {
+        if let Some((_, text)) = dialogue.commands().at(stand.place) {
+            size = size.saturating_add(text.len() as u64);
+        }
+    }
+    size
 }
 
 // The term of a claim, out of its command.
@@ -313,9 +333,6 @@ fn tell_claim(
             check
         }
     };
-    if !take_work(dialogue, left) {
-        return page.line(b"  (enough was looked at for the checks above)");
-    }
     let Some(tree) = tree_of_command(page.alloc, dialogue, command)? else {
         return Ok(());
     };
@@ -328,9 +345,11 @@ fn tell_claim(
         claim,
         value,
     };
-    let (standing, mut world) = world_at(page.alloc, dialogue, check, model)?;
+    let Some((standing, mut world)) = world_at(page.alloc, dialogue, check, model, left)? else {
+        return page.line(ENOUGH);
+    };
     world.claim = Some(term.copy(page.alloc)?);
-    match tell_in(page, dialogue, &world, standing.as_slice(), claimed) {
+    match tell_in(page, dialogue, &world, standing.as_slice(), claimed, left) {
         Ok(()) => Ok(()),
         Err(Stopped::Memory) => Err(Memory),
         Err(Stopped::Steps) => {
@@ -360,63 +379,72 @@ fn tree_of_command(
     }
 }
 
-// What stands at a check, and the definitions there, with those of the model that was printed for a command.
+// What stands at a check, and the definitions there, with those of the model that was printed for a command; `None`
+// where too little work is left for that.
 fn world_at(
     alloc: Global,
     dialogue: &Dialogue<'_>,
     check: u64,
     model: u64,
-) -> Result<(Vec<usize>, World), Memory> {
-    let standing = in_force(
-        alloc,
-        dialogue.texts.script,
-        dialogue.commands,
-        dialogue.pairs,
-        index_of_number(check),
-    )?;
+    left: &mut u64,
+) -> Result<Option<(Vec<Stand>, World)>, Memory> {
+    let place = index_of_number(check);
+    if !take_work(left, place as u64) {
+        return Ok(None);
+    }
+    let standing = in_force(alloc, dialogue.commands(), place)?;
+    let printed = model_of(dialogue, model);
+    let model_size = match printed {
+        Some(span) => span.end.saturating_sub(span.start.byte) as u64,
+        None => 0,
+    };
+    let size = size_of(dialogue, standing.as_slice());
+    if !take_work(left, size.saturating_add(model_size)) {
+        return Ok(None);
+    }
     let world = world_of(
         alloc,
-        dialogue.texts.script,
-        dialogue.commands,
-        dialogue.pairs,
+        dialogue.commands(),
         standing.as_slice(),
         dialogue.texts.answers,
-        model_of(dialogue, model),
+        printed,
     )?;
-    Ok((standing, world))
+    Ok(Some((standing, world)))
 }
 
 fn tell_in(
     page: &mut Page,
     dialogue: &Dialogue<'_>,
     world: &World,
-    standing: &[usize],
+    standing: &[Stand],
     claimed: Claimed,
+    left: &mut u64,
 ) -> Result<(), Stopped> {
     let alloc = page.alloc;
     let Some(term) = &world.claim else {
         return Ok(());
     };
     let index = index_of(alloc, world)?;
-    let costs = costs_of(alloc, world)?;
     let over = Over {
         alloc,
         world,
         index: &index,
-        costs: &costs,
         script_name: dialogue.texts.script_name,
         answers_name: dialogue.texts.answers_name,
     };
     let mut work = Work {
         steps: dialogue.texts.steps,
-        marks: Marks::new(alloc, world)?,
+        bytes: *left,
+        costs: Costs::new(alloc, world)?,
     };
     tell_parts(page, &over, &mut work, term, claimed.value)?;
-    if claimed.value == Known::False {
-        tell_assertions(page, dialogue, &over, &mut work, standing, claimed)?;
-        tell_assumptions(page, dialogue, &over, &mut work, claimed)?;
+    if claimed.value != Known::False {
+        return Ok(());
     }
-    Ok(())
+    let told = tell_assertions(page, dialogue, &over, &mut work, standing, claimed);
+    *left = work.bytes;
+    told?;
+    tell_assumptions(page, dialogue, &over, &mut work, claimed)
 }
 
 // The assertions behind a claim that are false too, as far as they fit on the page.
@@ -425,21 +453,28 @@ fn tell_assertions(
     dialogue: &Dialogue<'_>,
     over: &Over<'_, '_>,
     work: &mut Work,
-    standing: &[usize],
+    standing: &[Stand],
     claimed: Claimed,
 ) -> Result<(), Stopped> {
     let Claim::Assertion { command } = claimed.claim else {
         return Ok(());
     };
-    for place in standing {
-        let number = (*place as u64).saturating_add(1);
-        if number <= command || !is_assertion(dialogue, *place) {
+    for stand in standing {
+        let number = (stand.place as u64).saturating_add(1);
+        if number <= command || !is_assertion(dialogue, stand) {
             continue;
         }
         if !page.has_room() {
             return Ok(());
         }
-        let Some(tree) = tree_of_command(over.alloc, dialogue, number)? else {
+        let Some((_, text)) = dialogue.commands().at(stand.place) else {
+            continue;
+        };
+        if !take_work(&mut work.bytes, text.len() as u64) {
+            page.line(b"  (the assertions behind these were not looked at)")?;
+            return Ok(());
+        }
+        let Some(tree) = tree_of(over.alloc, text)? else {
             continue;
         };
         if let Some(term) = claim_term(&tree, Claim::Assertion { command: number })
@@ -485,9 +520,9 @@ fn tell_assumptions(
     Ok(())
 }
 
-fn is_assertion(dialogue: &Dialogue<'_>, place: usize) -> bool {
-    match dialogue.pairs.get(place) {
-        Some(pair) => pair.head == Head::Assert,
+fn is_assertion(dialogue: &Dialogue<'_>, stand: &Stand) -> bool {
+    match dialogue.pairs.get(stand.place) {
+        Some(pair) => pair.head == Head::Assert && !stand.gone,
         None => false,
     }
 }
@@ -500,27 +535,30 @@ fn tell_cost(
     model: u64,
     left: &mut u64,
 ) -> Result<(), Memory> {
-    if !take_work(dialogue, left) {
-        return page.line(b"  (enough was looked at for the checks above)");
-    }
-    let (standing, world) = world_at(page.alloc, dialogue, check, model)?;
-    let costs = costs_of(page.alloc, &world)?;
+    let Some((standing, world)) = world_at(page.alloc, dialogue, check, model, left)? else {
+        return page.line(ENOUGH);
+    };
+    let index = index_of(page.alloc, &world)?;
+    let mut costs = Costs::new(page.alloc, &world)?;
     let mut sum = 0u64;
     let mut most = (0u64, 0u64);
-    for place in standing.as_slice() {
-        if is_assertion(dialogue, *place) {
-            let number = (*place as u64).saturating_add(1);
-            let cost = cost_of_command(page, dialogue, &costs, number)?;
+    for stand in standing.as_slice() {
+        if is_assertion(dialogue, stand) {
+            let number = (stand.place as u64).saturating_add(1);
+            let cost = cost_of_command(page.alloc, dialogue, &world, &index, &mut costs, number)?;
             sum = sum.saturating_add(cost);
             if cost > most.0 {
                 most = (cost, number);
             }
         }
     }
-    let own = cost_of_command(page, dialogue, &costs, check)?;
+    let own = cost_of_command(page.alloc, dialogue, &world, &index, &mut costs, check)?;
     page.put(b"  too long: the claims of this check cost ")?;
     page.put_number(sum.saturating_add(own))?;
     page.line(b" steps; --steps sets the limit")?;
+    if most.0 == 0 {
+        return Ok(());
+    }
     page.put(b"  most of it, ")?;
     page.put_number(most.0)?;
     tell_command(page, dialogue, b": ", most.1)
@@ -528,12 +566,13 @@ fn tell_cost(
 
 // What the terms of an assertion or of a check cost.
 fn cost_of_command(
-    page: &Page,
+    alloc: Global,
     dialogue: &Dialogue<'_>,
-    costs: &Scope<'_, Cost>,
+    world: &World,
+    index: &Scope<'_, usize>,
+    costs: &mut Costs,
     number: u64,
 ) -> Result<u64, Memory> {
-    let alloc = page.alloc;
     let Some(span) = dialogue.commands.get(index_of_number(number)) else {
         return Ok(0);
     };
@@ -551,7 +590,7 @@ fn cost_of_command(
     };
     let mut sum = 0u64;
     for term in terms {
-        sum = sum.saturating_add(cost_of(alloc, costs, term)?.steps);
+        sum = sum.saturating_add(cost_of(alloc, world, index, costs, term)?.steps);
     }
     Ok(sum)
 }

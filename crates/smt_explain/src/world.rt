@@ -1,6 +1,7 @@
 //! The definitions that a model and a script give to names, as their trees. This file evaluates nothing.
 
-use crate::pairs::{Head, Pair};
+use crate::force::{Commands, Stand, has_label};
+use crate::pairs::Head;
 use crate::scan::{Place, Span, find_trees, part, text_at};
 use crate::walk::all_inside_first;
 use smt_faults::{Memory, TextFault};
@@ -55,10 +56,8 @@ pub(crate) fn places_in(alloc: Global, text: &[u8], list: Span) -> Result<Vec<Sp
 /// The definitions of a model that is printed at a place, and of the commands that stand.
 pub(crate) fn world_of(
     alloc: Global,
-    script: &[u8],
-    commands: &[Span],
-    pairs: &[Pair],
-    standing: &[usize],
+    commands: Commands<'_>,
+    standing: &[Stand],
     answers: &[u8],
     model: Option<Span>,
 ) -> Result<World, Memory> {
@@ -69,9 +68,12 @@ pub(crate) fn world_of(
     if let Some(span) = model {
         add_model(alloc, &mut world, answers, span)?;
     }
-    for place in standing {
-        if let (Some(pair), Some(span)) = (pairs.get(*place), commands.get(*place)) {
-            add_command(alloc, &mut world, pair.head, script, *span)?;
+    for stand in standing {
+        if let (Some((head, text)), Some(span)) = (
+            commands.at(stand.place),
+            commands.spans.get(stand.place),
+        ) {
+            add_command(alloc, &mut world, head, text, span.start)?;
         }
     }
     Ok(world)
@@ -94,10 +96,9 @@ fn add_command(
     alloc: Global,
     world: &mut World,
     head: Head,
-    script: &[u8],
-    command: Span,
+    text: &[u8],
+    place: Place,
 ) -> Result<(), Memory> {
-    let text = text_at(script, command);
     let wanted = match head {
         Head::Define => true,
         Head::Assert => has_label(text),
@@ -110,24 +111,9 @@ fn add_command(
         return Ok(());
     };
     match item_form(&tree) {
-        Ok(form) => add_form(alloc, world, &form, command.start, false),
-        Err(_) => add_labels(alloc, world, &tree, command.start),
+        Ok(form) => add_form(alloc, world, &form, place, false),
+        Err(_) => add_labels(alloc, world, &tree, place),
     }
-}
-
-// Whether a text has the word of a label, perhaps in a comment or a string.
-pub(crate) fn has_label(text: &[u8]) -> bool {
-    let mut left = text;
-    for _ in 0..text.len() {
-        let Some((first, rest)) = left.split_first() else {
-            break;
-        };
-        if *first == b':' && rest.starts_with(b"named") {
-            return true;
-        }
-        left = rest;
-    }
-    false
 }
 
 fn add_form(
