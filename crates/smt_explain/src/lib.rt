@@ -19,6 +19,7 @@ mod parts;
 mod scan;
 mod show;
 mod told;
+mod unknown;
 mod values;
 mod walk;
 mod world;

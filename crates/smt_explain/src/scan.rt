@@ -56,6 +56,8 @@ struct Scanner {
     mode: Mode,
     depth: usize,
     here: Place,
+    /// Whether every token is found, in place of every tree.
+    tokens: bool,
     /// Where the outermost list that is open begins, and the token in turn.
     list: Place,
     token: Place,
@@ -65,10 +67,20 @@ struct Scanner {
 
 /// Finds the trees of a text, whose first byte stands at a place.
 pub fn find_trees(alloc: Global, text: &[u8], from: Place) -> Result<Scan, Memory> {
+    scan(alloc, text, from, false)
+}
+
+/// Finds the tokens of a text, at every depth, but for parentheses.
+pub(crate) fn find_tokens(alloc: Global, text: &[u8], from: Place) -> Result<Vec<Span>, Memory> {
+    Ok(scan(alloc, text, from, true)?.spans)
+}
+
+fn scan(alloc: Global, text: &[u8], from: Place, tokens: bool) -> Result<Scan, Memory> {
     let mut scanner = Scanner {
         mode: Mode::Gap,
         depth: 0,
         here: from,
+        tokens,
         list: from,
         token: from,
         spans: Vec::new(alloc),
@@ -177,7 +189,7 @@ impl Scanner {
         }
         self.depth = self.depth.saturating_sub(1);
         self.open.truncate(self.depth);
-        if self.depth == 0 {
+        if self.depth == 0 && !self.tokens {
             self.spans.push(Span {
                 start: self.list,
                 end: self.here.byte.saturating_add(1),
@@ -188,7 +200,7 @@ impl Scanner {
 
     fn end_token(&mut self, end: usize) -> Result<(), Memory> {
         self.mode = Mode::Gap;
-        if self.depth == 0 {
+        if self.depth == 0 || self.tokens {
             self.spans.push(Span {
                 start: self.token,
                 end,

@@ -2,7 +2,7 @@
 
 use crate::evaluation::{Over, Stopped, Work, value_of};
 use crate::faults::{tell_command_fault, tell_item_fault, tell_pairing, tell_text_fault};
-use crate::force::{Commands, Stand, in_force};
+use crate::force::{Commands, Stand, has_label, in_force};
 use crate::names::{Costs, cost_of, index_of};
 use crate::page::Page;
 use crate::pairs::{Head, Pair, head_of, pair_up};
@@ -17,8 +17,7 @@ use smt_trees::{Tree, split_first};
 use smt_values::Value;
 use std::alloc::Global;
 
-/// How many bytes of commands and models are gone through, all checks together, beside one and a half times those of
-/// both texts.
+/// How many bytes of commands and models are read, all checks together, beside as many as both texts have.
 const LEAST: u64 = 10_000_000;
 
 /// What is told of a check for which no work is left.
@@ -80,8 +79,7 @@ pub fn explain(alloc: Global, texts: Texts<'_>, lines: &[Line]) -> Result<Vec<u8
         answers_scan: &answers_scan,
     };
     let mut page = Page::new(alloc);
-    let size = size_of_texts(texts);
-    let mut left = size.saturating_add(size / 2).saturating_add(LEAST);
+    let mut left = size_of_texts(texts).saturating_add(LEAST);
     for line in lines {
         page.begin();
         tell_line(&mut page, &dialogue, line, &mut left)?;
@@ -286,12 +284,14 @@ fn take_work(left: &mut u64, bytes: u64) -> bool {
     true
 }
 
-// How many bytes what stands has.
+// How many bytes are read for the definitions of what stands. An assertion without labels is only looked over.
 fn size_of(dialogue: &Dialogue<'_>, standing: &[Stand]) -> u64 {
     let mut size = 0u64;
     for stand in standing {
-        if let Some((_, text)) = dialogue.commands().at(stand.place) {
-            size = size.saturating_add(text.len() as u64);
+        if let Some((head, text)) = dialogue.commands().at(stand.place) {
+            let bytes = text.len() as u64;
+            let is_read = head != Head::Assert || has_label(text);
+            size = size.saturating_add(if is_read { bytes } else { bytes / 8 });
         }
     }
     size

@@ -163,25 +163,6 @@ fn add_labels(alloc: Global, world: &mut World, tree: &Tree, place: Place) -> Re
     Ok(())
 }
 
-/// The names of the labels inside a term, in the order in which they are checked.
-pub(crate) fn labels_of(alloc: Global, tree: &Tree) -> Result<Vec<Vec<u8>>, Memory> {
-    let mut names = Vec::new(alloc);
-    let all = all_inside_first(alloc, tree)?;
-    for part in all.as_slice() {
-        if let Some((_, attributes)) = annotated(*part) {
-            let mut left = attributes;
-            for _ in 0..attributes.len() {
-                let Some((name, rest)) = next_label(left) else {
-                    break;
-                };
-                names.push(Vec::from_slice(alloc, name)?)?;
-                left = rest;
-            }
-        }
-    }
-    Ok(names)
-}
-
 // A term and its attributes, of an annotated one.
 fn annotated(tree: &Tree) -> Option<(&Tree, &[Tree])> {
     let Tree::List(parts) = tree else {
