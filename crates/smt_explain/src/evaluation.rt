@@ -1,6 +1,10 @@
 //! What is known of terms that see variables, over the definitions of a model and a script. This file evaluates no
 //! term itself: values are those of the plain evaluator.
 
+ghost use Rattle.std.specs.Prelude.{IfOk};
+ghost use Rattle.smt_trees.specs.Tree.{sexp_of};
+ghost use Rattle.smt_explain.specs.Values.{IsKnownOver};
+
 use crate::names::{Costs, used_by};
 use crate::show::constant;
 use crate::world::World;
@@ -88,7 +92,9 @@ pub(crate) fn known(
     alloc: Global,
     definitions: &[Definition<'_>],
     term: &Tree,
-) -> Result<Option<Value>, Memory> {
+) -> Result<Option<Value>, Memory>
+    ensures { IfOk result (λ v. IsKnownOver definitions.now (sexp_of term.now) v) }
+{
     Closed {
         alloc,
         theories: Theories {
@@ -108,13 +114,7 @@ pub(crate) fn value_of(
     work: &mut Work,
     term: &Tree,
 ) -> Result<Option<Value>, Stopped> {
-    let (used, cost) = used_by(
-        over.alloc,
-        over.world,
-        over.index,
-        &mut work.costs,
-        term,
-    )?;
+    let (used, cost) = used_by(over.alloc, over.world, over.index, &mut work.costs, term)?;
     let names = cost.width.saturating_add(used.len() as u64);
     work.take(cost.steps.saturating_mul(1 + names / NAMES))?;
     Ok(known(over.alloc, used.as_slice(), term)?)
@@ -128,7 +128,11 @@ fn bound_at<'b, 'a>(bounds: &'b [Bound<'a>], scope: usize) -> Option<&'b Bound<'
 }
 
 /// The innermost variable of a name in a scope.
-pub(crate) fn find<'b, 'a>(bounds: &'b [Bound<'a>], scope: usize, name: &[u8]) -> Option<&'b Bound<'a>> {
+pub(crate) fn find<'b, 'a>(
+    bounds: &'b [Bound<'a>],
+    scope: usize,
+    name: &[u8],
+) -> Option<&'b Bound<'a>> {
     let mut scope = scope;
     for _ in 0..bounds.len() {
         let bound = bound_at(bounds, scope)?;

@@ -235,11 +235,7 @@ fn tell_label_in_use(
     Ok(())
 }
 
-fn tell_label_before(
-    page: &mut Page,
-    dialogue: &Dialogue<'_>,
-    place: Place,
-) -> Result<(), Memory> {
+fn tell_label_before(page: &mut Page, dialogue: &Dialogue<'_>, place: Place) -> Result<(), Memory> {
     page.put(b"  in use: the label at ")?;
     put_place(page, dialogue.texts.script_name, place)?;
     page.end()
@@ -251,7 +247,10 @@ fn tell_sort_in_use(
     place: usize,
     name: &[u8],
 ) -> Result<(), Memory> {
-    match brought_before(page.alloc, dialogue, place)?.sorts.find(name) {
+    match brought_before(page.alloc, dialogue, place)?
+        .sorts
+        .find(name)
+    {
         Some(bringer) => tell_bringer(page, dialogue, Some(bringer), name),
         None => page.line(b"  it is a sort of a theory"),
     }
@@ -264,7 +263,9 @@ fn tell_earlier(
     place: usize,
     name: &[u8],
 ) -> Result<(), Memory> {
-    let bringer = brought_before(page.alloc, dialogue, place)?.names.find(name);
+    let bringer = brought_before(page.alloc, dialogue, place)?
+        .names
+        .find(name);
     tell_bringer(page, dialogue, bringer, name)
 }
 
@@ -381,7 +382,10 @@ fn tell_declared(
     check: usize,
     name: &[u8],
 ) -> Result<(), Memory> {
-    match brought_before(page.alloc, dialogue, check)?.names.find(name) {
+    match brought_before(page.alloc, dialogue, check)?
+        .names
+        .find(name)
+    {
         Some(place) => {
             let number = (place as u64).saturating_add(1);
             tell_command(page, dialogue, b"  declared: ", number)

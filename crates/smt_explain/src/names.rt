@@ -168,11 +168,7 @@ fn find_all(
 
 // Adds the places that an outline names and that were not met. (Where memory is refused a place stays marked: then no
 // walk comes behind this one.)
-fn add_calls(
-    costs: &mut Costs,
-    outline: &Outline,
-    places: &mut Vec<usize>,
-) -> Result<(), Memory> {
+fn add_calls(costs: &mut Costs, outline: &Outline, places: &mut Vec<usize>) -> Result<(), Memory> {
     for place in outline.calls.as_slice() {
         if costs.meet(*place) {
             places.push(*place)?;

@@ -90,7 +90,9 @@ fn go_down<'a>(
                 Some((term, _)) => push_part(left, Part { term, ..part }),
                 None => Ok(()),
             },
-            Some((Tree::Reserved(Word::Let), args)) => go_into_let(over, work, bounds, part, args, left),
+            Some((Tree::Reserved(Word::Let), args)) => go_into_let(
+                over, work, bounds, part, args, left,
+            ),
             Some((Tree::Symbol(name), args)) => {
                 go_into_call(over, work, bounds, part, name.as_slice(), args, left)
             }
@@ -290,11 +292,7 @@ fn push_those<'a>(
 }
 
 // The first with a value.
-fn push_one<'a>(
-    inner: &[Part<'a>],
-    value: Known,
-    left: &mut Vec<Part<'a>>,
-) -> Result<(), Stopped> {
+fn push_one<'a>(inner: &[Part<'a>], value: Known, left: &mut Vec<Part<'a>>) -> Result<(), Stopped> {
     for part in inner {
         if part.value == value {
             return push_part(left, *part);

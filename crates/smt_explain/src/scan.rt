@@ -1,6 +1,9 @@
 //! The places of the trees of a text. This file makes no tree, and knows of a text only where its tokens and
 //! lists begin and end.
 
+ghost use Rattle.std.specs.Prelude.{◌≡◌, take};
+ghost use Rattle.smt_explain.specs.Places as places;
+
 use smt_faults::Memory;
 use std::alloc::Global;
 
@@ -67,15 +70,15 @@ struct Scanner {
 
 /// Finds the trees of a text, whose first byte stands at a place.
 pub fn find_trees(alloc: Global, text: &[u8], from: Place) -> Result<Scan, Memory> {
-    scan(alloc, text, from, false)
+    scan_text(alloc, text, from, false)
 }
 
 /// Finds the tokens of a text, at every depth, but for parentheses.
 pub(crate) fn find_tokens(alloc: Global, text: &[u8], from: Place) -> Result<Vec<Span>, Memory> {
-    Ok(scan(alloc, text, from, true)?.spans)
+    Ok(scan_text(alloc, text, from, true)?.spans)
 }
 
-fn scan(alloc: Global, text: &[u8], from: Place, tokens: bool) -> Result<Scan, Memory> {
+fn scan_text(alloc: Global, text: &[u8], from: Place, tokens: bool) -> Result<Scan, Memory> {
     let mut scanner = Scanner {
         mode: Mode::Gap,
         depth: 0,
@@ -88,29 +91,12 @@ fn scan(alloc: Global, text: &[u8], from: Place, tokens: bool) -> Result<Scan, M
     };
     for byte in text {
         scanner.take(*byte)?;
-        scanner.step(*byte);
+        scanner.here = behind(scanner.here, *byte);
     }
     scanner.finish()
 }
 
 impl Scanner {
-    // Goes on to the next byte.
-    fn step(&mut self, byte: u8) {
-        self.here = Place {
-            byte: self.here.byte.saturating_add(1),
-            line: if byte == b'\n' {
-                self.here.line.saturating_add(1)
-            } else {
-                self.here.line
-            },
-            column: if byte == b'\n' {
-                1
-            } else {
-                self.here.column.saturating_add(1)
-            },
-        };
-    }
-
     fn take(&mut self, byte: u8) -> Result<(), Memory> {
         match self.mode {
             Mode::Gap => self.begin(byte),
@@ -251,7 +237,9 @@ pub(crate) fn text_at(text: &[u8], span: Span) -> &[u8] {
 }
 
 /// The place of the first byte of a text.
-pub(crate) fn first_place() -> Place {
+pub(crate) fn first_place() -> Place
+    ensures { result ≡ places.first }
+{
     Place {
         byte: 0,
         line: 1,
@@ -259,26 +247,42 @@ pub(crate) fn first_place() -> Place {
     }
 }
 
-/// The place of a byte of a text.
-pub(crate) fn place_of(text: &[u8], byte: usize) -> Place {
-    let mut place = first_place();
-    for (index, each) in text.iter().enumerate() {
-        if index >= byte {
-            return place;
-        }
-        place = Place {
-            byte: place.byte.saturating_add(1),
-            line: if *each == b'\n' {
-                place.line.saturating_add(1)
-            } else {
-                place.line
-            },
-            column: if *each == b'\n' {
-                1
-            } else {
-                place.column.saturating_add(1)
-            },
-        };
+/// The place of a byte of a text, or of its end where it has no such byte.
+pub(crate) fn place_of(text: &[u8], byte: usize) -> Place
+    ensures { result ≡ places.place_behind (take byte text.now) places.first }
+{
+    place_behind(&text[..byte.min(text.len())], first_place())
+}
+
+// The place behind bytes that begin at a place.
+fn place_behind(text: &[u8], place: Place) -> Place
+    ensures { result ≡ places.place_behind text.now place }
+{
+    let mut here = place;
+    let mut left = text;
+    while let Some((byte, rest)) = left.split_first() {
+        here = behind(here, *byte);
+        left = rest;
     }
-    place
+    here
+}
+
+// The place behind a byte at a place.
+fn behind(place: Place, byte: u8) -> Place
+    ensures { result ≡ places.behind_byte byte place }
+{
+    let ends = byte == b'\n';
+    Place {
+        byte: place.byte.saturating_add(1),
+        line: if ends {
+            place.line.saturating_add(1)
+        } else {
+            place.line
+        },
+        column: if ends {
+            1
+        } else {
+            place.column.saturating_add(1)
+        },
+    }
 }

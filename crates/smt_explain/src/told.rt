@@ -353,7 +353,9 @@ fn tell_claim(
         Ok(()) => Ok(()),
         Err(Stopped::Memory) => Err(Memory),
         Err(Stopped::Steps) => {
-            page.line(b"  (no more was looked at: the steps are used up, and --steps sets how many there are)")
+            page.line(
+                b"  (no more was looked at: the steps are used up, and --steps sets how many there are)",
+            )
         }
     }
 }

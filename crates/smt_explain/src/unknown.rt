@@ -5,7 +5,9 @@ use crate::force::{Commands, Stand, has_label};
 use crate::pairs::{Head, word};
 use crate::scan::{find_tokens, first_place, text_at};
 use smt_faults::Memory;
-use smt_forms::{ItemForm, Scope, is_bang, is_let, is_underscore, item_form, split_let, split_named};
+use smt_forms::{
+    ItemForm, Scope, is_bang, is_let, is_underscore, item_form, split_let, split_named,
+};
 use smt_theory::{Theories, op_of};
 use smt_trees::{Tree, split_first};
 use std::alloc::Global;
@@ -116,8 +118,10 @@ pub(crate) fn unknown_in_command<'a>(
             Ok(form) => unknown_in_form(alloc, known, &form),
             Err(_) => Ok(None),
         },
-        (_, [_, _, Tree::List(sorts), sort]) => Ok(unknown_sort_in(&known.sorts, sorts.as_slice())
-            .or(unknown_in_sort(&known.sorts, sort))),
+        (_, [_, _, Tree::List(sorts), sort]) => Ok(unknown_sort_in(
+            &known.sorts,
+            sorts.as_slice(),
+        ).or(unknown_in_sort(&known.sorts, sort))),
         (_, [_, _, sort]) => Ok(unknown_in_sort(&known.sorts, sort)),
         _ => Ok(None),
     }
