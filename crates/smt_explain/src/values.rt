@@ -4,8 +4,9 @@
 use crate::evaluation::{Bound, Over, Stopped, Work, find, value_in};
 use crate::page::Page;
 use crate::parts::{Known, Part, defined_at, is_literal};
-use crate::show::{constant, text_of};
+use crate::show::{constant, put_name, text_of};
 use crate::walk::all_in;
+use crate::world::Defined;
 use smt_faults::Memory;
 use smt_trees::{Tree, Word, split_first};
 use smt_values::Value;
@@ -44,7 +45,7 @@ pub(crate) fn tell_part<'a>(
         page.put(b":")?;
         page.put_number(defined.place.column)?;
         page.put(b", in ")?;
-        page.put(defined.name.as_slice())?;
+        put_defined(page, defined)?;
     }
     page.end()?;
     if part.value == Known::Open {
@@ -266,7 +267,7 @@ fn tell_items(page: &mut Page, over: &Over<'_, '_>, items: &[usize]) -> Result<(
         if let Some(defined) = over.world.definitions.get(*place) {
             page.put(if any { b", " } else { b"    items: " })?;
             any = true;
-            page.put(defined.name.as_slice())?;
+            put_defined(page, defined)?;
             page.put(b" at ")?;
             page.put(over.answers_name)?;
             page.put(b":")?;
@@ -279,4 +280,11 @@ fn tell_items(page: &mut Page, over: &Over<'_, '_>, items: &[usize]) -> Result<(
         page.end()?;
     }
     Ok(())
+}
+
+// The name of a definition, between bars where it is no plain one.
+fn put_defined(page: &mut Page, defined: &Defined) -> Result<(), Memory> {
+    let mut name = Vec::new(page.alloc);
+    put_name(&mut name, defined.name.as_slice())?;
+    page.put_cut(name.as_slice())
 }

@@ -2,7 +2,7 @@
 
 ghost use Rattle.std.specs.Prelude.{◌<◌, ◌-◌, ◌^◌};
 
-use crate::hints::{Hint, are_exchanged};
+use crate::hints::{Hint, confirmed};
 use crate::recorded::Recorded;
 use crate::watched::Watched;
 use smt_dialogue::{Limit, Line, Options, RunFault, Verdict};
@@ -44,24 +44,26 @@ pub(crate) fn run<R: Files + AllocGlobal + Print>(
         return Err(RunFault::Answers);
     };
     let mut ran = run_open(rt, script, answers, settings)?;
-    if !hints || (ran.hint == Some(Hint::Exchanged) && !are_files_exchanged(rt, settings)) {
-        ran.hint = None;
-    }
+    ran.hint = match ran.hint {
+        Some(hint) if hints => hint_for(rt, hint, settings),
+        _ => None,
+    };
     Ok(ran)
 }
 
-// Whether both files begin as the other one should. Of a pipe nothing is known: what was pulled is gone.
-fn are_files_exchanged<R: Files + AllocGlobal>(rt: &R, settings: Settings) -> bool {
-    match (
-        beginning(rt, settings.script),
-        beginning(rt, settings.answers),
-    ) {
-        (Some(script), Some(answers)) => are_exchanged(script.as_slice(), answers.as_slice()),
-        _ => false,
-    }
+// The mistake that a line looks like, if both files look like it too.
+fn hint_for<R: Files + AllocGlobal>(rt: &R, hint: Hint, settings: Settings) -> Option<Hint> {
+    let script = beginning(rt, settings.script);
+    let answers = beginning(rt, settings.answers);
+    confirmed(
+        hint,
+        script.as_deref(),
+        answers.as_deref(),
+        settings.print_success,
+    )
 }
 
-// The beginning of a file that can be read again.
+// The beginning of a file that can be read again: of a pipe there is none, since what was pulled is gone.
 fn beginning<R: Files + AllocGlobal>(rt: &R, name: &str) -> Option<Vec<u8>> {
     match fs::metadata(rt, name) {
         Ok(found) if found.is_file() => {}

@@ -1,6 +1,6 @@
 //! Usual mistakes, by the line that tells a fault. This file knows no file.
 
-use smt_dialogue::{CheckAnswer, Line, Side};
+use smt_dialogue::{CheckAnswer, Line};
 use smt_faults::{CommandFlaw, TermFlaw, TextFlaw};
 
 /// What a user may have done wrong, by the fault of the report.
@@ -8,7 +8,9 @@ use smt_faults::{CommandFlaw, TermFlaw, TextFlaw};
 pub(crate) enum Hint {
     /// The solver prints no `success`.
     NoSuccess,
-    /// The files are exchanged, if their first words say so too.
+    /// The solver prints `success`.
+    Success,
+    /// The files are exchanged.
     Exchanged,
     /// A file is compressed or in another code.
     Coded,
@@ -25,6 +27,7 @@ impl Hint {
             Hint::NoSuccess => {
                 "hint: z3, cvc5, cvc4 and bitwuzla print no `success`: add --print-success off"
             }
+            Hint::Success => "hint: the solver prints `success`: leave --print-success off out",
             Hint::Exchanged =>
                 "hint: are the files exchanged? SCRIPT comes first, and then ANSWERS",
             Hint::Coded => {
@@ -43,7 +46,7 @@ impl Hint {
 /// The mistake that a line looks like, behind a check that was answered by `unsat` or not.
 pub(crate) fn hint_of(line: &Line, after_unsat: bool) -> Option<Hint> {
     match line {
-        Line::UnexpectedAnswer { command: 1, .. } => Some(Hint::NoSuccess),
+        Line::UnexpectedAnswer { answer: 1, .. } => Some(Hint::NoSuccess),
         Line::CommandFault {
             command: 1,
             flaw: CommandFlaw::Form,
@@ -61,6 +64,50 @@ pub(crate) fn hint_of(line: &Line, after_unsat: bool) -> Option<Hint> {
     }
 }
 
+/// The mistake that a line looks like, if the beginnings of both texts, where they are known, and what was said of
+/// `success`, look like it too.
+pub(crate) fn confirmed(
+    hint: Hint,
+    script: Option<&[u8]>,
+    answers: Option<&[u8]>,
+    prints_success: bool,
+) -> Option<Hint> {
+    let holds = match hint {
+        Hint::NoSuccess => {
+            let begins = begins_with_success(answers);
+            if !prints_success {
+                return if begins { Some(Hint::Success) } else { None };
+            }
+            !begins
+        }
+        Hint::Exchanged => match (script, answers) {
+            (Some(script), Some(answers)) => begins_as_answer(script) && begins_as_command(answers),
+            _ => false,
+        },
+        Hint::Coded => is_coded(script) || is_coded(answers),
+        _ => true,
+    };
+    if holds { Some(hint) } else { None }
+}
+
+// Whether a text begins with a byte that no text begins with, or its beginning is not known.
+fn is_coded(text: Option<&[u8]>) -> bool {
+    match text {
+        Some(text) => match text.first() {
+            Some(byte) => !matches!(*byte, b' '..=b'~' | b'\t' | b'\n' | b'\r'),
+            None => false,
+        },
+        None => true,
+    }
+}
+
+fn begins_with_success(answers: Option<&[u8]>) -> bool {
+    match answers {
+        Some(answers) => behind_gaps(answers).starts_with(b"success"),
+        None => false,
+    }
+}
+
 /// Whether a line is that of a check that was answered by `unsat`.
 pub(crate) fn is_unsat(line: &Line) -> bool {
     match line {
@@ -70,12 +117,6 @@ pub(crate) fn is_unsat(line: &Line) -> bool {
         } => true,
         _ => false,
     }
-}
-
-/// Whether two texts, by the beginnings of both, stand in each other's place: what should be a script begins with an
-/// answer, and what should be answers with a command.
-pub(crate) fn are_exchanged(script: &[u8], answers: &[u8]) -> bool {
-    begins_as_answer(script) && begins_as_command(answers)
 }
 
 fn begins_as_answer(text: &[u8]) -> bool {
