@@ -98,7 +98,7 @@ hinted() {
         [ "$(wc -l <errors)" = 1 ] && grep -q "^hint: .*$2" errors || fail "$2"
     fi
 }
-hinted on 'add --print-success off' '(check-sat)' 'sat unsat'
+hinted on 'add --print-success off' '(set-logic ALL)(check-sat)' 'sat'
 hinted on 'add --print-success off' '(declare-const p Bool)(check-sat)' ' ; z3\nsat'
 hinted on - '(check-sat)' 'success'
 hinted on - '(echo "a")(check-sat)' '"a" success'

@@ -1,6 +1,6 @@
 -- The places of the bytes of a text. Bytes of the text count from 0, lines from 1, and the bytes of a line from 1; a
 -- line ends with its byte 10. No number goes over 2^64 - 1, which a text is never long enough for.
-use Rattle.std.specs.Prelude.{ℕ, List, [], ◌∷◌, ◌+◌, ◌-◌, ◌^◌, if◌then◌else◌, min, nat_eq}
+use Rattle.std.specs.Prelude.{◌≡◌, ℕ, List, [], ◌∷◌, ◌++◌, ◌+◌, ◌-◌, ◌^◌, if◌then◌else◌, min, nat_eq}
 use Rattle.smt_explain.specs.declared.scan.Place.{Place}
 
 abbrev pub next_number : ℕ → ℕ
@@ -22,3 +22,10 @@ behind_byte byte p = record {
 abbrev pub place_behind : List ℕ → Place → Place
 place_behind [] p = p
 place_behind (byte ∷ bytes) p = place_behind bytes (behind_byte byte p)
+
+-- it is the place of a byte of a text, or of its end, where the text begins at a place
+pub record IsPlaceIn (text : List ℕ) (begin place : Place) : Type 0 where
+  pub front : List ℕ
+  pub rest : List ℕ
+  pub parts : front ++ rest ≡ text
+  pub place_is : place ≡ place_behind front begin

@@ -1,11 +1,16 @@
 //! The lines of a report out of their texts. This file knows no dialogue.
 
+ghost use Rattle.std.specs.Prelude.{◌≡◌, IfOk, IfSome};
+ghost use Rattle.smt_report.specs.LineText.{text_of};
+
 use smt_dialogue::{CheckAnswer, Claim, Line, Memory, Side, Tally, Verdict};
 use smt_faults::{CommandFlaw, TermFlaw, TextFlaw};
 use std::alloc::Global;
 
-/// The line that has a text, if there is one.
-pub(crate) fn line_of(alloc: Global, text: &[u8]) -> Result<Option<Line>, Memory> {
+/// The line that has a text, if there is one. (Its text is written and compared, whatever was read.)
+pub(crate) fn line_of(alloc: Global, text: &[u8]) -> Result<Option<Line>, Memory>
+    ensures { IfOk result (λ found. IfSome found (λ line. text_of line ≡ text.now)) }
+{
     let Some(line) = read_line(text) else {
         return Ok(None);
     };
