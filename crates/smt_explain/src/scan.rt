@@ -1,8 +1,11 @@
 //! The places of the trees of a text. This file makes no tree, and knows of a text only where its tokens and
 //! lists begin and end.
 
-ghost use Rattle.std.specs.Prelude.{◌≡◌, take};
+ghost use Rattle.std.specs.Prelude.{◌≡◌, List, ℕ, All, IfOk, OnOk, take};
 ghost use Rattle.smt_explain.specs.Places as places;
+ghost use Rattle.smt_explain.specs.Places.{IsPlaceIn};
+ghost use Rattle.smt_explain.specs.Internal.Scanning.{AreAt};
+ghost use Rattle.smt_explain.specs.declared.scan.Place.{Place as At};
 
 use smt_faults::Memory;
 use std::alloc::Global;
@@ -69,7 +72,10 @@ struct Scanner {
 }
 
 /// Finds the trees of a text, whose first byte stands at a place.
-pub fn find_trees(alloc: Global, text: &[u8], from: Place) -> Result<Scan, Memory> {
+pub fn find_trees(alloc: Global, text: &[u8], from: Place) -> Result<Scan, Memory>
+    ensures at { IfOk result (λ s. All (λ span. IsPlaceIn text.now from span.start) s.spans.items) }
+    ensures end { IfOk result (λ s. s.end ≡ places.place_behind text.now from) }
+{
     scan_text(alloc, text, from, false)
 }
 
@@ -78,7 +84,10 @@ pub(crate) fn find_tokens(alloc: Global, text: &[u8], from: Place) -> Result<Vec
     Ok(scan_text(alloc, text, from, true)?.spans)
 }
 
-fn scan_text(alloc: Global, text: &[u8], from: Place, tokens: bool) -> Result<Scan, Memory> {
+fn scan_text(alloc: Global, text: &[u8], from: Place, tokens: bool) -> Result<Scan, Memory>
+    ensures at { IfOk result (λ s. All (λ span. IsPlaceIn text.now from span.start) s.spans.items) }
+    ensures end { IfOk result (λ s. s.end ≡ places.place_behind text.now from) }
+{
     let mut scanner = Scanner {
         mode: Mode::Gap,
         depth: 0,
@@ -89,15 +98,20 @@ fn scan_text(alloc: Global, text: &[u8], from: Place, tokens: bool) -> Result<Sc
         spans: Vec::new(alloc),
         open: Vec::new(alloc),
     };
-    for byte in text {
+    let mut left = text;
+    while let Some((byte, rest)) = left.split_first() {
         scanner.take(*byte)?;
         scanner.here = behind(scanner.here, *byte);
+        left = rest;
     }
     scanner.finish()
 }
 
 impl Scanner {
-    fn take(&mut self, byte: u8) -> Result<(), Memory> {
+    fn take(&mut self, byte: u8) -> Result<(), Memory>
+        ensures at { OnOk result ((text : List ℕ) (begin : At) → AreAt text begin self.old → AreAt text begin self.new) }
+        ensures here { OnOk result (self.new.here ≡ self.old.here) }
+    {
         match self.mode {
             Mode::Gap => self.begin(byte),
             Mode::Comment => {
@@ -137,7 +151,10 @@ impl Scanner {
     }
 
     // Takes a byte between tokens.
-    fn begin(&mut self, byte: u8) -> Result<(), Memory> {
+    fn begin(&mut self, byte: u8) -> Result<(), Memory>
+        ensures at { OnOk result ((text : List ℕ) (begin : At) → AreAt text begin self.old → AreAt text begin self.new) }
+        ensures here { OnOk result (self.new.here ≡ self.old.here) }
+    {
         match byte {
             b' ' | b'\t' | b'\n' | b'\r' => Ok(()),
             b'(' => self.open_list(),
@@ -158,7 +175,10 @@ impl Scanner {
         }
     }
 
-    fn open_list(&mut self) -> Result<(), Memory> {
+    fn open_list(&mut self) -> Result<(), Memory>
+        ensures at { OnOk result ((text : List ℕ) (begin : At) → AreAt text begin self.old → AreAt text begin self.new) }
+        ensures here { OnOk result (self.new.here ≡ self.old.here) }
+    {
         if self.depth == 0 {
             self.list = self.here;
         }
@@ -169,7 +189,10 @@ impl Scanner {
         Ok(())
     }
 
-    fn close_list(&mut self) -> Result<(), Memory> {
+    fn close_list(&mut self) -> Result<(), Memory>
+        ensures at { OnOk result ((text : List ℕ) (begin : At) → AreAt text begin self.old → AreAt text begin self.new) }
+        ensures here { OnOk result (self.new.here ≡ self.old.here) }
+    {
         if self.depth == 0 {
             return Ok(());
         }
@@ -184,7 +207,10 @@ impl Scanner {
         Ok(())
     }
 
-    fn end_token(&mut self, end: usize) -> Result<(), Memory> {
+    fn end_token(&mut self, end: usize) -> Result<(), Memory>
+        ensures at { OnOk result ((text : List ℕ) (begin : At) → AreAt text begin self.old → AreAt text begin self.new) }
+        ensures here { OnOk result (self.new.here ≡ self.old.here) }
+    {
         self.mode = Mode::Gap;
         if self.depth == 0 || self.tokens {
             self.spans.push(Span {
@@ -195,21 +221,26 @@ impl Scanner {
         Ok(())
     }
 
-    fn finish(mut self) -> Result<Scan, Memory> {
-        let token = match self.mode {
-            Mode::Bars | Mode::Text => Some(self.token),
+    fn finish(self) -> Result<Scan, Memory>
+        ensures at { (text : List ℕ) (begin : At) → AreAt text begin self
+            → IfOk result (λ s. All (λ span. IsPlaceIn text begin span.start) s.spans.items) }
+        ensures end { IfOk result (λ s. s.end ≡ self.here) }
+    {
+        let mut scanner = self;
+        let token = match scanner.mode {
+            Mode::Bars | Mode::Text => Some(scanner.token),
             Mode::Gap | Mode::Comment => None,
             Mode::Atom | Mode::Quote => {
-                let end = self.here.byte;
-                self.end_token(end)?;
+                let end = scanner.here.byte;
+                scanner.end_token(end)?;
                 None
             }
         };
         Ok(Scan {
-            spans: self.spans,
-            open: self.open,
+            spans: scanner.spans,
+            open: scanner.open,
             token,
-            end: self.here,
+            end: scanner.here,
         })
     }
 }
