@@ -92,11 +92,7 @@ fn run_open<R: AllocGlobal + Print, F: Read + Drop>(
     };
     let mut script = Recorded::new(rt.alloc(), Device::new(script), settings.explain);
     let mut answers = Recorded::new(rt.alloc(), Device::new(answers), settings.explain);
-    let mut out = Watched::new(
-        rt.alloc(),
-        Device::new(io::writer(rt)),
-        settings.explain,
-    );
+    let mut out = Watched::new(rt.alloc(), Device::new(io::writer(rt)), settings.explain);
     let verdict = smt_dialogue::run(rt.alloc(), &mut script, &mut answers, &mut out, options)?;
     let unexplained = settings.explain
         && tell(rt, script.bytes(), answers.bytes(), out.lines(), settings).is_err();

@@ -121,7 +121,16 @@ pub(crate) fn is_unsat(line: &Line) -> bool {
 
 fn begins_as_answer(text: &[u8]) -> bool {
     let text = behind_gaps(text);
-    for word in [b"sat".as_slice(), b"unsat", b"unknown", b"success", b"unsupported", b"(error", b"((", b"(model"] {
+    for word in [
+        b"sat".as_slice(),
+        b"unsat",
+        b"unknown",
+        b"success",
+        b"unsupported",
+        b"(error",
+        b"((",
+        b"(model",
+    ] {
         if text.starts_with(word) {
             return true;
         }
@@ -131,7 +140,17 @@ fn begins_as_answer(text: &[u8]) -> bool {
 
 fn begins_as_command(text: &[u8]) -> bool {
     let text = behind_gaps(text);
-    for word in [b"(set-".as_slice(), b"(declare-", b"(define-", b"(assert", b"(check-sat", b"(push", b"(echo", b"(get-", b"(reset"] {
+    for word in [
+        b"(set-".as_slice(),
+        b"(declare-",
+        b"(define-",
+        b"(assert",
+        b"(check-sat",
+        b"(push",
+        b"(echo",
+        b"(get-",
+        b"(reset",
+    ] {
         if text.starts_with(word) {
             return true;
         }

@@ -22,7 +22,8 @@ pub(crate) fn line_of(alloc: Global, text: &[u8]) -> Result<Option<Line>, Memory
     }
 }
 
-fn read_line(text: &[u8]) -> Option<Line> {
+/// The line that a text seems to have. It takes no memory, and its text is not compared.
+pub(crate) fn read_line(text: &[u8]) -> Option<Line> {
     if let Some(rest) = text.strip_prefix(b"check ") {
         return read_check(rest);
     }

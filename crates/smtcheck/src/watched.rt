@@ -2,7 +2,7 @@
 //! fault looks like a usual mistake. It keeps them, where that is wanted. This file knows no file.
 
 use crate::hints::{Hint, hint_of, is_unsat};
-use crate::lines::line_of;
+use crate::lines::{line_of, read_line};
 use smt_dialogue::{Line, Verdict};
 use smt_streams::{Broken, Sink};
 use std::alloc::Global;
@@ -37,25 +37,34 @@ impl Seen {
         }
     }
 
-    // Looks at the line that has ended.
+    // Looks at the line that has ended. (Memory is asked for only where lines are kept.)
     fn note_line(&mut self) {
         let text = &self.line[..self.used.min(LINE)];
-        let line = line_of(self.alloc, text).unwrap_or(None);
+        let seen = read_line(text);
+        let kept = if self.keeps {
+            line_of(self.alloc, text).unwrap_or(None)
+        } else {
+            None
+        };
         self.used = 0;
-        match line {
-            Some(line) => self.take(line),
-            None => self.whole = false,
+        if let Some(line) = seen {
+            self.see(&line);
         }
+        self.keep(kept);
     }
 
-    fn take(&mut self, line: Line) {
-        self.all_confirmed = is_all_confirmed(&line);
+    fn see(&mut self, line: &Line) {
+        self.all_confirmed = is_all_confirmed(line);
         if self.hint.is_none() {
-            self.hint = hint_of(&line, self.after_unsat);
+            self.hint = hint_of(line, self.after_unsat);
         }
-        self.after_unsat = is_unsat(&line);
-        if self.keeps && self.whole && self.lines.push(line).is_err() {
-            self.whole = false;
+        self.after_unsat = is_unsat(line);
+    }
+
+    fn keep(&mut self, line: Option<Line>) {
+        match line {
+            Some(line) if self.whole => self.whole = self.lines.push(line).is_ok(),
+            _ => self.whole = false,
         }
     }
 }
