@@ -41,7 +41,7 @@ pub extern "C" fn smtcheck_explain(
     let Some(given) = options_of(options) else {
         return OPTIONS;
     };
-    match explained(alloc, script, answers, given) {
+    match tell_why(alloc, script, answers, given) {
         Ok(explained) => {
             *wanted = put_text(explained.text.as_slice(), text);
             let number = explained.number;
@@ -53,7 +53,7 @@ pub extern "C" fn smtcheck_explain(
 }
 
 // The explanation, before any of it is told.
-fn explained(
+fn tell_why(
     alloc: Global,
     script: &[u8],
     answers: &[u8],

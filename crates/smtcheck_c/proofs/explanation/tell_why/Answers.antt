@@ -1,4 +1,4 @@
-use Rattle.smtcheck_c.proofs.explanation.explained.Goals as goal
+use Rattle.smtcheck_c.proofs.explanation.tell_why.Goals as goal
 
 pub returns-clause-numbered : goal.returns-clause-numbered
 returns-clause-numbered c = record {
