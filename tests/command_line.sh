@@ -84,21 +84,40 @@ strict 1 '(declare-const p Bool)(assert (not p))(check-sat)(get-model)' "sat $mo
 strict 3 '(check-sat)' ''
 rm -f ./*
 
-# hinted LINE SCRIPT ANSWERS: with --explain standard error has a hint with this in it, and without it nothing.
+# hinted SUCCESS TEXT SCRIPT ANSWERS: with --explain standard error is one hint with this in it, or nothing where TEXT is `-`; and without
+# --explain it is nothing.
 hinted() {
-    printf '%b' "$2" >script
-    printf '%b' "$3" >answers
-    run '--print-success on script answers'
-    [ ! -s errors ] || fail "$1: a hint without --explain"
-    run '--explain --print-success on script answers'
-    [ "$(wc -l <errors)" = 1 ] && grep -q "^hint: .*$1" errors || fail "$1"
+    printf '%b' "$3" >script
+    printf '%b' "$4" >answers
+    run "--print-success $1 script answers"
+    [ ! -s errors ] || fail "$2: a hint without --explain"
+    run "--explain --print-success $1 script answers"
+    if [ "$2" = - ]; then
+        [ ! -s errors ] || fail "a hint for $3"
+    else
+        [ "$(wc -l <errors)" = 1 ] && grep -q "^hint: .*$2" errors || fail "$2"
+    fi
 }
-hinted 'print-success off' '(check-sat)' 'success'
-hinted 'exchanged' 'sat' '(check-sat)'
-hinted 'compressed' '\037\213x' 'sat'
-hinted 'compressed' '(check-sat)' '\357\273\277sat'
-hinted 'model.user_functions=false' '(assert (! true :named a))(check-sat)(get-model)' 'success sat ((define-fun a () Bool true))'
-hinted 'unsat' '(assert false)(check-sat)(get-model)' 'success unsat'
+hinted on 'add --print-success off' '(set-logic ALL)(check-sat)' 'sat'
+hinted on 'add --print-success off' '(declare-const p Bool)(check-sat)' ' ; z3\nsat'
+hinted on - '(check-sat)' 'success'
+hinted on - '(echo "a")(check-sat)' '"a" success'
+hinted off 'leave --print-success off out' '(declare-const p Bool)(check-sat)' 'success sat'
+hinted off - '(check-sat)' '(model)'
+hinted on 'exchanged' 'sat' '(check-sat)'
+hinted off 'exchanged' 'sat\n((define-fun p () Bool true))\n' '; a script\n(set-logic ALL)\n(check-sat)\n'
+hinted on - '(minimize x)' 'sat'
+hinted on - '(minimize x)' '(set-logic ALL)'
+hinted on - 'sat' 'unsat'
+hinted on - '(check-sat-using smt)(check-sat)' ''
+hinted on 'compressed' '\037\213x' 'sat'
+hinted on 'compressed' '(check-sat)' '\357\273\277sat'
+hinted on 'compressed' '\377\376(\000c\000' 'sat'
+hinted on - ')' 'sat'
+hinted on 'model.user_functions=false' '(assert (! true :named a))(check-sat)(get-model)' 'success sat ((define-fun a () Bool true))'
+hinted on - '(declare-const a Bool)(check-sat)(get-model)' 'success sat ((define-fun a () Int 1))'
+hinted on 'unsat' '(assert false)(check-sat)(get-model)' 'success unsat'
+hinted on - '(assert false)(check-sat)(get-model)' 'success sat'
 rm -f ./*
 
 # refused LINE: the line is refused by the text on standard input, whole, with no report.

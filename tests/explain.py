@@ -251,6 +251,20 @@ def check_hostile(program):
         report, told = explained(program, script, answers, False)
         if b" refuted by " in plain and not any(line.startswith("  false: ") for line in told):
             raise Wrong("no part is told of %r: %s" % (name[:20], told))
+        item = b"(define-fun %s () Bool true)" % name
+        for script, answers in (
+            (b"(assert %s)" % name, b""),
+            (b"(declare-const %s Bool)" % name * 2, b""),
+            (b"(assert (! true :named %s))" % name * 2, b""),
+            (b"(assert (let ((%s true) (%s true)) true))" % (name, name), b""),
+            (b"(declare-const x %s)" % name, b""),
+            (b"(check-sat)(get-model)", b"sat (" + item * 2 + b")"),
+            (b"(assert (! true :named %s))(check-sat)(get-model)" % name, b"sat (" + item + b")"),
+            (b"(check-sat)", b"sat" + name),
+            (name, b"sat"),
+            (b"(assert (= %s" % name, b""),
+        ):
+            explained(program, script, answers, False)
     deep = b"(assert " + b"(not " * 900 + b"true" + b")" * 900 + b")"
     script = b"(declare-const p Bool)" + deep + b"(assert p)(check-sat)(get-model)"
     _, told = explained(program, script, b"sat ((define-fun p () Bool false))", False)

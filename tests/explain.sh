@@ -13,13 +13,16 @@ fail() {
     exit 1
 }
 
-# explains SUCCESS SCRIPT ANSWERS TEXT..: the explanation of this dialogue is these lines.
+# explains ROW SUCCESS SCRIPT ANSWERS TEXT..: the explanation of this dialogue is these lines. ROW is the row of the table of faults in
+# docs/LANGUAGE.md that it is of, or `-`.
+: >"$work/rows"
 explains() {
-    success=$1
-    printf '%s' "$2" >"$work/s"
-    printf '%s' "$3" >"$work/a"
-    name=$2
-    shift 3
+    printf '%s\n' "$1" >>"$work/rows"
+    success=$2
+    printf '%s' "$3" >"$work/s"
+    printf '%s' "$4" >"$work/a"
+    name=$3
+    shift 4
     printf '%s\n' "$@" >"$work/wanted"
     (cd "$work" && "$program" --explain --print-success "$success" s a 2>said >all) || [ $? -lt 4 ]
     sed '1,/^verdict: /d' "$work/all" >"$work/told"
@@ -28,65 +31,153 @@ explains() {
 
 asked='(declare-const p Bool)(assert p)(check-sat)(get-model)'
 model='sat ((define-fun p () Bool true))'
-byte='fault: s:1:33: no text goes on like this: )'
-form='  C1: no command of the standard, or not in its form'
-unsupported='  C2: a command that is not supported'
-late='  C5: the logic or option is not supported, or is set behind a declaration or a check'
-explains off '(declare-const p Bool)(assert p))' '' "$byte"
-explains off "$asked" "WARNING: $model" 'fault: a:1:8: no text goes on like this: : sat ((define-fun p () Bool true))'
-explains off "$(printf '%01001d' 0 | tr 0 '(')" '' 'fault: s:1:1001: a list at a depth over 1,000'
-explains off '(assert
+
+# ---- texts
+explains 'X1 in the script' off '(declare-const p Bool)(assert p))' '' 'fault: s:1:33: no text goes on like this: )'
+explains 'X1 in the answers' off "$asked" "WARNING: $model" 'fault: a:1:8: no text goes on like this: : sat ((define-fun p () Bool true))'
+explains X2 off "$(printf '%01001d' 0 | tr 0 '(')" '' 'fault: s:1:1001: a list at a depth over 1,000'
+explains X3 off '(assert
  (and p' '' 'fault: s:2:8: the text ends here' '  open: the list at s:2:2: (and p' '  open: the outermost list at s:1:1: (assert'
-explains off '(echo "a' '' 'fault: s:1:9: the text ends here' '  not ended: the string or quoted symbol at s:1:7: "a' \
+explains X3 off '(echo "a' '' 'fault: s:1:9: the text ends here' '  not ended: the string or quoted symbol at s:1:7: "a' \
     '  open: the list at s:1:1: (echo "a'
-explains off '(push)' '' 'fault: s:1:1, command 1: (push)' "$form"
-explains off '(declare-sort U 0)' '' 'fault: s:1:1, command 1: (declare-sort U 0)' "$unsupported"
-explains off '(push 10001)' '' 'fault: s:1:1, command 1: (push 10001)' '  C3: it makes more than 10,000 levels'
-explains off '(push 1)
+explains X3 off "$asked" 'sat (
+  (define-fun p' 'check 1: s:1:33, command 3: (check-sat)' '  no model: no (get-model) behind it was answered by a list before the next check or change' \
+    'fault: a:2:16: the text ends here' '  open: the list at a:2:3: (define-fun p' '  open: the outermost list at a:1:5: ('
+
+# ---- commands
+explains C1 off '(push)' '' 'fault: s:1:1, command 1: (push)' '  C1: no command of the standard, or not in its form'
+explains C1 off '(check-sat)
+  (minimize x)' 'unsat' 'check 1: s:1:1, command 1: (check-sat)' '  answer: a:1:1: unsat' 'fault: s:2:3, command 2: (minimize x)' \
+    '  C1: no command of the standard, or not in its form'
+explains C2 off '(declare-sort U 0)' '' 'fault: s:1:1, command 1: (declare-sort U 0)' '  C2: a command that is not supported'
+explains C3 off '(push 10001)' '' 'fault: s:1:1, command 1: (push 10001)' '  C3: it makes more than 10,000 levels'
+explains C4 off '(push 1)
 (pop 2)' '' 'fault: s:2:1, command 2: (pop 2)' '  C4: it pops more levels than there are'
-explains off '(set-logic QF_LRA)' '' 'fault: s:1:1, command 1: (set-logic QF_LRA)' "$late"
-explains off '(exit)(check-sat)' '' 'fault: s:1:7, command 2: (check-sat)' '  C6: it stands behind an exit that took effect'
-explains off '(assert ())' '' 'fault: s:1:1, command 1: (assert ())' '  C7: F1: a sort, a term or an item is not in form'
-explains off '(declare-const x Real)' '' 'fault: s:1:1, command 1: (declare-const x Real)' \
-    '  C7: F2: a quantifier, a decimal, a string or a sort that is not supported'
-explains off '(declare-const p Bool)(assert (let ((a p)) (and a q)))' '' 'fault: s:1:23, command 2: (assert (let ((a p)) (and a q)))' \
-    '  C7: F3: a name, a sort or a literal is unknown there' '  unknown: q'
-explains off '(assert (and true))' '' 'fault: s:1:1, command 1: (assert (and true))' \
+late='  C5: the logic or option is not supported, or is set behind a declaration or a check'
+explains C5 off '(set-logic QF_LRA)' '' 'fault: s:1:1, command 1: (set-logic QF_LRA)' "$late"
+explains C5 off '(declare-const p Bool)(set-logic QF_UF)' '' 'fault: s:1:23, command 2: (set-logic QF_UF)' "$late"
+explains C6 off '(exit)(check-sat)' '' 'fault: s:1:7, command 2: (check-sat)' '  C6: it stands behind an exit that took effect'
+explains C7 off '(declare-const x Int)(check-sat-assuming (x))' 'sat' 'fault: s:1:22, command 2: (check-sat-assuming (x))' \
     '  C7: F4: arguments that the head does not take, or another sort than is needed'
-explains off '(declare-const x (_ BitVec 256))' '' 'fault: s:1:1, command 1: (declare-const x (_ BitVec 256))' \
+explains C7 off '(declare-const p Bool)(check-sat-assuming (p (not q)))' 'sat' 'fault: s:1:23, command 2: (check-sat-assuming (p (not q)))' \
+    '  C7: F3: a name, a sort or a literal is unknown there' '  unknown: q'
+
+# ---- terms, sorts and names of commands
+explains F1 off '(assert ())' '' 'fault: s:1:1, command 1: (assert ())' '  C7: F1: a sort, a term or an item is not in form'
+explains F2 off '(declare-const x Real)' '' 'fault: s:1:1, command 1: (declare-const x Real)' \
+    '  C7: F2: a quantifier, a decimal, a string or a sort that is not supported'
+explains F3 off '(declare-const p Bool)(assert (let ((a p)) (and a q)))' '' 'fault: s:1:23, command 2: (assert (let ((a p)) (and a q)))' \
+    '  C7: F3: a name, a sort or a literal is unknown there' '  unknown: q'
+explains F3 off '(assert (or (let ((a true)) a) a (f true)))' '' 'fault: s:1:1, command 1: (assert (or (let ((a true)) a) a (f true)))' \
+    '  C7: F3: a name, a sort or a literal is unknown there' '  unknown: a'
+explains F3 off '(define-sort S () Bool)(define-fun f ((x S)) T x)' '' 'fault: s:1:24, command 2: (define-fun f ((x S)) T x)' \
+    '  C7: F3: a name, a sort or a literal is unknown there' '  unknown: T'
+explains F4 off '(assert (and true))' '' 'fault: s:1:1, command 1: (assert (and true))' \
+    '  C7: F4: arguments that the head does not take, or another sort than is needed'
+explains F5 off '(declare-const x (_ BitVec 256))' '' 'fault: s:1:1, command 1: (declare-const x (_ BitVec 256))' \
     '  C7: F5: an index or a width is wrong; widths go from 1 to 128'
-explains off '(assert (let ((x true) (x true)) x))' '' 'fault: s:1:1, command 1: (assert (let ((x true) (x true)) x))' \
-    '  C7: F6: a name is bound twice'
-explains off '(declare-const p Bool)
-(declare-const |p| Int)' '' 'fault: s:2:1, command 2: (declare-const p Int)' "  C7: F7: the name is in use, or is an operator's" \
-    '  in use: s:1:1, command 1: (declare-const p Bool)'
-explains off '(define-fun c () Bool (! true :named a))' '' 'fault: s:1:1, command 1: (define-fun c () Bool (! true :named a))' \
+explains F6 off '(assert (let ((x true) (x true)) x))' '' 'fault: s:1:1, command 1: (assert (let ((x true) (x true)) x))' \
+    '  C7: F6: a name is bound twice' '  bound twice: x'
+used="  C7: F7: the name is in use, or is an operator's"
+explains F7 off '(declare-const p Bool)
+(declare-const |p| Int)' '' 'fault: s:2:1, command 2: (declare-const p Int)' "$used" '  in use: s:1:1, command 1: (declare-const p Bool)'
+explains F7 off '(assert (! true :named a))
+(declare-const a Bool)' '' 'fault: s:2:1, command 2: (declare-const a Bool)' "$used" '  in use: s:1:1, command 1: (assert (! true :named a))'
+explains F7 off '(assert (! true :named a)) (assert (or true
+ (! false :named |a|)))' '' 'fault: s:1:28, command 2: (assert (or true (! false :named a)))' "$used" '  label: s:2:18: |a|' \
+    '  in use: s:1:1, command 1: (assert (! true :named a))'
+explains F7 off '(assert (and (! true :named a) (! false :named a)))' '' 'fault: s:1:1, command 1: (assert (and (! true :named a) (! false :named a)))' \
+    "$used" '  label: s:1:48: a' '  in use: the label at s:1:29'
+explains F7 off '(assert (! true :named and))' '' 'fault: s:1:1, command 1: (assert (! true :named and))' "$used" '  label: s:1:24: and' \
+    "  it is an operator's name"
+explains F7 off '(declare-const p Bool)(define-sort p () Bool)(define-sort p () Int)' '' 'fault: s:1:46, command 3: (define-sort p () Int)' \
+    "$used" '  in use: s:1:23, command 2: (define-sort p () Bool)'
+explains F7 off '(define-sort Int () Bool)' '' 'fault: s:1:1, command 1: (define-sort Int () Bool)' "$used" '  it is a sort of a theory'
+explains F8 off '(define-fun c () Bool (! true :named a))' '' 'fault: s:1:1, command 1: (define-fun c () Bool (! true :named a))' \
     '  C7: F8: a label outside an assertion, or at a term that uses a variable from outside'
-explains on '(set-logic QF_UF)' '' 'fault: s:1:1, command 1: (set-logic QF_UF)' \
-    '  it needs success, unsupported or an error, since success is printed there' '  the answers end at a:1:1'
-explains on "$asked" "$model" 'fault: s:1:1, command 1: (declare-const p Bool)' \
-    '  it needs success, unsupported or an error, since success is printed there' '  the next answer: a:1:1: sat'
-explains off "$asked" 'success' 'fault: s:1:33, command 3: (check-sat)' '  it needs sat, unsat, unknown, unsupported or an error' \
-    '  the next answer: a:1:1: success'
-explains off "$asked" "$model sat" 'fault: a:1:35: sat' '  every command has its answer: this one, and all behind it, are left over'
+
+# ---- the same in items of a model
 check='check 1: s:1:33, command 3: (check-sat)'
-explains off "$asked" 'unsat (error "")' "$check" '  answer: a:1:1: unsat'
-explains off '(declare-const p Bool)(assert p)(check-sat)' 'sat' "$check" \
-    '  no model: no (get-model) behind it was answered by a list before the next check or change'
-explains off "$asked" 'sat ((define-fun p () Int 1))' "$check" '  item 1: a:1:6: (define-fun p () Int 1)' \
-    '  F4: arguments that the head does not take, or another sort than is needed' '  in use: s:1:1, command 1: (declare-const p Bool)'
-explains off "$asked" 'sat (model
+explains F1 off "$asked" 'sat (foo)' "$check" '  item 1: a:1:6: foo' '  F1: a sort, a term or an item is not in form'
+explains F2 off "$asked" 'sat ((define-fun q () Real 1.5))' "$check" '  item 1: a:1:6: (define-fun q () Real 1.5)' \
+    '  F2: a quantifier, a decimal, a string or a sort that is not supported'
+explains F3 off "$asked" 'sat ((define-fun p () Bool q))' "$check" '  item 1: a:1:6: (define-fun p () Bool q)' \
+    '  F3: a name, a sort or a literal is unknown there' '  unknown: q'
+explains F4 off "$asked" 'sat ((define-fun p () Int 1))' "$check" '  item 1: a:1:6: (define-fun p () Int 1)' \
+    '  F4: arguments that the head does not take, or another sort than is needed' '  declared: s:1:1, command 1: (declare-const p Bool)'
+explains F5 off "$asked" 'sat ((define-fun x () (_ BitVec 0) #b0))' "$check" '  item 1: a:1:6: (define-fun x () (_ BitVec 0) #b0)' \
+    '  F5: an index or a width is wrong; widths go from 1 to 128'
+explains F6 off "$asked" 'sat (model
 (define-fun p () Bool true) (define-fun p () Bool true))' "$check" '  item 2: a:2:29: (define-fun p () Bool true)' \
     '  F6: a name is bound twice' '  bound before: a:2:1: (define-fun p () Bool true)'
-explains off "$asked" 'sat ((define-fun p () Bool q))' "$check" '  item 1: a:1:6: (define-fun p () Bool q)' \
-    '  F3: a name, a sort or a literal is unknown there' '  unknown: q'
-explains off "$asked" 'sat ()' "$check" '  lacks: s:1:1, command 1: (declare-const p Bool)' '  model: a:1:5'
-explains off '(declare-const x Int)(assert (or (= x 1) (< (div 1 x) 5)))(check-sat)(get-model)' 'sat ((define-fun x () Int 0))' \
+explains F6 off "$asked" 'sat ((define-fun f ((x Int) (x Int)) Int 1))' "$check" '  item 1: a:1:6: (define-fun f ((x Int) (x Int)) Int 1)' \
+    '  F6: a name is bound twice' '  bound twice: x'
+used="  F7: the name is in use, or is an operator's"
+explains F7 off '(assert (! true :named a))(check-sat)(get-model)' 'sat ((define-fun a () Bool true))' 'check 1: s:1:27, command 2: (check-sat)' \
+    '  item 1: a:1:6: (define-fun a () Bool true)' "$used" '  in use: s:1:1, command 1: (assert (! true :named a))'
+explains F7 off '(define-fun c () Int 1)(check-sat)(get-model)' 'sat ((define-fun c () Int 1))' 'check 1: s:1:24, command 2: (check-sat)' \
+    '  item 1: a:1:6: (define-fun c () Int 1)' "$used" '  in use: s:1:1, command 1: (define-fun c () Int 1)'
+explains F7 off "$asked" 'sat ((define-fun and () Int 1))' "$check" '  item 1: a:1:6: (define-fun and () Int 1)' "$used" "  it is an operator's name"
+explains F8 off "$asked" 'sat ((define-fun p () Bool (! true :named b)))' "$check" '  item 1: a:1:6: (define-fun p () Bool (! true :named b))' \
+    '  F8: a label outside an assertion, or at a term that uses a variable from outside'
+
+# ---- pairing
+general='  it needs success, unsupported or an error, since success is printed there'
+explains P1 on '(set-logic QF_UF)' '' 'fault: s:1:1, command 1: (set-logic QF_UF)' "$general" '  the answers end at a:1:1'
+explains P1 off "$asked" 'sat
+' "$check" '  no model: no (get-model) behind it was answered by a list before the next check or change' \
+    'fault: s:1:44, command 4: (get-model)' '  it needs a list, a model or an error, or unsupported' '  the answers end at a:2:1'
+explains 'P2 at command 1, answer 1' on "$asked" "$model" 'fault: s:1:1, command 1: (declare-const p Bool)' "$general" '  the next answer: a:1:1: sat'
+explains 'P2 at the first check-sat, answer 1' off "$asked" 'success' 'fault: s:1:33, command 3: (check-sat)' \
+    '  it needs sat, unsat, unknown, unsupported or an error' '  the next answer: a:1:1: success'
+explains 'P2 elsewhere' off '(check-sat)(echo "a")' 'unsat
+a' 'check 1: s:1:1, command 1: (check-sat)' '  answer: a:1:1: unsat' 'fault: s:1:12, command 2: (echo "..")' \
+    '  it needs a string, unsupported or an error' '  the next answer: a:2:1: a'
+explains 'P2 elsewhere' off '(get-info :name)' 'success' 'fault: s:1:1, command 1: (get-info :name)' '  it needs an answer other than success' \
+    '  the next answer: a:1:1: success'
+explains P3 off "$asked" "$model sat" 'fault: a:1:35: sat' '  every command has its answer: this one, and all behind it, are left over'
+
+# ---- checks
+explains - off "$asked" 'unsat (error "")' "$check" '  answer: a:1:1: unsat'
+explains - off '(declare-const p Bool)(assert p)(check-sat)' 'sat' "$check" \
+    '  no model: no (get-model) behind it was answered by a list before the next check or change'
+explains - off "$asked" 'sat ()' "$check" '  lacks: s:1:1, command 1: (declare-const p Bool)' '  model: a:1:5'
+explains - off '(declare-const x Int)(assert (or (= x 1) (< (div 1 x) 5)))(check-sat)(get-model)' 'sat ((define-fun x () Int 0))' \
     'check 1: s:1:59, command 3: (check-sat)' '  claim: s:1:22, command 2: (assert (or (= x 1) (< (div 1 x) 5)))' \
     '  open: (div 1 x)' '    a division by zero' '    x = 0' '    items: x at a:1:6' '  model: a:1:5'
-explains off '(declare-const p Bool)(check-sat-assuming ((not p) p))(get-model)' "$model" \
-    'check 1: s:1:23, command 2: (check-sat-assuming ((not p) p))' '  claim: assumption 1 of the check' '  true: p' '    p = true' \
-    '    items: p at a:1:6' '  model: a:1:5'
+explains - off '(declare-const p Bool)(check-sat-assuming ((not p) p (not p)))(get-model)' "$model" \
+    'check 1: s:1:23, command 2: (check-sat-assuming ((not p) p (not p)))' '  claim: assumption 1 of the check' '  true: p' '    p = true' \
+    '    items: p at a:1:6' '  also false: assumption 3 of the check: (not p)' '  model: a:1:5'
+explains - off '(declare-const p Bool)(assert p)(assert (or p p))(assert (not p))(check-sat-assuming (p))(get-model)' 'sat ((define-fun p () Bool false))' \
+    'check 1: s:1:66, command 5: (check-sat-assuming (p))' '  claim: s:1:23, command 2: (assert p)' '  false: p' '    p = false' '    items: p at a:1:6' \
+    '  also false: s:1:33, command 3: (assert (or p p))' '  also false: assumption 1 of the check: p' '  model: a:1:5'
+# a label outlives its assertion where declarations are global
+explains - off '(set-option :global-declarations true)(push 1)(declare-const p Bool)(assert (! p :named a))(pop 1)
+(assert a)(check-sat)(get-model)' 'sat ((define-fun p () Bool false))' 'check 1: s:2:11, command 7: (check-sat)' '  claim: s:2:1, command 6: (assert a)' \
+    '  false: p   at s:1:69, in a' '    p = false' '    items: p at a:1:6' '  model: a:1:5'
+# a label in an argument may be used in a later one
+explains - off '(declare-const p Bool)(assert (and (! (or p p) :named a) (! (not p) :named b)))(assert (or b (not a)))(check-sat)(get-model)' "$model" \
+    'check 1: s:1:103, command 4: (check-sat)' \
+    '  claim: s:1:23, command 2: (assert (and (! (or p p) :named a) (! (not p) :named b)))' '  true: p' '    p = true' '    items: p at a:1:6' \
+    '  also false: s:1:80, command 3: (assert (or b (not a)))' '  model: a:1:5'
+
+# each row of the table of faults has a dialogue here
+sed -n '/^| fault | meaning | likely cause/,/^$/p' docs/LANGUAGE.md | sed -n '3,$s/^| \([^|]*\) |.*/\1/p' | tr -d '`' | LC_ALL=C sort -u >"$work/wanted"
+grep -v '^-$' "$work/rows" | LC_ALL=C sort -u >"$work/told"
+cmp -s "$work/wanted" "$work/told" || fail 'the rows of the table of faults'
+
+# The parts of a check that are told cost no more than --steps, and the place of the claim is told however few these are. Here each call of f
+# is evaluated for 84 steps, and the claim costs 253.
+many=$(printf '%040d' 0 | sed 's/0/ p/g')
+printf '%s' "(declare-const p Bool)(assert (and$many))(check-sat)(get-model)" >"$work/s"
+printf '%s' 'sat ((define-fun p () Bool false))' >"$work/a"
+"$program" --explain --steps 90 --print-success off "$work/s" "$work/a" >"$work/told" || [ $? = 1 ]
+grep -qx '  false: p' "$work/told" || fail '90 steps'
+printf '%s' "(declare-const p Bool)(define-fun f ((x Bool)) Bool (and$many))(assert (or (f p) (f p) (f p)))(check-sat)(get-model)" >"$work/s"
+"$program" --explain --steps 253 --print-success off "$work/s" "$work/a" >"$work/told" || [ $? = 1 ]
+grep -q 'no more was looked at: the steps are used up' "$work/told" || fail 'few steps'
+"$program" --explain --print-success off "$work/s" "$work/a" >"$work/told" || [ $? = 1 ]
+grep -qx '  false: p   at .*, in f' "$work/told" || fail 'enough steps'
 
 # What a model costs that is too long is what the limit has to be.
 printf '%s' '(declare-const x Int)(define-fun f () Int (+ x x))(assert (< (+ f f) 9))(check-sat)(get-model)' >"$work/s"

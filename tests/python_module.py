@@ -147,6 +147,75 @@ class Reports(unittest.TestCase):
         self.assertEqual(done.stdout, b"True\n")
 
 
+class Explanations(unittest.TestCase):
+    """Where a report's lines stand, and why."""
+
+    def test_a_refuted_claim(self) -> None:
+        script = """(declare-const start Int)
+(define-fun ends ((from Int) (long Int)) Int (+ from long))
+(assert (and (< 0 start)
+  (<= (ends start 2) 4)))
+(check-sat)(get-model)"""
+        answers = "sat (\n  (define-fun start () Int 3))"
+        (told,) = smtcheck.explain(script, answers, print_success=False).told
+        self.assertEqual((told.check, told.command, told.spot, told.text), (1, 4, smtcheck.Spot("script", 5, 1), "(check-sat)"))
+        (part,) = told.parts
+        self.assertEqual((part.known, part.term, part.within), ("false", "(<= (ends start 2) 4)", None))
+        self.assertEqual(part.values, (smtcheck.Value("(ends start 2)", (), "5"), smtcheck.Value("start", (), "3")))
+        self.assertEqual(part.items, (smtcheck.Item("start", smtcheck.Spot("answers", 2, 3)),))
+        claim, model = told.details
+        self.assertEqual((claim.kind, claim.spot, claim.command), ("claim", smtcheck.Spot("script", 3, 1), 3))
+        self.assertEqual((model.kind, model.spot), ("model", smtcheck.Spot("answers", 1, 5)))
+
+    def test_a_part_in_a_definition(self) -> None:
+        script = "(declare-const |a, b = c| Bool)\n(define-fun not-so ((x Bool)) Bool (= x false))\n(assert (not-so |a, b = c|))(check-sat)(get-model)"
+        (told,) = smtcheck.explain(script, "sat ((define-fun |a, b = c| () Bool true))", print_success=False).told
+        (part,) = told.parts
+        self.assertEqual((part.term, part.within, part.spot), ("(= x false)", "not-so", smtcheck.Spot("script", 2, 1)))
+        self.assertEqual(part.values, (smtcheck.Value("x", ("|a, b = c|",), "true"),))
+        self.assertEqual(part.items, (smtcheck.Item("|a, b = c|", smtcheck.Spot("answers", 1, 6)),))
+
+    def test_an_open_claim(self) -> None:
+        script = "(declare-const x Int)(assert (< (div 1 x) 5))(check-sat)(get-model)"
+        (told,) = smtcheck.explain(script, "sat ((define-fun x () Int 0))", print_success=False).told
+        self.assertEqual((told.parts[0].known, told.parts[0].term, told.parts[0].reason), ("open", "(div 1 x)", "a division by zero"))
+        self.assertEqual(told.parts[0].values, (smtcheck.Value("x", (), "0"),))
+
+    def test_faults(self) -> None:
+        told = smtcheck.explain("(assert (! true :named a))\n(assert (! true :named a))", "", print_success=False)
+        self.assertEqual(told.verdict, "refused")
+        (fault,) = told.told
+        self.assertEqual((fault.check, fault.command, fault.spot), (None, 2, smtcheck.Spot("script", 2, 1)))
+        self.assertEqual([(each.kind, each.spot) for each in fault.details[1:]], [("label", smtcheck.Spot("script", 2, 24)), ("in use", smtcheck.Spot("script", 1, 1))])
+        (fault,) = smtcheck.explain("(assert\n (and p", "", print_success=False).told
+        self.assertEqual((fault.spot, fault.text), (smtcheck.Spot("script", 2, 8), "the text ends here"))
+        self.assertEqual([each.spot for each in fault.details], [smtcheck.Spot("script", 2, 2), smtcheck.Spot("script", 1, 1)])
+        (fault,) = smtcheck.explain("(assert (f q))", "", print_success=False).told
+        self.assertEqual((fault.details[1].kind, fault.details[1].text), ("unknown", "q"))
+        check, fault = smtcheck.explain("(check-sat)(frob)", "unsat", print_success=False).told
+        self.assertEqual((check.details[0].kind, check.details[0].text), ("answer", "unsat"))
+
+    def test_all_is_confirmed(self) -> None:
+        told = smtcheck.explain(SCRIPT, RIGHT, print_success=False)
+        self.assertEqual((told.verdict, told.told, str(told)), ("valid", (), ""))
+
+    def test_arguments(self) -> None:
+        with self.assertRaises(TypeError):
+            smtcheck.explain(SCRIPT, RIGHT, print_success="off")  # type: ignore[arg-type]
+        with self.assertRaises(ValueError):
+            smtcheck.explain(SCRIPT, RIGHT, steps=2**64 - 1)
+        with self.assertRaises(ValueError):
+            smtcheck.explanation_of("  claim: script:1:1, command 1: x")
+
+    def test_long_lines(self) -> None:
+        names = " ".join("name%d" % number for number in range(60))
+        script = "".join("(declare-const name%d Int)" % number for number in range(60)) + f"(assert (< (+ {names}) 0))(check-sat)(get-model)"
+        answers = "sat (" + "".join("(define-fun name%d () Int %d)" % (number, number) for number in range(60)) + ")"
+        (told,) = smtcheck.explain(script, answers, print_success=False).told
+        for value in told.parts[0].values:
+            self.assertTrue(value.term.startswith("(") or value.term == "name" + value.value, value)
+
+
 class Sessions(unittest.TestCase):
     """Sessions, whose lines come once they are decided."""
 

@@ -2,9 +2,11 @@
 """Compares the library with the program on the dialogues of a file of rows: compare.py PROGRAM CHECK ROWS.
 
 PROGRAM is `smtcheck`, and CHECK the example in C. Each has to print the same bytes with the same status; so has `check` of smtcheck.py,
-and `python -m smtcheck` on some of the dialogues. It prints the first difference, and has status 1 there.
+and `python -m smtcheck` on some of the dialogues; `explain` has to tell what the program does with `--explain`, also where the last figure or
+truth value of the answers is another. It prints the first difference, and has status 1 there.
 """
 import os
+import re
 import subprocess
 import sys
 import tempfile
@@ -15,15 +17,36 @@ import rows  # noqa: E402
 import smtcheck  # noqa: E402
 
 
-def run(*words: str) -> "tuple[int, bytes]":
+def run(*words: str, cwd: str = HERE) -> "tuple[int, bytes]":
     """The status of a run, and what it prints."""
-    done = subprocess.run(words, stdout=subprocess.PIPE, stderr=subprocess.DEVNULL, cwd=HERE)
+    done = subprocess.run(words, stdout=subprocess.PIPE, stderr=subprocess.DEVNULL, cwd=cwd)
     return done.returncode, done.stdout
 
 
 def counts_of(text: str) -> "list[int]":
     """The four counts that the last line of a report has."""
     return [int(part.split()[-1]) for part in text.splitlines()[-1].split(", ")[-4:]]
+
+
+def changed(answers: bytes) -> bytes:
+    """The answers with another last figure or truth value."""
+    found = re.fullmatch(rb"(.*\b)(true|false|[0-9]+)(\b.*)", answers, re.DOTALL)
+    if not found:
+        return answers
+    other = {b"true": b"false", b"false": b"true"}.get(found.group(2), b"1" if found.group(2) != b"1" else b"0")
+    return found.group(1) + other + found.group(3)
+
+
+def is_explained(program: str, folder: str, start: str, script: bytes, answers: bytes) -> bool:
+    """Whether `explain` tells what the program prints behind its report, and each line of it is read."""
+    for name, text in (("script", script), ("answers", answers)):
+        with open(os.path.join(folder, name), "wb") as out:
+            out.write(text)
+    status, printed = run(program, "--explain", "--print-success", start, "script", "answers", cwd=folder)
+    report = smtcheck.check(script, answers, print_success=start == "on")
+    told = smtcheck.explain(script, answers, print_success=start == "on")
+    lines = sum(line.outcome != "confirmed" for line in report.lines)
+    return (status, printed) == (report.status, (report.text + told.text).encode()) and len(told.told) == lines and told.verdict == report.verdict
 
 
 def main(program: str, check: str, path: str) -> int:
@@ -48,6 +71,10 @@ def main(program: str, check: str, path: str) -> int:
             for name, given in told.items():
                 if given != wanted:
                     print(f"{row[0][1].decode()}: {name}: {given}, and the program: {wanted}")
+                    return 1
+            for answers in (texts[1], changed(texts[1])):
+                if not is_explained(program, folder, start, texts[0], answers):
+                    print(f"{row[0][1].decode()}: explain")
                     return 1
             counts = [report.confirmed, report.refuted, report.undecided, report.unchecked]
             if counts != counts_of(report.text) or len(report.lines) + 1 != report.text.count("\n"):

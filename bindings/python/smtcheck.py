@@ -15,7 +15,15 @@ Line(check=1, command=3, outcome='refuted', place=Place(model=4, assertion=2))
 check 1 at command 3: sat, model of command 4: refuted by the assertion of command 2
 verdict: invalid, confirmed 0, refuted 1, undecided 0, unchecked 0
 
-`check_files` does so with two files, and a `Session` takes both texts piece by piece, and hands out each line once it is decided:
+`explain` tells where in both texts that is, and why:
+
+>>> told = explain(script, "sat ((define-fun x () Int 3))", print_success=False).told[0]
+>>> told.spot, told.parts[0].known, told.parts[0].term
+(Spot(text='script', line=1, column=38), 'false', '(< 5 x)')
+>>> told.parts[0].values, told.parts[0].items
+((Value(term='x', given=(), value='3'),), (Item(name='x', spot=Spot(text='answers', line=1, column=6)),))
+
+`check_files` checks two files, and a `Session` takes both texts piece by piece, and hands out each line once it is decided:
 
 >>> with Session(print_success=False) as session:
 ...     session.script("(declare-const x Int)(assert (< 5 x))(check-sat)(get-model)(check-sat)")
@@ -40,7 +48,10 @@ import re
 import sys
 from typing import Iterator, List, NamedTuple, NoReturn, Optional, Sequence, Tuple, Union
 
-__all__ = ["LibraryError", "Line", "Place", "Report", "STEPS", "Session", "VERDICTS", "check", "check_files", "line_of", "main", "version"]
+__all__ = [
+    "Detail", "Explained", "Explanation", "Item", "LibraryError", "Line", "Part", "Place", "Report", "STEPS", "Session", "Spot", "VERDICTS", "Value",
+    "check", "check_files", "explain", "explanation_of", "line_of", "main", "version",
+]
 __version__ = "0.4.0"
 
 VERDICTS = ("valid", "invalid", "not decided", "refused")
@@ -153,6 +164,89 @@ class Report(NamedTuple):
         return json.dumps(told, **options)  # type: ignore[arg-type]
 
 
+class Spot(NamedTuple):
+    """A place in a text. Lines count from 1, and the bytes of a line too."""
+
+    text: str
+    """`script` or `answers`"""
+    line: int
+    column: int
+
+
+class Value(NamedTuple):
+    """What a term has for a value in a model."""
+
+    term: str
+    given: Tuple[str, ...]
+    """of a variable, the terms that it stands for"""
+    value: str
+    """a constant, or `open` where the value is not known"""
+
+
+class Item(NamedTuple):
+    """The item of a model that gives a name its value."""
+
+    name: str
+    spot: Spot
+
+
+class Part(NamedTuple):
+    """A smallest part of a claim, which makes it false or open."""
+
+    known: str
+    """`true`, `false`, `open`, or `value` where it is no truth value"""
+    term: str
+    """its text; of a long one the middle is left out, and ` .. ` stands there"""
+    within: Optional[str]
+    """the definition or label that it stands in, if it is in one"""
+    spot: Optional[Spot]
+    """where that stands"""
+    reason: Optional[str]
+    """why it is open"""
+    values: Tuple[Value, ...]
+    items: Tuple[Item, ...]
+
+
+class Detail(NamedTuple):
+    """Another line of an explanation."""
+
+    kind: str
+    """the words that it begins with, as `claim`, `model`, `also false`, `in use` or `item 2`; of any other line nothing"""
+    spot: Optional[Spot]
+    command: Optional[int]
+    """the command that stands there"""
+    text: str
+    """the rest of the line"""
+
+
+class Explained(NamedTuple):
+    """What is told of a check that is not confirmed, or of the fault."""
+
+    check: Optional[int]
+    """the check, counted from 1; of a fault none"""
+    spot: Optional[Spot]
+    command: Optional[int]
+    """the command of the check or of the fault, if it is at one"""
+    text: str
+    """the text that stands there"""
+    parts: Tuple[Part, ...]
+    details: Tuple[Detail, ...]
+
+
+class Explanation(NamedTuple):
+    """The explanation of a report."""
+
+    verdict: str
+    """`valid`, `invalid`, `not decided` or `refused`"""
+    told: Tuple[Explained, ...]
+    """of each check that is not confirmed, and of the fault, in order"""
+    text: str
+    """what the program prints behind the report"""
+
+    def __str__(self) -> str:
+        return self.text
+
+
 class _Options(ctypes.Structure):
     _fields_ = [("steps", ctypes.c_uint64), ("print_success", ctypes.c_bool)]
 
@@ -189,6 +283,7 @@ def _with_types(library: ctypes.CDLL) -> ctypes.CDLL:
     options, session, wanted = ctypes.POINTER(_Options), ctypes.POINTER(_Session), ctypes.POINTER(size)
     calls = {
         "validate": (number, [text, size, text, size, options, ctypes.POINTER(_Summary), text, size, wanted]),
+        "explain": (number, [text, size, text, size, options, text, size, wanted]),
         "version": (size, [text, size]),
         "session_new": (number, [options, session]),
         "session_script": (number, [session, text, size]),
@@ -276,6 +371,36 @@ def check(script: Text, answers: Text, print_success: bool = True, steps: int = 
     return Report(
         VERDICTS[outcome], summary.confirmed, summary.refuted, summary.undecided, summary.unchecked, lines, text
     )
+
+
+def explain(script: Text, answers: Text, print_success: bool = True, steps: int = STEPS) -> Explanation:
+    """Where each check that is not confirmed stands in the two texts, and the fault, and why. The arguments are those of `check`.
+
+    The verdict is proved to be that of the report, and values are those of the proved evaluator. All else that it says is tested.
+
+    >>> told = explain("(assert (and true))", "", print_success=False).told[0]
+    >>> told.check, told.spot, told.command
+    (None, Spot(text='script', line=1, column=1), 1)
+    >>> told.details[0].text
+    'C7: F4: arguments that the head does not take, or another sort than is needed'
+    >>> explain("(check-sat)(get-model)", "sat ()", print_success=False)
+    Explanation(verdict='valid', told=(), text='')
+    """
+    options, wanted = _options_of(print_success, steps), ctypes.c_size_t()
+    texts = [_bytes_of(script, "script"), _bytes_of(answers, "answers")]
+    room = 4096
+    while True:
+        buffer = ctypes.create_string_buffer(room)
+        outcome = _library().smtcheck_explain(texts[0], len(texts[0]), texts[1], len(texts[1]), options, buffer, room, wanted)
+        if outcome == MEMORY:
+            raise MemoryError("smtcheck: memory")
+        if outcome == OPTIONS:
+            raise ValueError("smtcheck: options")
+        if wanted.value <= room:
+            break
+        room = wanted.value
+    text = buffer.raw[: wanted.value].decode("ascii")
+    return Explanation(VERDICTS[outcome], explanation_of(text), text)
 
 
 def check_files(script: Path, answers: Path, print_success: bool = True, steps: int = STEPS) -> Report:
@@ -456,6 +581,103 @@ def line_of(text: str) -> Line:
             finding = outcome or said.group(2)
             place = place._replace(**{name: int(said.group(1))})
     return Line(int(check_number), int(command), finding, place)
+
+
+_WIDTH = 200  # the most bytes of a line of an explanation
+_SPOT = r"(script|answers):(\d+):(\d+)"
+_TOLD = re.compile(rf"(?:check (\d+)|fault): {_SPOT}(?:, command (\d+))?(?:: (.*))?")
+_PART = re.compile(rf"  (true|false|open|value): (?!the (?:outermost )?list at )(.*?)(?:   at {_SPOT}, in (.*))?")
+_DETAIL = re.compile(rf"  ([a-z][a-z ]*?(?:,? \d+)?)(?:: the [a-z ]+)?(?:: | at ){_SPOT}(?:, command (\d+))?(?:: (.*))?")
+_NAMED = re.compile(r"  (unknown|bound twice|claim|also false|too long|no model): (.*)")
+_ITEM = re.compile(rf"(.*) at {_SPOT}")
+_TOKEN = re.compile(r'\|[^|]*\||"[^"]*"|[()]|[^\s()|",]+|\s')
+
+
+def _spot(text: Optional[str], line: Optional[str], column: Optional[str]) -> Optional[Spot]:
+    return None if text is None else Spot(text, int(line or 0), int(column or 0))
+
+
+def _end_of_term(text: str, begin: int) -> Optional[int]:
+    """The end of the whole term that begins there, if there is one: of a term whose middle is left out nobody knows it."""
+    depth, place = 0, begin
+    while True:
+        token = _TOKEN.match(text, place)
+        if token is None or token.group() == "..":
+            return None
+        place = token.end()
+        depth += {"(": 1, ")": -1}.get(token.group(), 0)
+        if depth <= 0:
+            return place
+
+
+def _values_of(text: str) -> "Tuple[Value, ...]":
+    """The values of a line, as far as they stand there whole."""
+    values, place = [], 0
+    while True:
+        terms = []
+        while True:
+            end = _end_of_term(text, place)
+            if end is None:
+                return tuple(values)
+            terms.append(text[place:end])
+            if not text.startswith(" = ", end):
+                break
+            place = end + 3
+        # (a value at the end of a line that is full may be cut)
+        whole = end < len(text) or len(text) + 4 < _WIDTH
+        if len(terms) > 1 and whole:
+            values.append(Value(terms[0], tuple(terms[1:-1]), terms[-1]))
+        if not text.startswith(", ", end):
+            return tuple(values)
+        place = end + 2
+
+
+def _items_of(text: str) -> "Tuple[Item, ...]":
+    """The items of a line, as far as they stand there whole."""
+    items = []
+    for each in re.split(r"(?<=\d), ", text):
+        found = _ITEM.fullmatch(each)
+        if found and len(text) + 11 < _WIDTH:
+            items.append(Item(found.group(1), Spot(found.group(2), int(found.group(3)), int(found.group(4)))))
+    return tuple(items)
+
+
+def _with_line(part: Part, text: str) -> Part:
+    """The part with what a line behind it tells."""
+    if text.startswith("items: "):
+        return part._replace(items=_items_of(text[7:]))
+    values = _values_of(text)
+    return part._replace(values=values) if values or part.known != "open" else part._replace(reason=text)
+
+
+def _detail_of(line: str) -> Detail:
+    found = _DETAIL.fullmatch(line)
+    if found:
+        return Detail(found.group(1), _spot(*found.group(2, 3, 4)), _number(found.group(5)), found.group(6) or "")
+    found = _NAMED.fullmatch(line)
+    return Detail(found.group(1), None, None, found.group(2)) if found else Detail("", None, None, line.strip())
+
+
+def explanation_of(text: str) -> "Tuple[Explained, ...]":
+    """What an explanation tells whose texts are called `script` and `answers`."""
+    told: List[Explained] = []
+    for line in text.splitlines():
+        found = _TOLD.fullmatch(line)
+        if found:
+            told.append(Explained(_number(found.group(1)), _spot(*found.group(2, 3, 4)), _number(found.group(5)), found.group(6) or "", (), ()))
+            continue
+        if not told:
+            raise ValueError(f"no line of an explanation: {line}")
+        last = told[-1]
+        found = _PART.fullmatch(line)
+        if found:
+            known, term, *spot, within = found.groups()
+            told[-1] = last._replace(parts=last.parts + (Part(known, term, within, _spot(*spot), None, (), ()),))
+        elif line.startswith("    ") and last.parts:
+            told[-1] = last._replace(parts=last.parts[:-1] + (_with_line(last.parts[-1], line[4:]),))
+        else:
+            told[-1] = last._replace(details=last.details + (_detail_of(line),))
+    return tuple(told)
 
 
 class _Once(argparse.Action):

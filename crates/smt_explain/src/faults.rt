@@ -3,15 +3,18 @@
 use crate::force::in_force;
 use crate::page::Page;
 use crate::pairs::{Head, head_of, word};
-use crate::scan::{Place, Span, place_of, text_at};
+use crate::scan::{Place, Span, find_tokens, place_of, text_at};
 use crate::told::{
     Dialogue, answer_of, index_of_number, model_of, put_place, tell_answer, tell_command,
 };
+use crate::unknown::{
+    Brought, brought_by, is_operator, unknown_in_command, unknown_in_form, without_bars,
+};
 use crate::walk::all_in;
-use crate::world::{has_label, places_in, tree_of};
+use crate::world::{places_in, tree_of};
 use smt_faults::{CommandFlaw, Memory, TermFlaw, TextFlaw};
+use smt_forms::{Scope, item_form};
 use smt_report::{Line, Side};
-use smt_theory::{Theories, op_of};
 use smt_trees::Tree;
 use std::alloc::Global;
 
@@ -159,167 +162,167 @@ fn tell_term(
     };
     match flaw {
         TermFlaw::Unknown => {
-            let mut known = names_before(page, dialogue, place)?;
-            if head_of(text) != Head::Assert {
-                add_name(page.alloc, &mut known, word(text, 1))?;
-            }
-            bind_all(page.alloc, &tree, &mut known)?;
-            tell_unknown(page, &tree, known.as_slice())
+            let known = brought_before(page.alloc, dialogue, place)?;
+            tell_unknown(
+                page,
+                unknown_in_command(page.alloc, &known, head_of(text), &tree)?,
+            )
         }
-        TermFlaw::NotFresh => {
-            if head_of(text) == Head::Assert {
-                return Ok(());
-            }
-            tell_earlier(page, dialogue, place, word(text, 1))
-        }
+        TermFlaw::NotFresh => match head_of(text) {
+            Head::Assert => tell_label_in_use(page, dialogue, place, *span),
+            Head::DefineSort => tell_sort_in_use(page, dialogue, place, word(text, 1)),
+            _ => tell_earlier(page, dialogue, place, word(text, 1)),
+        },
+        TermFlaw::BoundTwice => tell_bound_twice(page, &tree),
         _ => Ok(()),
     }
 }
 
-// The names that stand before the command at a place.
-fn names_before(
-    page: &Page,
+// What stands before the command at a place.
+fn brought_before<'a>(
+    alloc: Global,
+    dialogue: &Dialogue<'a>,
+    place: usize,
+) -> Result<Brought<'a>, Memory> {
+    let standing = in_force(alloc, dialogue.commands(), place)?;
+    brought_by(alloc, dialogue.commands(), standing.as_slice())
+}
+
+fn tell_unknown(page: &mut Page, name: Option<&[u8]>) -> Result<(), Memory> {
+    match name {
+        Some(name) => {
+            page.put(b"  unknown: ")?;
+            page.put(name)?;
+            page.end()
+        }
+        None => Ok(()),
+    }
+}
+
+// The first label of an assertion that is in use: by a command before it, by an operator, or by a label before it.
+fn tell_label_in_use(
+    page: &mut Page,
     dialogue: &Dialogue<'_>,
     place: usize,
-) -> Result<Vec<Vec<u8>>, Memory> {
-    let alloc = page.alloc;
-    let standing = in_force(
-        alloc,
-        dialogue.texts.script,
-        dialogue.commands,
-        dialogue.pairs,
-        place,
-    )?;
-    let mut names = Vec::new(alloc);
-    for each in standing.as_slice() {
-        if let (Some(span), Some(pair)) = (
-            dialogue.commands.get(*each),
-            dialogue.pairs.get(*each),
-        ) {
-            let text = text_at(dialogue.texts.script, *span);
-            if pair.head == Head::Assert {
-                if has_label(text)
-                    && let Some(tree) = tree_of(alloc, text)?
-                {
-                    bind_all(alloc, &tree, &mut names)?;
-                }
-            } else {
-                names.push(Vec::from_slice(alloc, word(text, 1))?)?;
+    command: Span,
+) -> Result<(), Memory> {
+    let script = dialogue.texts.script;
+    let known = brought_before(page.alloc, dialogue, place)?;
+    let tokens = find_tokens(page.alloc, text_at(script, command), command.start)?;
+    let mut before = Scope::new(page.alloc);
+    let mut named = false;
+    for token in tokens.as_slice() {
+        let text = text_at(script, *token);
+        if named {
+            let name = without_bars(text);
+            let bringer = known.names.find(name);
+            let earlier = before.find(name);
+            if bringer.is_some() || earlier.is_some() || is_operator(name) {
+                page.put(b"  label: ")?;
+                put_place(page, dialogue.texts.script_name, token.start)?;
+                page.put(b": ")?;
+                page.put_cut(text)?;
+                page.end()?;
+                return match (bringer, earlier) {
+                    (None, Some(earlier)) => tell_label_before(page, dialogue, earlier),
+                    _ => tell_bringer(page, dialogue, bringer, name),
+                };
             }
+            before.push(name, token.start)?;
         }
-    }
-    Ok(names)
-}
-
-// Adds every name that a term binds, in any part of it, and its labels.
-fn bind_all(alloc: Global, tree: &Tree, names: &mut Vec<Vec<u8>>) -> Result<(), Memory> {
-    let all = all_in(alloc, tree)?;
-    let mut label = false;
-    for part in all.as_slice() {
-        match *part {
-            Tree::List(parts) => {
-                if let [Tree::Symbol(name), _] = parts.as_slice() {
-                    add_name(alloc, names, name.as_slice())?;
-                }
-                label = false;
-            }
-            Tree::Symbol(name) => {
-                if label {
-                    add_name(alloc, names, name.as_slice())?;
-                }
-                label = false;
-            }
-            Tree::Keyword(name) => label = matches!(name.as_slice(), b"named"),
-            _ => label = false,
-        }
+        named = matches!(text, b":named");
     }
     Ok(())
 }
 
-fn add_name(alloc: Global, names: &mut Vec<Vec<u8>>, name: &[u8]) -> Result<(), Memory> {
-    names.push(Vec::from_slice(alloc, name)?)?;
-    Ok(())
+fn tell_label_before(page: &mut Page, dialogue: &Dialogue<'_>, place: Place) -> Result<(), Memory> {
+    page.put(b"  in use: the label at ")?;
+    put_place(page, dialogue.texts.script_name, place)?;
+    page.end()
 }
 
-// The first symbol behind the first word of a command that is neither known nor an operator or a sort.
-fn tell_unknown(page: &mut Page, tree: &Tree, known: &[Vec<u8>]) -> Result<(), Memory> {
-    let all = all_in(page.alloc, tree)?;
-    for (index, part) in all.as_slice().iter().enumerate() {
-        if let Tree::Symbol(name) = *part
-            && index > 1
-            && !is_known(name.as_slice(), known)
-        {
-            page.put(b"  unknown: ")?;
-            page.put(name.as_slice())?;
-            return page.end();
-        }
+fn tell_sort_in_use(
+    page: &mut Page,
+    dialogue: &Dialogue<'_>,
+    place: usize,
+    name: &[u8],
+) -> Result<(), Memory> {
+    match brought_before(page.alloc, dialogue, place)?
+        .sorts
+        .find(name)
+    {
+        Some(bringer) => tell_bringer(page, dialogue, Some(bringer), name),
+        None => page.line(b"  it is a sort of a theory"),
     }
-    Ok(())
 }
 
-fn is_known(name: &[u8], known: &[Vec<u8>]) -> bool {
-    for other in known {
-        if other.as_slice() == name {
-            return true;
-        }
-    }
-    matches!(name, b"Bool" | b"Int" | b"BitVec") || is_operator(name) || is_indexed_operator(name)
-}
-
-fn is_operator(name: &[u8]) -> bool {
-    let all = Theories {
-        ints: true,
-        bits: true,
-    };
-    op_of(all, name, &[]).is_ok()
-}
-
-fn is_indexed_operator(name: &[u8]) -> bool {
-    matches!(
-        name,
-        b"extract"
-            | b"repeat"
-            | b"zero_extend"
-            | b"sign_extend"
-            | b"rotate_left"
-            | b"rotate_right"
-            | b"divisible"
-    )
-}
-
-// The command before a place that brought a name which stands.
+// The command before a place that brought a name which stands, by a label too.
 fn tell_earlier(
     page: &mut Page,
     dialogue: &Dialogue<'_>,
     place: usize,
     name: &[u8],
 ) -> Result<(), Memory> {
-    let standing = in_force(
-        page.alloc,
-        dialogue.texts.script,
-        dialogue.commands,
-        dialogue.pairs,
-        place,
-    )?;
-    for each in standing.as_slice() {
-        if is_brought(dialogue, *each, name) {
-            let number = (*each as u64).saturating_add(1);
-            return tell_command(page, dialogue, b"  in use: ", number);
+    let bringer = brought_before(page.alloc, dialogue, place)?
+        .names
+        .find(name);
+    tell_bringer(page, dialogue, bringer, name)
+}
+
+// Tells the command that brought a name, or that the name is an operator's.
+fn tell_bringer(
+    page: &mut Page,
+    dialogue: &Dialogue<'_>,
+    bringer: Option<usize>,
+    name: &[u8],
+) -> Result<(), Memory> {
+    match bringer {
+        Some(place) => {
+            let number = (place as u64).saturating_add(1);
+            tell_command(page, dialogue, b"  in use: ", number)
         }
+        None if is_operator(name) => page.line(b"  it is an operator's name"),
+        None => Ok(()),
     }
-    if is_operator(name) {
-        return page.line(b"  it is an operator's name");
+}
+
+// The first name that the bindings of one `let`, or the parameters of one definition, bind twice.
+fn tell_bound_twice(page: &mut Page, tree: &Tree) -> Result<(), Memory> {
+    let all = all_in(page.alloc, tree)?;
+    for part in all.as_slice() {
+        if let Tree::List(bindings) = *part
+            && let Some(name) = name_twice(page.alloc, bindings.as_slice())?
+        {
+            page.put(b"  bound twice: ")?;
+            page.put(name)?;
+            return page.end();
+        }
     }
     Ok(())
 }
 
-// Whether a command declares or defines a name.
-fn is_brought(dialogue: &Dialogue<'_>, place: usize, name: &[u8]) -> bool {
-    match (dialogue.commands.get(place), dialogue.pairs.get(place)) {
-        (Some(span), Some(pair)) => {
-            pair.head != Head::Assert && word(text_at(dialogue.texts.script, *span), 1) == name
+// The first name that a list of pairs of a name and a tree has twice.
+fn name_twice(alloc: Global, bindings: &[Tree]) -> Result<Option<&[u8]>, Memory> {
+    let mut names = Scope::new(alloc);
+    for binding in bindings {
+        let Some(name) = bound_name(binding) else {
+            return Ok(None);
+        };
+        if names.find(name).is_some() {
+            return Ok(Some(name));
         }
-        _ => false,
+        names.push(name, ())?;
+    }
+    Ok(None)
+}
+
+fn bound_name(binding: &Tree) -> Option<&[u8]> {
+    match binding {
+        Tree::List(parts) => match parts.as_slice() {
+            [Tree::Symbol(name), _] => Some(name.as_slice()),
+            _ => None,
+        },
+        _ => None,
     }
 }
 
@@ -356,12 +359,38 @@ pub(crate) fn tell_item_fault(
     page.put(b"  ")?;
     page.line(meaning_of(flaw))?;
     match flaw {
-        TermFlaw::BoundTwice => tell_same_item(page, dialogue, spans, place, name),
-        TermFlaw::NotFresh | TermFlaw::IllSorted => {
-            tell_earlier(page, dialogue, index_of_number(check), name)
+        TermFlaw::BoundTwice => {
+            tell_same_item(page, dialogue, spans, place, name)?;
+            match tree_of(page.alloc, text)? {
+                Some(tree) => tell_bound_twice(page, &tree),
+                None => Ok(()),
+            }
         }
-        TermFlaw::Unknown => tell_unknown_in_item(page, answers, spans, place),
+        TermFlaw::NotFresh => tell_earlier(page, dialogue, index_of_number(check), name),
+        TermFlaw::IllSorted => tell_declared(page, dialogue, index_of_number(check), name),
+        TermFlaw::Unknown => {
+            tell_unknown_in_item(page, dialogue, index_of_number(check), spans, place)
+        }
         _ => Ok(()),
+    }
+}
+
+// The command that declares the name of an item, if one does: its sorts may be others than the item's.
+fn tell_declared(
+    page: &mut Page,
+    dialogue: &Dialogue<'_>,
+    check: usize,
+    name: &[u8],
+) -> Result<(), Memory> {
+    match brought_before(page.alloc, dialogue, check)?
+        .names
+        .find(name)
+    {
+        Some(place) => {
+            let number = (place as u64).saturating_add(1);
+            tell_command(page, dialogue, b"  declared: ", number)
+        }
+        None => Ok(()),
     }
 }
 
@@ -396,30 +425,30 @@ fn tell_same_item(
 
 fn tell_unknown_in_item(
     page: &mut Page,
-    answers: &[u8],
+    dialogue: &Dialogue<'_>,
+    check: usize,
     spans: &[Span],
     place: usize,
 ) -> Result<(), Memory> {
     let alloc = page.alloc;
-    let mut known = Vec::new(alloc);
-    for (index, span) in spans.iter().enumerate() {
-        if index < place {
-            known.push(Vec::from_slice(alloc, word(text_at(answers, *span), 1))?)?;
-        }
-    }
+    let answers = dialogue.texts.answers;
     let Some(span) = spans.get(place) else {
         return Ok(());
     };
     let Some(tree) = tree_of(alloc, text_at(answers, *span))? else {
         return Ok(());
     };
-    bind_all(alloc, &tree, &mut known)?;
-    if let Tree::List(parts) = &tree
-        && let [_, Tree::Symbol(name), ..] = parts.as_slice()
-    {
-        known.push(Vec::from_slice(alloc, name.as_slice())?)?;
+    let Ok(form) = item_form(&tree) else {
+        return Ok(());
+    };
+    let mut known = brought_before(alloc, dialogue, check)?;
+    known.names.cut(0);
+    for (index, span) in spans.iter().enumerate() {
+        if index < place {
+            known.names.push(word(text_at(answers, *span), 1), index)?;
+        }
     }
-    tell_unknown(page, &tree, known.as_slice())
+    tell_unknown(page, unknown_in_form(alloc, &known, &form)?)
 }
 
 // ---- pairing

@@ -8,79 +8,96 @@ use std::alloc::Global;
 /// The most levels that one command pushes or pops.
 const MOST_LEVELS: u64 = 10_000;
 
-/// What stands, by the places of its commands, and at which level.
+/// A command that stands, by its place.
+#[derive(Clone, Copy)]
+pub(crate) struct Stand {
+    pub(crate) place: usize,
+    /// Whether its assertion is gone, and only its labels stand.
+    pub(crate) gone: bool,
+}
+
+/// The commands of a script, with what each is.
+#[derive(Clone, Copy)]
+pub(crate) struct Commands<'a> {
+    pub(crate) script: &'a [u8],
+    pub(crate) spans: &'a [Span],
+    pub(crate) pairs: &'a [Pair],
+}
+
+impl<'a> Commands<'a> {
+    /// What the command at a place is, and its text.
+    pub(crate) fn at(self, place: usize) -> Option<(Head, &'a [u8])> {
+        let span = self.spans.get(place)?;
+        let pair = self.pairs.get(place)?;
+        Some((pair.head, text_at(self.script, *span)))
+    }
+}
+
+/// What stands, and at which level.
 #[derive(Drop)]
 struct Standing {
-    commands: Vec<usize>,
+    stands: Vec<Stand>,
     levels: Vec<usize>,
     global: bool,
 }
 
-/// The places of the commands before the one at a place that declared, defined or asserted what stands there.
+/// The commands before the one at a place that declared, defined or asserted what stands there.
 pub(crate) fn in_force(
     alloc: Global,
-    script: &[u8],
-    commands: &[Span],
-    pairs: &[Pair],
+    commands: Commands<'_>,
     before: usize,
-) -> Result<Vec<usize>, Memory> {
+) -> Result<Vec<Stand>, Memory> {
     let mut standing = Standing {
-        commands: Vec::new(alloc),
+        stands: Vec::new(alloc),
         levels: Vec::new(alloc),
         global: false,
     };
-    for (place, (pair, span)) in pairs.iter().zip(commands.iter()).enumerate() {
+    for (place, pair) in commands.pairs.iter().enumerate() {
         if place >= before {
             break;
         }
         if pair.effective {
-            take(
-                alloc,
-                &mut standing,
-                pair.head,
-                pairs,
-                place,
-                text_at(script, *span),
-            )?;
+            take(alloc, &mut standing, commands, place)?;
         }
     }
-    Ok(standing.commands)
+    Ok(standing.stands)
 }
 
 fn take(
     alloc: Global,
     standing: &mut Standing,
-    head: Head,
-    pairs: &[Pair],
+    commands: Commands<'_>,
     place: usize,
-    text: &[u8],
 ) -> Result<(), Memory> {
+    let Some((head, text)) = commands.at(place) else {
+        return Ok(());
+    };
     match head {
         Head::Assert | Head::Declare | Head::Define | Head::DefineSort => standing
-            .commands
-            .push(place)?,
+            .stands
+            .push(Stand { place, gone: false })?,
         Head::Push => {
             for _ in 0..levels_of(text) {
-                let count = standing.commands.len();
+                let count = standing.stands.len();
                 standing.levels.push(count)?;
             }
         }
         Head::Pop => {
-            let mut mark = standing.commands.len();
+            let mut mark = standing.stands.len();
             for _ in 0..levels_of(text) {
                 if let Some(outer) = standing.levels.pop() {
                     mark = outer;
                 }
             }
-            leave(alloc, standing, pairs, mark)?;
+            leave(alloc, standing, commands, mark)?;
         }
         Head::ResetAssertions => {
             standing.levels.clear();
-            leave(alloc, standing, pairs, 0)?;
+            leave(alloc, standing, commands, 0)?;
         }
         Head::Reset => {
             standing.levels.clear();
-            standing.commands.clear();
+            standing.stands.clear();
             standing.global = false;
         }
         Head::Global(on) => standing.global = on,
@@ -89,29 +106,49 @@ fn take(
     Ok(())
 }
 
-// Leaves the first so many, and where declarations are global all that declares or defines.
+// Leaves the first so many, and where declarations are global all that brought a name.
 fn leave(
     alloc: Global,
     standing: &mut Standing,
-    pairs: &[Pair],
+    commands: Commands<'_>,
     mark: usize,
 ) -> Result<(), Memory> {
     if !standing.global {
-        standing.commands.truncate(mark);
+        standing.stands.truncate(mark);
         return Ok(());
     }
     let mut left = Vec::new(alloc);
-    for (index, place) in standing.commands.as_slice().iter().enumerate() {
-        let stays = match pairs.get(*place) {
-            Some(pair) => index < mark || pair.head != Head::Assert,
-            None => false,
-        };
-        if stays {
-            left.push(*place)?;
+    for (index, stand) in standing.stands.as_slice().iter().enumerate() {
+        if index < mark {
+            left.push(*stand)?;
+            continue;
+        }
+        if let Some((head, text)) = commands.at(stand.place)
+            && (head != Head::Assert || has_label(text))
+        {
+            left.push(Stand {
+                place: stand.place,
+                gone: head == Head::Assert,
+            })?;
         }
     }
-    standing.commands = left;
+    standing.stands = left;
     Ok(())
+}
+
+/// Whether a text has the word of a label, perhaps in a comment or a string.
+pub(crate) fn has_label(text: &[u8]) -> bool {
+    let mut left = text;
+    for _ in 0..text.len() {
+        let Some((first, rest)) = left.split_first() else {
+            break;
+        };
+        if *first == b':' && rest.starts_with(b"named") {
+            return true;
+        }
+        left = rest;
+    }
+    false
 }
 
 // How many levels a command pushes or pops.

@@ -9,6 +9,7 @@
 //! ```
 #![tactic(auto)]
 
+mod evaluation;
 mod faults;
 mod force;
 mod names;
@@ -18,6 +19,8 @@ mod parts;
 mod scan;
 mod show;
 mod told;
+mod unknown;
+mod values;
 mod walk;
 mod world;
 

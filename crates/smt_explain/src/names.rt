@@ -1,6 +1,5 @@
 //! The definitions that a term needs, and what its evaluation costs. This file evaluates nothing.
 
-use crate::walk::all_in;
 use crate::world::{Defined, World};
 use smt_eval::plain::Definition;
 use smt_faults::Memory;
@@ -17,43 +16,106 @@ pub(crate) fn index_of<'a>(alloc: Global, world: &'a World) -> Result<Scope<'a, 
     Ok(index)
 }
 
-/// The definitions that a term uses, and those that these use, in order.
+/// What a term costs to evaluate: its steps, as in docs/LANGUAGE.md, 2^64 - 1 for that and more; and the most
+/// variables that a term in it sees, or in a definition that it uses.
+#[derive(Clone, Copy)]
+pub(crate) struct Cost {
+    pub(crate) steps: u64,
+    pub(crate) width: u64,
+}
+
+/// What is known of each definition of a world, by its place: what its body costs, once that is asked, and whether it
+/// was met in a walk. Between two walks none was.
+#[derive(Drop)]
+pub(crate) struct Costs {
+    known: Vec<Option<Cost>>,
+    met: Vec<bool>,
+}
+
+impl Costs {
+    /// For the definitions of a world.
+    pub(crate) fn new(alloc: Global, world: &World) -> Result<Costs, Memory> {
+        let count = world.definitions.len();
+        let mut known = Vec::with_capacity(alloc, count)?;
+        let mut met = Vec::with_capacity(alloc, count)?;
+        for _ in 0..count {
+            push_cost(&mut known, None)?;
+            met.push(false)?;
+        }
+        Ok(Costs { known, met })
+    }
+
+    // Marks a place, and answers whether it was not marked before.
+    fn meet(&mut self, place: usize) -> bool {
+        match self.met.get_mut(place) {
+            Some(met) => {
+                let is_new = !*met;
+                *met = true;
+                is_new
+            }
+            None => false,
+        }
+    }
+
+    // What a term costs, whose outline this is.
+    fn cost(&self, outline: &Outline) -> Cost {
+        let mut cost = Cost {
+            steps: outline.own,
+            width: outline.width,
+        };
+        for place in outline.calls.as_slice() {
+            if let Some(Some(body)) = self.known.get(*place) {
+                cost.steps = cost.steps.saturating_add(body.steps);
+                cost.width = cost.width.max(body.width);
+            }
+        }
+        cost
+    }
+}
+
+fn push_cost(costs: &mut Vec<Option<Cost>>, cost: Option<Cost>) -> Result<(), Memory> {
+    match costs.push(cost) {
+        Ok(()) => Ok(()),
+        Err(_) => Err(Memory),
+    }
+}
+
+/// The definitions that a closed term uses, and those that these use, in order, with what the term costs. It takes
+/// time in proportion to the term and to these.
 pub(crate) fn used_by<'a>(
     alloc: Global,
     world: &'a World,
     index: &Scope<'_, usize>,
+    costs: &mut Costs,
     term: &Tree,
-) -> Result<Vec<Definition<'a>>, Memory> {
-    let mut marks: Vec<bool> = Vec::with_capacity(alloc, world.definitions.len())?;
-    for _ in world.definitions.as_slice() {
-        marks.push(false)?;
-    }
-    let mut left: Vec<usize> = Vec::new(alloc);
-    add_names(alloc, index, term, &mut marks, &mut left)?;
-    for _ in 0..world.definitions.len() {
-        let Some(place) = left.pop() else {
-            break;
-        };
-        if let Some(defined) = world.definitions.get(place) {
-            add_names(alloc, index, &defined.body, &mut marks, &mut left)?;
+) -> Result<(Vec<Definition<'a>>, Cost), Memory> {
+    let outline = outline_of(alloc, index, Scope::new(alloc), term)?;
+    let mut places = Vec::new(alloc);
+    let found = find_all(alloc, world, index, costs, &outline, &mut places);
+    for place in places.as_slice() {
+        if let Some(met) = costs.met.get_mut(*place) {
+            *met = false;
         }
     }
-    marked(alloc, world, marks.as_slice())
-}
-
-// The definitions at the places that are marked.
-fn marked<'a>(
-    alloc: Global,
-    world: &'a World,
-    marks: &[bool],
-) -> Result<Vec<Definition<'a>>, Memory> {
-    let mut used = Vec::new(alloc);
-    for (place, defined) in world.definitions.as_slice().iter().enumerate() {
-        if marks.get(place).copied() == Some(true) {
+    found?;
+    let mut used = Vec::with_capacity(alloc, places.len())?;
+    for place in places.as_slice() {
+        if let Some(defined) = world.definitions.get(*place) {
             push_definition(&mut used, defined)?;
         }
     }
-    Ok(used)
+    Ok((used, costs.cost(&outline)))
+}
+
+/// What a closed term costs.
+pub(crate) fn cost_of(
+    alloc: Global,
+    world: &World,
+    index: &Scope<'_, usize>,
+    costs: &mut Costs,
+    term: &Tree,
+) -> Result<Cost, Memory> {
+    Ok(used_by(alloc, world, index, costs, term)?.1)
 }
 
 fn push_definition<'a>(used: &mut Vec<Definition<'a>>, defined: &'a Defined) -> Result<(), Memory> {
@@ -68,88 +130,77 @@ fn push_definition<'a>(used: &mut Vec<Definition<'a>>, defined: &'a Defined) -> 
     }
 }
 
-// Adds the places of the definitions that a term names and that are not marked, and marks them.
-fn add_names(
+// Finds the places of all that is used, in order, and what the bodies there cost. What was met stays marked.
+fn find_all(
     alloc: Global,
+    world: &World,
     index: &Scope<'_, usize>,
-    term: &Tree,
-    marks: &mut Vec<bool>,
-    left: &mut Vec<usize>,
+    costs: &mut Costs,
+    outline: &Outline,
+    places: &mut Vec<usize>,
 ) -> Result<(), Memory> {
-    let before = left.len();
-    find_names(alloc, index, term, left)?;
-    let mut kept = before;
-    for place in before..left.len() {
-        if let Some(found) = left.get(place).copied()
-            && mark(marks, found)
-            && let Some(slot) = left.get_mut(kept)
-        {
-            *slot = found;
-            kept = kept.saturating_add(1);
+    add_calls(costs, outline, places)?;
+    let mut next = 0usize;
+    for _ in 0..world.definitions.len() {
+        let Some(place) = places.get(next).copied() else {
+            break;
+        };
+        next = next.saturating_add(1);
+        if let Some(defined) = world.definitions.get(place) {
+            let body = outline_of_body(alloc, index, defined)?;
+            add_calls(costs, &body, places)?;
         }
     }
-    left.truncate(kept);
-    Ok(())
-}
-
-// Marks a place, and answers whether it was not marked before.
-fn mark(marks: &mut Vec<bool>, place: usize) -> bool {
-    match marks.get_mut(place) {
-        Some(mark) => {
-            let is_new = !*mark;
-            *mark = true;
-            is_new
-        }
-        None => false,
-    }
-}
-
-fn find_names(
-    alloc: Global,
-    index: &Scope<'_, usize>,
-    tree: &Tree,
-    found: &mut Vec<usize>,
-) -> Result<(), Memory> {
-    let all = all_in(alloc, tree)?;
-    for part in all.as_slice() {
-        if let Tree::Symbol(name) = *part
-            && let Some(place) = index.find(name.as_slice())
-        {
-            found.push(place)?;
+    places.as_mut_slice().sort_unstable();
+    for place in places.as_slice() {
+        if let (Some(None), Some(defined)) = (
+            costs.known.get(*place),
+            world.definitions.get(*place),
+        ) {
+            let cost = costs.cost(&outline_of_body(alloc, index, defined)?);
+            if let Some(known) = costs.known.get_mut(*place) {
+                *known = Some(cost);
+            }
         }
     }
     Ok(())
 }
 
-/// What each definition's body costs, as in docs/LANGUAGE.md; 2^64 - 1 for that and more.
-pub(crate) fn costs_of<'a>(alloc: Global, world: &'a World) -> Result<Scope<'a, u64>, Memory> {
-    let mut costs = Scope::new(alloc);
-    for defined in world.definitions.as_slice() {
-        let cost = cost_of_body(alloc, &costs, defined)?;
-        costs.push(defined.name.as_slice(), cost)?;
+// Adds the places that an outline names and that were not met. (Where memory is refused a place stays marked: then no
+// walk comes behind this one.)
+fn add_calls(costs: &mut Costs, outline: &Outline, places: &mut Vec<usize>) -> Result<(), Memory> {
+    for place in outline.calls.as_slice() {
+        if costs.meet(*place) {
+            places.push(*place)?;
+        }
     }
-    Ok(costs)
+    Ok(())
 }
 
-fn cost_of_body(alloc: Global, costs: &Scope<'_, u64>, defined: &Defined) -> Result<u64, Memory> {
-    let mut bound = Vec::new(alloc);
+// ---- outlines
+
+/// What a term costs without the bodies of what it names, the most variables that a term in it sees, and the place of
+/// the definition of each name in it, at each use.
+#[derive(Drop)]
+struct Outline {
+    own: u64,
+    width: u64,
+    calls: Vec<usize>,
+}
+
+fn outline_of_body(
+    alloc: Global,
+    index: &Scope<'_, usize>,
+    defined: &Defined,
+) -> Result<Outline, Memory> {
+    let mut bound = Scope::new(alloc);
     for param in defined.params.as_slice() {
-        push_name(&mut bound, param.0.as_slice())?;
+        bound.push(param.0.as_slice(), ())?;
     }
-    cost_behind(alloc, costs, bound, &defined.body)
+    outline_of(alloc, index, bound, &defined.body)
 }
 
-/// What a closed term costs.
-pub(crate) fn cost_of(alloc: Global, costs: &Scope<'_, u64>, term: &Tree) -> Result<u64, Memory> {
-    cost_behind(alloc, costs, Vec::new(alloc), term)
-}
-
-fn push_name<'a>(names: &mut Vec<&'a [u8]>, name: &'a [u8]) -> Result<(), Memory> {
-    names.push(name)?;
-    Ok(())
-}
-
-/// What is to be done next for a cost.
+/// What is to be done next for an outline.
 #[derive(Clone, Copy)]
 enum Task<'a> {
     /// Count a term.
@@ -167,67 +218,80 @@ fn push_task<'a>(tasks: &mut Vec<Task<'a>>, task: Task<'a>) -> Result<(), Memory
     }
 }
 
-// What a term costs behind variables of these names.
-fn cost_behind<'a>(
+// The outline of a term behind variables of these names.
+fn outline_of<'a>(
     alloc: Global,
-    costs: &Scope<'_, u64>,
-    variables: Vec<&'a [u8]>,
+    index: &Scope<'_, usize>,
+    variables: Scope<'a, ()>,
     term: &'a Tree,
-) -> Result<u64, Memory> {
+) -> Result<Outline, Memory> {
     let mut bound = variables;
     let mut tasks = Vec::new(alloc);
     push_task(&mut tasks, Task::Count(term))?;
-    let mut sum = 0u64;
+    let mut outline = Outline {
+        own: 0,
+        width: bound.len() as u64,
+        calls: Vec::new(alloc),
+    };
     for _ in 0..u64::MAX {
         let Some(task) = tasks.pop() else {
             break;
         };
         match task {
             Task::Count(term) => {
-                let own = own_cost(costs, bound.as_slice(), term);
-                sum = sum.saturating_add(own);
+                outline.own = outline.own.saturating_add(1);
+                add_call(index, &bound, term, &mut outline.calls)?;
                 push_parts(&mut tasks, bound.len(), term)?;
             }
-            Task::Enter(bindings) => enter(&mut bound, bindings)?,
-            Task::Leave(count) => bound.truncate(count),
+            Task::Enter(bindings) => {
+                enter(&mut bound, bindings)?;
+                outline.width = outline.width.max(bound.len() as u64);
+            }
+            Task::Leave(count) => bound.cut(count),
         }
     }
-    Ok(sum)
+    Ok(outline)
 }
 
-fn enter<'a>(bound: &mut Vec<&'a [u8]>, bindings: &'a [Tree]) -> Result<(), Memory> {
+fn enter<'a>(bound: &mut Scope<'a, ()>, bindings: &'a [Tree]) -> Result<(), Memory> {
     let mut left = bindings;
     for _ in 0..bindings.len() {
         let Some((name, _, rest)) = split_named(left) else {
             break;
         };
-        push_name(bound, name)?;
+        bound.push(name, ())?;
         left = rest;
     }
     Ok(())
 }
 
-// What a term costs beside the terms in it.
-fn own_cost(costs: &Scope<'_, u64>, bound: &[&[u8]], term: &Tree) -> u64 {
-    match term {
-        Tree::Symbol(name) => cost_of_name(costs, bound, name.as_slice()),
-        Tree::List(parts) => match split_first(parts.as_slice()) {
-            Some((Tree::Symbol(name), _)) => cost_of_name(costs, bound, name.as_slice()),
-            _ => 1,
-        },
-        _ => 1,
+// Adds the place of the definition that a term names, or that it calls.
+fn add_call(
+    index: &Scope<'_, usize>,
+    bound: &Scope<'_, ()>,
+    term: &Tree,
+    calls: &mut Vec<usize>,
+) -> Result<(), Memory> {
+    let Some(name) = name_of(term) else {
+        return Ok(());
+    };
+    if let Some(place) = index.find(name)
+        && bound.find(name).is_none()
+    {
+        calls.push(place)?;
     }
+    Ok(())
 }
 
-fn cost_of_name(costs: &Scope<'_, u64>, bound: &[&[u8]], name: &[u8]) -> u64 {
-    for variable in bound {
-        if *variable == name {
-            return 1;
-        }
-    }
-    match costs.find(name) {
-        Some(body) => body.saturating_add(1),
-        None => 1,
+// The name that a term is, or that it begins with.
+fn name_of(term: &Tree) -> Option<&[u8]> {
+    match term {
+        Tree::Symbol(name) => Some(name.as_slice()),
+        Tree::List(parts) => match split_first(parts.as_slice()) {
+            Some((Tree::Symbol(name), _)) => Some(name.as_slice()),
+            _ => None,
+        },
+        _ => None,
     }
 }
 

@@ -1,6 +1,12 @@
 //! The places of the trees of a text. This file makes no tree, and knows of a text only where its tokens and
 //! lists begin and end.
 
+ghost use Rattle.std.specs.Prelude.{◌≡◌, List, ℕ, All, IfOk, OnOk, take};
+ghost use Rattle.smt_explain.specs.Places as places;
+ghost use Rattle.smt_explain.specs.Places.{IsPlaceIn};
+ghost use Rattle.smt_explain.specs.Internal.Scanning.{AreAt};
+ghost use Rattle.smt_explain.specs.declared.scan.Place.{Place as At};
+
 use smt_faults::Memory;
 use std::alloc::Global;
 
@@ -56,6 +62,8 @@ struct Scanner {
     mode: Mode,
     depth: usize,
     here: Place,
+    /// Whether every token is found, in place of every tree.
+    tokens: bool,
     /// Where the outermost list that is open begins, and the token in turn.
     list: Place,
     token: Place,
@@ -64,42 +72,46 @@ struct Scanner {
 }
 
 /// Finds the trees of a text, whose first byte stands at a place.
-pub fn find_trees(alloc: Global, text: &[u8], from: Place) -> Result<Scan, Memory> {
+pub fn find_trees(alloc: Global, text: &[u8], from: Place) -> Result<Scan, Memory>
+    ensures at { IfOk result (λ s. All (λ span. IsPlaceIn text.now from span.start) s.spans.items) }
+    ensures end { IfOk result (λ s. s.end ≡ places.place_behind text.now from) }
+{
+    scan_text(alloc, text, from, false)
+}
+
+/// Finds the tokens of a text, at every depth, but for parentheses.
+pub(crate) fn find_tokens(alloc: Global, text: &[u8], from: Place) -> Result<Vec<Span>, Memory> {
+    Ok(scan_text(alloc, text, from, true)?.spans)
+}
+
+fn scan_text(alloc: Global, text: &[u8], from: Place, tokens: bool) -> Result<Scan, Memory>
+    ensures at { IfOk result (λ s. All (λ span. IsPlaceIn text.now from span.start) s.spans.items) }
+    ensures end { IfOk result (λ s. s.end ≡ places.place_behind text.now from) }
+{
     let mut scanner = Scanner {
         mode: Mode::Gap,
         depth: 0,
         here: from,
+        tokens,
         list: from,
         token: from,
         spans: Vec::new(alloc),
         open: Vec::new(alloc),
     };
-    for byte in text {
+    let mut left = text;
+    while let Some((byte, rest)) = left.split_first() {
         scanner.take(*byte)?;
-        scanner.step(*byte);
+        scanner.here = behind(scanner.here, *byte);
+        left = rest;
     }
     scanner.finish()
 }
 
 impl Scanner {
-    // Goes on to the next byte.
-    fn step(&mut self, byte: u8) {
-        self.here = Place {
-            byte: self.here.byte.saturating_add(1),
-            line: if byte == b'\n' {
-                self.here.line.saturating_add(1)
-            } else {
-                self.here.line
-            },
-            column: if byte == b'\n' {
-                1
-            } else {
-                self.here.column.saturating_add(1)
-            },
-        };
-    }
-
-    fn take(&mut self, byte: u8) -> Result<(), Memory> {
+    fn take(&mut self, byte: u8) -> Result<(), Memory>
+        ensures at { OnOk result ((text : List ℕ) (begin : At) → AreAt text begin self.old → AreAt text begin self.new) }
+        ensures here { OnOk result (self.new.here ≡ self.old.here) }
+    {
         match self.mode {
             Mode::Gap => self.begin(byte),
             Mode::Comment => {
@@ -139,7 +151,10 @@ impl Scanner {
     }
 
     // Takes a byte between tokens.
-    fn begin(&mut self, byte: u8) -> Result<(), Memory> {
+    fn begin(&mut self, byte: u8) -> Result<(), Memory>
+        ensures at { OnOk result ((text : List ℕ) (begin : At) → AreAt text begin self.old → AreAt text begin self.new) }
+        ensures here { OnOk result (self.new.here ≡ self.old.here) }
+    {
         match byte {
             b' ' | b'\t' | b'\n' | b'\r' => Ok(()),
             b'(' => self.open_list(),
@@ -160,7 +175,10 @@ impl Scanner {
         }
     }
 
-    fn open_list(&mut self) -> Result<(), Memory> {
+    fn open_list(&mut self) -> Result<(), Memory>
+        ensures at { OnOk result ((text : List ℕ) (begin : At) → AreAt text begin self.old → AreAt text begin self.new) }
+        ensures here { OnOk result (self.new.here ≡ self.old.here) }
+    {
         if self.depth == 0 {
             self.list = self.here;
         }
@@ -171,13 +189,16 @@ impl Scanner {
         Ok(())
     }
 
-    fn close_list(&mut self) -> Result<(), Memory> {
+    fn close_list(&mut self) -> Result<(), Memory>
+        ensures at { OnOk result ((text : List ℕ) (begin : At) → AreAt text begin self.old → AreAt text begin self.new) }
+        ensures here { OnOk result (self.new.here ≡ self.old.here) }
+    {
         if self.depth == 0 {
             return Ok(());
         }
         self.depth = self.depth.saturating_sub(1);
         self.open.truncate(self.depth);
-        if self.depth == 0 {
+        if self.depth == 0 && !self.tokens {
             self.spans.push(Span {
                 start: self.list,
                 end: self.here.byte.saturating_add(1),
@@ -186,9 +207,12 @@ impl Scanner {
         Ok(())
     }
 
-    fn end_token(&mut self, end: usize) -> Result<(), Memory> {
+    fn end_token(&mut self, end: usize) -> Result<(), Memory>
+        ensures at { OnOk result ((text : List ℕ) (begin : At) → AreAt text begin self.old → AreAt text begin self.new) }
+        ensures here { OnOk result (self.new.here ≡ self.old.here) }
+    {
         self.mode = Mode::Gap;
-        if self.depth == 0 {
+        if self.depth == 0 || self.tokens {
             self.spans.push(Span {
                 start: self.token,
                 end,
@@ -197,21 +221,26 @@ impl Scanner {
         Ok(())
     }
 
-    fn finish(mut self) -> Result<Scan, Memory> {
-        let token = match self.mode {
-            Mode::Bars | Mode::Text => Some(self.token),
+    fn finish(self) -> Result<Scan, Memory>
+        ensures at { (text : List ℕ) (begin : At) → AreAt text begin self
+            → IfOk result (λ s. All (λ span. IsPlaceIn text begin span.start) s.spans.items) }
+        ensures end { IfOk result (λ s. s.end ≡ self.here) }
+    {
+        let mut scanner = self;
+        let token = match scanner.mode {
+            Mode::Bars | Mode::Text => Some(scanner.token),
             Mode::Gap | Mode::Comment => None,
             Mode::Atom | Mode::Quote => {
-                let end = self.here.byte;
-                self.end_token(end)?;
+                let end = scanner.here.byte;
+                scanner.end_token(end)?;
                 None
             }
         };
         Ok(Scan {
-            spans: self.spans,
-            open: self.open,
+            spans: scanner.spans,
+            open: scanner.open,
             token,
-            end: self.here,
+            end: scanner.here,
         })
     }
 }
@@ -239,7 +268,9 @@ pub(crate) fn text_at(text: &[u8], span: Span) -> &[u8] {
 }
 
 /// The place of the first byte of a text.
-pub(crate) fn first_place() -> Place {
+pub(crate) fn first_place() -> Place
+    ensures { result ≡ places.first }
+{
     Place {
         byte: 0,
         line: 1,
@@ -247,26 +278,42 @@ pub(crate) fn first_place() -> Place {
     }
 }
 
-/// The place of a byte of a text.
-pub(crate) fn place_of(text: &[u8], byte: usize) -> Place {
-    let mut place = first_place();
-    for (index, each) in text.iter().enumerate() {
-        if index >= byte {
-            return place;
-        }
-        place = Place {
-            byte: place.byte.saturating_add(1),
-            line: if *each == b'\n' {
-                place.line.saturating_add(1)
-            } else {
-                place.line
-            },
-            column: if *each == b'\n' {
-                1
-            } else {
-                place.column.saturating_add(1)
-            },
-        };
+/// The place of a byte of a text, or of its end where it has no such byte.
+pub(crate) fn place_of(text: &[u8], byte: usize) -> Place
+    ensures { result ≡ places.place_behind (take byte text.now) places.first }
+{
+    place_behind(&text[..byte.min(text.len())], first_place())
+}
+
+// The place behind bytes that begin at a place.
+fn place_behind(text: &[u8], place: Place) -> Place
+    ensures { result ≡ places.place_behind text.now place }
+{
+    let mut here = place;
+    let mut left = text;
+    while let Some((byte, rest)) = left.split_first() {
+        here = behind(here, *byte);
+        left = rest;
     }
-    place
+    here
+}
+
+// The place behind a byte at a place.
+fn behind(place: Place, byte: u8) -> Place
+    ensures { result ≡ places.behind_byte byte place }
+{
+    let ends = byte == b'\n';
+    Place {
+        byte: place.byte.saturating_add(1),
+        line: if ends {
+            place.line.saturating_add(1)
+        } else {
+            place.line
+        },
+        column: if ends {
+            1
+        } else {
+            place.column.saturating_add(1)
+        },
+    }
 }

@@ -1,11 +1,12 @@
 //! The explanation of a report, line by line. This file finds no line itself: it is handed them.
 
+use crate::evaluation::{Over, Stopped, Work, value_of};
 use crate::faults::{tell_command_fault, tell_item_fault, tell_pairing, tell_text_fault};
-use crate::force::in_force;
-use crate::names::{cost_of, costs_of, index_of, used_by};
+use crate::force::{Commands, Stand, has_label, in_force};
+use crate::names::{Costs, cost_of, index_of};
 use crate::page::Page;
 use crate::pairs::{Head, Pair, head_of, pair_up};
-use crate::parts::{Over, tell_parts, value_of};
+use crate::parts::{Known, tell_parts};
 use crate::scan::{Place, Scan, Span, find_trees, first_place, text_at};
 use crate::show::text_of;
 use crate::world::{World, tree_of, world_of};
@@ -16,13 +17,14 @@ use smt_trees::{Tree, split_first};
 use smt_values::Value;
 use std::alloc::Global;
 
-/// How many bytes of texts and commands are gone through, all checks together, for each byte of both texts.
-const ROUNDS: u64 = 4;
-
-/// How many bytes are gone through where the texts are short.
+/// How many bytes of commands and models are read, all checks together, beside as many as both texts have.
 const LEAST: u64 = 10_000_000;
 
-/// Both texts of a dialogue, what the files are called, and whether the solver prints `success` from the start.
+/// What is told of a check for which no work is left.
+const ENOUGH: &[u8] = b"  (enough was looked at for the checks above)";
+
+/// Both texts of a dialogue, what the files are called, whether the solver prints `success` from the start, and how
+/// many steps of evaluation the explanation of a check may take.
 #[derive(Clone, Copy)]
 pub struct Texts<'a> {
     pub script: &'a [u8],
@@ -30,6 +32,7 @@ pub struct Texts<'a> {
     pub script_name: &'a [u8],
     pub answers_name: &'a [u8],
     pub prints_success: bool,
+    pub steps: u64,
 }
 
 /// What was found of both texts.
@@ -41,6 +44,16 @@ pub(crate) struct Dialogue<'a> {
     pub(crate) pairs: &'a [Pair],
     pub(crate) script_scan: &'a Scan,
     pub(crate) answers_scan: &'a Scan,
+}
+
+impl<'a> Dialogue<'a> {
+    pub(crate) fn commands(&self) -> Commands<'a> {
+        Commands {
+            script: self.texts.script,
+            spans: self.commands,
+            pairs: self.pairs,
+        }
+    }
 }
 
 /// The explanation of the lines that a report has on a dialogue: of each check that is not confirmed, and of the
@@ -66,9 +79,7 @@ pub fn explain(alloc: Global, texts: Texts<'_>, lines: &[Line]) -> Result<Vec<u8
         answers_scan: &answers_scan,
     };
     let mut page = Page::new(alloc);
-    let mut left = size_of_texts(texts)
-        .saturating_mul(ROUNDS)
-        .saturating_add(LEAST);
+    let mut left = size_of_texts(texts).saturating_add(LEAST);
     for line in lines {
         page.begin();
         tell_line(&mut page, &dialogue, line, &mut left)?;
@@ -132,15 +143,19 @@ fn tell_line(
             command,
             model,
             claim,
+        } => {
+            tell_check(page, dialogue, check, command)?;
+            tell_claim(page, dialogue, command, model, claim, Known::False, left)?;
+            tell_model(page, dialogue, model)
         }
-        | Line::NotDecided {
+        Line::NotDecided {
             check,
             command,
             model,
             claim,
         } => {
             tell_check(page, dialogue, check, command)?;
-            tell_claim(page, dialogue, command, model, claim, left)?;
+            tell_claim(page, dialogue, command, model, claim, Known::Open, left)?;
             tell_model(page, dialogue, model)
         }
         Line::TextFault { side, flaw } => tell_text_fault(page, dialogue, side, flaw),
@@ -260,14 +275,26 @@ fn tell_model(page: &mut Page, dialogue: &Dialogue<'_>, model: u64) -> Result<()
 
 // ---- claims
 
-// Takes the work of one more check, or answers that too little is left.
-fn take_work(dialogue: &Dialogue<'_>, left: &mut u64) -> bool {
-    let work = size_of_texts(dialogue.texts);
-    if *left < work {
+// Takes so many bytes of what is left to be gone through, or answers that there are no so many.
+fn take_work(left: &mut u64, bytes: u64) -> bool {
+    if *left < bytes {
         return false;
     }
-    *left = left.saturating_sub(work);
+    *left = left.saturating_sub(bytes);
     true
+}
+
+// How many bytes are read for the definitions of what stands. An assertion without labels is only looked over.
+fn size_of(dialogue: &Dialogue<'_>, standing: &[Stand]) -> u64 {
+    let mut size = 0u64;
+    for stand in standing {
+        if let Some((head, text)) = dialogue.commands().at(stand.place) {
+            let bytes = text.len() as u64;
+            let is_read = head != Head::Assert || has_label(text);
+            size = size.saturating_add(if is_read { bytes } else { bytes / 8 });
+        }
+    }
+    size
 }
 
 // The term of a claim, out of its command.
@@ -291,9 +318,9 @@ fn tell_claim(
     check: u64,
     model: u64,
     claim: Claim,
+    value: Known,
     left: &mut u64,
 ) -> Result<(), Memory> {
-    let alloc = page.alloc;
     let command = match claim {
         Claim::Assertion { command } => {
             tell_command(page, dialogue, b"  claim: ", command)?;
@@ -306,115 +333,200 @@ fn tell_claim(
             check
         }
     };
-    let Some(span) = dialogue.commands.get(index_of_number(command)) else {
-        return Ok(());
-    };
-    if !take_work(dialogue, left) {
-        return page.line(b"  (enough was looked at for the checks above)");
-    }
-    let Some(tree) = tree_of(alloc, text_at(dialogue.texts.script, *span))? else {
+    let Some(tree) = tree_of_command(page.alloc, dialogue, command)? else {
         return Ok(());
     };
     let Some(term) = claim_term(&tree, claim) else {
         return Ok(());
     };
-    let standing = in_force(
-        alloc,
-        dialogue.texts.script,
-        dialogue.commands,
-        dialogue.pairs,
-        index_of_number(check),
-    )?;
-    let mut world = world_of(
-        alloc,
-        dialogue.texts.script,
-        dialogue.commands,
-        dialogue.pairs,
-        standing.as_slice(),
-        dialogue.texts.answers,
-        model_of(dialogue, model),
-    )?;
-    world.claim = Some(term.copy(alloc)?);
-    tell_in(page, dialogue, &world)?;
-    tell_others(page, dialogue, &world, standing.as_slice(), command, claim)
+    let claimed = Claimed {
+        check,
+        command,
+        claim,
+        value,
+    };
+    let Some((standing, mut world)) = world_at(page.alloc, dialogue, check, model, left)? else {
+        return page.line(ENOUGH);
+    };
+    world.claim = Some(term.copy(page.alloc)?);
+    match tell_in(page, dialogue, &world, standing.as_slice(), claimed, left) {
+        Ok(()) => Ok(()),
+        Err(Stopped::Memory) => Err(Memory),
+        Err(Stopped::Steps) => {
+            page.line(
+                b"  (no more was looked at: the steps are used up, and --steps sets how many there are)",
+            )
+        }
+    }
 }
 
-fn tell_in(page: &mut Page, dialogue: &Dialogue<'_>, world: &World) -> Result<(), Memory> {
+// A claim of a check, and what it is known to be.
+#[derive(Clone, Copy)]
+struct Claimed {
+    check: u64,
+    /// The command that has its term.
+    command: u64,
+    claim: Claim,
+    value: Known,
+}
+
+fn tree_of_command(
+    alloc: Global,
+    dialogue: &Dialogue<'_>,
+    command: u64,
+) -> Result<Option<Tree>, Memory> {
+    match dialogue.commands.get(index_of_number(command)) {
+        Some(span) => tree_of(alloc, text_at(dialogue.texts.script, *span)),
+        None => Ok(None),
+    }
+}
+
+// What stands at a check, and the definitions there, with those of the model that was printed for a command; `None`
+// where too little work is left for that.
+fn world_at(
+    alloc: Global,
+    dialogue: &Dialogue<'_>,
+    check: u64,
+    model: u64,
+    left: &mut u64,
+) -> Result<Option<(Vec<Stand>, World)>, Memory> {
+    let place = index_of_number(check);
+    if !take_work(left, place as u64) {
+        return Ok(None);
+    }
+    let standing = in_force(alloc, dialogue.commands(), place)?;
+    let printed = model_of(dialogue, model);
+    let model_size = match printed {
+        Some(span) => span.end.saturating_sub(span.start.byte) as u64,
+        None => 0,
+    };
+    let size = size_of(dialogue, standing.as_slice());
+    if !take_work(left, size.saturating_add(model_size)) {
+        return Ok(None);
+    }
+    let world = world_of(
+        alloc,
+        dialogue.commands(),
+        standing.as_slice(),
+        dialogue.texts.answers,
+        printed,
+    )?;
+    Ok(Some((standing, world)))
+}
+
+fn tell_in(
+    page: &mut Page,
+    dialogue: &Dialogue<'_>,
+    world: &World,
+    standing: &[Stand],
+    claimed: Claimed,
+    left: &mut u64,
+) -> Result<(), Stopped> {
     let alloc = page.alloc;
     let Some(term) = &world.claim else {
         return Ok(());
     };
     let index = index_of(alloc, world)?;
-    let used = used_by(alloc, world, &index, term)?;
     let over = Over {
         alloc,
         world,
         index: &index,
-        used: used.as_slice(),
         script_name: dialogue.texts.script_name,
         answers_name: dialogue.texts.answers_name,
     };
-    tell_parts(page, &over, term)
+    let mut work = Work {
+        steps: dialogue.texts.steps,
+        bytes: *left,
+        costs: Costs::new(alloc, world)?,
+    };
+    tell_parts(page, &over, &mut work, term, claimed.value)?;
+    if claimed.value != Known::False {
+        return Ok(());
+    }
+    let told = tell_assertions(page, dialogue, &over, &mut work, standing, claimed);
+    *left = work.bytes;
+    told?;
+    tell_assumptions(page, dialogue, &over, &mut work, claimed)
 }
 
-// The other assertions that are false, as far as they fit on the page.
-fn tell_others(
+// The assertions behind a claim that are false too, as far as they fit on the page.
+fn tell_assertions(
     page: &mut Page,
     dialogue: &Dialogue<'_>,
-    world: &World,
-    standing: &[usize],
-    told: u64,
-    claim: Claim,
-) -> Result<(), Memory> {
-    let Claim::Assertion { .. } = claim else {
+    over: &Over<'_, '_>,
+    work: &mut Work,
+    standing: &[Stand],
+    claimed: Claimed,
+) -> Result<(), Stopped> {
+    let Claim::Assertion { command } = claimed.claim else {
         return Ok(());
     };
-    let index = index_of(page.alloc, world)?;
-    let size = (world.definitions.len() as u64).saturating_add(100);
-    let mut work = size_of_texts(dialogue.texts).saturating_add(LEAST);
-    for place in standing {
-        let number = (*place as u64).saturating_add(1);
-        if number <= told || !is_assertion(dialogue, *place) {
+    for stand in standing {
+        let number = (stand.place as u64).saturating_add(1);
+        if number <= command || !is_assertion(dialogue, stand) {
             continue;
         }
-        if work < size || !page.has_room() {
-            return page.line(b"  (the assertions behind these were not looked at)");
+        if !page.has_room() {
+            return Ok(());
         }
-        work = work.saturating_sub(size);
-        tell_other(page, dialogue, world, &index, number)?;
+        let Some((_, text)) = dialogue.commands().at(stand.place) else {
+            continue;
+        };
+        if !take_work(&mut work.bytes, text.len() as u64) {
+            page.line(b"  (the assertions behind these were not looked at)")?;
+            return Ok(());
+        }
+        let Some(tree) = tree_of(over.alloc, text)? else {
+            continue;
+        };
+        if let Some(term) = claim_term(&tree, Claim::Assertion { command: number })
+            && value_of(over, work, term)? == Some(Value::Bool(false))
+        {
+            tell_command(page, dialogue, b"  also false: ", number)?;
+        }
     }
     Ok(())
 }
 
-fn is_assertion(dialogue: &Dialogue<'_>, place: usize) -> bool {
-    match dialogue.pairs.get(place) {
-        Some(pair) => pair.head == Head::Assert,
-        None => false,
-    }
-}
-
-fn tell_other(
+// The assumptions of a check, behind a claim, that are false too.
+fn tell_assumptions(
     page: &mut Page,
     dialogue: &Dialogue<'_>,
-    world: &World,
-    index: &Scope<'_, usize>,
-    number: u64,
-) -> Result<(), Memory> {
-    let Some(span) = dialogue.commands.get(index_of_number(number)) else {
+    over: &Over<'_, '_>,
+    work: &mut Work,
+    claimed: Claimed,
+) -> Result<(), Stopped> {
+    let Some(Tree::List(parts)) = tree_of_command(over.alloc, dialogue, claimed.check)? else {
         return Ok(());
     };
-    let Some(tree) = tree_of(page.alloc, text_at(dialogue.texts.script, *span))? else {
+    let [_, Tree::List(literals)] = parts.as_slice() else {
         return Ok(());
     };
-    let claim = Claim::Assertion { command: number };
-    let Some(term) = claim_term(&tree, claim) else {
-        return Ok(());
+    let told = match claimed.claim {
+        Claim::Assumption { place } => place,
+        Claim::Assertion { .. } => 0,
     };
-    let used = used_by(page.alloc, world, index, term)?;
-    if value_of(page.alloc, used.as_slice(), term)? == Some(Value::Bool(false)) {
-        return tell_command(page, dialogue, b"  also false: ", number);
+    for (index, literal) in literals.as_slice().iter().enumerate() {
+        let place = (index as u64).saturating_add(1);
+        if place <= told || !page.has_room() {
+            continue;
+        }
+        if value_of(over, work, literal)? == Some(Value::Bool(false)) {
+            page.put(b"  also false: assumption ")?;
+            page.put_number(place)?;
+            page.put(b" of the check: ")?;
+            page.put_cut(text_of(over.alloc, literal)?.as_slice())?;
+            page.end()?;
+        }
     }
     Ok(())
+}
+
+fn is_assertion(dialogue: &Dialogue<'_>, stand: &Stand) -> bool {
+    match dialogue.pairs.get(stand.place) {
+        Some(pair) => pair.head == Head::Assert && !stand.gone,
+        None => false,
+    }
 }
 
 // What the claims of a check cost, and which of them costs most.
@@ -425,43 +537,30 @@ fn tell_cost(
     model: u64,
     left: &mut u64,
 ) -> Result<(), Memory> {
-    let alloc = page.alloc;
-    if !take_work(dialogue, left) {
-        return page.line(b"  (enough was looked at for the checks above)");
-    }
-    let standing = in_force(
-        alloc,
-        dialogue.texts.script,
-        dialogue.commands,
-        dialogue.pairs,
-        index_of_number(check),
-    )?;
-    let world = world_of(
-        alloc,
-        dialogue.texts.script,
-        dialogue.commands,
-        dialogue.pairs,
-        standing.as_slice(),
-        dialogue.texts.answers,
-        model_of(dialogue, model),
-    )?;
-    let costs = costs_of(alloc, &world)?;
+    let Some((standing, world)) = world_at(page.alloc, dialogue, check, model, left)? else {
+        return page.line(ENOUGH);
+    };
+    let index = index_of(page.alloc, &world)?;
+    let mut costs = Costs::new(page.alloc, &world)?;
     let mut sum = 0u64;
     let mut most = (0u64, 0u64);
-    for place in standing.as_slice() {
-        if is_assertion(dialogue, *place) {
-            let number = (*place as u64).saturating_add(1);
-            let cost = cost_of_command(page, dialogue, &costs, number)?;
+    for stand in standing.as_slice() {
+        if is_assertion(dialogue, stand) {
+            let number = (stand.place as u64).saturating_add(1);
+            let cost = cost_of_command(page.alloc, dialogue, &world, &index, &mut costs, number)?;
             sum = sum.saturating_add(cost);
             if cost > most.0 {
                 most = (cost, number);
             }
         }
     }
-    let own = cost_of_command(page, dialogue, &costs, check)?;
+    let own = cost_of_command(page.alloc, dialogue, &world, &index, &mut costs, check)?;
     page.put(b"  too long: the claims of this check cost ")?;
     page.put_number(sum.saturating_add(own))?;
     page.line(b" steps; --steps sets the limit")?;
+    if most.0 == 0 {
+        return Ok(());
+    }
     page.put(b"  most of it, ")?;
     page.put_number(most.0)?;
     tell_command(page, dialogue, b": ", most.1)
@@ -469,12 +568,13 @@ fn tell_cost(
 
 // What the terms of an assertion or of a check cost.
 fn cost_of_command(
-    page: &Page,
+    alloc: Global,
     dialogue: &Dialogue<'_>,
-    costs: &Scope<'_, u64>,
+    world: &World,
+    index: &Scope<'_, usize>,
+    costs: &mut Costs,
     number: u64,
 ) -> Result<u64, Memory> {
-    let alloc = page.alloc;
     let Some(span) = dialogue.commands.get(index_of_number(number)) else {
         return Ok(0);
     };
@@ -492,7 +592,7 @@ fn cost_of_command(
     };
     let mut sum = 0u64;
     for term in terms {
-        sum = sum.saturating_add(cost_of(alloc, costs, term)?);
+        sum = sum.saturating_add(cost_of(alloc, world, index, costs, term)?.steps);
     }
     Ok(sum)
 }

@@ -22,6 +22,26 @@ pub(crate) fn all_in<'a>(alloc: Global, tree: &'a Tree) -> Result<Vec<&'a Tree>,
     Ok(all)
 }
 
+/// A tree and all trees in it, each behind those in it, from the left.
+pub(crate) fn all_inside_first<'a>(alloc: Global, tree: &'a Tree) -> Result<Vec<&'a Tree>, Memory> {
+    let mut all = Vec::new(alloc);
+    let mut left = Vec::new(alloc);
+    push_tree(&mut left, tree)?;
+    for _ in 0..u64::MAX {
+        let Some(next) = left.pop() else {
+            break;
+        };
+        push_tree(&mut all, next)?;
+        if let Tree::List(parts) = next {
+            for part in parts.as_slice() {
+                push_tree(&mut left, part)?;
+            }
+        }
+    }
+    all.as_mut_slice().reverse();
+    Ok(all)
+}
+
 /// Puts a tree behind others.
 pub(crate) fn push_tree<'a>(trees: &mut Vec<&'a Tree>, tree: &'a Tree) -> Result<(), Memory> {
     trees.push(tree)?;

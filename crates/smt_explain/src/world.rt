@@ -1,13 +1,14 @@
 //! The definitions that a model and a script give to names, as their trees. This file evaluates nothing.
 
-use crate::pairs::{Head, Pair};
+use crate::force::{Commands, Stand, has_label};
+use crate::pairs::Head;
 use crate::scan::{Place, Span, find_trees, part, text_at};
-use crate::walk::all_in;
+use crate::walk::all_inside_first;
 use smt_faults::{Memory, TextFault};
 use smt_forms::{ItemForm, is_bang, item_form, label_at, split_named};
 use smt_text::read_trees;
 use smt_theory::{Sort, Width};
-use smt_trees::{Tree, Trees, split_first};
+use smt_trees::{Tree, split_first};
 use std::alloc::Global;
 
 /// A name that a model, a command or a label defines.
@@ -55,10 +56,8 @@ pub(crate) fn places_in(alloc: Global, text: &[u8], list: Span) -> Result<Vec<Sp
 /// The definitions of a model that is printed at a place, and of the commands that stand.
 pub(crate) fn world_of(
     alloc: Global,
-    script: &[u8],
-    commands: &[Span],
-    pairs: &[Pair],
-    standing: &[usize],
+    commands: Commands<'_>,
+    standing: &[Stand],
     answers: &[u8],
     model: Option<Span>,
 ) -> Result<World, Memory> {
@@ -69,9 +68,12 @@ pub(crate) fn world_of(
     if let Some(span) = model {
         add_model(alloc, &mut world, answers, span)?;
     }
-    for place in standing {
-        if let (Some(pair), Some(span)) = (pairs.get(*place), commands.get(*place)) {
-            add_command(alloc, &mut world, pair.head, script, *span)?;
+    for stand in standing {
+        if let (Some((head, text)), Some(span)) = (
+            commands.at(stand.place),
+            commands.spans.get(stand.place),
+        ) {
+            add_command(alloc, &mut world, head, text, span.start)?;
         }
     }
     Ok(world)
@@ -94,10 +96,9 @@ fn add_command(
     alloc: Global,
     world: &mut World,
     head: Head,
-    script: &[u8],
-    command: Span,
+    text: &[u8],
+    place: Place,
 ) -> Result<(), Memory> {
-    let text = text_at(script, command);
     let wanted = match head {
         Head::Define => true,
         Head::Assert => has_label(text),
@@ -110,24 +111,9 @@ fn add_command(
         return Ok(());
     };
     match item_form(&tree) {
-        Ok(form) => add_form(alloc, world, &form, command.start, false),
-        Err(_) => add_labels(alloc, world, &tree, command.start),
+        Ok(form) => add_form(alloc, world, &form, place, false),
+        Err(_) => add_labels(alloc, world, &tree, place),
     }
-}
-
-// Whether a text has the word of a label, perhaps in a comment or a string.
-pub(crate) fn has_label(text: &[u8]) -> bool {
-    let mut left = text;
-    for _ in 0..text.len() {
-        let Some((first, rest)) = left.split_first() else {
-            break;
-        };
-        if *first == b':' && rest.starts_with(b"named") {
-            return true;
-        }
-        left = rest;
-    }
-    false
 }
 
 fn add_form(
@@ -161,42 +147,46 @@ fn add_form(
 
 // The labels inside a term, those inside an annotated term before its own.
 fn add_labels(alloc: Global, world: &mut World, tree: &Tree, place: Place) -> Result<(), Memory> {
-    let all = all_in(alloc, tree)?;
-    for part in all.as_slice().iter().rev() {
-        if let Tree::List(parts) = *part {
-            add_labels_of(alloc, world, parts, place)?;
+    let all = all_inside_first(alloc, tree)?;
+    for part in all.as_slice() {
+        if let Some((term, attributes)) = annotated(*part) {
+            let mut left = attributes;
+            for _ in 0..attributes.len() {
+                let Some((name, rest)) = next_label(left) else {
+                    break;
+                };
+                add_label(alloc, world, name, term, place)?;
+                left = rest;
+            }
         }
     }
     Ok(())
 }
 
-// The labels of an annotated term itself.
-fn add_labels_of(
-    alloc: Global,
-    world: &mut World,
-    parts: &Trees,
-    place: Place,
-) -> Result<(), Memory> {
-    let Some((head, rest)) = split_first(parts.as_slice()) else {
-        return Ok(());
+// A term and its attributes, of an annotated one.
+fn annotated(tree: &Tree) -> Option<(&Tree, &[Tree])> {
+    let Tree::List(parts) = tree else {
+        return None;
     };
-    if !is_bang(head) {
-        return Ok(());
+    let (head, rest) = split_first(parts.as_slice())?;
+    if is_bang(head) {
+        split_first(rest)
+    } else {
+        None
     }
-    let Some((term, attributes)) = split_first(rest) else {
-        return Ok(());
-    };
+}
+
+// The next label among attributes, and what stands behind its keyword.
+fn next_label(attributes: &[Tree]) -> Option<(&[u8], &[Tree])> {
     let mut left = attributes;
     for _ in 0..attributes.len() {
-        let Some((attribute, rest)) = left.split_first() else {
-            break;
-        };
+        let (attribute, rest) = left.split_first()?;
         if let Some(name) = label_at(attribute, rest) {
-            add_label(alloc, world, name, term, place)?;
+            return Some((name, rest));
         }
         left = rest;
     }
-    Ok(())
+    None
 }
 
 fn add_label(

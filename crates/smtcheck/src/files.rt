@@ -2,16 +2,19 @@
 
 ghost use Rattle.std.specs.Prelude.{◌<◌, ◌-◌, ◌^◌};
 
+use crate::hints::{Hint, confirmed};
 use crate::recorded::Recorded;
-use crate::watched::{Hint, Watched};
-use smt_dialogue::{Limit, Memory, Options, RunFault, Verdict, validate};
+use crate::watched::Watched;
+use smt_dialogue::{Limit, Line, Options, RunFault, Verdict};
 use smt_explain::{Texts, explain};
-use smt_streams::{Device, put_all};
+use smt_streams::{Device, Source, put_all};
 use smtcheck_command_line::Settings;
-use std::alloc::Global;
 use std::io::Read;
 use std::rt::Files;
 use std::{fs, io};
+
+/// How many bytes of a file are looked at for a hint.
+const BEGINNING: usize = 4096;
 
 /// What a run came to.
 #[derive(Clone, Copy)]
@@ -26,10 +29,11 @@ pub(crate) struct Ran {
 }
 
 /// Checks the dialogue in two files, and prints each line of the report once it is decided; then the explanation,
-/// where one is wanted.
+/// where one is wanted. What a hint needs beside the report is looked for only where hints are wanted.
 pub(crate) fn run<R: Files + AllocGlobal + Print>(
     rt: &R,
     settings: Settings,
+    hints: bool,
 ) -> Result<Ran, RunFault>
     requires { settings.steps < 2 ^ 64 - 1 }
 {
@@ -39,7 +43,36 @@ pub(crate) fn run<R: Files + AllocGlobal + Print>(
     let Ok(answers) = fs::open(rt, settings.answers) else {
         return Err(RunFault::Answers);
     };
-    run_open(rt, script, answers, settings)
+    let mut ran = run_open(rt, script, answers, settings)?;
+    ran.hint = match ran.hint {
+        Some(hint) if hints => hint_for(rt, hint, settings),
+        _ => None,
+    };
+    Ok(ran)
+}
+
+// The mistake that a line looks like, if both files look like it too.
+fn hint_for<R: Files + AllocGlobal>(rt: &R, hint: Hint, settings: Settings) -> Option<Hint> {
+    let script = beginning(rt, settings.script);
+    let answers = beginning(rt, settings.answers);
+    confirmed(
+        hint,
+        script.as_deref(),
+        answers.as_deref(),
+        settings.print_success,
+    )
+}
+
+// The beginning of a file that can be read again: of a pipe there is none, since what was pulled is gone.
+fn beginning<R: Files + AllocGlobal>(rt: &R, name: &str) -> Option<Vec<u8>> {
+    match fs::metadata(rt, name) {
+        Ok(found) if found.is_file() => {}
+        _ => return None,
+    }
+    let file = fs::open(rt, name).ok()?;
+    let mut block = [0u8; BEGINNING];
+    let count = Device::new(file).pull(&mut block).ok()?;
+    Vec::from_slice(rt.alloc(), &block[..count.min(BEGINNING)]).ok()
 }
 
 // Checks the dialogue in two files that are open.
@@ -59,10 +92,10 @@ fn run_open<R: AllocGlobal + Print, F: Read + Drop>(
     };
     let mut script = Recorded::new(rt.alloc(), Device::new(script), settings.explain);
     let mut answers = Recorded::new(rt.alloc(), Device::new(answers), settings.explain);
-    let mut out = Watched::new(Device::new(io::writer(rt)));
+    let mut out = Watched::new(rt.alloc(), Device::new(io::writer(rt)), settings.explain);
     let verdict = smt_dialogue::run(rt.alloc(), &mut script, &mut answers, &mut out, options)?;
     let unexplained = settings.explain
-        && tell(rt, script.bytes(), answers.bytes(), options, settings).is_err();
+        && tell(rt, script.bytes(), answers.bytes(), out.lines(), settings).is_err();
     Ok(Ran {
         verdict,
         all_confirmed: out.confirms_all(),
@@ -75,15 +108,15 @@ fn run_open<R: AllocGlobal + Print, F: Read + Drop>(
 #[derive(Clone, Copy)]
 struct Untold;
 
-// Prints the explanation of a dialogue whose texts were kept.
+// Prints the explanation of a dialogue whose texts and lines were kept.
 fn tell<R: AllocGlobal + Print>(
     rt: &R,
     script: Option<&[u8]>,
     answers: Option<&[u8]>,
-    options: Options,
+    lines: Option<&[Line]>,
     settings: Settings,
 ) -> Result<(), Untold> {
-    let (Some(script), Some(answers)) = (script, answers) else {
+    let (Some(script), Some(answers), Some(lines)) = (script, answers, lines) else {
         return Err(Untold);
     };
     let texts = Texts {
@@ -92,18 +125,13 @@ fn tell<R: AllocGlobal + Print>(
         script_name: settings.script.as_bytes(),
         answers_name: settings.answers.as_bytes(),
         prints_success: settings.print_success,
+        steps: settings.steps,
     };
-    let Ok(text) = explanation(rt.alloc(), texts, options) else {
+    let Ok(text) = explain(rt.alloc(), texts, lines) else {
         return Err(Untold);
     };
     match put_all(&mut Device::new(io::writer(rt)), text.as_slice()) {
         Ok(()) => Ok(()),
         Err(_) => Err(Untold),
     }
-}
-
-// The explanation of a dialogue, of which the report is made once more.
-fn explanation(alloc: Global, texts: Texts<'_>, options: Options) -> Result<Vec<u8>, Memory> {
-    let report = validate(alloc, texts.script, texts.answers, options)?;
-    explain(alloc, texts, report.lines.as_slice())
 }

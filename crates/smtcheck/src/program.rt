@@ -57,9 +57,9 @@ fn run_settings<R: Files + AllocGlobal + Print + Eprint>(
 ) -> u8
     requires { settings.steps < 2 ^ 64 - 1 }
 {
-    match run(rt, settings) {
+    match run(rt, settings, settings.explain || on_terminal) {
         Ok(ran) => {
-            tell_beside(rt, ran, settings.explain || on_terminal);
+            tell_beside(rt, ran);
             strict_status(
                 status(rt, Ok(ran.verdict)),
                 ran.all_confirmed || !settings.strict,
@@ -70,13 +70,11 @@ fn run_settings<R: Files + AllocGlobal + Print + Eprint>(
 }
 
 // Tells on standard error what stands in no report.
-fn tell_beside<R: Eprint>(rt: &R, ran: Ran, hints: bool) {
+fn tell_beside<R: Eprint>(rt: &R, ran: Ran) {
     if ran.unexplained {
         let _ = eprintln!(rt; "smtcheck: the explanation could not be made, or not be written");
     }
-    if let Some(hint) = ran.hint
-        && hints
-    {
+    if let Some(hint) = ran.hint {
         let text = hint.text();
         let _ = eprintln!(rt; "{text}");
     }

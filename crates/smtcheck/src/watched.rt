@@ -1,56 +1,28 @@
-//! A sink that looks at the lines of a report that it passes on: whether each check is confirmed, and whether its
-//! fault looks like a usual mistake. This file knows no file.
+//! A sink that reads the lines of a report that it passes on: whether each check is confirmed, and whether its
+//! fault looks like a usual mistake. It keeps them, where that is wanted. This file knows no file.
 
+use crate::hints::{Hint, hint_of, is_unsat};
+use crate::lines::{line_of, read_line};
+use smt_dialogue::{Line, Verdict};
 use smt_streams::{Broken, Sink};
+use std::alloc::Global;
 
-/// The most bytes of a line that are kept.
+/// The most bytes of a line that are kept: no line of a report is longer.
 const LINE: usize = 256;
-
-/// What a user may have done wrong, by the fault of the report.
-#[derive(Clone, Copy)]
-pub(crate) enum Hint {
-    /// The solver prints no `success`.
-    NoSuccess,
-    /// The files are exchanged.
-    Exchanged,
-    /// A file is compressed or in another code.
-    Coded,
-    /// The model has items for labels or defined constants.
-    Labels,
-    /// A model is asked for behind `unsat`.
-    ModelBehindUnsat,
-}
-
-impl Hint {
-    /// What to do.
-    pub(crate) fn text(self) -> &'static str {
-        match self {
-            Hint::NoSuccess => {
-                "hint: z3, cvc5, cvc4 and bitwuzla print no `success`: add --print-success off"
-            }
-            Hint::Exchanged =>
-                "hint: are the files exchanged? SCRIPT comes first, and then ANSWERS",
-            Hint::Coded => {
-                "hint: a compressed file, a byte order mark and UTF-16 are no text that is read here"
-            }
-            Hint::Labels => {
-                "hint: z3 prints labels and defined constants in its models: run it with model.user_functions=false"
-            }
-            Hint::ModelBehindUnsat => {
-                "hint: some solvers print nothing for a (get-model) behind `unsat`: leave it out there"
-            }
-        }
-    }
-}
 
 /// The beginning of the line in turn, and what was seen of the lines before.
 #[derive(Drop)]
 struct Seen {
+    alloc: Global,
     line: [u8; LINE],
     used: usize,
     after_unsat: bool,
     all_confirmed: bool,
     hint: Option<Hint>,
+    keeps: bool,
+    /// The lines, where they are kept, as long as each could be read and memory was not refused.
+    lines: Vec<Line>,
+    whole: bool,
 }
 
 impl Seen {
@@ -65,18 +37,35 @@ impl Seen {
         }
     }
 
-    // Looks at the line that has ended.
+    // Looks at the line that has ended. (Memory is asked for only where lines are kept.)
     fn note_line(&mut self) {
-        let line = &self.line[..self.used.min(LINE)];
-        let all_confirmed = is_all_confirmed(line);
-        let hint = hint_of(line, self.after_unsat);
-        let after_unsat = line.ends_with(b": unsat");
-        self.all_confirmed = all_confirmed;
-        self.after_unsat = after_unsat;
-        if self.hint.is_none() {
-            self.hint = hint;
-        }
+        let text = &self.line[..self.used.min(LINE)];
+        let seen = read_line(text);
+        let kept = if self.keeps {
+            line_of(self.alloc, text).unwrap_or(None)
+        } else {
+            None
+        };
         self.used = 0;
+        if let Some(line) = seen {
+            self.see(&line);
+        }
+        self.keep(kept);
+    }
+
+    fn see(&mut self, line: &Line) {
+        self.all_confirmed = is_all_confirmed(line);
+        if self.hint.is_none() {
+            self.hint = hint_of(line, self.after_unsat);
+        }
+        self.after_unsat = is_unsat(line);
+    }
+
+    fn keep(&mut self, line: Option<Line>) {
+        match line {
+            Some(line) if self.whole => self.whole = self.lines.push(line).is_ok(),
+            _ => self.whole = false,
+        }
     }
 }
 
@@ -91,17 +80,22 @@ impl<S> Watched<S> {
     ghost use Rattle.std.specs.Prelude.{◌≡◌};
     ghost use Rattle.smtcheck.specs.Watched.{inner_of};
 
-    pub(crate) fn new(inner: S) -> Watched<S>
+    /// A sink over this one. It keeps the lines, or none.
+    pub(crate) fn new(alloc: Global, inner: S, keeps: bool) -> Watched<S>
         ensures { inner_of result ≡ inner }
     {
         Watched {
             inner,
             seen: Seen {
+                alloc,
                 line: [0; LINE],
                 used: 0,
                 after_unsat: false,
                 all_confirmed: false,
                 hint: None,
+                keeps,
+                lines: Vec::new(alloc),
+                whole: true,
             },
         }
     }
@@ -115,32 +109,26 @@ impl<S> Watched<S> {
     pub(crate) fn hint(&self) -> Option<Hint> {
         self.seen.hint
     }
+
+    /// The lines; `None` where memory was refused for them, or none were to be kept.
+    pub(crate) fn lines(&self) -> Option<&[Line]> {
+        if self.seen.keeps && self.seen.whole {
+            Some(self.seen.lines.as_slice())
+        } else {
+            None
+        }
+    }
 }
 
 // Whether a line is the verdict on a dialogue of which every check is confirmed, and that has one.
-fn is_all_confirmed(line: &[u8]) -> bool {
-    line.starts_with(b"verdict: valid, confirmed ")
-        && !line.starts_with(b"verdict: valid, confirmed 0,")
-        && line.ends_with(b", unchecked 0")
-}
-
-fn hint_of(line: &[u8], after_unsat: bool) -> Option<Hint> {
-    if line.starts_with(b"fault P2 at command 1,") {
-        return Some(Hint::NoSuccess);
+fn is_all_confirmed(line: &Line) -> bool {
+    match line {
+        Line::Verdict {
+            verdict: Verdict::Valid,
+            tally,
+        } => tally.confirmed > 0 && tally.unchecked == 0,
+        _ => false,
     }
-    if line.starts_with(b"fault C1 at command 1") && line.len() == 21 {
-        return Some(Hint::Exchanged);
-    }
-    if line.starts_with(b"fault X1 in the ") && line.ends_with(b" at byte 0") {
-        return Some(Hint::Coded);
-    }
-    if line.starts_with(b"check ") && line.ends_with(b" F7") {
-        return Some(Hint::Labels);
-    }
-    if line.starts_with(b"fault P1 at command ") && after_unsat {
-        return Some(Hint::ModelBehindUnsat);
-    }
-    None
 }
 
 impl<S: Sink> Sink for Watched<S> {

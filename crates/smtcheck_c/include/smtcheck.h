@@ -89,6 +89,18 @@ uint32_t smtcheck_validate(const char *script, size_t script_length, const char 
                            size_t room, size_t *wanted);
 
 /*
+ * Explains the report on a dialogue, as the program does with `--explain`: where each check that is not confirmed
+ * stands, and the fault, by line and column, and why. The two texts are called `script` and `answers` in it.
+ *
+ * It answers as smtcheck_validate does. With a verdict, `*wanted` is the length of the explanation, and the bytes at
+ * `text` are as there; it is empty where all is confirmed. Each of its lines has at most 200 printable bytes of ASCII
+ * and a line's end, and no check has more than 200. What it says is tested, and not proved; that the verdict is the
+ * right one is.
+ */
+uint32_t smtcheck_explain(const char *script, size_t script_length, const char *answers, size_t answers_length,
+                          const struct smtcheck_options *options, char *text, size_t room, size_t *wanted);
+
+/*
  * A session, which is told a dialogue piece by piece: the script as it is sent to the solver, and the answers as they
  * come. Or none: `struct smtcheck_session session = {0};`. Only the calls below change it, and it is never copied while
  * it has a session.

@@ -63,3 +63,22 @@ pub record IsInvalidBy (given : SmtcheckOptions) (script answers : List ℕ) : T
   pub lines : List Line
   pub report : IsReport options script answers lines
   pub invalid : IsInvalid options script answers lines
+
+-- the number is that of the verdict of the report on these texts
+pub record IsNumbered (options : Options) (script answers : List ℕ) (number : ℕ) : Type 0 where
+  pub lines : List Line
+  pub report : IsReport options script answers lines
+  pub verdict : Verdict
+  pub verdict_is : IsVerdictOf verdict lines
+  pub number_is : number ≡ status_number (Ok verdict)
+
+-- C is told a text about these texts, and the number of their verdict: so many bytes are wanted for it, and it stands in
+-- the buffer if there is room for all of it. Nothing is said of what the text is
+pub record IsExplained (given : SmtcheckOptions) (script answers : List ℕ) (number wanted : ℕ)
+    (before after : List ℕ) : Type 0 where
+  pub options : Options
+  pub options_are : AreGiven given options
+  pub numbered : IsNumbered options script answers number
+  pub text : List ℕ
+  pub wanted_is : wanted ≡ length text
+  pub put : IsPut text before after

@@ -10,6 +10,7 @@
 //! ```
 #![tactic(auto)]
 
+pub mod explanation;
 mod feed;
 mod handle;
 pub mod options;

@@ -1,0 +1,3 @@
+pub mod Internal
+pub mod Places
+pub mod Values

@@ -1,0 +1,204 @@
+//! What is known of terms that see variables, over the definitions of a model and a script. This file evaluates no
+//! term itself: values are those of the plain evaluator.
+
+ghost use Rattle.std.specs.Prelude.{IfOk};
+ghost use Rattle.smt_trees.specs.Tree.{sexp_of};
+ghost use Rattle.smt_explain.specs.Values.{IsKnownOver};
+
+use crate::names::{Costs, used_by};
+use crate::show::constant;
+use crate::world::World;
+use smt_eval::plain::{Closed, Definition};
+use smt_faults::Memory;
+use smt_forms::Scope;
+use smt_theory::Theories;
+use smt_trees::{Bytes, Tree, Trees, Word};
+use smt_values::Value;
+use std::alloc::{AllocError, AllocFailed, Global};
+
+/// How many names are looked through for a step of evaluation.
+const NAMES: u64 = 64;
+
+/// A variable that a part sees: what it has for a value, the term that gives it, and what that sees.
+#[derive(Drop)]
+pub(crate) struct Bound<'a> {
+    pub(crate) name: &'a [u8],
+    pub(crate) constant: Tree,
+    pub(crate) term: &'a Tree,
+    /// The scope of the term, and the one outside this variable. A scope is the number of its innermost variable,
+    /// from 1, and 0 is the empty one.
+    pub(crate) term_scope: usize,
+    pub(crate) outer: usize,
+}
+
+/// What a claim stands over.
+#[derive(Clone, Copy)]
+pub(crate) struct Over<'a, 'l> {
+    pub(crate) alloc: Global,
+    pub(crate) world: &'a World,
+    pub(crate) index: &'l Scope<'a, usize>,
+    pub(crate) script_name: &'l [u8],
+    pub(crate) answers_name: &'l [u8],
+}
+
+/// What is left of the steps of a check and of the bytes of all of them, and what definitions cost.
+#[derive(Drop)]
+pub(crate) struct Work {
+    pub(crate) steps: u64,
+    pub(crate) bytes: u64,
+    pub(crate) costs: Costs,
+}
+
+impl Work {
+    /// Takes so many steps, if they are left.
+    pub(crate) fn take(&mut self, steps: u64) -> Result<(), Stopped> {
+        if steps > self.steps {
+            self.steps = 0;
+            return Err(Stopped::Steps);
+        }
+        self.steps = self.steps.saturating_sub(steps);
+        Ok(())
+    }
+}
+
+/// Why a part is not gone through.
+#[derive(Clone, Copy)]
+pub(crate) enum Stopped {
+    Memory,
+    /// The steps of the check are used up.
+    Steps,
+}
+
+impl From<Memory> for Stopped {
+    fn from(_memory: Memory) -> Stopped {
+        Stopped::Memory
+    }
+}
+
+impl From<AllocError> for Stopped {
+    fn from(_error: AllocError) -> Stopped {
+        Stopped::Memory
+    }
+}
+
+impl<T: Drop> From<AllocFailed<T>> for Stopped {
+    fn from(_error: AllocFailed<T>) -> Stopped {
+        Stopped::Memory
+    }
+}
+
+/// What is known of a closed term over these definitions, of every theory.
+pub(crate) fn known(
+    alloc: Global,
+    definitions: &[Definition<'_>],
+    term: &Tree,
+) -> Result<Option<Value>, Memory>
+    ensures { IfOk result (λ v. IsKnownOver definitions.now (sexp_of term.now) v) }
+{
+    Closed {
+        alloc,
+        theories: Theories {
+            ints: true,
+            bits: true,
+        },
+        definitions,
+        tree: term,
+    }
+    .value()
+}
+
+/// What is known of a closed term over the definitions of a world. It takes as many steps as the term costs, as
+/// docs/LANGUAGE.md counts them, and one more of each for every 64 names that are looked through.
+pub(crate) fn value_of(
+    over: &Over<'_, '_>,
+    work: &mut Work,
+    term: &Tree,
+) -> Result<Option<Value>, Stopped> {
+    let (used, cost) = used_by(over.alloc, over.world, over.index, &mut work.costs, term)?;
+    let names = cost.width.saturating_add(used.len() as u64);
+    work.take(cost.steps.saturating_mul(1 + names / NAMES))?;
+    Ok(known(over.alloc, used.as_slice(), term)?)
+}
+
+fn bound_at<'b, 'a>(bounds: &'b [Bound<'a>], scope: usize) -> Option<&'b Bound<'a>> {
+    if scope == 0 {
+        return None;
+    }
+    bounds.get(scope - 1)
+}
+
+/// The innermost variable of a name in a scope.
+pub(crate) fn find<'b, 'a>(
+    bounds: &'b [Bound<'a>],
+    scope: usize,
+    name: &[u8],
+) -> Option<&'b Bound<'a>> {
+    let mut scope = scope;
+    for _ in 0..bounds.len() {
+        let bound = bound_at(bounds, scope)?;
+        if bound.name == name {
+            return Some(bound);
+        }
+        scope = bound.outer;
+    }
+    None
+}
+
+/// What is known of a term that sees variables: each stands for the constant that has its value.
+pub(crate) fn value_in(
+    over: &Over<'_, '_>,
+    work: &mut Work,
+    bounds: &[Bound<'_>],
+    scope: usize,
+    term: &Tree,
+) -> Result<Option<Value>, Stopped> {
+    if scope == 0 {
+        return value_of(over, work, term);
+    }
+    let closed = close(over.alloc, bounds, scope, term)?;
+    value_of(over, work, &closed)
+}
+
+fn close(alloc: Global, bounds: &[Bound<'_>], scope: usize, term: &Tree) -> Result<Tree, Memory> {
+    let mut bindings = Vec::new(alloc);
+    let mut scope = scope;
+    for _ in 0..bounds.len() {
+        let Some(bound) = bound_at(bounds, scope) else {
+            break;
+        };
+        bindings.push(binding(alloc, bound.name, &bound.constant)?)?;
+        scope = bound.outer;
+    }
+    let mut parts = Vec::with_capacity(alloc, 3)?;
+    parts.push(Tree::Reserved(Word::Let))?;
+    parts.push(Tree::List(Trees::new(bindings)))?;
+    parts.push(term.copy(alloc)?)?;
+    Ok(Tree::List(Trees::new(parts)))
+}
+
+fn binding(alloc: Global, name: &[u8], value: &Tree) -> Result<Tree, Memory> {
+    let mut parts = Vec::with_capacity(alloc, 2)?;
+    parts.push(Tree::Symbol(Bytes::new(alloc, name)?))?;
+    parts.push(value.copy(alloc)?)?;
+    Ok(Tree::List(Trees::new(parts)))
+}
+
+/// Adds a variable inside a scope, and answers the scope with it.
+pub(crate) fn bind<'a>(
+    alloc: Global,
+    bounds: &mut Vec<Bound<'a>>,
+    name: &'a [u8],
+    value: Option<Value>,
+    term: &'a Tree,
+    term_scope: usize,
+    outer: usize,
+) -> Result<usize, Memory> {
+    bounds.push(Bound {
+        name,
+        constant: constant(alloc, &value)?,
+        term,
+        term_scope,
+        outer,
+    })?;
+    Ok(bounds.len())
+}

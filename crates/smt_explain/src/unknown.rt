@@ -1,0 +1,309 @@
+//! The first name that is unknown where it stands, in the order in which terms are checked. This file judges no term:
+//! the report says that there is such a name.
+
+use crate::force::{Commands, Stand, has_label};
+use crate::pairs::{Head, word};
+use crate::scan::{find_tokens, first_place, text_at};
+use smt_faults::Memory;
+use smt_forms::{
+    ItemForm, Scope, is_bang, is_let, is_underscore, item_form, split_let, split_named,
+};
+use smt_theory::{Theories, op_of};
+use smt_trees::{Tree, split_first};
+use std::alloc::Global;
+
+/// The names that stand somewhere, each with the place of the command that brought it, and likewise the abbreviations of
+/// sorts.
+#[derive(Drop)]
+pub(crate) struct Brought<'a> {
+    pub(crate) names: Scope<'a, usize>,
+    pub(crate) sorts: Scope<'a, usize>,
+}
+
+/// What these commands brought, labels too.
+pub(crate) fn brought_by<'a>(
+    alloc: Global,
+    commands: Commands<'a>,
+    standing: &[Stand],
+) -> Result<Brought<'a>, Memory> {
+    let mut brought = Brought {
+        names: Scope::new(alloc),
+        sorts: Scope::new(alloc),
+    };
+    for stand in standing {
+        if let Some((head, text)) = commands.at(stand.place) {
+            match head {
+                Head::DefineSort => brought.sorts.push(word(text, 1), stand.place)?,
+                Head::Assert => add_labels(alloc, &mut brought.names, text, stand.place)?,
+                _ => brought.names.push(word(text, 1), stand.place)?,
+            }
+        }
+    }
+    Ok(brought)
+}
+
+fn add_labels<'a>(
+    alloc: Global,
+    names: &mut Scope<'a, usize>,
+    text: &'a [u8],
+    place: usize,
+) -> Result<(), Memory> {
+    if !has_label(text) {
+        return Ok(());
+    }
+    let tokens = find_tokens(alloc, text, first_place())?;
+    let mut named = false;
+    for token in tokens.as_slice() {
+        let token = text_at(text, *token);
+        if named {
+            names.push(without_bars(token), place)?;
+        }
+        named = matches!(token, b":named");
+    }
+    Ok(())
+}
+
+/// The name that a symbol spells.
+pub(crate) fn without_bars(symbol: &[u8]) -> &[u8] {
+    match symbol.strip_prefix(b"|") {
+        Some(rest) => rest.strip_suffix(b"|").unwrap_or(rest),
+        None => symbol,
+    }
+}
+
+/// Whether a name is an operator's, of any theory.
+pub(crate) fn is_operator(name: &[u8]) -> bool {
+    let all = Theories {
+        ints: true,
+        bits: true,
+    };
+    op_of(all, name, &[]).is_ok()
+}
+
+fn is_indexed_operator(name: &[u8]) -> bool {
+    matches!(
+        name,
+        b"extract"
+            | b"repeat"
+            | b"zero_extend"
+            | b"sign_extend"
+            | b"rotate_left"
+            | b"rotate_right"
+            | b"divisible"
+    ) || name.starts_with(b"bv")
+}
+
+/// The first name in a command that is unknown, where these stand.
+pub(crate) fn unknown_in_command<'a>(
+    alloc: Global,
+    known: &Brought<'_>,
+    head: Head,
+    command: &'a Tree,
+) -> Result<Option<&'a [u8]>, Memory> {
+    let Tree::List(parts) = command else {
+        return Ok(None);
+    };
+    match (head, parts.as_slice()) {
+        (Head::Assert, [_, term]) => unknown_in_term(alloc, &known.names, Scope::new(alloc), term),
+        (Head::Check, [_, Tree::List(literals)]) => {
+            for literal in literals.as_slice() {
+                let found = unknown_in_term(alloc, &known.names, Scope::new(alloc), literal)?;
+                if found.is_some() {
+                    return Ok(found);
+                }
+            }
+            Ok(None)
+        }
+        (Head::Define, _) => match item_form(command) {
+            Ok(form) => unknown_in_form(alloc, known, &form),
+            Err(_) => Ok(None),
+        },
+        (_, [_, _, Tree::List(sorts), sort]) => Ok(unknown_sort_in(
+            &known.sorts,
+            sorts.as_slice(),
+        ).or(unknown_in_sort(&known.sorts, sort))),
+        (_, [_, _, sort]) => Ok(unknown_in_sort(&known.sorts, sort)),
+        _ => Ok(None),
+    }
+}
+
+/// The first name in a definition that is unknown, where these stand.
+pub(crate) fn unknown_in_form<'a>(
+    alloc: Global,
+    known: &Brought<'_>,
+    form: &ItemForm<'a>,
+) -> Result<Option<&'a [u8]>, Memory> {
+    let mut bound = Scope::new(alloc);
+    let mut left = form.parameters;
+    for _ in 0..form.parameters.len() {
+        let Some((name, sort, rest)) = split_named(left) else {
+            break;
+        };
+        let found = unknown_in_sort(&known.sorts, sort);
+        if found.is_some() {
+            return Ok(found);
+        }
+        bound.push(name, ())?;
+        left = rest;
+    }
+    let found = unknown_in_sort(&known.sorts, form.sort);
+    if found.is_some() {
+        return Ok(found);
+    }
+    unknown_in_term(alloc, &known.names, bound, form.body)
+}
+
+fn unknown_sort_in<'a>(known: &Scope<'_, usize>, sorts: &'a [Tree]) -> Option<&'a [u8]> {
+    for sort in sorts {
+        let found = unknown_in_sort(known, sort);
+        if found.is_some() {
+            return found;
+        }
+    }
+    None
+}
+
+fn unknown_in_sort<'a>(known: &Scope<'_, usize>, sort: &'a Tree) -> Option<&'a [u8]> {
+    match sort {
+        Tree::Symbol(name) => {
+            let name = name.as_slice();
+            let is_known = matches!(name, b"Bool" | b"Int") || known.find(name).is_some();
+            if is_known { None } else { Some(name) }
+        }
+        Tree::List(parts) => match parts.as_slice() {
+            [head, Tree::Symbol(name), ..] if is_underscore(head) => match name.as_slice() {
+                b"BitVec" => None,
+                other => Some(other),
+            },
+            [Tree::Symbol(name), ..] => Some(name.as_slice()),
+            _ => None,
+        },
+        _ => None,
+    }
+}
+
+// ---- terms
+
+/// What is to be looked at next.
+#[derive(Clone, Copy)]
+enum Step<'a> {
+    Term(&'a Tree),
+    /// The head of an application.
+    Head(&'a [u8]),
+    /// See the variables of these bindings from here on.
+    Enter(&'a [Tree]),
+    /// See the first so many variables alone.
+    Leave(usize),
+}
+
+fn push_step<'a>(steps: &mut Vec<Step<'a>>, step: Step<'a>) -> Result<(), Memory> {
+    match steps.push(step) {
+        Ok(()) => Ok(()),
+        Err(_) => Err(Memory),
+    }
+}
+
+// The first unknown name of a term that sees variables.
+fn unknown_in_term<'a>(
+    alloc: Global,
+    known: &Scope<'_, usize>,
+    variables: Scope<'a, ()>,
+    term: &'a Tree,
+) -> Result<Option<&'a [u8]>, Memory> {
+    let mut bound = variables;
+    let mut steps = Vec::new(alloc);
+    push_step(&mut steps, Step::Term(term))?;
+    for _ in 0..u64::MAX {
+        let name = match steps.pop() {
+            None => break,
+            Some(Step::Enter(bindings)) => {
+                enter(&mut bound, bindings)?;
+                None
+            }
+            Some(Step::Leave(count)) => {
+                bound.cut(count);
+                None
+            }
+            Some(Step::Head(name)) => Some(name),
+            Some(Step::Term(Tree::Symbol(name))) => Some(name.as_slice()),
+            Some(Step::Term(term)) => push_inner(&mut steps, bound.len(), term)?,
+        };
+        if let Some(name) = name
+            && bound.find(name).is_none()
+            && known.find(name).is_none()
+            && !is_operator(name)
+        {
+            return Ok(Some(name));
+        }
+    }
+    Ok(None)
+}
+
+fn enter<'a>(bound: &mut Scope<'a, ()>, bindings: &'a [Tree]) -> Result<(), Memory> {
+    let mut left = bindings;
+    for _ in 0..bindings.len() {
+        let Some((name, _, rest)) = split_named(left) else {
+            break;
+        };
+        bound.push(name, ())?;
+        left = rest;
+    }
+    Ok(())
+}
+
+// Puts what is in a term, the first on top; answers the name of an operator with indexes that there is none of.
+fn push_inner<'a>(
+    steps: &mut Vec<Step<'a>>,
+    seen: usize,
+    term: &'a Tree,
+) -> Result<Option<&'a [u8]>, Memory> {
+    let Tree::List(parts) = term else {
+        return Ok(None);
+    };
+    let Some((head, args)) = split_first(parts.as_slice()) else {
+        return Ok(None);
+    };
+    if is_underscore(head) {
+        return Ok(match args.first() {
+            Some(Tree::Symbol(name)) if !is_indexed_operator(name.as_slice()) => {
+                Some(name.as_slice())
+            }
+            _ => None,
+        });
+    }
+    if is_let(head) {
+        push_let(steps, seen, args)?;
+        return Ok(None);
+    }
+    if is_bang(head) {
+        if let Some((inner, _)) = split_first(args) {
+            push_step(steps, Step::Term(inner))?;
+        }
+        return Ok(None);
+    }
+    match head {
+        Tree::Symbol(name) => push_step(steps, Step::Head(name.as_slice()))?,
+        _ => push_step(steps, Step::Term(head))?,
+    }
+    for arg in args.iter().rev() {
+        push_step(steps, Step::Term(arg))?;
+    }
+    Ok(None)
+}
+
+fn push_let<'a>(steps: &mut Vec<Step<'a>>, seen: usize, args: &'a [Tree]) -> Result<(), Memory> {
+    let Some((bindings, body)) = split_let(args) else {
+        return Ok(());
+    };
+    push_step(steps, Step::Leave(seen))?;
+    push_step(steps, Step::Term(body))?;
+    push_step(steps, Step::Enter(bindings))?;
+    for binding in bindings.iter().rev() {
+        if let Tree::List(parts) = binding
+            && let [_, term] = parts.as_slice()
+        {
+            push_step(steps, Step::Term(term))?;
+        }
+    }
+    Ok(())
+}

@@ -1,0 +1,179 @@
+//! Usual mistakes, by the line that tells a fault. This file knows no file.
+
+use smt_dialogue::{CheckAnswer, Line};
+use smt_faults::{CommandFlaw, TermFlaw, TextFlaw};
+
+/// What a user may have done wrong, by the fault of the report.
+#[derive(Clone, Copy, PartialEq, Eq)]
+pub(crate) enum Hint {
+    /// The solver prints no `success`.
+    NoSuccess,
+    /// The solver prints `success`.
+    Success,
+    /// The files are exchanged.
+    Exchanged,
+    /// A file is compressed or in another code.
+    Coded,
+    /// The model has items for labels or defined constants.
+    Labels,
+    /// A model is asked for behind `unsat`.
+    ModelBehindUnsat,
+}
+
+impl Hint {
+    /// What to do.
+    pub(crate) fn text(self) -> &'static str {
+        match self {
+            Hint::NoSuccess => {
+                "hint: z3, cvc5, cvc4 and bitwuzla print no `success`: add --print-success off"
+            }
+            Hint::Success => "hint: the solver prints `success`: leave --print-success off out",
+            Hint::Exchanged =>
+                "hint: are the files exchanged? SCRIPT comes first, and then ANSWERS",
+            Hint::Coded => {
+                "hint: a compressed file, a byte order mark and UTF-16 are no text that is read here"
+            }
+            Hint::Labels => {
+                "hint: z3 prints labels and defined constants in its models: run it with model.user_functions=false"
+            }
+            Hint::ModelBehindUnsat => {
+                "hint: some solvers print nothing for a (get-model) behind `unsat`: leave it out there"
+            }
+        }
+    }
+}
+
+/// The mistake that a line looks like, behind a check that was answered by `unsat` or not.
+pub(crate) fn hint_of(line: &Line, after_unsat: bool) -> Option<Hint> {
+    match line {
+        Line::UnexpectedAnswer { answer: 1, .. } => Some(Hint::NoSuccess),
+        Line::CommandFault {
+            command: 1,
+            flaw: CommandFlaw::Form,
+        } => Some(Hint::Exchanged),
+        Line::TextFault {
+            flaw: TextFlaw::Byte { place: 0 },
+            ..
+        } => Some(Hint::Coded),
+        Line::ItemFault {
+            flaw: TermFlaw::NotFresh,
+            ..
+        } => Some(Hint::Labels),
+        Line::MissingAnswer { .. } if after_unsat => Some(Hint::ModelBehindUnsat),
+        _ => None,
+    }
+}
+
+/// The mistake that a line looks like, if the beginnings of both texts, where they are known, and what was said of
+/// `success`, look like it too.
+pub(crate) fn confirmed(
+    hint: Hint,
+    script: Option<&[u8]>,
+    answers: Option<&[u8]>,
+    prints_success: bool,
+) -> Option<Hint> {
+    let holds = match hint {
+        Hint::NoSuccess => {
+            let begins = begins_with_success(answers);
+            if !prints_success {
+                return if begins { Some(Hint::Success) } else { None };
+            }
+            !begins
+        }
+        Hint::Exchanged => match (script, answers) {
+            (Some(script), Some(answers)) => begins_as_answer(script) && begins_as_command(answers),
+            _ => false,
+        },
+        Hint::Coded => is_coded(script) || is_coded(answers),
+        _ => true,
+    };
+    if holds { Some(hint) } else { None }
+}
+
+// Whether a text begins with a byte that no text begins with, or its beginning is not known.
+fn is_coded(text: Option<&[u8]>) -> bool {
+    match text {
+        Some(text) => match text.first() {
+            Some(byte) => !matches!(*byte, b' '..=b'~' | b'\t' | b'\n' | b'\r'),
+            None => false,
+        },
+        None => true,
+    }
+}
+
+fn begins_with_success(answers: Option<&[u8]>) -> bool {
+    match answers {
+        Some(answers) => behind_gaps(answers).starts_with(b"success"),
+        None => false,
+    }
+}
+
+/// Whether a line is that of a check that was answered by `unsat`.
+pub(crate) fn is_unsat(line: &Line) -> bool {
+    match line {
+        Line::Unchecked {
+            answer: CheckAnswer::Unsat,
+            ..
+        } => true,
+        _ => false,
+    }
+}
+
+fn begins_as_answer(text: &[u8]) -> bool {
+    let text = behind_gaps(text);
+    for word in [
+        b"sat".as_slice(),
+        b"unsat",
+        b"unknown",
+        b"success",
+        b"unsupported",
+        b"(error",
+        b"((",
+        b"(model",
+    ] {
+        if text.starts_with(word) {
+            return true;
+        }
+    }
+    false
+}
+
+fn begins_as_command(text: &[u8]) -> bool {
+    let text = behind_gaps(text);
+    for word in [
+        b"(set-".as_slice(),
+        b"(declare-",
+        b"(define-",
+        b"(assert",
+        b"(check-sat",
+        b"(push",
+        b"(echo",
+        b"(get-",
+        b"(reset",
+    ] {
+        if text.starts_with(word) {
+            return true;
+        }
+    }
+    false
+}
+
+// What stands behind white space and comments.
+fn behind_gaps(text: &[u8]) -> &[u8] {
+    let mut left = text;
+    let mut comment = false;
+    for _ in 0..text.len() {
+        let Some((first, rest)) = left.split_first() else {
+            break;
+        };
+        match *first {
+            b'\n' | b'\r' => comment = false,
+            b' ' | b'\t' => {}
+            b';' => comment = true,
+            _ if comment => {}
+            _ => return left,
+        }
+        left = rest;
+    }
+    left
+}

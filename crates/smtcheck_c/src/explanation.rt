@@ -1,0 +1,81 @@
+//! The explanation of a report, told to C. This file decides nothing.
+
+ghost use Rattle.std.specs.Prelude.{◌≡◌, ◌<◌, ◌≤◌, ◌-◌, ◌^◌, ◌↔◌, IfOk};
+ghost use Rattle.smtcheck_c.specs.Told.{IsExplained, IsNumbered};
+
+use crate::options::{SmtcheckOptions, options_of};
+use crate::outcome::{MEMORY, OPTIONS, number_of};
+use crate::text::put_text;
+use smt_dialogue::{Memory, Options, validate};
+use smt_explain::{Texts, explain};
+use std::alloc::Global;
+
+/// The number of a verdict, and the text of its explanation.
+#[derive(Drop)]
+pub(crate) struct Explained {
+    pub(crate) number: u32,
+    pub(crate) text: Vec<u8>,
+}
+
+/// Explains the report on a solver's dialogue, as the program does with `--explain`: where each check that is not
+/// confirmed stands, and the fault, and why. The texts are called `script` and `answers` there.
+///
+/// It answers the number of the verdict: 0 to 3, as `smtcheck_validate`. Then `wanted` has the number of bytes of the
+/// explanation, and `text` begins with it if it has room for all of it, and else stays as it was. It answers 4 where
+/// memory was refused and 5 where the limit of the options is 2^64 - 1; then both stay as they were.
+#[unsafe(no_mangle)]
+pub extern "C" fn smtcheck_explain(
+    alloc: Global,
+    script: &[u8],
+    answers: &[u8],
+    options: &SmtcheckOptions,
+    text: &mut [u8],
+    wanted: &mut usize,
+) -> u32
+    ensures told { result < 4 → IsExplained options.now script.now answers.now result wanted.new text.old text.new }
+    ensures outcome { result ≤ 5 }
+    ensures options { (result ≡ 5) ↔ (options.now.steps ≡ 2 ^ 64 - 1) }
+    ensures text { 4 ≤ result → text.new ≡ text.old }
+    ensures wanted { 4 ≤ result → wanted.new ≡ wanted.old }
+{
+    let Some(given) = options_of(options) else {
+        return OPTIONS;
+    };
+    match tell_why(alloc, script, answers, given) {
+        Ok(explained) => {
+            *wanted = put_text(explained.text.as_slice(), text);
+            let number = explained.number;
+            drop(explained);
+            number
+        }
+        Err(Memory) => MEMORY,
+    }
+}
+
+// The explanation, before any of it is told.
+fn tell_why(
+    alloc: Global,
+    script: &[u8],
+    answers: &[u8],
+    options: Options,
+) -> Result<Explained, Memory>
+    ensures numbered { IfOk result (λ e. IsNumbered options script.now answers.now e.number) }
+    ensures below { IfOk result (λ e. e.number < 4) }
+{
+    let report = validate(alloc, script, answers, options)?;
+    let number = number_of(report.verdict);
+    let texts = Texts {
+        script,
+        answers,
+        script_name: b"script",
+        answers_name: b"answers",
+        prints_success: options.print_success,
+        steps: options.limit.steps,
+    };
+    let text = explain(alloc, texts, report.lines.as_slice());
+    drop(report);
+    Ok(Explained {
+        number,
+        text: text?,
+    })
+}
