@@ -1,15 +1,26 @@
 #!/bin/sh
 # Tries the wrong bodies that the gate leaves out, for want of time: tests/wrong_bodies/CRATE holds them, in the form of must-fail/.
-# With names of crates, those of these crates alone. It takes an hour.
+# With names of crates, those of these crates alone. It takes more than an hour. For each crate whose edits were all tried, a line of
+# tests/wrong_bodies/tried says how many of how many were refused, and of which commit.
 set -e
 cd "$(dirname "$0")/.."
+top=$PWD
+commit=$(git rev-parse --short HEAD)
+[ -z "$(git status --porcelain crates crates.txt tests/wrong_bodies)" ] || commit="$commit with changes"
 room=$(mktemp -d)
 trap 'rm -rf "$room"' EXIT
 cp -r HANDLES crates crates.txt "$room"
-[ $# -gt 0 ] || set -- $(ls tests/wrong_bodies)
+[ $# -gt 0 ] || set -- $(cd tests/wrong_bodies && ls -d */ | tr -d /)
+status=0
 for name; do
-    rm "$room/crates/$name"/must-fail/*.edit
+    rm -f "$room/crates/$name"/must-fail/*.edit
+    mkdir -p "$room/crates/$name/must-fail"
     cp tests/wrong_bodies/"$name"/*.edit "$room/crates/$name/must-fail"
+    all=$(ls tests/wrong_bodies/"$name"/*.edit | wc -l)
+    (cd "$room" && rt must-fail "$name") >"$room/said" 2>&1 || status=1
+    cat "$room/said"
+    refused=$(grep -c '^rt: refused' "$room/said" || true)
+    { grep -v "^$name " "$top/tests/wrong_bodies/tried" || true; echo "$name $refused of $all refused, $commit"; } | sort >"$room/tried"
+    cp "$room/tried" "$top/tests/wrong_bodies/tried"
 done
-cd "$room"
-rt must-fail "$@"
+exit $status

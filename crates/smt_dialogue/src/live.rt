@@ -58,8 +58,8 @@ pub enum RunFault {
 /// report once it is decided, with byte 10 behind it. Where a source fails, every line that is decided by then
 /// was put; at another fault the first of their bytes. Nothing is pulled or put behind a fault.
 ///
-/// What is decided is put before a model is judged, which may take long: of the first 4,096 times each line, and
-/// later at most 64 lines at once.
+/// What is decided is put before a model is judged, which may take long: the first 4,096 times each line, and
+/// from then on once 64 lines wait.
 pub fn run<R1: Source, R2: Source, W: Sink>(
     alloc: Global,
     script: &mut R1,
