@@ -52,7 +52,7 @@ __all__ = [
     "Detail", "Explained", "Explanation", "Item", "LibraryError", "Line", "Part", "Place", "Report", "STEPS", "Session", "Spot", "VERDICTS", "Value",
     "check", "check_files", "explain", "explanation_of", "line_of", "main", "version",
 ]
-__version__ = "0.4.0"
+__version__ = "0.5.0"
 
 VERDICTS = ("valid", "invalid", "not decided", "refused")
 MEMORY, OPTIONS, OPEN, LONG = 4, 5, 6, 7
