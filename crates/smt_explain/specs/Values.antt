@@ -10,4 +10,8 @@ use Rattle.smt_eval.specs.declared.plain.Definition.{Definition}
 -- it is what is known of a term over these definitions, where all theories are in force
 abbrev pub IsKnownOver : List Definition → Sexp → Option Value → Type 0
 IsKnownOver definitions term v = known_element v ≡ known_over
-    (record { theories = record { ints = true; bits = true }; entries = entries_of definitions; abbreviations = [] }) term
+    (record {
+      theories = record { ints = true; bits = true };
+      entries = entries_of definitions;
+      abbreviations = [];
+    }) term

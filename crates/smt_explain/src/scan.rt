@@ -109,7 +109,8 @@ fn scan_text(alloc: Global, text: &[u8], from: Place, tokens: bool) -> Result<Sc
 
 impl Scanner {
     fn take(&mut self, byte: u8) -> Result<(), Memory>
-        ensures at { OnOk result ((text : List ℕ) (begin : At) → AreAt text begin self.old → AreAt text begin self.new) }
+        ensures at { OnOk result
+            ((text : List ℕ) (begin : At) → AreAt text begin self.old → AreAt text begin self.new) }
         ensures here { OnOk result (self.new.here ≡ self.old.here) }
     {
         match self.mode {
@@ -152,7 +153,8 @@ impl Scanner {
 
     // Takes a byte between tokens.
     fn begin(&mut self, byte: u8) -> Result<(), Memory>
-        ensures at { OnOk result ((text : List ℕ) (begin : At) → AreAt text begin self.old → AreAt text begin self.new) }
+        ensures at { OnOk result
+            ((text : List ℕ) (begin : At) → AreAt text begin self.old → AreAt text begin self.new) }
         ensures here { OnOk result (self.new.here ≡ self.old.here) }
     {
         match byte {
@@ -176,7 +178,8 @@ impl Scanner {
     }
 
     fn open_list(&mut self) -> Result<(), Memory>
-        ensures at { OnOk result ((text : List ℕ) (begin : At) → AreAt text begin self.old → AreAt text begin self.new) }
+        ensures at { OnOk result
+            ((text : List ℕ) (begin : At) → AreAt text begin self.old → AreAt text begin self.new) }
         ensures here { OnOk result (self.new.here ≡ self.old.here) }
     {
         if self.depth == 0 {
@@ -190,7 +193,8 @@ impl Scanner {
     }
 
     fn close_list(&mut self) -> Result<(), Memory>
-        ensures at { OnOk result ((text : List ℕ) (begin : At) → AreAt text begin self.old → AreAt text begin self.new) }
+        ensures at { OnOk result
+            ((text : List ℕ) (begin : At) → AreAt text begin self.old → AreAt text begin self.new) }
         ensures here { OnOk result (self.new.here ≡ self.old.here) }
     {
         if self.depth == 0 {
@@ -208,7 +212,8 @@ impl Scanner {
     }
 
     fn end_token(&mut self, end: usize) -> Result<(), Memory>
-        ensures at { OnOk result ((text : List ℕ) (begin : At) → AreAt text begin self.old → AreAt text begin self.new) }
+        ensures at { OnOk result
+            ((text : List ℕ) (begin : At) → AreAt text begin self.old → AreAt text begin self.new) }
         ensures here { OnOk result (self.new.here ≡ self.old.here) }
     {
         self.mode = Mode::Gap;

@@ -12,8 +12,8 @@ use smt_theory::{Theories, op_of};
 use smt_trees::{Tree, split_first};
 use std::alloc::Global;
 
-/// The names that stand somewhere, each with the place of the command that brought it, and likewise the abbreviations of
-/// sorts.
+/// The names that stand somewhere, each with the place of the command that brought it, and likewise the
+/// abbreviations of sorts.
 #[derive(Drop)]
 pub(crate) struct Brought<'a> {
     pub(crate) names: Scope<'a, usize>,

@@ -1,6 +1,6 @@
 -- What a contract sees of a stack, and the commands that it stands for.
-use Rattle.std.specs.Prelude.{◌≡◌, ◌≤◌, ◌<◌, ◌-◌, ◌⊎◌, ℕ, zero, suc, List, [], ◌∷◌, Bool, true, false, Some, length, nat_le}
-use Rattle.std.specs.Prelude.{if◌then◌else◌, slice_get, take}
+use Rattle.std.specs.Prelude.{◌≡◌, ◌≤◌, ◌<◌, ◌-◌, ◌⊎◌, ℕ, zero, suc, List, [], ◌∷◌, Bool, true, false, Some}
+use Rattle.std.specs.Prelude.{length, nat_le, if◌then◌else◌, slice_get, take}
 use Rattle.std.specs.List.{All, filter}
 use Rattle.smt_trees.specs.Sexp.{Sexp}
 use Rattle.smt_terms.specs.Contents.{Contents, Extends, IsBelow, IsWithin, contents_of, first_of, needed_of}

@@ -72,8 +72,8 @@ pub record IsNumbered (options : Options) (script answers : List ℕ) (number : 
   pub verdict_is : IsVerdictOf verdict lines
   pub number_is : number ≡ status_number (Ok verdict)
 
--- C is told a text about these texts, and the number of their verdict: so many bytes are wanted for it, and it stands in
--- the buffer if there is room for all of it. Nothing is said of what the text is
+-- C is told a text about these texts, and the number of their verdict: so many bytes are wanted for it, and it
+-- stands in the buffer if there is room for all of it. Nothing is said of what the text is
 pub record IsExplained (given : SmtcheckOptions) (script answers : List ℕ) (number wanted : ℕ)
     (before after : List ℕ) : Type 0 where
   pub options : Options
