@@ -11,6 +11,7 @@ use anyhow::{Result, bail};
 use smt_eval::{Checked, Closed, Interpretation, cost};
 use smt_faults::TermFlaw;
 use smt_forms::{item_form, params_of};
+use smt_terms::laws::held_terms_are_terms;
 use smt_terms::{Library, TermId};
 use smt_trees::{Tree, Trees};
 use smt_values::Value;
@@ -61,6 +62,7 @@ pub(crate) fn known_by_node(
     requires { (s : Signature) × StandsFor script.old s }
     ensures { (s : Signature) → StandsFor script.old s → StandsFor script.new s }
 {
+    held_terms_are_terms();
     let mut left = u64::MAX - 1;
     match script.check(tree) {
         Ok((term, _)) => match known_over(script, model, term, &mut left)? {
@@ -82,6 +84,7 @@ pub(crate) fn left_of(
     requires steps { steps < 2 ^ 64 - 1 }
     ensures { (s : Signature) → StandsFor script.old s → StandsFor script.new s }
 {
+    held_terms_are_terms();
     let mut left = steps;
     match script.check(tree) {
         Ok((term, _)) => match known_over(script, model, term, &mut left)? {
