@@ -19,7 +19,7 @@ for name; do
     all=$(ls tests/wrong_bodies/"$name"/*.edit | wc -l)
     (cd "$room" && rt must-fail "$name") >"$room/said" 2>&1 || status=1
     cat "$room/said"
-    refused=$(grep -c '^rt: refused' "$room/said" || true)
+    refused=$(grep -c ': refused, as it must be' "$room/said" || true)
     { grep -v "^$name " "$top/tests/wrong_bodies/tried" || true; echo "$name $refused of $all refused, $commit"; } | sort >"$room/tried"
     cp "$room/tried" "$top/tests/wrong_bodies/tried"
 done
