@@ -1,7 +1,7 @@
 -- The turns of an exchange, one after another: no count passes that of the bytes, they come to rest, and where
 -- memory is refused, the lines are the first of those that are decided.
 use Rattle.std.proofs.Common.{◌≡◌, ◌≤◌, ℕ, ◌+◌, Bool, true, false, List, [], ◌∷◌, ◌++◌, length, Option, Some, None}
-use Rattle.std.proofs.Common.{arith, refl, ap, sym, ◌∙◌, subst, append_assoc, length-append}
+use Rattle.std.proofs.Common.{arith, refl, ap, sym, ◌∙◌, subst, length-append}
 use Rattle.std.proofs.lemmas.List.{append-nil}
 use Rattle.std.specs.List.{list_any}
 use Rattle.smt_text.specs.Grammar.{limit}
@@ -11,7 +11,7 @@ use Rattle.smt_trees.specs.Sexp.{Sexp, Sexps, Nil, Cons, count}
 use Rattle.smt_faults.specs.declared.text_flaw.TextFlaw.{TextFlaw}
 use Rattle.smt_script.specs.CommandView.{command_view}
 use Rattle.smt_script.specs.declared.command.Command.{Command}
-use Rattle.smt_dialogue.proofs.DialogueLemmas.{decided_first, lines_silent, part_silent}
+use Rattle.smt_dialogue.proofs.DialogueLemmas.{begins_trans, decided_first, lines_silent}
 use Rattle.smt_dialogue.proofs.ExchangeLemmas.{early_closed}
 use Rattle.smt_dialogue.proofs.LinesStayLemmas.{begins_so}
 use Rattle.smt_dialogue.proofs.PairLemmas.{answers_taken-le, checks_in-le}
@@ -163,16 +163,6 @@ settled x y texts pairs later rest closed script answers command start stands cl
       (sym start) h.paired;
 }
 
--- y is x with lines gathered
-pub gathered : (x y : Exchange) (texts : Texts) (pairs : List Pair) (later rest : Sexps)
-    → y.script ≡ x.script → y.answers ≡ x.answers → y.command ≡ x.command
-    → options_of y.dialogue ≡ options_of x.dialogue
-    → ((early : Bool) → Stands early (state_behind texts.taken x.dialogue) pairs
-    → Stands early (state_behind texts.taken y.dialogue) pairs)
-    → IsUnderWay x texts pairs later rest → IsUnderWay y texts pairs later rest
-gathered x y texts pairs later rest script answers command start stands h =
-    settled x y texts pairs later rest h.early script answers command start (stands h.early h.stands) h.closing h
-
 -- the dialogue waits, with the lines that are decided
 pub waits_at : (old x y : Exchange) (texts : Texts) (pairs : List Pair) (later rest : Sexps) (options : Options)
     (closed : Bool) → options_of old.dialogue ≡ options → options_of x.dialogue ≡ options_of old.dialogue
@@ -226,13 +216,7 @@ next_pair start texts (Some c) pairs later left rest turn h w =
     w.turn turn.3 turn.2 h (subst (λ ts. AreCommands w.pairs ts w.later) turn.1 w.commands) texts.script.told
     texts.script.fault w.turn_is w.rests
 
-begins_all : (xs ys zs all ms : List Line) → all ≡ (xs ++ ys) ++ zs → IsBeginning all ms → IsBeginning xs ms
-begins_all xs ys zs all ms is h = (
-  (ys ++ zs) ++ h.0,
-  h.1 ∙ ap (λ a. a ++ h.0) (is ∙ append_assoc xs ys zs) ∙ append_assoc xs (ys ++ zs) h.0,
-)
-
--- what was gathered begins the lines so far
+-- what is decided begins the lines so far
 pub cut_at : (x : Exchange) (texts : Texts) (pairs : List Pair) (later rest : Sexps) (ls : List Line)
     (options : Options)
     → options_of x.dialogue ≡ options → ls ≡ waiting x → IsUnderWay x texts pairs later rest
@@ -240,25 +224,23 @@ pub cut_at : (x : Exchange) (texts : Texts) (pairs : List Pair) (later rest : Se
 cut_at x texts pairs later rest ls options begun is h =
     let start = options.print_success in
     let steps = options.limit.steps in
+    let state = state_behind texts.taken x.dialogue in
     let w = way_through start later pairs texts.script.told texts.script.fault texts.answers.told rest
     texts.answers.fault in
     let paired = subst (λ (o : Options). ArePaired o.print_success texts.script texts.answers pairs later rest)
     begun h.paired in
     let turn = way_more start texts.script texts.answers pairs later rest paired w in
-    let first = decided_first h.early (state_behind texts.taken x.dialogue) pairs h.stands in
-    let mine : lines_in steps h.early [] pairs [] ≡ (state_behind texts.taken x.dialogue).checks.lines ++ first.0 =
-    sym (ap (λ (o : Options). lines_in o.limit.steps h.early [] pairs []) begun) ∙ first.1 in
+    let first = decided_first h.early state pairs h.stands in
+    let mine : lines_in steps h.early [] pairs [] ≡ (texts.taken ++ ls) ++ first.0 =
+    sym (ap (λ (o : Options). lines_in o.limit.steps h.early [] pairs []) begun) ∙ first.1
+    ∙ ap (λ xs. (texts.taken ++ xs) ++ first.0) (sym is) in
     let all = begins_so steps pairs w.pairs w.turn h.early w.rests
     (λ e. next_pair start texts x.command pairs later h.left rest h.in_turn (h.closing e) w) in (
       lines_at steps (pairs ++ w.pairs) w.turn,
       record { pairs = pairs ++ w.pairs; turn = w.turn; rests = w.rests; turn_is = turn; lines_are = refl },
-      begins_all (texts.taken ++ ls) x.dialogue.checks.lines.items first.0 (lines_in steps h.early [] pairs [])
-          (lines_at steps (pairs ++ w.pairs) w.turn)
-          (mine ∙ ap (λ xs. ((texts.taken ++ xs) ++ x.dialogue.checks.lines.items) ++ first.0) (sym is)) all,
-      part_silent (texts.taken ++ ls) x.dialogue.checks.lines.items
-          (state_behind texts.taken x.dialogue).checks.lines
-          (ap (λ xs. (texts.taken ++ xs) ++ x.dialogue.checks.lines.items) (sym is))
-          (lines_silent h.early (state_behind texts.taken x.dialogue) pairs h.stands),
+      begins_trans (texts.taken ++ ls) (lines_in steps h.early [] pairs []) (lines_at steps (pairs ++ w.pairs) w.turn)
+          (first.0, mine) all,
+      ap (λ xs. list_any is_verdict_line (texts.taken ++ xs)) is ∙ lines_silent h.early state pairs h.stands,
     )
 
 -- where the dialogue ends, the first of its lines

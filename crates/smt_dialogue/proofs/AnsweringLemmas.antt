@@ -1,6 +1,5 @@
 -- What a command takes of the answers so far.
-use Rattle.std.proofs.Common.{◌≡◌, ℕ, Bool, true, false, cond, List, Option, Some, None, refl, ap, sym, ◌∙◌, subst}
-use Rattle.std.specs.Prelude.{MatchOption}
+use Rattle.std.proofs.Common.{◌≡◌, ℕ, Bool, true, false, cond, List, Option, Some, None, refl, ap, sym, ◌∙◌}
 use Rattle.smt_trees.specs.Sexp.{Sexp, Sexps, Nil, Cons}
 use Rattle.smt_trees.specs.Tree.{sexp_of}
 use Rattle.smt_trees.specs.declared.tree.Tree.{Tree}
@@ -9,11 +8,13 @@ use Rattle.smt_dialogue.specs.Answers as answers
 use Rattle.smt_dialogue.specs.Answers.{has_form, taken}
 use Rattle.smt_dialogue.specs.FirstFault.{TextSoFar, is_over}
 use Rattle.smt_dialogue.specs.Pairs.{next_of}
+use Rattle.smt_dialogue.specs.Internal.AnswerView.{tree_of}
 use Rattle.smt_dialogue.specs.Internal.Answering.{IsFound, IsTaken}
 use Rattle.smt_dialogue.specs.Internal.FrontView.{HasFront, IsAhead}
-use Rattle.smt_dialogue.specs.declared.answer.AnswerForm.{AnswerForm}
-use Rattle.smt_dialogue.specs.declared.answer.Need.{Need}
-use Rattle.smt_dialogue.specs.declared.answer.Need.TheVariants.{Nothing, Optional, Needed}
+use Rattle.smt_dialogue.specs.declared.need.AnswerForm.{AnswerForm}
+use Rattle.smt_dialogue.specs.declared.need.Need.{Need}
+use Rattle.smt_dialogue.specs.declared.need.Need.TheVariants.{Nothing, Optional, Needed}
+use Rattle.smt_dialogue.specs.declared.answer.TakenAnswer.{TakenAnswer}
 use Rattle.smt_dialogue.specs.declared.answering.Answering.TheVariants as found
 use Rattle.smt_dialogue.specs.declared.front.Ahead.TheVariants as comes
 use Rattle.smt_dialogue.specs.declared.front.Front.{Front}
@@ -45,36 +46,21 @@ first_is : (next : Option Tree) (tree other : Tree) (rest later : Sexps) → nex
 first_is next tree other rest later is same h =
     h ∙ ap (λ t. Cons (sexp_of t) later) (some_same (sym is ∙ same))
 
--- the answer that stood ready was taken, which has the form
-pub found_ready : (form : AnswerForm) (o : Option Tree) (answer : Tree) (f g : Front) (text : TextSoFar)
-    (rest : Sexps) (bytes : List ℕ) → f.next ≡ Some answer → has_form form (sexp_of answer) ≡ true
-    → MatchOption o (f.next ≡ None) (λ tree. (f.next ≡ Some tree)
-    × ((bytes : List ℕ) (text : TextSoFar) (later : Sexps)
-    → HasFront f bytes text (Cons (sexp_of tree) later) → HasFront g bytes text later))
-    → HasFront f bytes text rest → IsFound form o f.next text rest bytes g
-found_ready form None answer f g text rest bytes is fits h front =
-    absurd (let e : None ≡ Some answer = sym h ∙ is in cc)
-found_ready form (Some tree) answer f g text rest bytes is fits h front = (
-  h.0,
-  ap (λ t. has_form form (sexp_of t)) (some_same (sym h.0 ∙ is)) ∙ fits,
-  λ later e. h.1 bytes text later (subst (HasFront f bytes text) e front),
-)
-
 -- ---- what is taken
 
 pub nothing_taken : (text : TextSoFar) (rest : Sexps) (bytes : List ℕ) (front : Front)
     → HasFront front bytes text rest → IsTaken (found.Takes None) Nothing text rest bytes front
 nothing_taken text rest bytes front h = record { left = rest; front_is = h; taken_so = refl; left_is = refl }
 
-pub optional_ready : (form : AnswerForm) (o : Option Tree) (next : Option Tree) (text : TextSoFar) (rest : Sexps)
+pub optional_ready : (form : AnswerForm) (o : Option TakenAnswer) (next : Option Tree) (text : TextSoFar) (rest : Sexps)
     (bytes : List ℕ) (front : Front) → IsAhead comes.Tree next text rest → IsFound form o next text rest bytes front
     → IsTaken (found.Takes o) (Optional form) text rest bytes front
-optional_ready form (Some tree) next text rest bytes front ahead h =
-    let first = first_is next tree ahead.0 rest ahead.1 ahead.2 h.0 ahead.3 in
+optional_ready form (Some answer) next text rest bytes front ahead h =
+    let first = first_is next answer.tree ahead.0 rest ahead.1 ahead.2 h.0 ahead.3 in
     record {
       left = ahead.1;
       front_is = h.2 ahead.1 first;
-      taken_so = optional_yes (is_over text) form (sexp_of tree) h.1
+      taken_so = optional_yes (is_over text) form (tree_of answer) h.1
           ∙ ap (λ r. taken (is_over text) (Optional form) (next_of r)) (sym first);
       left_is = first;
     }
@@ -86,16 +72,16 @@ optional_ready form None next text rest bytes front ahead h = record {
   left_is = refl;
 }
 
-pub needed_taken : (form : AnswerForm) (tree : Tree) (next : Option Tree) (text : TextSoFar) (rest : Sexps)
+pub needed_taken : (form : AnswerForm) (answer : TakenAnswer) (next : Option Tree) (text : TextSoFar) (rest : Sexps)
     (bytes : List ℕ) (front : Front) → IsAhead comes.Tree next text rest
-    → IsFound form (Some tree) next text rest bytes front
-    → IsTaken (found.Takes (Some tree)) (Needed form) text rest bytes front
-needed_taken form tree next text rest bytes front ahead h =
-    let first = first_is next tree ahead.0 rest ahead.1 ahead.2 h.0 ahead.3 in
+    → IsFound form (Some answer) next text rest bytes front
+    → IsTaken (found.Takes (Some answer)) (Needed form) text rest bytes front
+needed_taken form answer next text rest bytes front ahead h =
+    let first = first_is next answer.tree ahead.0 rest ahead.1 ahead.2 h.0 ahead.3 in
     record {
       left = ahead.1;
       front_is = h.2 ahead.1 first;
-      taken_so = needed_yes (is_over text) form (sexp_of tree) h.1
+      taken_so = needed_yes (is_over text) form (tree_of answer) h.1
           ∙ ap (λ r. taken (is_over text) (Needed form) (next_of r)) (sym first);
       left_is = first;
     }

@@ -1,35 +1,43 @@
 -- How the checks of a dialogue go on with one more pair.
 use Rattle.std.proofs.Common.{◌≡◌, ◌+◌, ℕ, Bool, true, false, not, ◌&&◌, ◌||◌, List, [], ◌∷◌, ◌++◌, length, Option, Some}
-use Rattle.std.proofs.Common.{None, cond, codes, refl, ap, sym, ◌∙◌, subst, arith, append_assoc, length-append}
+use Rattle.std.proofs.Common.{None, cond, codes, refl, ap, sym, ◌∙◌, subst, arith, length-append}
 use Rattle.std.proofs.lemmas.List.{append-nil}
 use Rattle.std.specs.List.{list_any}
 use Rattle.std.specs.Option.{option_or}
+use Rattle.std.specs.Prelude.{option_map}
 use Rattle.smt_trees.specs.Sexp.{Sexp, Sexps, Atom, Reserved, Items, is_symbol}
 use Rattle.smt_terms.specs.Signature.{Signature}
 use Rattle.smt_script.specs.Command.{Command, asks_check, changes_force, closes_window, is_check, kind_of}
 use Rattle.smt_script.specs.declared.command.Kind.{Kind}
 use Rattle.smt_script.specs.declared.command.Kind.TheVariants as kinds
+use Rattle.smt_dialogue.proofs.AnswerLemmas.{refusal_told, sat_told, unchecked_told}
 use Rattle.smt_dialogue.proofs.InForceLemmas.{quiet}
 use Rattle.smt_dialogue.proofs.PairLemmas.{IsPassed, claims_of_effective, quiet_is_idle, quiet_is_passed}
 use Rattle.smt_dialogue.proofs.PairLemmas.{refused_is_passed}
-use Rattle.smt_dialogue.specs.Answers.{has_form, is_effective_with, is_error}
+use Rattle.smt_dialogue.specs.Answers.{is_effective_with}
 use Rattle.smt_dialogue.specs.InForce.{signature_after}
-use Rattle.smt_dialogue.specs.Internal.ChecksState.{ChecksState, IsAnswered, checks_after, closing_lines}
-use Rattle.smt_dialogue.specs.Internal.ChecksState.{pending_lines, role_of, role_of_kind, with_answer_of, with_check, with_line}
-use Rattle.smt_dialogue.specs.Internal.ChecksState.{with_models, with_window_ended}
+use Rattle.smt_dialogue.specs.Internal.AnswerView.{answer_of, is_sat, refuses, unchecked}
+use Rattle.smt_dialogue.specs.Internal.ChecksState.{ChecksState, Step, checks_after, closing_line, own_line}
+use Rattle.smt_dialogue.specs.Internal.ChecksState.{pending_lines, unchanged, with_check, with_line, with_models}
+use Rattle.smt_dialogue.specs.Internal.ChecksState.{with_window_ended}
 use Rattle.smt_dialogue.specs.Internal.Claims.{claims_after}
 use Rattle.smt_dialogue.specs.Judgement.{Claimed, judgement_of}
 use Rattle.smt_dialogue.specs.Lines.{claims_of_check, confirmed_line, is_empty, line_of_judgement, lines_of_answer, lines_of_pair}
-use Rattle.smt_dialogue.specs.Lines.{lines_of_sat, sat_lines, unchecked_answer, unchecked_line_or}
+use Rattle.smt_dialogue.specs.Lines.{lines_of_sat, sat_lines, unchecked_line_or}
 use Rattle.smt_dialogue.specs.Lines.{unconfirmed_line}
 use Rattle.smt_dialogue.specs.Pairs.{Pair, checks_in, is_effective, pair_of}
+use Rattle.smt_dialogue.specs.Report.{lines_of_end}
 use Rattle.smt_dialogue.specs.Window.{Printed, asks_model, closes, models_from, printed_by, printed_in, window}
-use Rattle.smt_dialogue.specs.declared.answer.AnswerForm.TheVariants.{Check}
+use Rattle.smt_dialogue.specs.declared.answer.Answer.{Answer}
+use Rattle.smt_dialogue.specs.declared.answer.Answer.TheVariants as says
 use Rattle.smt_report.specs.declared.line.CheckAnswer.{CheckAnswer}
-use Rattle.smt_report.specs.declared.line.CheckAnswer.TheVariants.{Unsat, Unknown, Unsupported, Error}
 use Rattle.smt_report.specs.declared.line.Line.{Line}
 use Rattle.smt_report.specs.declared.line.Line.TheVariants as lines
 use Rattle.smt_dialogue.specs.declared.window.PendingCheck.{PendingCheck}
+
+-- the lines of a check whose window ends
+abbrev pub closing_lines : Option PendingCheck → List Line
+closing_lines pending = lines_of_end (closing_line pending)
 
 -- ## The window that has not ended does, or goes on
 
@@ -60,28 +68,27 @@ pending-past steps closed (Some c) names claims m p after h none = rw (h, none) 
 
 -- ## The checks go on
 
--- t is s after one more pair: so many more checks, and the lines for whatever pairs come
-pub record GoesOn (s : ChecksState) (pairs : List Pair) (p : Pair) (t : ChecksState) : Type 0 where
-  pub limit : t.limit ≡ s.limit
-  pub count : t.count ≡ s.count + checks_in (p ∷ [])
+-- this is one more pair: so many more checks, and the lines for whatever pairs come
+pub record GoesOn (s : ChecksState) (pairs : List Pair) (p : Pair) (t : Step) : Type 0 where
+  pub limit : t.after.limit ≡ s.limit
+  pub count : t.after.count ≡ s.count + checks_in (p ∷ [])
   pub lines : (closed : Bool) (after : List Pair)
-      → s.lines ++ (pending_lines s.limit closed s.pending (signature_after pairs) (claims_after pairs)
-      (length pairs + 1) (p ∷ after) ++ lines_of_pair s.limit closed pairs p after)
-      ≡ t.lines ++ pending_lines t.limit closed t.pending (signature_after (pairs ++ p ∷ []))
+      → pending_lines s.limit closed s.pending (signature_after pairs) (claims_after pairs)
+      (length pairs + 1) (p ∷ after) ++ lines_of_pair s.limit closed pairs p after
+      ≡ t.decided ++ pending_lines t.after.limit closed t.after.pending (signature_after (pairs ++ p ∷ []))
       (claims_after (pairs ++ p ∷ [])) (length (pairs ++ p ∷ []) + 1) after
 
 -- the lines where the window ends at a pair that has these lines itself
 closes_with : (s : ChecksState) (pairs : List Pair) (p : Pair) (closed : Bool) (after : List Pair)
     (own : List Line) → closes p ≡ true → lines_of_pair s.limit closed pairs p after ≡ own
-    → s.lines ++ (pending_lines s.limit closed s.pending (signature_after pairs) (claims_after pairs)
-    (length pairs + 1) (p ∷ after) ++ lines_of_pair s.limit closed pairs p after)
-    ≡ (s.lines ++ closing_lines s.pending) ++ own
+    → pending_lines s.limit closed s.pending (signature_after pairs) (claims_after pairs)
+    (length pairs + 1) (p ∷ after) ++ lines_of_pair s.limit closed pairs p after
+    ≡ closing_lines s.pending ++ own
 closes_with s pairs p closed after own h is =
-    ap (λ (ls : List Line). s.lines ++ (ls ++ lines_of_pair s.limit closed pairs p after))
+    ap (λ (ls : List Line). ls ++ lines_of_pair s.limit closed pairs p after)
     (pending-closing s.limit closed s.pending (signature_after pairs) (claims_after pairs) (length pairs + 1)
     p after h)
-    ∙ ap (λ (ls : List Line). s.lines ++ (closing_lines s.pending ++ ls)) is
-    ∙ sym (append_assoc s.lines (closing_lines s.pending) own)
+    ∙ ap (λ (ls : List Line). closing_lines s.pending ++ ls) is
 
 -- a pair that is no check and no model ends the window, and has no line
 ends_window : (s : ChecksState) (pairs : List Pair) (p : Pair) → closes p ≡ true → is_check p.command ≡ false
@@ -110,7 +117,7 @@ pending-idle steps closed o pairs p after idle =
 
 -- a pair that neither ends the window nor prints a model, and changes nothing, leaves all as it is
 stays : (s : ChecksState) (pairs : List Pair) (p : Pair) → closes p ≡ false → is_check p.command ≡ false
-    → ((m : ℕ) → models_of m p ≡ []) → IsPassed pairs p → GoesOn s pairs p s
+    → ((m : ℕ) → models_of m p ≡ []) → IsPassed pairs p → GoesOn s pairs p (unchanged s)
 stays s pairs p open' other none idle = record {
   limit = refl;
   count = rw other (omega arith);
@@ -118,12 +125,11 @@ stays s pairs p open' other none idle = record {
       let names = signature_after pairs in
       let claims = claims_after pairs in
       let here = pending_lines s.limit closed s.pending names claims (length pairs + 1) (p ∷ after) in
-      ap (λ (ls : List Line). s.lines ++ (here ++ ls)) (rw other refl)
-      ∙ ap (λ (ls : List Line). s.lines ++ ls) (append-nil here)
-      ∙ ap (λ (ls : List Line). s.lines ++ ls)
-      (pending-past s.limit closed s.pending names claims (length pairs + 1) p after open'
-      (none (length pairs + 1)))
-      ∙ ap (λ (ls : List Line). s.lines ++ ls) (pending-idle s.limit closed s.pending pairs p after idle);
+      ap (λ (ls : List Line). here ++ ls) (rw other refl)
+      ∙ append-nil here
+      ∙ pending-past s.limit closed s.pending names claims (length pairs + 1) p after open'
+      (none (length pairs + 1))
+      ∙ pending-idle s.limit closed s.pending pairs p after idle;
 }
 
 neither : {A : Type 0} (b : Bool) → ◌≡◌ {A = List A} (cond b [] []) []
@@ -136,7 +142,7 @@ no_models b xs h = rw h refl
 -- a command that ends the window where it took effect
 closes_if : (s : ChecksState) (pairs : List Pair) (p : Pair) (b : Bool) → is_effective p ≡ b
     → closes p ≡ is_effective p → is_check p.command ≡ false
-    → GoesOn s pairs p (cond (is_effective p) (with_window_ended s) s)
+    → GoesOn s pairs p (cond (is_effective p) (with_window_ended s) (unchanged s))
 closes_if s pairs p true is ends other = rw is (ends_window s pairs p (ends ∙ is) other)
 closes_if s pairs p false is ends other =
     rw is (stays s pairs p (ends ∙ is) other
@@ -147,99 +153,114 @@ closes_if s pairs p false is ends other =
 check_closes : (c : Command) (o : Option Sexp) → kind_of c ≡ kinds.Check → closes (pair_of c o) ≡ true
 check_closes c o is = ap (λ (k : Kind). asks_check k || changes_force k && is_effective_with o) is
 
--- a check that was answered otherwise than sat, and has this line
-answered_goes : (s : ChecksState) (pairs : List Pair) (c : Command) (a : Sexp) (line : Line)
-    → kind_of c ≡ kinds.Check
-    → ((closed : Bool) (after : List Pair)
-    → lines_of_answer s.limit closed pairs (claims_of_check pairs c) (checks_in pairs + 1) (Some a) after
-    ≡ line ∷ [])
-    → GoesOn s pairs (pair_of c (Some a))
-    (record (with_window_ended s)
-    { count = s.count + 1; lines = (with_window_ended s).lines ++ line ∷ [] })
-answered_goes s pairs c a line is own = record {
+-- a check without an answer
+none_goes : (s : ChecksState) (pairs : List Pair) (c : Command) → kind_of c ≡ kinds.Check
+    → GoesOn s pairs (pair_of c None) (with_check s (length pairs + 1) None)
+none_goes s pairs c is = record {
   limit = refl;
   count = rw is (omega arith);
-  lines = λ closed after. closes_with s pairs (pair_of c (Some a)) closed after (line ∷ [])
-      (check_closes c (Some a) is) (rw is (own closed after))
-      ∙ sym (append-nil ((s.lines ++ closing_lines s.pending) ++ line ∷ []));
+  lines = λ closed after.
+      closes_with s pairs (pair_of c None) closed after [] (check_closes c None is) (rw is refl)
+      ∙ sym (append-nil (closing_lines s.pending ++ []));
 }
 
--- a check that was answered sat
-begun_goes : (s : ChecksState) (pairs : List Pair) (c : Command) (a : Sexp) (k n : ℕ)
-    → kind_of c ≡ kinds.Check → is_effective_with (Some a) ≡ true → k ≡ checks_in pairs + 1
-    → n ≡ length pairs + 1
-    → ((closed : Bool) (after : List Pair)
-    → lines_of_answer s.limit closed pairs (claims_of_check pairs c) (checks_in pairs + 1) (Some a) after
-    ≡ lines_of_sat s.limit closed (checks_in pairs + 1) (length pairs + 1) (signature_after pairs)
-    (claims_of_check pairs c) ((length pairs + 1) + 1) after)
-    → GoesOn s pairs (pair_of c (Some a))
-    (record (with_window_ended s)
-    { count = s.count + 1; pending = Some (record { check = k; command = n; some_model = false }) })
-begun_goes s pairs c a k n is effective is_k is_n own =
-    let p = pair_of c (Some a) in
-    let new = pairs ++ p ∷ [] in
-    let begun : Option PendingCheck = Some (record { check = k; command = n; some_model = false }) in
-    let calm = quiet c (ap changes_force is) in
-    let len : length new ≡ length pairs + 1 = length-append pairs (p ∷ []) ∙ omega arith in
-    let claims = claims_of_check pairs c in
+-- the lines of a check, by what its answer says
+lines_told : (steps : ℕ) (closed : Bool) (pairs : List Pair) (c : Command) (a : Sexp) (x : Answer) (after : List Pair)
+    → answer_of a ≡ x
+    → lines_of_answer steps closed pairs (claims_of_check pairs c) (checks_in pairs + 1) (Some a) after
+    ≡ unchecked_line_or (checks_in pairs + 1) (length pairs + 1) (unchecked x)
+    (cond (is_sat x) (lines_of_sat steps closed (checks_in pairs + 1) (length pairs + 1) (signature_after pairs)
+    (claims_of_check pairs c) ((length pairs + 1) + 1) after) [])
+lines_told steps closed pairs c a x after is =
+    let k = checks_in pairs + 1 in
+    let n = length pairs + 1 in
+    let ls = lines_of_sat steps closed k n (signature_after pairs) (claims_of_check pairs c) (n + 1) after in
+    ap (λ (u : Option CheckAnswer). unchecked_line_or k n u (cond (is_symbol (codes "sat") a) ls []))
+    (unchecked_told a ∙ ap unchecked is)
+    ∙ ap (λ (b : Bool). unchecked_line_or k n (unchecked x) (cond b ls [])) (sat_told a ∙ ap is_sat is)
+
+own_is : (k n : ℕ) (u : Option CheckAnswer)
+    → unchecked_line_or k n u [] ≡ lines_of_end (option_map (λ (t : CheckAnswer). lines.Unchecked k n t) u)
+own_is k n None = refl
+own_is k n (Some t) = refl
+
+-- a check that was answered otherwise than `sat`
+answered_goes : (s : ChecksState) (pairs : List Pair) (c : Command) (a : Sexp) (x : Answer)
+    → kind_of c ≡ kinds.Check → answer_of a ≡ x → is_sat x ≡ false → s.count ≡ checks_in pairs
+    → GoesOn s pairs (pair_of c (Some a)) (record {
+      after = record { limit = s.limit; count = s.count + 1; pending = None };
+      decided = closing_lines s.pending ++ lines_of_end (own_line (s.count + 1) (length pairs + 1) (Some x));
+    })
+answered_goes s pairs c a x is says_so other count =
+    let n = length pairs + 1 in
+    let own = lines_of_end (own_line (s.count + 1) n (Some x)) in
     record {
       limit = refl;
       count = rw is (omega arith);
       lines = λ closed after.
-          closes_with s pairs p closed after _ (check_closes c (Some a) is) (rw is (own closed after))
-          ∙ ap (λ (i : ℕ). (with_window_ended s).lines
-          ++ lines_of_sat s.limit closed i (length pairs + 1) (signature_after pairs) claims
-          ((length pairs + 1) + 1) after) (sym is_k)
-          ∙ ap (λ (i : ℕ). (with_window_ended s).lines
-          ++ lines_of_sat s.limit closed k i (signature_after pairs) claims
-          ((length pairs + 1) + 1) after) (sym is_n)
-          ∙ ap (λ (ls : List Line). (with_window_ended s).lines ++ ls)
+          let ls = lines_of_sat s.limit closed (checks_in pairs + 1) n (signature_after pairs)
+          (claims_of_check pairs c) (n + 1) after in
+          let mine : lines_of_answer s.limit closed pairs (claims_of_check pairs c) (checks_in pairs + 1) (Some a)
+          after ≡ own =
+          lines_told s.limit closed pairs c a x after says_so
+          ∙ ap (λ (b : Bool). unchecked_line_or (checks_in pairs + 1) n (unchecked x) (cond b ls [])) other
+          ∙ own_is (checks_in pairs + 1) n (unchecked x)
+          ∙ ap (λ (k : ℕ). lines_of_end (own_line (k + 1) n (Some x))) (sym count) in
+          closes_with s pairs (pair_of c (Some a)) closed after own (check_closes c (Some a) is) (rw is mine)
+          ∙ sym (append-nil (closing_lines s.pending ++ own));
+    }
+
+-- a check that was answered `sat`
+begun_goes : (s : ChecksState) (pairs : List Pair) (c : Command) (a : Sexp)
+    → kind_of c ≡ kinds.Check → answer_of a ≡ says.Sat → s.count ≡ checks_in pairs
+    → GoesOn s pairs (pair_of c (Some a)) (with_check s (length pairs + 1) (Some says.Sat))
+begun_goes s pairs c a is says_so count =
+    let p = pair_of c (Some a) in
+    let new = pairs ++ p ∷ [] in
+    let n = length pairs + 1 in
+    let begun : Option PendingCheck = Some (record { check = s.count + 1; command = n; some_model = false }) in
+    let calm = quiet c (ap changes_force is) in
+    let len : length new ≡ length pairs + 1 = length-append pairs (p ∷ []) ∙ omega arith in
+    let claims = claims_of_check pairs c in
+    let effective : is_effective_with (Some a) ≡ true = ap not (refusal_told a ∙ ap refuses says_so) in
+    record {
+      limit = refl;
+      count = rw is (omega arith);
+      lines = λ closed after.
+          let later = pending_lines s.limit closed begun (signature_after new) (claims_after new) (length new + 1) after
+          in
+          closes_with s pairs p closed after _ (check_closes c (Some a) is)
+          (rw is (lines_told s.limit closed pairs c a says.Sat after says_so))
+          ∙ ap (λ (i : ℕ). closing_lines s.pending
+          ++ lines_of_sat s.limit closed (i + 1) n (signature_after pairs) claims (n + 1) after) (sym count)
+          ∙ ap (λ (ls : List Line). closing_lines s.pending ++ ls)
           (ap (λ (m : ℕ). pending_lines s.limit closed begun (signature_after pairs) claims (m + 1) after) (sym len)
           ∙ ap (λ (es : Signature). pending_lines s.limit closed begun es claims (length new + 1) after)
           (sym (quiet_is_idle pairs p calm).signature)
           ∙ ap (λ (cs : List Claimed). pending_lines s.limit closed begun (signature_after new) cs
-          (length new + 1) after) (sym (claims_of_effective pairs p calm (ap asks_check is) effective)));
+          (length new + 1) after) (sym (claims_of_effective pairs p calm (ap asks_check is) effective)))
+          ∙ ap (λ (ls : List Line). ls ++ later) (sym (append-nil (closing_lines s.pending)));
     }
 
--- what is answered otherwise than by a refusal took effect
-sat_effective : (a : Sexp) → unchecked_answer a ≡ None → is_effective_with (Some a) ≡ true
-sat_effective a is = grind (arith)
+check_by : (s : ChecksState) (pairs : List Pair) (c : Command) (a : Sexp) (x : Answer)
+    → kind_of c ≡ kinds.Check → answer_of a ≡ x → s.count ≡ checks_in pairs
+    → GoesOn s pairs (pair_of c (Some a)) (with_check s (length pairs + 1) (Some x))
+check_by s pairs c a says.Sat is says_so count = begun_goes s pairs c a is says_so count
+check_by s pairs c a says.Unsat is says_so count = answered_goes s pairs c a says.Unsat is says_so refl count
+check_by s pairs c a says.Unknown is says_so count = answered_goes s pairs c a says.Unknown is says_so refl count
+check_by s pairs c a says.Unsupported is says_so count =
+    answered_goes s pairs c a says.Unsupported is says_so refl count
+check_by s pairs c a says.Error is says_so count = answered_goes s pairs c a says.Error is says_so refl count
+check_by s pairs c a says.Success is says_so count = answered_goes s pairs c a says.Success is says_so refl count
+check_by s pairs c a says.List is says_so count = answered_goes s pairs c a says.List is says_so refl count
+check_by s pairs c a says.Text is says_so count = answered_goes s pairs c a says.Text is says_so refl count
+check_by s pairs c a says.Other is says_so count = answered_goes s pairs c a says.Other is says_so refl count
 
--- where a check has an answer that is not one of the others, it is `sat`
-sat_left : (sat unsat unknown unsupported error' : Bool)
-    → ((sat || unsat) || unknown) || (unsupported || error') ≡ true
-    → cond unsat (Some Unsat)
-    (cond unknown (Some Unknown) (cond unsupported (Some Unsupported) (cond error' (Some Error) None)))
-    ≡ None → sat ≡ true
-sat_left true unsat unknown unsupported error' h none = refl
-sat_left false true unknown unsupported error' h none = absurd (cc)
-sat_left false false true unsupported error' h none = absurd (cc)
-sat_left false false false true error' h none = absurd (cc)
-sat_left false false false false true h none = absurd (cc)
-sat_left false false false false false h none = cc
-
-check_by : (s : ChecksState) (pairs : List Pair) (c : Command) (a : Sexp) (u : Option CheckAnswer)
-    → kind_of c ≡ kinds.Check → unchecked_answer a ≡ u → has_form Check a ≡ true → s.count ≡ checks_in pairs
-    → GoesOn s pairs (pair_of c (Some a))
-    (with_answer_of (with_window_ended s) (s.count + 1) (length pairs + 1) u)
-check_by s pairs c a (Some other) is_check' is h count =
-    let is_k : s.count + 1 ≡ checks_in pairs + 1 = ap (λ (i : ℕ). i + 1) count in
-    answered_goes s pairs c a (lines.Unchecked (s.count + 1) (length pairs + 1) other) is_check'
-    (λ closed after. ap (λ (v : Option CheckAnswer). unchecked_line_or (checks_in pairs + 1)
-    (length pairs + 1) v (cond (is_symbol (codes "sat") a)
-    (lines_of_sat s.limit closed (checks_in pairs + 1) (length pairs + 1) (signature_after pairs)
-    (claims_of_check pairs c) ((length pairs + 1) + 1) after) [])) is
-    ∙ ap (λ (i : ℕ). lines.Unchecked i (length pairs + 1) other ∷ []) (sym is_k))
-check_by s pairs c a None is_check' is h count =
-    let is_k : s.count + 1 ≡ checks_in pairs + 1 = ap (λ (i : ℕ). i + 1) count in
-    let sat : is_symbol (codes "sat") a ≡ true =
-    sat_left (is_symbol (codes "sat") a) (is_symbol (codes "unsat") a) (is_symbol (codes "unknown") a)
-    (is_symbol (codes "unsupported") a) (is_error a) h is in
-    begun_goes s pairs c a (s.count + 1) (length pairs + 1) is_check' (sat_effective a is) is_k refl
-    (λ closed after. ap (λ (v : Option CheckAnswer). unchecked_line_or (checks_in pairs + 1)
-    (length pairs + 1) v (cond (is_symbol (codes "sat") a)
-    (lines_of_sat s.limit closed (checks_in pairs + 1) (length pairs + 1) (signature_after pairs)
-    (claims_of_check pairs c) ((length pairs + 1) + 1) after) [])) is ∙ rw sat refl)
+check_goes : (s : ChecksState) (pairs : List Pair) (c : Command) (o : Option Sexp) → kind_of c ≡ kinds.Check
+    → s.count ≡ checks_in pairs
+    → GoesOn s pairs (pair_of c o) (with_check s (length pairs + 1) (option_map answer_of o))
+check_goes s pairs c None is count = none_goes s pairs c is
+check_goes s pairs c (Some a) is count = check_by s pairs c a (answer_of a) is refl count
 
 -- ## Models
 
@@ -285,27 +306,25 @@ at_model : (s : ChecksState) (pairs : List Pair) (c : PendingCheck) (d : Command
     → s.pending ≡ Some c → kind_of d ≡ kinds.Model → is_effective_with (Some (Items parts)) ≡ true
     → line_of_judgement c.check c.command (length pairs + 1)
     (judgement_of s.limit (signature_after pairs) (claims_after pairs) parts) ≡ l
-    → s.lines ++ (pending_lines s.limit closed s.pending (signature_after pairs) (claims_after pairs)
+    → pending_lines s.limit closed s.pending (signature_after pairs) (claims_after pairs)
     (length pairs + 1) (pair_of d (Some (Items parts)) ∷ after)
-    ++ lines_of_pair s.limit closed pairs (pair_of d (Some (Items parts))) after)
-    ≡ s.lines ++ sat_lines c.check c.command
+    ++ lines_of_pair s.limit closed pairs (pair_of d (Some (Items parts))) after
+    ≡ sat_lines c.check c.command
     (option_or l (unconfirmed_line s.limit c.check c.command (signature_after pairs) (claims_after pairs)
     (models_from ((length pairs + 1) + 1) (window after)))) true (closed || list_any closes after)
 at_model s pairs c d parts l closed after is_pending is_model h is =
     let p = pair_of d (Some (Items parts)) in
     let here = pending_lines s.limit closed s.pending (signature_after pairs) (claims_after pairs) (length pairs + 1)
     (p ∷ after) in
-    ap (λ (k : Kind). s.lines ++ (here
+    ap (λ (k : Kind). here
     ++ cond (asks_check k) (lines_of_answer s.limit closed pairs (claims_of_check pairs d) (checks_in pairs + 1)
-    (Some (Items parts)) after) []))
-    is_model
-    ∙ ap (λ (ls : List Line). s.lines ++ ls) (append-nil here)
-    ∙ ap (λ (o : Option PendingCheck). s.lines ++ pending_lines s.limit closed o (signature_after pairs)
+    (Some (Items parts)) after) []) is_model
+    ∙ append-nil here
+    ∙ ap (λ (o : Option PendingCheck). pending_lines s.limit closed o (signature_after pairs)
     (claims_after pairs) (length pairs + 1) (p ∷ after)) is_pending
-    ∙ ap (λ (ls : List Line). s.lines ++ ls)
-    (pending-model s.limit closed c (signature_after pairs) (claims_after pairs) (length pairs + 1) d parts after
-    is_model h)
-    ∙ ap (λ (x : Option Line). s.lines ++ sat_lines c.check c.command
+    ∙ pending-model s.limit closed c (signature_after pairs) (claims_after pairs) (length pairs + 1) d parts after
+    is_model h
+    ∙ ap (λ (x : Option Line). sat_lines c.check c.command
     (option_or x (unconfirmed_line s.limit c.check c.command (signature_after pairs) (claims_after pairs)
     (models_from ((length pairs + 1) + 1) (window after)))) true (closed || list_any closes after)) is
 
@@ -319,8 +338,7 @@ model_line : (s : ChecksState) (pairs : List Pair) (c : PendingCheck) (d : Comma
 model_line s pairs c d parts (Some line) is_pending is_model h is = record {
   limit = refl;
   count = rw is_model (omega arith);
-  lines = λ closed after. at_model s pairs c d parts (Some line) closed after is_pending is_model h is
-      ∙ sym (append-nil (s.lines ++ line ∷ []));
+  lines = λ closed after. at_model s pairs c d parts (Some line) closed after is_pending is_model h is;
 }
 model_line s pairs c d parts None is_pending is_model h is =
     let p = pair_of d (Some (Items parts)) in
@@ -329,13 +347,13 @@ model_line s pairs c d parts None is_pending is_model h is =
       limit = refl;
       count = rw is_model (omega arith);
       lines = λ closed after. at_model s pairs c d parts None closed after is_pending is_model h is
-          ∙ ap (λ (ls : List Line). s.lines ++ ls)
-          (pending-idle s.limit closed (Some noted) pairs p after (model_passed pairs d (Some (Items parts)) is_model));
+          ∙ pending-idle s.limit closed (Some noted) pairs p after
+          (model_passed pairs d (Some (Items parts)) is_model);
     }
 
 -- an answer that is no model leaves all as it is
 no_model : (s : ChecksState) (pairs : List Pair) (d : Command) (o : Option Sexp) → kind_of d ≡ kinds.Model
-    → ((m : ℕ) → cond (is_effective_with o) (printed_in m o) [] ≡ []) → GoesOn s pairs (pair_of d o) s
+    → ((m : ℕ) → cond (is_effective_with o) (printed_in m o) [] ≡ []) → GoesOn s pairs (pair_of d o) (unchanged s)
 no_model s pairs d o is none =
     stays s pairs (pair_of d o) (model_open d o is) (ap asks_check is)
     (λ m. ap (λ (k : Kind). cond (is_effective_with o) (cond (asks_model k) (printed_in m o) []) []) is
@@ -381,7 +399,7 @@ model_after s pairs d o is =
 
 -- a command that never ends a window, prints no model and brings nothing
 passes : (s : ChecksState) (pairs : List Pair) (c : Command) (o : Option Sexp) → is_check c ≡ false
-    → closes_window c ≡ false → asks_model (kind_of c) ≡ false → GoesOn s pairs (pair_of c o) s
+    → closes_window c ≡ false → asks_model (kind_of c) ≡ false → GoesOn s pairs (pair_of c o) (unchanged s)
 passes s pairs c o other open' no_model' =
     stays s pairs (pair_of c o) (rw (other, open') refl) other
     (λ m. ap (λ (b : Bool). cond (is_effective_with o) (cond b (printed_in m o) []) []) no_model'
@@ -390,46 +408,37 @@ passes s pairs c o other open' no_model' =
 -- a command of a kind that ends a window where it took effect
 changes : (s : ChecksState) (pairs : List Pair) (c : Command) (o : Option Sexp) → is_check c ≡ false
     → closes_window c ≡ true
-    → GoesOn s pairs (pair_of c o) (cond (is_effective_with o) (with_window_ended s) s)
+    → GoesOn s pairs (pair_of c o) (cond (is_effective_with o) (with_window_ended s) (unchanged s))
 changes s pairs c o other ends =
     closes_if s pairs (pair_of c o) (is_effective_with o) refl (rw (other, ends) refl) other
 
-some_same : {a b : Sexp} → ◌≡◌ {A = Option Sexp} (Some a) (Some b) → a ≡ b
-some_same h = cc
-
-pub goes_on : (s : ChecksState) (pairs : List Pair) (c : Command) (o : Option Sexp) → IsAnswered (role_of c) o
-    → s.count ≡ checks_in pairs
+pub goes_on : (s : ChecksState) (pairs : List Pair) (c : Command) (o : Option Sexp) → s.count ≡ checks_in pairs
     → GoesOn s pairs (pair_of c o)
-    (checks_after (is_effective_with o) s (signature_after (pairs ++ pair_of c o ∷ []))
-    (claims_after (pairs ++ pair_of c o ∷ [])) (length pairs + 1) (role_of c) o)
-goes_on s pairs c o h count = by (kind_of c) o refl refl h
+    (checks_after s (signature_after (pairs ++ pair_of c o ∷ [])) (claims_after (pairs ++ pair_of c o ∷ []))
+    (length pairs + 1) (kind_of c) o)
+goes_on s pairs c o count = by (kind_of c) refl
   where
     pass : (k : Kind) → kind_of c ≡ k → asks_check k ≡ false → changes_force k ≡ false
-        → asks_model k ≡ false → GoesOn s pairs (pair_of c o) s
+        → asks_model k ≡ false → GoesOn s pairs (pair_of c o) (unchanged s)
     pass k is other open' no_model' =
         passes s pairs c o (ap asks_check is ∙ other) (ap changes_force is ∙ open')
         (ap asks_model is ∙ no_model')
 
-    by : (k : Kind) (given : Option Sexp) → kind_of c ≡ k → o ≡ given → IsAnswered (role_of_kind k) given
+    by : (k : Kind) → kind_of c ≡ k
         → GoesOn s pairs (pair_of c o)
-        (checks_after (is_effective_with o) s (signature_after (pairs ++ pair_of c o ∷ []))
-        (claims_after (pairs ++ pair_of c o ∷ [])) (length pairs + 1) (role_of_kind k) given)
-    by kinds.Check None is has answered = absurd (cc)
-    by kinds.Check (Some a) is has answered =
-        subst (λ (g : Option Sexp). GoesOn s pairs (pair_of c g)
-        (with_check s (length pairs + 1) a)) (sym has)
-        (check_by s pairs c a (unchecked_answer a) is refl
-        (ap (has_form Check) (some_same answered.1) ∙ answered.2) count)
-    by kinds.Model given is has answered = rw (sym has, model_after s pairs c o is)
+        (checks_after s (signature_after (pairs ++ pair_of c o ∷ [])) (claims_after (pairs ++ pair_of c o ∷ []))
+        (length pairs + 1) k o)
+    by kinds.Check is = check_goes s pairs c o is count
+    by kinds.Model is = subst (GoesOn s pairs (pair_of c o)) (sym (model_after s pairs c o is))
         (model_goes s pairs s.pending c (is_effective_with o) o is refl refl)
-    by kinds.Logic given is has answered = changes s pairs c o (ap asks_check is) (ap changes_force is)
-    by kinds.Change given is has answered = changes s pairs c o (ap asks_check is) (ap changes_force is)
-    by kinds.Reset given is has answered = changes s pairs c o (ap asks_check is) (ap changes_force is)
-    by (kinds.PrintSuccess on) given is has answered = pass (kinds.PrintSuccess on) is refl refl refl
-    by kinds.Setting given is has answered = pass kinds.Setting is refl refl refl
-    by kinds.Exit given is has answered = pass kinds.Exit is refl refl refl
-    by kinds.Echo given is has answered = pass kinds.Echo is refl refl refl
-    by kinds.Query given is has answered = pass kinds.Query is refl refl refl
+    by kinds.Logic is = changes s pairs c o (ap asks_check is) (ap changes_force is)
+    by kinds.Change is = changes s pairs c o (ap asks_check is) (ap changes_force is)
+    by kinds.Reset is = changes s pairs c o (ap asks_check is) (ap changes_force is)
+    by (kinds.PrintSuccess on) is = pass (kinds.PrintSuccess on) is refl refl refl
+    by kinds.Setting is = pass kinds.Setting is refl refl refl
+    by kinds.Exit is = pass kinds.Exit is refl refl refl
+    by kinds.Echo is = pass kinds.Echo is refl refl refl
+    by kinds.Query is = pass kinds.Query is refl refl refl
 
 -- ## The end
 

@@ -15,8 +15,8 @@ use Rattle.smt_dialogue.specs.FirstFault.{turn_of_taken, want_of_answer}
 use Rattle.smt_dialogue.specs.InForce.{has_exited_after, need_after}
 use Rattle.smt_dialogue.specs.Pairing.{AllTake, AreCommands}
 use Rattle.smt_dialogue.specs.Pairs.{Pair, answers_then, next_of, with_answer}
-use Rattle.smt_dialogue.specs.declared.answer.Need.{Need}
-use Rattle.smt_dialogue.specs.declared.answer.Need.TheVariants.{Nothing, Optional, Needed}
+use Rattle.smt_dialogue.specs.declared.need.Need.{Need}
+use Rattle.smt_dialogue.specs.declared.need.Need.TheVariants.{Nothing, Optional, Needed}
 use Rattle.smt_report.specs.declared.line.Line.{Line}
 use Rattle.smt_report.specs.declared.line.Line.TheVariants as lines
 

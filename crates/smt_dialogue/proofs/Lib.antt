@@ -1,9 +1,9 @@
 pub mod InForceLemmas
 pub mod AssertedLemmas
 pub mod PairLemmas
+pub mod AnswerLemmas
 pub mod ChecksLemmas
 pub mod CheckLineLemmas
-pub mod GatheredLemmas
 pub mod DialogueLemmas
 pub mod StepLemmas
 pub mod JudgementLemmas

@@ -5,28 +5,22 @@ use Rattle.std.proofs.lemmas.List.{append-nil}
 use Rattle.smt_trees.specs.Sexp.{Sexp, Sexps, Atom, Reserved, Items, is_symbol}
 use Rattle.smt_trees.specs.Sexp as sexp
 use Rattle.std.specs.Cmp.Lexicographic.{same_text}
-use Rattle.smt_script.specs.Command.{Command, is_check, kind_of, closes_window}
-use Rattle.smt_script.specs.declared.command.Kind.{Kind}
-use Rattle.smt_script.specs.declared.command.Kind.TheVariants as kinds
+use Rattle.smt_script.specs.Command.{Command, is_check, closes_window}
 use Rattle.smt_script.specs.Stack.{Assertion, Numbered, assertions_in_force, assumptions_in_force}
 use Rattle.smt_script.specs.Stack.{literals_of, signature_in_force}
 use Rattle.smt_dialogue.proofs.InForceLemmas.{IsQuiet, assertions-quiet, signature-quiet, assumptions-check, assumptions-passed}
-use Rattle.smt_dialogue.specs.Answers.{Takes, Unexpected, has_form, need_of, need_of_kind, taken}
+use Rattle.smt_dialogue.specs.Answers.{Takes, taken}
 use Rattle.smt_dialogue.specs.InForce.{AreFaultless, assertions_after, assumptions_after, flaw_of_pair}
 use Rattle.smt_dialogue.specs.InForce.{has_exited_after}
 use Rattle.smt_dialogue.specs.Internal.Claims.{claims_after}
 use Rattle.smt_dialogue.specs.Judgement.{all_claims}
 use Rattle.smt_dialogue.specs.Lines.{claims_of_check}
 use Rattle.smt_dialogue.specs.InForce.{need_after, signature_after}
-use Rattle.smt_dialogue.specs.Internal.ChecksState.{IsAnswered, role_of, role_of_kind}
 use Rattle.smt_dialogue.specs.Lines.{lines_in, lines_of_pair}
 use Rattle.smt_dialogue.specs.Pairing.{AllTake}
 use Rattle.smt_dialogue.specs.Pairs.{Pair, answer_count, answers_taken, answers_then, checks_in}
 use Rattle.smt_dialogue.specs.Pairs.{effective_commands, effective_from, is_effective, next_of, numbered_if}
 use Rattle.smt_dialogue.specs.Pairs.{with_answer}
-use Rattle.smt_dialogue.specs.declared.answer.AnswerForm.{AnswerForm}
-use Rattle.smt_dialogue.specs.declared.answer.AnswerForm.TheVariants.{Check}
-use Rattle.smt_dialogue.specs.declared.answer.Need.TheVariants.{Needed}
 use Rattle.smt_report.specs.declared.line.Line.{Line}
 
 -- ## What answers are
@@ -42,36 +36,6 @@ is_word word (Atom sexp.Text x) h = cc
 is_word word (Atom sexp.Keyword x) h = cc
 is_word word (Reserved w) h = cc
 is_word word (Items parts) h = cc
-
--- what is taken where an answer is needed is one of its form
-pub needed_takes : (told : Bool) (form : AnswerForm) (next answer : Option Sexp)
-    → taken told (Needed form) next ≡ Takes answer → (a : Sexp) × (answer ≡ Some a) × (has_form form a ≡ true)
-needed_takes true form None answer h = absurd (cc)
-needed_takes false form None answer h = absurd (cc)
-needed_takes told form (Some a) answer h = by (has_form form a) refl h
-  where
-    by : (b : Bool) → has_form form a ≡ b → cond b (Takes (Some a)) Unexpected ≡ Takes answer
-        → (x : Sexp) × (answer ≡ Some x) × (has_form form x ≡ true)
-    by true is e = (a, cc, is)
-    by false is e = absurd (cc)
-
--- so a check has one of the answers of checks, by the kind of the command
-answered_by : (told on : Bool) (k : Kind) (next answer : Option Sexp)
-    → taken told (need_of_kind on k) next ≡ Takes answer → IsAnswered (role_of_kind k) answer
-answered_by told on kinds.Check next answer h = needed_takes told Check next answer h
-answered_by told on kinds.Model next answer h = tt
-answered_by told on kinds.Logic next answer h = tt
-answered_by told on kinds.Change next answer h = tt
-answered_by told on kinds.Reset next answer h = tt
-answered_by told on (kinds.PrintSuccess value) next answer h = tt
-answered_by told on kinds.Setting next answer h = tt
-answered_by told on kinds.Exit next answer h = tt
-answered_by told on kinds.Echo next answer h = tt
-answered_by told on kinds.Query next answer h = tt
-
-pub check_answered : (told on : Bool) (c : Command) (next answer : Option Sexp)
-    → taken told (need_of on c) next ≡ Takes answer → IsAnswered (role_of c) answer
-check_answered told on c next answer h = answered_by told on (kind_of c) next answer h
 
 -- ## Pairs side by side
 

@@ -18,8 +18,8 @@ use Rattle.smt_dialogue.specs.FirstFault.{turn_of_taken, want_of_answer, whole_t
 use Rattle.smt_dialogue.specs.InForce.{AreFaultless, flaw_of_pair, has_exited_after, need_after}
 use Rattle.smt_dialogue.specs.Pairing.{AllTake, AreCommands}
 use Rattle.smt_dialogue.specs.Pairs.{Pair, answers_taken, answers_then, next_of, pair_of, with_answer}
-use Rattle.smt_dialogue.specs.declared.answer.Need.{Need}
-use Rattle.smt_dialogue.specs.declared.answer.Need.TheVariants.{Nothing, Optional, Needed}
+use Rattle.smt_dialogue.specs.declared.need.Need.{Need}
+use Rattle.smt_dialogue.specs.declared.need.Need.TheVariants.{Nothing, Optional, Needed}
 use Rattle.smt_dialogue.specs.Report.{IsReport, IsTurn, lines_at_end}
 use Rattle.smt_text.specs.Grammar.{limit}
 use Rattle.smt_script.specs.Command.{is_check}

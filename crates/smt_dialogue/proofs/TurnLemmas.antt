@@ -3,8 +3,6 @@ use Rattle.std.proofs.Common.{true, ◌≡◌, ℕ, ◌+◌, Bool, List, length,
 use Rattle.std.proofs.Common.{IfOk, ap, sym, ◌∙◌, subst}
 use Rattle.std.specs.Prelude.{option_map}
 use Rattle.smt_trees.specs.Sexp.{Sexps}
-use Rattle.smt_trees.specs.Tree.{sexp_of}
-use Rattle.smt_trees.specs.declared.tree.Tree.{Tree}
 use Rattle.smt_faults.specs.declared.memory.Memory.{Memory}
 use Rattle.smt_faults.specs.declared.text_flaw.TextFlaw.{TextFlaw}
 use Rattle.smt_script.specs.Command.{Command, is_check}
@@ -14,11 +12,13 @@ use Rattle.smt_dialogue.specs.FirstFault as first_fault
 use Rattle.smt_dialogue.specs.FirstFault.{TextSoFar, is_over, turn_of_taken, want_of_answer}
 use Rattle.smt_dialogue.specs.InForce.{print_success_after}
 use Rattle.smt_dialogue.specs.Pairs.{Pair, answers_taken, next_of, pair_of}
+use Rattle.smt_dialogue.specs.Internal.AnswerView.{tree_of}
 use Rattle.smt_dialogue.specs.Internal.Answering.{IsTaken, answering_view}
 use Rattle.smt_dialogue.specs.Internal.DialogueState.{Stands, State}
 use Rattle.smt_dialogue.specs.Internal.FrontView.{HasFront}
 use Rattle.smt_dialogue.specs.Internal.Turns.{IsDone, IsTakenUp, taken_for, turn_of_line}
-use Rattle.smt_dialogue.specs.declared.answer.Need.{Need}
+use Rattle.smt_dialogue.specs.declared.need.Need.{Need}
+use Rattle.smt_dialogue.specs.declared.answer.TakenAnswer.{TakenAnswer}
 use Rattle.smt_dialogue.specs.declared.answering.Answering.{Answering}
 use Rattle.smt_dialogue.specs.declared.answering.Answering.TheVariants as found
 use Rattle.smt_dialogue.specs.declared.front.Front.{Front}
@@ -35,14 +35,14 @@ pub takes_so : (initial on : Bool) (pairs : List Pair) (c : Command) (need : Nee
 takes_so initial on pairs c need a text rest bytes front is same h =
     ap (λ n. taken (is_over text) n (next_of rest)) (ap (λ b. need_of b c) (sym same) ∙ sym is) ∙ sym h.taken_so
 
-by_line : (early initial : Bool) (pairs : List Pair) (c : Command) (o : Option Tree) (text : TextSoFar) (rest : Sexps)
+by_line : (early initial : Bool) (pairs : List Pair) (c : Command) (o : Option TakenAnswer) (text : TextSoFar) (rest : Sexps)
     (bytes : List ℕ) (front : Front) (need : Need) (new : State) (line : Option Line)
     → IsTaken (found.Takes o) need text rest bytes front
-    → taken_for initial pairs c text rest ≡ answers.Takes (option_map sexp_of o)
-    → IsDone line early pairs (pair_of c (option_map sexp_of o)) new
+    → taken_for initial pairs c text rest ≡ answers.Takes (option_map tree_of o)
+    → IsDone line early pairs (pair_of c (option_map tree_of o)) new
     → IsTakenUp (turn_of_line line) early initial pairs c text rest bytes front new
 by_line early initial pairs c o text rest bytes front need new None h takes accepted = record {
-  answer = option_map sexp_of o;
+  answer = option_map tree_of o;
   left = h.left;
   front_is = h.front_is;
   next = h.left_is;
@@ -53,7 +53,7 @@ by_line early initial pairs c o text rest bytes front need new None h takes acce
 by_line early initial pairs c o text rest bytes front need new (Some line) h takes accepted =
     (ap (turn_of_taken pairs c text.fault) takes ∙ accepted.0, accepted.1)
 
-pub taken_with : (r : Result Turn Memory) (initial on : Bool) (c : Command) (o : Option Tree) (need : Need)
+pub taken_with : (r : Result Turn Memory) (initial on : Bool) (c : Command) (o : Option TakenAnswer) (need : Need)
     (before after : Front) (old new : List Line → State) → need ≡ need_of on c
     → ((taken' : List Line) (early : Bool) (pairs : List Pair) → Stands early (old taken') pairs
     → on ≡ print_success_after initial pairs)
@@ -61,7 +61,7 @@ pub taken_with : (r : Result Turn Memory) (initial on : Bool) (c : Command) (o :
     → IsTaken (found.Takes o) need text rest bytes after)
     → IfOk r (λ turn. (taken' : List Line) (early : Bool) (pairs : List Pair) → Stands early (old taken') pairs
     → (early ≡ true → is_check c ≡ true) → (line : Option Line) × (turn ≡ turn_of_line line)
-    × IsDone line early pairs (pair_of c (option_map sexp_of o)) (new taken'))
+    × IsDone line early pairs (pair_of c (option_map tree_of o)) (new taken'))
     → IfOk r (λ turn. (bytes : List ℕ) (text : TextSoFar) (rest : Sexps) (taken' : List Line) (early : Bool)
     (pairs : List Pair) → HasFront before bytes text rest → Stands early (old taken') pairs
     → (early ≡ true → is_check c ≡ true)
@@ -91,14 +91,14 @@ taken_waits early initial on pairs c need text rest bytes front new closed is sa
 pub taken_missing : (early initial on : Bool) (pairs : List Pair) (c : Command) (need : Need) (text : TextSoFar)
     (rest : Sexps) (bytes : List ℕ) (front : Front) (new : State) (fault : Option TextFlaw) (n : ℕ) (line : Line)
     → need ≡ need_of on c → on ≡ print_success_after initial pairs
-    → n ≡ length pairs → line ≡ want_of_answer (n + 1) fault
+    → n ≡ length pairs + 1 → line ≡ want_of_answer n fault
     → IsTaken (found.Missing fault) need text rest bytes front → Stands early new pairs
     → IsTakenUp (turns.Ends (Some line)) early initial pairs c text rest bytes front new
 taken_missing early initial on pairs c need text rest bytes front new fault n line is same count told h stands =
     let takes = takes_so initial on pairs c need (found.Missing fault) text rest bytes front is same h in (
       ap (turn_of_taken pairs c text.fault) takes
           ∙ ap (λ o. first_fault.Ends (Some (want_of_answer (length pairs + 1) o))) (sym h.left_is.1)
-          ∙ ap (λ k. first_fault.Ends (Some (want_of_answer (k + 1) fault))) (sym count)
+          ∙ ap (λ k. first_fault.Ends (Some (want_of_answer k fault))) (sym count)
           ∙ ap (λ l. first_fault.Ends (Some l)) (sym told),
       stands,
     )
@@ -106,13 +106,13 @@ taken_missing early initial on pairs c need text rest bytes front new fault n li
 pub taken_unfit : (early initial on : Bool) (pairs : List Pair) (c : Command) (need : Need) (text : TextSoFar)
     (rest : Sexps) (bytes : List ℕ) (front : Front) (new : State) (n m : ℕ)
     → need ≡ need_of on c → on ≡ print_success_after initial pairs
-    → n ≡ length pairs → m ≡ answers_taken pairs
+    → n ≡ length pairs + 1 → m ≡ answers_taken pairs
     → IsTaken found.Unexpected need text rest bytes front → Stands early new pairs
-    → IsTakenUp (turns.Ends (Some (lines.UnexpectedAnswer (n + 1) (m + 1)))) early initial pairs c text rest bytes front new
+    → IsTakenUp (turns.Ends (Some (lines.UnexpectedAnswer n (m + 1)))) early initial pairs c text rest bytes front new
 taken_unfit early initial on pairs c need text rest bytes front new n m is same count answered h stands =
     let takes = takes_so initial on pairs c need found.Unexpected text rest bytes front is same h in (
       ap (turn_of_taken pairs c text.fault) takes
-          ∙ ap (λ k. first_fault.Ends (Some (lines.UnexpectedAnswer (k + 1) (answers_taken pairs + 1)))) (sym count)
-          ∙ ap (λ k. first_fault.Ends (Some (lines.UnexpectedAnswer (n + 1) (k + 1)))) (sym answered),
+          ∙ ap (λ k. first_fault.Ends (Some (lines.UnexpectedAnswer k (answers_taken pairs + 1)))) (sym count)
+          ∙ ap (λ k. first_fault.Ends (Some (lines.UnexpectedAnswer n (k + 1)))) (sym answered),
       stands,
     )

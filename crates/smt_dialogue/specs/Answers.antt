@@ -6,10 +6,10 @@ use Rattle.smt_trees.specs.Sexp.{Sexp, Atom, Items, Nil, Cons, Text, is_symbol}
 use Rattle.smt_script.specs.Command.{Command, kind_of}
 use Rattle.smt_script.specs.declared.command.Kind.{Kind}
 use Rattle.smt_script.specs.declared.command.Kind.TheVariants as kinds
-use Rattle.smt_dialogue.specs.declared.answer.AnswerForm.{AnswerForm}
-use Rattle.smt_dialogue.specs.declared.answer.AnswerForm.TheVariants as forms
-use Rattle.smt_dialogue.specs.declared.answer.Need.{Need}
-use Rattle.smt_dialogue.specs.declared.answer.Need.TheVariants.{Nothing, Optional, Needed}
+use Rattle.smt_dialogue.specs.declared.need.AnswerForm.{AnswerForm}
+use Rattle.smt_dialogue.specs.declared.need.AnswerForm.TheVariants as forms
+use Rattle.smt_dialogue.specs.declared.need.Need.{Need}
+use Rattle.smt_dialogue.specs.declared.need.Need.TheVariants.{Nothing, Optional, Needed}
 
 -- ---- answers
 

@@ -11,7 +11,7 @@ use Rattle.smt_script.specs.Stack.{has_exited, print_success_in_force, signature
 use Rattle.smt_faults.specs.declared.command_flaw.CommandFlaw.{CommandFlaw}
 use Rattle.smt_dialogue.specs.Answers.{need_of}
 use Rattle.smt_dialogue.specs.Pairs.{Pair, effective_commands, is_effective}
-use Rattle.smt_dialogue.specs.declared.answer.Need.{Need}
+use Rattle.smt_dialogue.specs.declared.need.Need.{Need}
 
 -- the theories and names in force after pairs
 abbrev pub signature_after : List Pair → Signature

@@ -1,3 +1,4 @@
+pub mod AnswerView
 pub mod ChecksState
 pub mod DecidedView
 pub mod DialogueState

@@ -1,53 +1,104 @@
-//! Which answers a command takes, and which say that it took no effect. This file knows no pairs, and nothing
+//! What an answer says. A tree is asked once, where a command may take it. This file knows no pairs, and nothing
 //! that is in force.
 
-ghost use Rattle.std.specs.Prelude.{◌≡◌, if◌then◌else◌, option_map};
+ghost use Rattle.std.specs.Prelude.{◌≡◌, ◌≤◌, option_map};
 ghost use Rattle.smt_trees.specs.Tree.{sexp_of};
-ghost use Rattle.smt_script.specs.CommandView.{command_view};
 ghost use Rattle.smt_dialogue.specs.Answers as answers;
+ghost use Rattle.smt_dialogue.specs.Pairs.{answer_count};
+ghost use Rattle.smt_dialogue.specs.Internal.AnswerView as view;
+ghost use Rattle.smt_dialogue.specs.Internal.AnswerView.{AreKnown, tree_of};
 
-use smt_script::{Command, Kind};
+use crate::need::AnswerForm;
+use smt_report::CheckAnswer;
 use smt_trees::{Tree, split_first};
 
-/// Which answers a command takes (SMT-LIB 2.6, section 3.9.1).
+/// What an answer says (SMT-LIB 2.6, section 3.9.1).
 #[derive(Clone, Copy)]
-pub enum AnswerForm {
-    /// `success`, `unsupported` or an error.
-    General,
-    /// `success`.
+pub enum Answer {
     Success,
-    /// `unsupported`.
     Unsupported,
-    /// `sat`, `unsat`, `unknown`, `unsupported` or an error.
-    Check,
-    /// A list, an error among them, or `unsupported`.
-    Model,
-    /// A string, `unsupported` or an error.
-    Echo,
-    /// Every tree but `success`.
+    /// A list of the symbol `error` and a string.
+    Error,
+    Sat,
+    Unsat,
+    Unknown,
+    /// A list that is no error.
+    List,
+    /// A string.
+    Text,
+    /// None of these.
     Other,
 }
 
-/// What a command needs of the answers.
-#[derive(Clone, Copy)]
-pub enum Need {
-    /// It takes none.
-    Nothing,
-    /// It takes the next one exactly where that has this form.
-    Optional(AnswerForm),
-    /// It takes the next one, which has to have this form.
-    Needed(AnswerForm),
+/// An answer that a command took.
+#[derive(Drop)]
+pub struct TakenAnswer {
+    pub says: Answer,
+    pub tree: Tree,
 }
 
-/// Whether an answer says that its command took no effect (section 3.9.1).
-fn is_refusal(answer: &Tree) -> bool
-    ensures { result ≡ answers.is_refusal (sexp_of answer.now) }
+impl Answer {
+    /// Whether it has a form.
+    pub(crate) fn has(self, form: AnswerForm) -> bool
+        ensures { result ≡ view.has form self }
+    {
+        match form {
+            AnswerForm::General => matches!(self, Answer::Success) || self.refuses(),
+            AnswerForm::Success => matches!(self, Answer::Success),
+            AnswerForm::Unsupported => matches!(self, Answer::Unsupported),
+            AnswerForm::Check => {
+                matches!(self, Answer::Sat | Answer::Unsat | Answer::Unknown) || self.refuses()
+            }
+            AnswerForm::Model => matches!(self, Answer::List | Answer::Error | Answer::Unsupported),
+            AnswerForm::Echo => matches!(self, Answer::Text) || self.refuses(),
+            AnswerForm::Other => !matches!(self, Answer::Success),
+        }
+    }
+
+    /// Whether it says that its command took no effect (section 3.9.1).
+    pub(crate) fn refuses(self) -> bool
+        ensures { result ≡ view.refuses self }
+    {
+        matches!(self, Answer::Unsupported | Answer::Error)
+    }
+
+    /// What a report says of a check with this answer, if that isn't `sat`.
+    pub(crate) fn unchecked(self) -> Option<CheckAnswer>
+        ensures { result ≡ view.unchecked self }
+    {
+        match self {
+            Answer::Unsat => Some(CheckAnswer::Unsat),
+            Answer::Unknown => Some(CheckAnswer::Unknown),
+            Answer::Unsupported => Some(CheckAnswer::Unsupported),
+            Answer::Error => Some(CheckAnswer::Error),
+            Answer::Success | Answer::Sat | Answer::List | Answer::Text | Answer::Other => None,
+        }
+    }
+}
+
+/// What a tree says as an answer.
+pub(crate) fn answer_of(tree: &Tree) -> Answer
+    ensures { result ≡ view.answer_of (sexp_of tree.now) }
 {
-    answer.is_symbol(b"unsupported") || is_error(answer)
+    if tree.is_symbol(b"success") {
+        Answer::Success
+    } else if tree.is_symbol(b"unsupported") {
+        Answer::Unsupported
+    } else if tree.is_symbol(b"sat") {
+        Answer::Sat
+    } else if tree.is_symbol(b"unsat") {
+        Answer::Unsat
+    } else if tree.is_symbol(b"unknown") {
+        Answer::Unknown
+    } else if is_error(tree) {
+        Answer::Error
+    } else {
+        other_answer(tree)
+    }
 }
 
-/// Whether an answer is an error: a list of the symbol `error` and a string (section 3.9.1).
-pub(crate) fn is_error(answer: &Tree) -> bool
+// Whether an answer is an error: a list of the symbol `error` and a string (section 3.9.1).
+fn is_error(answer: &Tree) -> bool
     ensures { result ≡ answers.is_error (sexp_of answer.now) }
 {
     let Tree::List(parts) = answer else {
@@ -62,60 +113,35 @@ pub(crate) fn is_error(answer: &Tree) -> bool
     }
 }
 
+// What a tree says that is no word of an answer, and no error.
+fn other_answer(tree: &Tree) -> Answer
+    ensures { result ≡ view.other_answer (sexp_of tree.now) }
+{
+    match tree {
+        Tree::List(_) => Answer::List,
+        Tree::Text(_) => Answer::Text,
+        _ => Answer::Other,
+    }
+}
+
 /// Whether a command with this answer, or with none, took effect.
-pub(crate) fn is_effective(answer: &Option<Tree>) -> bool
-    ensures { result ≡ answers.is_effective_with (option_map sexp_of answer.now) }
+pub(crate) fn took_effect(answer: &Option<TakenAnswer>) -> bool
+    requires { AreKnown answer.now }
+    ensures { result ≡ answers.is_effective_with (option_map tree_of answer.now) }
 {
     match answer {
-        Some(answer) => !is_refusal(answer),
+        Some(answer) => !answer.says.refuses(),
         None => true,
     }
 }
 
-/// Whether an answer has a form.
-pub(crate) fn has_form(form: AnswerForm, answer: &Tree) -> bool
-    ensures { result ≡ answers.has_form form (sexp_of answer.now) }
+/// How many answers that are: one or none.
+pub(crate) fn count_of(answer: &Option<TakenAnswer>) -> u64
+    ensures count { result ≡ answer_count (option_map tree_of answer.now) }
+    ensures most { result ≤ 1 }
 {
-    match form {
-        AnswerForm::General => answer.is_symbol(b"success") || is_refusal(answer),
-        AnswerForm::Success => answer.is_symbol(b"success"),
-        AnswerForm::Unsupported => answer.is_symbol(b"unsupported"),
-        AnswerForm::Check => {
-            answer.is_symbol(b"sat")
-                || answer.is_symbol(b"unsat")
-                || answer.is_symbol(b"unknown")
-                || is_refusal(answer)
-        }
-        AnswerForm::Model => matches!(answer, Tree::List(_)) || answer.is_symbol(b"unsupported"),
-        AnswerForm::Echo => matches!(answer, Tree::Text(_)) || is_refusal(answer),
-        AnswerForm::Other => !answer.is_symbol(b"success"),
-    }
-}
-
-/// What a command needs of the answers, where `success` is printed for a command that has no answer of its
-/// own, or is not (SMT-LIB 2.6, section 4.1.7).
-pub(crate) fn need_of(print_success: bool, command: &Command) -> Need
-    ensures { result ≡ answers.need_of print_success (command_view command.now) }
-{
-    match command.kind() {
-        Kind::Check => Need::Needed(AnswerForm::Check),
-        Kind::Model => Need::Needed(AnswerForm::Model),
-        Kind::Echo => Need::Needed(AnswerForm::Echo),
-        Kind::Query => Need::Needed(AnswerForm::Other),
-        Kind::Exit => Need::Optional(AnswerForm::Success),
-        Kind::PrintSuccess { on } => needed_or(on, Need::Optional(AnswerForm::General)),
-        Kind::Setting => needed_or(print_success, Need::Optional(AnswerForm::Unsupported)),
-        Kind::Logic | Kind::Change | Kind::Reset => needed_or(print_success, Need::Nothing),
-    }
-}
-
-// A general answer is needed where `success` is printed, or else this.
-fn needed_or(print_success: bool, otherwise: Need) -> Need
-    ensures { result ≡ (if print_success then answers.general_need else otherwise) }
-{
-    if print_success {
-        Need::Needed(AnswerForm::General)
-    } else {
-        otherwise
+    match answer {
+        Some(_) => 1,
+        None => 0,
     }
 }

@@ -7,20 +7,21 @@ ghost use Rattle.smt_trees.specs.Tree.{sexp_of};
 ghost use Rattle.smt_trees.specs.declared.tree.Tree as trees;
 ghost use Rattle.smt_dialogue.specs.Answers as answers;
 ghost use Rattle.smt_dialogue.specs.FirstFault.{TextSoFar};
-ghost use Rattle.smt_dialogue.specs.Internal.Answering.{IsFound, IsLeft, IsTaken};
+ghost use Rattle.smt_dialogue.specs.Internal.AnswerView.{AreKnown};
+ghost use Rattle.smt_dialogue.specs.Internal.Answering.{IsFound, IsKnown, IsTaken};
 ghost use Rattle.smt_dialogue.specs.Internal.FrontView.{HasFront};
 
-use crate::answer::{AnswerForm, Need, has_form};
+use crate::answer::{TakenAnswer, answer_of};
 use crate::front::{Ahead, Front};
+use crate::need::{AnswerForm, Need};
 use smt_eval::Memory;
 use smt_faults::TextFlaw;
-use smt_trees::Tree;
 
 /// What is taken of the answers for a command.
 #[derive(Drop)]
 pub enum Answering {
     /// The next answer, or none.
-    Takes(Option<Tree>),
+    Takes(Option<TakenAnswer>),
     /// It has to wait for one.
     Waits,
     /// It needs an answer, and none comes: the fault behind the last, if there is one.
@@ -33,6 +34,7 @@ pub enum Answering {
 pub(crate) fn take_answer(need: Need, answers: &mut Front) -> Result<Answering, Memory>
     ensures taken { IfOk result (λ found. (bytes : List ℕ) (text : TextSoFar) (rest : Sexps)
         → HasFront answers.old bytes text rest → IsTaken found need text rest bytes answers.new) }
+    ensures known { IfOk result (λ found. IsKnown found) }
     ensures fed { bytes_fed answers.new.reader ≡ bytes_fed answers.old.reader }
     ensures finished { is_finished answers.new.reader ≡ is_finished answers.old.reader }
 {
@@ -55,15 +57,21 @@ pub(crate) fn take_answer(need: Need, answers: &mut Front) -> Result<Answering, 
 }
 
 // Takes the answer that stands ready, where it has this form.
-fn take_if(form: AnswerForm, answers: &mut Front) -> Option<Tree>
+fn take_if(form: AnswerForm, answers: &mut Front) -> Option<TakenAnswer>
     ensures taken { (bytes : List ℕ) (text : TextSoFar) (rest : Sexps)
         → HasFront answers.old bytes text rest
         → IsFound form result answers.old.next text rest bytes answers.new }
+    ensures known { AreKnown result }
     ensures fed { bytes_fed answers.new.reader ≡ bytes_fed answers.old.reader }
     ensures finished { is_finished answers.new.reader ≡ is_finished answers.old.reader }
 {
-    match &answers.next {
-        Some(answer) if has_form(form, answer) => answers.take(),
-        _ => None,
+    let Some(tree) = &answers.next else {
+        return None;
+    };
+    let says = answer_of(tree);
+    if !says.has(form) {
+        return None;
     }
+    let tree = answers.take()?;
+    Some(TakenAnswer { says, tree })
 }

@@ -5,10 +5,12 @@ ghost use Rattle.std.specs.Prelude.{◌≡◌, ◌<◌, ◌+◌, ◌^◌, ◌++�
 ghost use Rattle.std.specs.List.{list_any};
 ghost use Rattle.smt_dialogue.specs.Report.{lines_of_end};
 ghost use Rattle.smt_dialogue.specs.SoFar.{IsBeginning};
+ghost use Rattle.smt_dialogue.specs.Internal.ChecksState.{new_lines};
 ghost use Rattle.smt_dialogue.specs.Internal.DecidedView.{IsFaultLine, IsPartOf};
 ghost use Rattle.smt_report.specs.Verdict.{is_fault_line, tally_of, verdict_of, with_verdict};
 ghost use Rattle.smt_report.specs.declared.line.Line.{Line as ReportLine};
 
+use crate::window::NewLines;
 use smt_eval::Memory;
 use smt_report::{Line, Tally, Verdict};
 use std::alloc::Global;
@@ -35,18 +37,31 @@ impl Decided {
         }
     }
 
-    /// Takes lines over, behind those that there are. Where memory is refused, nothing is changed.
-    pub(crate) fn gather(&mut self, lines: &mut Vec<Line>) -> Result<(), Memory>
-        ensures lines { OnOk result (self.new.lines.items
-            ≡ self.old.lines.items ++ lines.old.items) }
-        ensures left { OnOk result (lines.new.items ≡ []) }
+    /// Adds the lines that a command decided. Where memory is refused, nothing is changed.
+    pub(crate) fn add(&mut self, new: NewLines) -> Result<(), Memory>
+        ensures lines { OnOk result (self.new.lines.items ≡ self.old.lines.items ++ new_lines new) }
         ensures tally { OnOk result ((earlier : List ReportLine) → self.old.tally ≡ tally_of earlier
-            → length earlier + length lines.old.items < 2 ^ 64
-            → self.new.tally ≡ tally_of (earlier ++ lines.old.items)) }
+            → length earlier + length (new_lines new) < 2 ^ 64
+            → self.new.tally ≡ tally_of (earlier ++ new_lines new)) }
         ensures kept { OnErr result (self.new.lines.items ≡ self.old.lines.items) }
     {
-        let tally = self.tally.with_lines(lines.as_slice());
-        self.lines.append(lines)?;
+        match (new.ended, new.own) {
+            (None, None) => self.add_all(&[]),
+            (Some(line), None) | (None, Some(line)) => self.add_all(&[line]),
+            (Some(ended), Some(own)) => self.add_all(&[ended, own]),
+        }
+    }
+
+    // Adds lines, behind those that there are.
+    fn add_all(&mut self, lines: &[Line]) -> Result<(), Memory>
+        ensures lines { OnOk result (self.new.lines.items ≡ self.old.lines.items ++ lines.now) }
+        ensures tally { OnOk result ((earlier : List ReportLine) → self.old.tally ≡ tally_of earlier
+            → length earlier + length lines.now < 2 ^ 64
+            → self.new.tally ≡ tally_of (earlier ++ lines.now)) }
+        ensures kept { OnErr result (self.new.lines.items ≡ self.old.lines.items) }
+    {
+        let tally = self.tally.with_lines(lines);
+        self.lines.extend_from_slice(lines)?;
         self.tally = tally;
         Ok(())
     }

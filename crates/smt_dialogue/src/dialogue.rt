@@ -3,8 +3,7 @@
 ghost use Rattle.std.specs.Prelude.{Bool, ◌≡◌, ◌≤◌, ◌<◌, ◌+◌, ◌^◌, ◌++◌, ◌∷◌, List, [], None, Some, true};
 ghost use Rattle.std.specs.Prelude.{IfOk, IfErr, OnErr, OnOk, false, is_some, option_map};
 ghost use Rattle.std.specs.List.{list_any};
-ghost use Rattle.smt_trees.specs.Tree.{sexp_of};
-ghost use Rattle.smt_script.specs.Command.{is_check};
+ghost use Rattle.smt_script.specs.Command.{is_check, kind_of};
 ghost use Rattle.smt_script.specs.CommandView.{command_view};
 ghost use Rattle.smt_script.specs.Stack.{Numbered};
 ghost use Rattle.smt_script.specs.StackView as stacks;
@@ -12,26 +11,26 @@ ghost use Rattle.smt_script.specs.StackView.{last_of, initial_print_success_of};
 ghost use Rattle.smt_faults.specs.Faults.{flaw_of_command_fault};
 ghost use Rattle.smt_faults.specs.Outcome.{TellsCommand};
 ghost use Rattle.smt_faults.specs.declared.command_flaw.CommandFlaw.{CommandFlaw};
+ghost use Rattle.smt_dialogue.specs.Answers.{is_effective_with};
 ghost use Rattle.smt_dialogue.specs.InForce.{flaw_of_pair};
 ghost use Rattle.smt_dialogue.specs.Lines.{lines_in};
 ghost use Rattle.smt_dialogue.specs.Report.{lines_at_end, lines_of_end};
 ghost use Rattle.smt_dialogue.specs.SoFar.{IsBeginning, is_verdict_line};
 ghost use Rattle.smt_report.specs.Verdict.{verdict_of};
-ghost use Rattle.smt_dialogue.specs.Pairs.{Pair, answer_count, numbered_if};
-ghost use Rattle.smt_dialogue.specs.Internal.ChecksState.{IsAnswered, role_of};
+ghost use Rattle.smt_dialogue.specs.Pairs.{Pair, numbered_if};
+ghost use Rattle.smt_dialogue.specs.Internal.AnswerView.{AreKnown, tree_of};
 ghost use Rattle.smt_dialogue.specs.Internal.DecidedView.{IsFaultLine};
 ghost use Rattle.smt_dialogue.specs.Internal.DialogueState.{Stands, StandsFor, answered, flaw_if, options_of};
 ghost use Rattle.smt_dialogue.specs.Internal.DialogueState.{state_behind};
 ghost use Rattle.smt_report.specs.declared.line.Line.{Line as ReportLine};
 
-use crate::answer::is_effective;
+use crate::answer::{TakenAnswer, count_of, took_effect};
 use crate::decided::Decided;
 use crate::options::Options;
-use crate::window::{Checks, role_of};
+use crate::window::{Checks, NewLines};
 use smt_eval::Memory;
 use smt_report::{Line, Verdict};
-use smt_script::{Command, CommandFault, Stack};
-use smt_trees::Tree;
+use smt_script::{Command, CommandFault, Kind, Stack};
 use std::alloc::Global;
 
 /// The dialogue so far, for the pairs of a command and an answer that it accepted.
@@ -39,7 +38,7 @@ use std::alloc::Global;
 pub struct Dialogue {
     pub stack: Stack,
     pub checks: Checks,
-    /// The lines that were gathered of the checks.
+    /// The lines that are decided.
     pub decided: Decided,
     /// How many commands and answers there were.
     pub commands: u64,
@@ -62,12 +61,21 @@ impl Dialogue {
         }
     }
 
-    /// Accepts one more command with what it takes of the answers. At a fault of its effect the dialogue
-    /// stays as it is. Of an answer that is a model nothing may be left.
+    /// The number of the command in turn, from 1.
+    pub(crate) fn next_number(&self) -> u64
+        requires { self.now.commands + 1 < 2 ^ 64 }
+        ensures { result ≡ self.now.commands + 1 }
+    {
+        self.commands + 1
+    }
+
+    /// Accepts one more command, of this kind, with what it takes of the answers. At a fault of its effect the
+    /// dialogue stays as it is. Of an answer that is a model nothing may be left.
     pub(crate) fn accept(
         &mut self,
         command: &Command,
-        answer: &mut Option<Tree>,
+        kind: Kind,
+        answer: &mut Option<TakenAnswer>,
     ) -> Result<(), CommandFault>
         requires commands { self.old.commands + 1 < 2 ^ 64 }
         requires answers { self.old.answers + 1 < 2 ^ 64 }
@@ -76,8 +84,8 @@ impl Dialogue {
         requires stands { (taken : List ReportLine) × (early : Bool) × (pairs : List Pair)
             × Stands early (state_behind taken self.old) pairs
             × (early ≡ true → is_check (command_view command.now) ≡ true) }
-        requires answered { IsAnswered (role_of (command_view command.now))
-            (option_map sexp_of answer.old) }
+        requires kind { kind ≡ kind_of (command_view command.now) }
+        requires known { AreKnown answer.old }
         ensures accepted { OnOk result ((taken : List ReportLine) (early : Bool) (pairs : List Pair)
             → Stands early (state_behind taken self.old) pairs
             → (early ≡ true → is_check (command_view command.now) ≡ true)
@@ -90,44 +98,24 @@ impl Dialogue {
             → Stands early (state_behind taken self.old) pairs
             → (flaw_of_pair pairs (answered command.now answer.old) ≡ Some flaw)
             × Stands early (state_behind taken self.new) pairs) }
-        ensures decided { self.new.decided ≡ self.old.decided }
+        ensures kept { IsBeginning self.old.decided.lines.items self.new.decided.lines.items }
+        ensures cut { OnErr result (self.new.decided.lines.items ≡ self.old.decided.lines.items) }
+        ensures commands { OnErr result (self.new.commands ≡ self.old.commands) }
         ensures start { options_of self.new ≡ options_of self.old }
-        ensures limit { self.new.checks.limit ≡ self.old.checks.limit }
     {
-        let number = self.commands + 1;
-        let effective = is_effective(answer);
+        let number = self.next_number();
         let count = count_of(answer);
-        let role = role_of(command);
-        if let Err(fault) = apply_if(effective, &mut self.stack, number, command) {
+        if let Err(fault) = apply_if(answer, &mut self.stack, number, command) {
             return Err(fault);
         }
-        let Ok(()) = self
-            .checks
-            .take(effective, number, role, answer, &self.stack)
-        else {
+        let Ok(lines) = self.checks.take(number, kind, answer, &self.stack) else {
+            return Err(CommandFault::Memory);
+        };
+        let Ok(()) = self.decided.add(lines) else {
             return Err(CommandFault::Memory);
         };
         self.commands = number;
         self.answers += count;
-        Ok(())
-    }
-
-    /// Gathers the lines that were decided.
-    pub(crate) fn gather(&mut self) -> Result<(), Memory>
-        requires few { self.old.checks.count < 2 ^ 64 }
-        ensures stands { OnOk result ((taken : List ReportLine) (early : Bool) (pairs : List Pair)
-            → Stands early (state_behind taken self.old) pairs
-            → Stands early (state_behind taken self.new) pairs) }
-        ensures all { OnOk result (self.new.checks.lines.items ≡ []) }
-        ensures pending { OnOk result (self.new.checks.pending ≡ self.old.checks.pending) }
-        ensures kept { IsBeginning self.old.decided.lines.items self.new.decided.lines.items }
-        ensures cut { OnErr result (self.new.decided.lines.items ≡ self.old.decided.lines.items) }
-        ensures start { options_of self.new ≡ options_of self.old }
-    {
-        if self.checks.lines.is_empty() {
-            return Ok(());
-        }
-        self.decided.gather(&mut self.checks.lines)?;
         Ok(())
     }
 
@@ -141,7 +129,7 @@ impl Dialogue {
         }
     }
 
-    /// Has every line gathered that is decided where the dialogue waits, with every window closed or not.
+    /// Has every line decided where the dialogue waits, with every window closed or not.
     pub(crate) fn settle(&mut self, closed: bool) -> Result<(), Memory>
         requires few { self.old.checks.count < 2 ^ 64 }
         ensures settled { OnOk result ((taken : List ReportLine) (early : Bool) (pairs : List Pair)
@@ -153,15 +141,15 @@ impl Dialogue {
         ensures cut { OnErr result (self.new.decided.lines.items ≡ self.old.decided.lines.items) }
         ensures start { options_of self.new ≡ options_of self.old }
     {
-        if closed {
-            self.end_window()?;
+        if !closed {
+            return Ok(());
         }
-        self.gather()?;
+        self.end_window()?;
         Ok(())
     }
 
-    /// Has every line gathered where the dialogue ends, with the line of a fault or without one, and behind
-    /// them that of the verdict.
+    /// Has every line decided where the dialogue ends, with the line of a fault or without one, and behind them
+    /// that of the verdict.
     pub(crate) fn end(&mut self, fault: Option<Line>) -> Result<Verdict, Memory>
         requires fault { IsFaultLine fault }
         requires few { self.old.checks.count < 2 ^ 64 }
@@ -180,60 +168,56 @@ impl Dialogue {
         ensures kept { IsBeginning self.old.decided.lines.items self.new.decided.lines.items }
     {
         self.end_window()?;
-        self.gather()?;
         let verdict = self.decided.end(fault)?;
         Ok(verdict)
     }
 
     /// Ends the window of the last check, where what comes next closes it.
     pub(crate) fn end_window(&mut self) -> Result<(), Memory>
+        requires few { self.old.checks.count < 2 ^ 64 }
         ensures stands { OnOk result ((taken : List ReportLine) (early : Bool) (pairs : List Pair)
             → Stands early (state_behind taken self.old) pairs
             → Stands true (state_behind taken self.new) pairs) }
-        ensures ended { OnOk result (self.new.checks.pending ≡ None) }
-        ensures decided { self.new.decided ≡ self.old.decided }
+        ensures ended { self.new.checks.pending ≡ None }
+        ensures kept { IsBeginning self.old.decided.lines.items self.new.decided.lines.items }
+        ensures cut { OnErr result (self.new.decided.lines.items ≡ self.old.decided.lines.items) }
         ensures count { self.new.checks.count ≡ self.old.checks.count }
         ensures start { options_of self.new ≡ options_of self.old }
     {
-        self.checks.end_window()
+        let ended = self.checks.end_window();
+        self.decided.add(NewLines::of_ended(ended))?;
+        Ok(())
     }
 }
 
-// Applies a command to what is in force, if it took effect.
+// Applies a command to what is in force, if it took effect by its answer.
 fn apply_if(
-    effective: bool,
+    answer: &Option<TakenAnswer>,
     stack: &mut Stack,
     number: u64,
     command: &Command,
 ) -> Result<(), CommandFault>
-    requires { last_of stack.old < number }
+    requires last { last_of stack.old < number }
+    requires known { AreKnown answer.now }
     ensures applied { OnOk result ((commands : List Numbered) → stacks.StandsFor stack.old commands
-        → (flaw_if effective commands number (command_view command.now) ≡ None)
-        × stacks.StandsFor stack.new (commands ++ numbered_if effective number
+        → (flaw_if (is_effective_with (option_map tree_of answer.now)) commands number
+        (command_view command.now) ≡ None)
+        × stacks.StandsFor stack.new (commands
+        ++ numbered_if (is_effective_with (option_map tree_of answer.now)) number
         (command_view command.now))) }
     ensures last { OnOk result (last_of stack.new ≤ number) }
     ensures refused { IfErr result (λ fault. (commands : List Numbered)
         → stacks.StandsFor stack.old commands
-        → TellsCommand (flaw_if effective commands number (command_view command.now)) fault) }
+        → TellsCommand (flaw_if (is_effective_with (option_map tree_of answer.now)) commands number
+        (command_view command.now)) fault) }
     ensures unchanged { OnErr result
         (((commands : List Numbered) → stacks.StandsFor stack.old commands
         → stacks.StandsFor stack.new commands) × (last_of stack.new ≡ last_of stack.old)) }
     ensures start { initial_print_success_of stack.new ≡ initial_print_success_of stack.old }
 {
-    if effective {
+    if took_effect(answer) {
         stack.apply(number, command)
     } else {
         Ok(())
-    }
-}
-
-// How many answers that are: one or none.
-fn count_of(answer: &Option<Tree>) -> u64
-    ensures count { result ≡ answer_count (option_map sexp_of answer.now) }
-    ensures most { result ≤ 1 }
-{
-    match answer {
-        Some(_) => 1,
-        None => 0,
     }
 }

@@ -81,7 +81,7 @@ impl Exchange {
         }
     }
 
-    /// Hands the lines out that are decided.
+    /// Returns the lines that are decided.
     pub(crate) fn take_lines(&mut self) -> Vec<Line>
         ensures lines { result.items ≡ waiting self.old }
         ensures rest { waiting self.new ≡ [] }
@@ -99,8 +99,8 @@ impl Exchange {
     }
 
     /// Takes turns until more of a text is waited for, or the dialogue ends; but no further than to a check whose
-    /// models may come next, where so many lines wait by then. The lines that are decided are gathered; where
-    /// memory is refused, the first of them.
+    /// models may come next, where so many lines wait by then. Where memory is refused, the lines that wait are
+    /// the first of those that are decided.
     pub(crate) fn advance(&mut self, enough: Option<usize>) -> Result<Advance, Memory>
         requires script_room { bytes_fed self.old.script.reader < 2 ^ 64 }
         requires answers_room { bytes_fed self.old.answers.reader < 2 ^ 64 }
@@ -122,7 +122,6 @@ impl Exchange {
         loop {
             match self.take_turn()? {
                 Turn::GoesOn => {
-                    self.dialogue.gather()?;
                     if self.dialogue.has_enough(enough) {
                         return Ok(Advance::Pauses);
                     }
@@ -180,7 +179,8 @@ impl Exchange {
             ≡ bytes_fed self.old.answers.reader }
         ensures start { IfOk result (λ _. options_of self.new.dialogue
             ≡ options_of self.old.dialogue) }
-        ensures decided { self.new.dialogue.decided ≡ self.old.dialogue.decided }
+        ensures kept { IsBeginning (waiting self.old) (waiting self.new) }
+        ensures cut { OnErr result (waiting self.new ≡ waiting self.old) }
     {
         match self.ready_command()? {
             Some(turn) => Ok(turn),
@@ -278,7 +278,7 @@ impl Exchange {
             → IsUnderWay self.old texts pairs later rest
             → IsNext result self.old self.new texts pairs later rest }
     {
-        let number = self.dialogue.commands + 1;
+        let number = self.dialogue.next_number();
         if self.dialogue.stack.exited() {
             return Some(Turn::Ends(Some(refused(number, CommandFlaw::AfterExit))));
         }
@@ -309,7 +309,8 @@ impl Exchange {
             ≡ bytes_fed self.old.answers.reader }
         ensures start { IfOk result (λ _. options_of self.new.dialogue
             ≡ options_of self.old.dialogue) }
-        ensures decided { self.new.dialogue.decided ≡ self.old.dialogue.decided }
+        ensures kept { IsBeginning (waiting self.old) (waiting self.new) }
+        ensures cut { OnErr result (waiting self.new ≡ waiting self.old) }
     {
         trees_are_few();
         let Some(command) = &self.command else {

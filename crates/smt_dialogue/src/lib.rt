@@ -16,6 +16,7 @@ mod front;
 mod judgement;
 pub mod laws;
 mod live;
+mod need;
 mod options;
 mod session;
 mod turn;

@@ -1,32 +1,31 @@
 //! One turn of a dialogue: a command with what it takes of the answers so far. What a command does is not known
 //! here.
 
-ghost use Rattle.std.specs.Prelude.{◌≡◌, ◌<◌, ◌≤◌, ◌+◌, ◌^◌, Bool, List, ℕ, Option, IfOk, Some, option_map};
-ghost use Rattle.std.specs.Prelude.{true};
+ghost use Rattle.std.specs.Prelude.{◌≡◌, ◌<◌, ◌≤◌, ◌+◌, ◌^◌, Bool, List, ℕ, Option, IfOk, OnErr, true};
 ghost use Rattle.smt_text.specs.Reader.{bytes_fed, is_finished};
 ghost use Rattle.smt_trees.specs.Sexp.{Sexps};
-ghost use Rattle.smt_trees.specs.Tree.{sexp_of};
 ghost use Rattle.smt_script.specs.Command as commands;
 ghost use Rattle.smt_script.specs.CommandView.{command_view};
 ghost use Rattle.smt_script.specs.StackView.{initial_print_success_of, last_of};
 ghost use Rattle.smt_dialogue.specs.FirstFault as first_fault;
 ghost use Rattle.smt_dialogue.specs.FirstFault.{TextSoFar};
 ghost use Rattle.smt_dialogue.specs.Pairs.{Pair};
-ghost use Rattle.smt_dialogue.specs.Internal.ChecksState.{IsAnswered, role_of};
+ghost use Rattle.smt_dialogue.specs.SoFar.{IsBeginning};
+ghost use Rattle.smt_dialogue.specs.Internal.AnswerView.{AreKnown};
 ghost use Rattle.smt_dialogue.specs.Internal.DialogueState.{Stands, answered, options_of, state_behind};
 ghost use Rattle.smt_dialogue.specs.Internal.FrontView.{HasFront};
 ghost use Rattle.smt_dialogue.specs.Internal.Turns.{IsDone, IsTakenUp, turn_of_line};
 ghost use Rattle.smt_report.specs.declared.line.Line.{Line as ReportLine};
 
-use crate::answer::need_of;
+use crate::answer::TakenAnswer;
 use crate::answering::{Answering, take_answer};
 use crate::dialogue::Dialogue;
 use crate::front::Front;
+use crate::need::need_of;
 use smt_eval::Memory;
 use smt_faults::TextFlaw;
 use smt_report::{Line, Side};
 use smt_script::{Command, CommandFlaw, Kind};
-use smt_trees::Tree;
 
 /// What a turn comes to.
 #[derive(Clone, Copy)]
@@ -64,16 +63,20 @@ pub(crate) fn take_up(
         text rest bytes answers.new (state_behind taken dialogue.new)) }
     ensures start { IfOk result
         (λ _. options_of dialogue.new ≡ options_of dialogue.old) }
-    ensures decided { dialogue.new.decided ≡ dialogue.old.decided }
+    ensures kept { IsBeginning dialogue.old.decided.lines.items
+        dialogue.new.decided.lines.items }
+    ensures cut { OnErr result (dialogue.new.decided.lines.items
+        ≡ dialogue.old.decided.lines.items) }
     ensures fed { bytes_fed answers.new.reader ≡ bytes_fed answers.old.reader }
     ensures finished { is_finished answers.new.reader ≡ is_finished answers.old.reader }
 {
-    let number = dialogue.commands + 1;
-    let need = need_of(dialogue.stack.print_success(), command);
+    let number = dialogue.next_number();
+    let kind = command.kind();
+    let need = need_of(dialogue.stack.print_success(), kind);
     match take_answer(need, answers)? {
-        Answering::Takes(mut answer) => take_up_with(dialogue, command, &mut answer),
+        Answering::Takes(mut answer) => take_up_with(dialogue, command, kind, &mut answer),
         Answering::Waits => Ok(Turn::Waits {
-            closed: is_check(command),
+            closed: is_check(kind),
         }),
         Answering::Missing(fault) => Ok(Turn::Ends(Some(want_of_answer(number, fault)))),
         Answering::Unexpected => Ok(Turn::Ends(Some(Line::UnexpectedAnswer {
@@ -87,7 +90,8 @@ pub(crate) fn take_up(
 fn take_up_with(
     dialogue: &mut Dialogue,
     command: &Command,
-    answer: &mut Option<Tree>,
+    kind: Kind,
+    answer: &mut Option<TakenAnswer>,
 ) -> Result<Turn, Memory>
     requires commands { dialogue.old.commands + 1 < 2 ^ 64 }
     requires answers { dialogue.old.answers + 1 < 2 ^ 64 }
@@ -96,8 +100,8 @@ fn take_up_with(
     requires stands { (taken : List ReportLine) × (early : Bool) × (pairs : List Pair)
         × Stands early (state_behind taken dialogue.old) pairs
         × (early ≡ true → commands.is_check (command_view command.now) ≡ true) }
-    requires answered { IsAnswered (role_of (command_view command.now))
-        (option_map sexp_of answer.old) }
+    requires kind { kind ≡ commands.kind_of (command_view command.now) }
+    requires known { AreKnown answer.old }
     ensures turn { IfOk result (λ turn. (taken : List ReportLine) (early : Bool) (pairs : List Pair)
         → Stands early (state_behind taken dialogue.old) pairs
         → (early ≡ true → commands.is_check (command_view command.now) ≡ true)
@@ -106,23 +110,25 @@ fn take_up_with(
         (state_behind taken dialogue.new)) }
     ensures start { IfOk result
         (λ _. options_of dialogue.new ≡ options_of dialogue.old) }
-    ensures decided { dialogue.new.decided ≡ dialogue.old.decided }
+    ensures kept { IsBeginning dialogue.old.decided.lines.items
+        dialogue.new.decided.lines.items }
+    ensures cut { OnErr result (dialogue.new.decided.lines.items
+        ≡ dialogue.old.decided.lines.items) }
 {
-    let number = dialogue.commands + 1;
-    match dialogue.accept(command, answer) {
+    match dialogue.accept(command, kind, answer) {
         Ok(()) => Ok(Turn::GoesOn),
         Err(fault) => match fault.flaw() {
-            Some(flaw) => Ok(Turn::Ends(Some(refused(number, flaw)))),
+            Some(flaw) => Ok(Turn::Ends(Some(refused(dialogue.next_number(), flaw)))),
             None => Err(Memory),
         },
     }
 }
 
-// Whether a command is a check.
-fn is_check(command: &Command) -> bool
-    ensures { result ≡ commands.is_check (command_view command.now) }
+// Whether it is the kind of a check.
+fn is_check(kind: Kind) -> bool
+    ensures { result ≡ commands.asks_check kind }
 {
-    matches!(command.kind(), Kind::Check)
+    matches!(kind, Kind::Check)
 }
 
 /// The line on a command that is refused.

@@ -1,40 +1,27 @@
 //! The window of a check: the models printed behind it, and its line. This file knows no text, and not what
 //! makes a model true.
 
-ghost use Rattle.std.specs.Prelude.{◌≡◌, ◌<◌, ◌+◌, ◌^◌, ◌++◌, List, [], None, IfOk, OnOk, if◌then◌else◌};
-ghost use Rattle.std.specs.Prelude.{Some, option_map, true};
+ghost use Rattle.std.specs.Prelude.{◌≡◌, ◌<◌, ◌+◌, ◌^◌, List, None, IfOk, Some, if◌then◌else◌, option_map, true};
 ghost use Rattle.smt_trees.specs.Tree.{sexp_of};
-ghost use Rattle.smt_script.specs.CommandView.{command_view};
 ghost use Rattle.smt_script.specs.Stack.{Numbered, signature_in_force};
 ghost use Rattle.smt_script.specs.StackView.{StandsFor};
+ghost use Rattle.smt_dialogue.specs.Answers.{is_effective_with};
 ghost use Rattle.smt_dialogue.specs.Lines as check_lines;
-ghost use Rattle.smt_dialogue.specs.Internal.ChecksState as state;
-ghost use Rattle.smt_dialogue.specs.Internal.ChecksState.{IsAnswered, checks_after, checks_state, with_check};
-ghost use Rattle.smt_dialogue.specs.Internal.ChecksState.{with_line, with_models, with_window_ended};
+ghost use Rattle.smt_dialogue.specs.Internal.AnswerView.{AreKnown, answer_of, tree_of};
+ghost use Rattle.smt_dialogue.specs.Internal.ChecksState.{begun, checks_after, checks_state, closing_line};
+ghost use Rattle.smt_dialogue.specs.Internal.ChecksState.{own_line, step_of, unchanged, with_check, with_line};
+ghost use Rattle.smt_dialogue.specs.Internal.ChecksState.{with_models, with_window_ended};
 ghost use Rattle.smt_dialogue.specs.Internal.Claims.{claims_in_force};
 ghost use Rattle.smt_dialogue.specs.Judgement.{judgement_of};
 
-use crate::answer::is_error;
+use crate::answer::{Answer, TakenAnswer, took_effect};
 use crate::judgement::{Judgement, judge};
 use crate::options::Limit;
 use smt_eval::{Machine, Memory};
-use smt_report::{CheckAnswer, Line};
-use smt_script::{Command, Kind, Stack};
+use smt_report::Line;
+use smt_script::{Kind, Stack};
 use smt_trees::{Tree, Trees};
 use std::alloc::Global;
-
-/// What a command is for the window of a check.
-#[derive(Clone, Copy)]
-pub enum Role {
-    /// A check: it ends the window of an earlier one, and may begin its own.
-    Check,
-    /// It asks for a model, which is judged in a window.
-    Model,
-    /// It changes what is in force, and ends a window where it took effect.
-    Change,
-    /// It does nothing to a window.
-    Other,
-}
 
 /// A check that was answered `sat`, whose window has not ended.
 #[derive(Clone, Copy)]
@@ -47,14 +34,31 @@ pub struct PendingCheck {
     pub some_model: bool,
 }
 
-/// The checks so far: how many steps a model may take, how many checks there were, the one whose window has
-/// not ended, and the lines that are decided.
+/// The lines that a command decides, in this order.
+#[derive(Clone, Copy)]
+pub struct NewLines {
+    /// That of the check whose window it ends.
+    pub ended: Option<Line>,
+    /// Its own, where it is a check that was not answered `sat`.
+    pub own: Option<Line>,
+}
+
+impl NewLines {
+    /// At most the line of a check whose window ends.
+    pub(crate) fn of_ended(ended: Option<Line>) -> Self
+        ensures { result ≡ record { ended = ended; own = None } }
+    {
+        NewLines { ended, own: None }
+    }
+}
+
+/// The checks so far: how many steps a model may take, how many checks there were, and the one whose window has
+/// not ended.
 #[derive(Drop)]
 pub struct Checks {
     pub limit: Limit,
     pub count: u64,
     pub pending: Option<PendingCheck>,
-    pub lines: Vec<Line>,
     /// What evaluates models, one after another.
     pub machine: Machine,
 }
@@ -63,113 +67,114 @@ impl Checks {
     /// No checks.
     pub(crate) fn new(alloc: Global, limit: Limit) -> Self
         ensures checks { checks_state result
-            ≡ record { limit = limit.steps; count = 0; pending = None; lines = [] } }
+            ≡ record { limit = limit.steps; count = 0; pending = None } }
         ensures limit { result.limit ≡ limit }
     {
         Checks {
             limit,
             count: 0,
             pending: None,
-            lines: Vec::new(alloc),
             machine: Machine::new(alloc),
         }
     }
 
-    /// Takes the command of this number, by what it is for the window, with its answer, which says whether it
-    /// took effect, and what is in force after it.
+    /// Takes the command of this number and kind with its answer, and what is in force after it. Returns the
+    /// lines that it decides. Of a model nothing may be left.
     pub(crate) fn take(
         &mut self,
-        effective: bool,
         number: u64,
-        role: Role,
-        answer: &mut Option<Tree>,
+        kind: Kind,
+        answer: &mut Option<TakenAnswer>,
         stack: &Stack,
-    ) -> Result<(), Memory>
+    ) -> Result<NewLines, Memory>
         requires count { self.old.count + 1 < 2 ^ 64 }
         requires stands { (commands : List Numbered) × StandsFor stack.now commands }
-        requires answered { IsAnswered role (option_map sexp_of answer.old) }
+        requires known { AreKnown answer.old }
         ensures limit { self.new.limit ≡ self.old.limit }
-        ensures checks { OnOk result ((commands : List Numbered) → StandsFor stack.now commands
-            → checks_state self.new
-            ≡ checks_after effective (checks_state self.old) (signature_in_force commands)
-            (claims_in_force commands) number role (option_map sexp_of answer.old)) }
+        ensures checks { IfOk result (λ lines. (commands : List Numbered)
+            → StandsFor stack.now commands → step_of self.new lines
+            ≡ checks_after (checks_state self.old) (signature_in_force commands)
+            (claims_in_force commands) number kind (option_map tree_of answer.old)) }
     {
-        match role {
-            Role::Check => match answer {
-                Some(answer) => self.note_check(number, answer),
-                None => unreachable!(),
-            },
-            Role::Model => self.judge_model_if(effective, number, answer, stack),
-            Role::Change => self.end_window_if(effective),
-            Role::Other => Ok(()),
+        match kind {
+            Kind::Check => Ok(self.take_check(number, answer)),
+            Kind::Model => self.judge_answer(number, answer, stack),
+            Kind::Logic | Kind::Change | Kind::Reset => Ok(self.end_window_if(answer)),
+            Kind::PrintSuccess { .. } | Kind::Setting | Kind::Exit => Ok(NewLines::of_ended(None)),
+            Kind::Echo | Kind::Query => Ok(NewLines::of_ended(None)),
         }
     }
 
-    // Notes a check: it ends the window of the one before it, and begins one if its answer is `sat`.
-    fn note_check(&mut self, number: u64, answer: &Tree) -> Result<(), Memory>
+    // Takes a check: it ends the window of the one before it, and begins one if its answer is `sat`.
+    fn take_check(&mut self, number: u64, answer: &Option<TakenAnswer>) -> NewLines
         requires count { self.old.count + 1 < 2 ^ 64 }
+        requires known { AreKnown answer.now }
         ensures limit { self.new.limit ≡ self.old.limit }
-        ensures checks { OnOk result (checks_state self.new
-            ≡ with_check (checks_state self.old) number (sexp_of answer.now)) }
+        ensures checks { step_of self.new result ≡ with_check (checks_state self.old) number
+            (option_map answer_of (option_map tree_of answer.now)) }
     {
-        self.end_window()?;
-        let check = self.count + 1;
-        match unchecked_answer(answer) {
-            Some(answer) => self.lines.push(Line::Unchecked {
-                check,
-                command: number,
-                answer,
-            })?,
-            None => self.pending = Some(PendingCheck {
-                check,
-                command: number,
-                some_model: false,
-            }),
-        }
-        self.count = check;
-        Ok(())
+        let ended = self.end_window();
+        self.count += 1;
+        let own = match answer {
+            Some(answer) => self.begin_window(number, answer.says),
+            None => None,
+        };
+        NewLines { ended, own }
     }
 
-    // A model printed outside every window is not looked at, nor is an error.
-    fn judge_model_if(
-        &mut self,
-        effective: bool,
-        number: u64,
-        answer: &mut Option<Tree>,
-        stack: &Stack,
-    ) -> Result<(), Memory>
-        requires { (commands : List Numbered) × StandsFor stack.now commands }
+    // Begins the window of the last check, if its answer is `sat`; else the check has this line.
+    fn begin_window(&mut self, command: u64, answer: Answer) -> Option<Line>
+        requires { self.old.pending ≡ None }
         ensures limit { self.new.limit ≡ self.old.limit }
-        ensures checks { OnOk result ((commands : List Numbered) → StandsFor stack.now commands
-            → checks_state self.new ≡ with_models (checks_state self.old) self.old.pending
-            (signature_in_force commands) (claims_in_force commands) number effective
-            (option_map sexp_of answer.old)) }
+        ensures count { self.new.count ≡ self.old.count }
+        ensures pending { self.new.pending ≡ begun self.old.count command (Some answer) }
+        ensures line { result ≡ own_line self.old.count command (Some answer) }
     {
-        match self.pending {
-            Some(pending) if effective => self.judge_answer(pending, number, answer, stack),
-            _ => Ok(()),
+        let check = self.count;
+        if let Answer::Sat = answer {
+            self.pending = Some(PendingCheck {
+                check,
+                command,
+                some_model: false,
+            });
+        }
+        match answer.unchecked() {
+            Some(answer) => Some(Line::Unchecked {
+                check,
+                command,
+                answer,
+            }),
+            None => None,
         }
     }
 
     // Judges an answer in the window of a check, if it is a model.
     fn judge_answer(
         &mut self,
-        pending: PendingCheck,
         number: u64,
-        answer: &mut Option<Tree>,
+        answer: &mut Option<TakenAnswer>,
         stack: &Stack,
-    ) -> Result<(), Memory>
-        requires pending { self.old.pending ≡ Some pending }
+    ) -> Result<NewLines, Memory>
         requires stands { (commands : List Numbered) × StandsFor stack.now commands }
+        requires known { AreKnown answer.old }
         ensures limit { self.new.limit ≡ self.old.limit }
-        ensures checks { OnOk result ((commands : List Numbered) → StandsFor stack.now commands
-            → checks_state self.new ≡ with_models (checks_state self.old) self.old.pending
-            (signature_in_force commands) (claims_in_force commands) number true
-            (option_map sexp_of answer.old)) }
+        ensures checks { IfOk result (λ lines. (commands : List Numbered)
+            → StandsFor stack.now commands → step_of self.new lines
+            ≡ with_models (checks_state self.old) self.old.pending (signature_in_force commands)
+            (claims_in_force commands) number (is_effective_with (option_map tree_of answer.old))
+            (option_map tree_of answer.old)) }
     {
+        let Some(pending) = self.pending else {
+            return Ok(NewLines::of_ended(None));
+        };
         match answer {
-            Some(Tree::List(model)) => self.judge_model(pending, number, model, stack),
-            _ => Ok(()),
+            Some(
+                TakenAnswer {
+                    says: Answer::List,
+                    tree: Tree::List(model),
+                },
+            ) => self.judge_model(pending, number, model, stack),
+            _ => Ok(NewLines::of_ended(None)),
         }
     }
 
@@ -180,11 +185,11 @@ impl Checks {
         number: u64,
         model: &mut Trees,
         stack: &Stack,
-    ) -> Result<(), Memory>
+    ) -> Result<NewLines, Memory>
         requires { (commands : List Numbered) × StandsFor stack.now commands }
         ensures limit { self.new.limit ≡ self.old.limit }
-        ensures checks { OnOk result ((commands : List Numbered) → StandsFor stack.now commands
-            → checks_state self.new
+        ensures checks { IfOk result (λ lines. (commands : List Numbered)
+            → StandsFor stack.now commands → step_of self.new lines
             ≡ with_line (checks_state self.old) pending
             (check_lines.line_of_judgement pending.check pending.command number
             (judgement_of self.old.limit.steps (signature_in_force commands)
@@ -194,54 +199,42 @@ impl Checks {
         let judgement = judge(&mut self.machine, stack, model, self.limit)?;
         // What was large is not kept until the next model comes.
         self.machine.forget();
-        match line_of_judgement(pending, number, judgement) {
-            Some(line) => {
-                self.lines.push(line)?;
-                self.pending = None;
-            }
-            None => self.pending = Some(PendingCheck {
+        let line = line_of_judgement(pending, number, judgement);
+        self.pending = if line.is_some() {
+            None
+        } else {
+            Some(PendingCheck {
                 some_model: true,
                 ..pending
-            }),
-        }
-        Ok(())
+            })
+        };
+        Ok(NewLines::of_ended(line))
     }
 
     // Ends the window where a command took effect.
-    fn end_window_if(&mut self, effective: bool) -> Result<(), Memory>
+    fn end_window_if(&mut self, answer: &Option<TakenAnswer>) -> NewLines
+        requires { AreKnown answer.now }
         ensures limit { self.new.limit ≡ self.old.limit }
-        ensures checks { OnOk result (checks_state self.new
-            ≡ (if effective then with_window_ended
-            (checks_state self.old) else checks_state self.old)) }
+        ensures checks { step_of self.new result
+            ≡ (if is_effective_with (option_map tree_of answer.now) then with_window_ended
+            (checks_state self.old) else unchanged (checks_state self.old)) }
     {
-        if effective { self.end_window() } else { Ok(()) }
+        if took_effect(answer) {
+            NewLines::of_ended(self.end_window())
+        } else {
+            NewLines::of_ended(None)
+        }
     }
 
-    /// Ends the window of the last check, if it has not ended: each model in it is confirmed.
-    pub(crate) fn end_window(&mut self) -> Result<(), Memory>
+    /// Ends the window of the last check, if it has not ended, with its line: each model in it is confirmed.
+    pub(crate) fn end_window(&mut self) -> Option<Line>
         ensures limit { self.new.limit ≡ self.old.limit }
-        ensures ended { OnOk result (checks_state self.new
-            ≡ with_window_ended (checks_state self.old)) }
+        ensures line { result ≡ closing_line self.old.pending }
+        ensures ended { self.new.pending ≡ None }
         ensures count { self.new.count ≡ self.old.count }
     {
-        if let Some(pending) = self.pending {
-            self.lines.push(confirmed_line(pending))?;
-            self.pending = None;
-        }
-        Ok(())
-    }
-}
-
-/// What a command is for the window of a check.
-pub(crate) fn role_of(command: &Command) -> Role
-    ensures { result ≡ state.role_of (command_view command.now) }
-{
-    match command.kind() {
-        Kind::Check => Role::Check,
-        Kind::Model => Role::Model,
-        Kind::Logic | Kind::Change | Kind::Reset => Role::Change,
-        Kind::PrintSuccess { .. } | Kind::Setting | Kind::Exit => Role::Other,
-        Kind::Echo | Kind::Query => Role::Other,
+        let pending = self.pending.take()?;
+        Some(confirmed_line(pending))
     }
 }
 
@@ -296,22 +289,5 @@ fn line_of_judgement(pending: PendingCheck, model: u64, judgement: Judgement) ->
             claim,
         }),
         Judgement::Confirmed => None,
-    }
-}
-
-// What a check was answered otherwise than `sat`.
-fn unchecked_answer(answer: &Tree) -> Option<CheckAnswer>
-    ensures { result ≡ check_lines.unchecked_answer (sexp_of answer.now) }
-{
-    if answer.is_symbol(b"unsat") {
-        Some(CheckAnswer::Unsat)
-    } else if answer.is_symbol(b"unknown") {
-        Some(CheckAnswer::Unknown)
-    } else if answer.is_symbol(b"unsupported") {
-        Some(CheckAnswer::Unsupported)
-    } else if is_error(answer) {
-        Some(CheckAnswer::Error)
-    } else {
-        None
     }
 }

@@ -7,25 +7,32 @@ use Rattle.smt_dialogue.specs.Answers as answers
 use Rattle.smt_dialogue.specs.Answers.{has_form, taken}
 use Rattle.smt_dialogue.specs.FirstFault.{TextSoFar, is_over}
 use Rattle.smt_dialogue.specs.Pairs.{next_of, with_answer}
+use Rattle.smt_dialogue.specs.Internal.AnswerView.{AreKnown, tree_of}
 use Rattle.smt_dialogue.specs.Internal.FrontView.{HasFront}
-use Rattle.smt_dialogue.specs.declared.answer.AnswerForm.{AnswerForm}
-use Rattle.smt_dialogue.specs.declared.answer.Need.{Need}
+use Rattle.smt_dialogue.specs.declared.answer.TakenAnswer.{TakenAnswer}
+use Rattle.smt_dialogue.specs.declared.need.AnswerForm.{AnswerForm}
+use Rattle.smt_dialogue.specs.declared.need.Need.{Need}
 use Rattle.smt_dialogue.specs.declared.answering.Answering.{Answering}
 use Rattle.smt_dialogue.specs.declared.answering.Answering.TheVariants as found
 use Rattle.smt_dialogue.specs.declared.front.Front.{Front}
 
 -- what a contract sees of what is taken
 abbrev pub answering_view : Answering → answers.Taken
-answering_view (found.Takes answer) = answers.Takes (option_map sexp_of answer)
+answering_view (found.Takes answer) = answers.Takes (option_map tree_of answer)
 answering_view found.Waits = answers.Waits
 answering_view (found.Missing fault) = answers.Missing
 answering_view found.Unexpected = answers.Unexpected
 
 -- what is left: the answers without the one that was taken; where one is missing, the fault is theirs
 abbrev pub IsLeft : Answering → TextSoFar → (before after : Sexps) → Type 0
-IsLeft (found.Takes answer) text before after = before ≡ with_answer (option_map sexp_of answer) after
+IsLeft (found.Takes answer) text before after = before ≡ with_answer (option_map tree_of answer) after
 IsLeft (found.Missing fault) text before after = (before ≡ after) × (fault ≡ text.fault)
 IsLeft _ text before after = before ≡ after
+
+-- what the answer says that is taken is what its tree says
+abbrev pub IsKnown : Answering → Type 0
+IsKnown (found.Takes answer) = AreKnown answer
+IsKnown _ = Unit {0}
 
 -- this is what a command takes that needs this, of these answers
 pub record IsTaken (answering : Answering) (need : Need) (text : TextSoFar) (rest : Sexps) (bytes : List ℕ)
@@ -36,9 +43,10 @@ pub record IsTaken (answering : Answering) (need : Need) (text : TextSoFar) (res
   pub left_is : IsLeft answering text rest left
 
 -- the answer that stood ready was taken, which has this form; or it has another
-abbrev pub IsFound : AnswerForm → Option Tree → Option Tree → TextSoFar → Sexps → List ℕ → Front → Type 0
-IsFound form (Some tree) next text rest bytes front =
-    (next ≡ Some tree) × (has_form form (sexp_of tree) ≡ true)
-    × ((later : Sexps) → rest ≡ Cons (sexp_of tree) later → HasFront front bytes text later)
+abbrev pub IsFound : AnswerForm → Option TakenAnswer → Option Tree → TextSoFar → Sexps → List ℕ → Front
+    → Type 0
+IsFound form (Some answer) next text rest bytes front =
+    (next ≡ Some answer.tree) × (has_form form (tree_of answer) ≡ true)
+    × ((later : Sexps) → rest ≡ Cons (tree_of answer) later → HasFront front bytes text later)
 IsFound form None next text rest bytes front =
     ((tree : Tree) → next ≡ Some tree → has_form form (sexp_of tree) ≡ false) × HasFront front bytes text rest

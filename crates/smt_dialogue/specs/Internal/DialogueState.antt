@@ -2,8 +2,6 @@
 use Rattle.std.specs.Prelude.{◌≡◌, ◌≤◌, ℕ, ◌+◌, List, [], ◌++◌, length, Bool, true, false, ◌||◌, Option, None}
 use Rattle.std.specs.List.{list_any}
 use Rattle.std.specs.Prelude.{option_map, if◌then◌else◌}
-use Rattle.smt_trees.specs.Tree.{sexp_of}
-use Rattle.smt_trees.specs.declared.tree.Tree.{Tree}
 use Rattle.smt_script.specs.Command.{Command}
 use Rattle.smt_script.specs.CommandView.{command_view}
 use Rattle.smt_script.specs.declared.command.Command as code
@@ -16,20 +14,22 @@ use Rattle.smt_dialogue.specs.InForce.{signature_after}
 use Rattle.smt_dialogue.specs.Internal.Claims.{claims_after}
 use Rattle.smt_dialogue.specs.Lines.{lines_in}
 use Rattle.smt_dialogue.specs.Pairs.{Pair, answers_taken, checks_in, effective_commands, pair_of}
-use Rattle.smt_dialogue.specs.Internal.ChecksState.{ChecksState, behind, checks_state, pending_lines}
+use Rattle.smt_dialogue.specs.Internal.AnswerView.{tree_of}
+use Rattle.smt_dialogue.specs.Internal.ChecksState.{ChecksState, checks_state, pending_lines}
 use Rattle.smt_dialogue.specs.Window.{closes, window}
+use Rattle.smt_dialogue.specs.declared.answer.TakenAnswer.{TakenAnswer}
 use Rattle.smt_dialogue.specs.declared.dialogue.Dialogue.{Dialogue}
 use Rattle.smt_dialogue.specs.declared.options.Options.{Options}
 use Rattle.smt_report.specs.Verdict.{tally_of}
 use Rattle.smt_report.specs.declared.line.Line.{Line}
 use Rattle.smt_report.specs.declared.verdict.Tally.{Tally}
 
--- what is known: what is in force, the checks with all lines that are decided, those among these that were
--- gathered, with their tally, and the counts of commands and answers
+-- what is known: what is in force, the checks, the lines that are decided, with their tally, and the counts of
+-- commands and answers
 pub record State : Type 0 where
   pub stack : Stack
   pub checks : ChecksState
-  pub gathered : List Line
+  pub lines : List Line
   pub tally : Tally
   pub commands : ℕ
   pub answers : ℕ
@@ -38,8 +38,8 @@ pub record State : Type 0 where
 abbrev pub state_behind : List Line → Dialogue → State
 state_behind taken d = record {
   stack = d.stack;
-  checks = behind (taken ++ d.decided.lines.items) (checks_state d.checks);
-  gathered = taken ++ d.decided.lines.items;
+  checks = checks_state d.checks;
+  lines = taken ++ d.decided.lines.items;
   tally = d.decided.tally;
   commands = d.commands;
   answers = d.answers;
@@ -50,8 +50,8 @@ abbrev pub options_of : Dialogue → Options
 options_of d = record { print_success = initial_print_success_of d.stack; limit = d.checks.limit }
 
 -- the pair of a command and what it took of the answers
-abbrev pub answered : code.Command → Option Tree → Pair
-answered command answer = pair_of (command_view command) (option_map sexp_of answer)
+abbrev pub answered : code.Command → Option TakenAnswer → Pair
+answered command answer = pair_of (command_view command) (option_map tree_of answer)
 
 -- the fault of a command's effect, if it took effect
 abbrev pub flaw_if : Bool → List Numbered → ℕ → Command → Option CommandFlaw
@@ -71,10 +71,10 @@ pub record Stands (early : Bool) (s : State) (pairs : List Pair) : Type 0 where
   pub commands : s.commands ≡ length pairs
   pub answers : s.answers ≡ answers_taken pairs
   pub checks : s.checks.count ≡ checks_in pairs
-  pub tally : s.tally ≡ tally_of s.gathered
+  pub tally : s.tally ≡ tally_of s.lines
   pub lines : (closed : Bool) (after : List Pair) → (early ≡ true → Closing closed after)
       → lines_in s.checks.limit closed [] pairs after
-      ≡ s.checks.lines ++ pending_lines s.checks.limit closed s.checks.pending (signature_after pairs)
+      ≡ s.lines ++ pending_lines s.checks.limit closed s.checks.pending (signature_after pairs)
       (claims_after pairs) (length pairs + 1) after
 
 abbrev pub StandsFor : State → List Pair → Type 0

@@ -5,8 +5,8 @@ ghost use Rattle.std.specs.Prelude.{◌≡◌, ◌⊎◌, ◌↔◌, ℕ, List, 
 ghost use Rattle.smt_trees.specs.Sexp.{Atom, Cons, Items, Nil, Sexp, Sexps, Symbol, Text};
 ghost use Rattle.smt_script.specs.declared.command.Kind.TheVariants as kinds;
 ghost use Rattle.smt_dialogue.specs.Answers.{has_form, is_refusal, need_of_kind};
-ghost use Rattle.smt_dialogue.specs.declared.answer.AnswerForm.TheVariants as forms;
-ghost use Rattle.smt_dialogue.specs.declared.answer.Need.TheVariants.{Nothing, Optional, Needed};
+ghost use Rattle.smt_dialogue.specs.declared.need.AnswerForm.TheVariants as forms;
+ghost use Rattle.smt_dialogue.specs.declared.need.Need.TheVariants.{Nothing, Optional, Needed};
 
 /// An answer says that its command took no effect exactly where it is the symbol `unsupported`, or a list of the
 /// symbol `error` and a string (SMT-LIB 2.6, section 3.9.1).

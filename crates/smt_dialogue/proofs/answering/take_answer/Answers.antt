@@ -1,7 +1,7 @@
 use Rattle.std.proofs.Common.{None, Some, subst, sym}
 use Rattle.smt_dialogue.specs.Internal.Answering.{IsTaken}
 use Rattle.smt_dialogue.specs.Internal.FrontView.{IsAhead}
-use Rattle.smt_dialogue.specs.declared.answer.Need.{Need}
+use Rattle.smt_dialogue.specs.declared.need.Need.{Need}
 use Rattle.smt_dialogue.specs.declared.answering.Answering.TheVariants as found
 use Rattle.smt_dialogue.specs.declared.front.Ahead.{Ahead}
 use Rattle.smt_dialogue.proofs.AnsweringLemmas.{needed_missing, needed_taken, needed_unfit, needed_waits}

@@ -1,7 +1,7 @@
 use Rattle.std.proofs.Common.{◌++◌, ◌∙◌, [], ap, arith, refl, subst, true}
 use Rattle.smt_script.specs.StackView.{initial_print_success_of}
 use Rattle.smt_dialogue.proofs.AdvanceLemmas.{bounded, checks_at_most, commands_at_most, cut_at, cut_ended, ends_at}
-use Rattle.smt_dialogue.proofs.AdvanceLemmas.{gathered, one_more, turned_on, waits_at}
+use Rattle.smt_dialogue.proofs.AdvanceLemmas.{one_more, turned_on, waits_at}
 use Rattle.smt_dialogue.proofs.CheckLineLemmas.{IsFaultTurn, fault_turn}
 use Rattle.smt_dialogue.proofs.DialogueLemmas.{begins_trans, on_err}
 use Rattle.smt_dialogue.proofs.PairLemmas.{checks_in-le}
@@ -10,7 +10,6 @@ use Rattle.smt_dialogue.specs.Report.{lines_at_end, lines_of_end}
 use Rattle.smt_dialogue.specs.SoFar.{IsBeginning}
 use Rattle.smt_dialogue.specs.Internal.DialogueState.{options_of}
 use Rattle.smt_dialogue.specs.Internal.ExchangeView.{IsTurned, waiting}
-use Rattle.smt_dialogue.specs.declared.decided.Decided.{Decided}
 use Rattle.smt_dialogue.specs.declared.options.Options.{Options}
 use Rattle.smt_dialogue.specs.declared.turn.Turn.{Turn}
 use Rattle.smt_report.specs.Verdict.{verdict_of}
@@ -26,86 +25,45 @@ pub returns-in_err-take_turn-clause-cut : goal.returns-in_err-take_turn-clause-c
 returns-in_err-take_turn-clause-cut c = on_err c.from_residual.result (λ texts pairs later rest first.
     let h = c.loop-self.invariant.way texts pairs later rest first in
     cut_at c.loop-self.self texts h.0 h.1 h.2 (waiting c.take_turn.new.self)
-    (options_of c.args.self.now.dialogue) c.loop-self.invariant.start
-    (ap (λ (k : Decided). k.lines.items) c.take_turn.ensures.decided) h.3)
-
-pub gather-requires : goal.gather-requires
-gather-requires c =
-    let w = c.requires.way in
-    let x = c.loop-self.self in
-    let y = c.take_turn.new.self in
-    let h = c.loop-self.invariant.way w.0 w.1 w.2 w.3 w.4 in
-    let g = turned_on c.in_ok-take_turn.field-0 x y w.0 h.0 h.1 h.2 c.in-GoesOn.is
-    (c.in_ok-take_turn.ensures.turn w.0 h.0 h.1 h.2 h.3) in
-    record {
-      few = omega (
-        arith,
-        checks_at_most y w.0 _ g.1 g.2 g.3,
-        commands_at_most c.trees_are_few.ensures.few y w.0 _ g.1 g.2 g.3,
-        c.take_turn.ensures.script_fed,
-        c.loop-self.invariant.script_fed,
-        c.requires.script_room,
-      );
-    }
+    (options_of c.args.self.now.dialogue) c.loop-self.invariant.start c.in_err-take_turn.ensures.cut h.3)
 
 pub loop-self-smaller : goal.loop-self-smaller
 loop-self-smaller c =
     let w = c.requires.way in
     let x = c.loop-self.self in
     let y = c.take_turn.new.self in
-    let z = record y { dialogue = c.gather.new.self } in
     let h = c.loop-self.invariant.way w.0 w.1 w.2 w.3 w.4 in
     let g = turned_on c.in_ok-take_turn.field-0 x y w.0 h.0 h.1 h.2 c.in-GoesOn.is
     (c.in_ok-take_turn.ensures.turn w.0 h.0 h.1 h.2 h.3) in
-    let on = gathered y z w.0 _ g.1 g.2 refl refl refl c.in_ok-gather-in-GoesOn.ensures.start
-    (λ early stands. c.in_ok-gather-in-GoesOn.ensures.stands w.0.taken early _ stands) g.3 in
-    let most = commands_at_most c.trees_are_few.ensures.few z w.0 _ g.1 g.2 on in
-    let more = one_more x z w.0 h.0 g.0 h.1 h.2 g.1 g.2 h.3 on in
+    let most = commands_at_most c.trees_are_few.ensures.few y w.0 _ g.1 g.2 g.3 in
+    let more = one_more x y w.0 h.0 g.0 h.1 h.2 g.1 g.2 h.3 g.3 in
     omega (arith, most, more, c.take_turn.ensures.script_fed, c.loop-self.invariant.script_fed)
 
 pub loop-self-preserved : goal.loop-self-preserved
 loop-self-preserved c =
     let x = c.loop-self.self in
     let y = c.take_turn.new.self in
-    let z = record y { dialogue = c.gather.new.self } in
     let w = c.requires.way in
     let now = c.loop-self.invariant.way w.0 w.1 w.2 w.3 w.4 in
     let next = turned_on c.in_ok-take_turn.field-0 x y w.0 now.0 now.1 now.2 c.in-GoesOn.is
     (c.in_ok-take_turn.ensures.turn w.0 now.0 now.1 now.2 now.3) in
-    let on = gathered y z w.0 _ next.1 next.2 refl refl refl c.in_ok-gather-in-GoesOn.ensures.start
-    (λ early stands. c.in_ok-gather-in-GoesOn.ensures.stands w.0.taken early _ stands) next.3 in
     record {
       commands = omega (
         arith,
         c.loop-self.invariant.commands,
-        one_more x z w.0 now.0 next.0 now.1 now.2 next.1 next.2 now.3 on,
+        one_more x y w.0 now.0 next.0 now.1 now.2 next.1 next.2 now.3 next.3,
       );
       script_fed = c.take_turn.ensures.script_fed ∙ c.loop-self.invariant.script_fed;
       answers_fed = c.take_turn.ensures.answers_fed ∙ c.loop-self.invariant.answers_fed;
-      start = c.in_ok-gather-in-GoesOn.ensures.start ∙ c.in_ok-take_turn.ensures.start
-          ∙ c.loop-self.invariant.start;
-      kept = begins_trans (waiting c.args.self.now) (waiting x) (waiting z) c.loop-self.invariant.kept
-          (subst (λ (k : Decided). IsBeginning k.lines.items (waiting z)) c.take_turn.ensures.decided
-          c.gather.ensures.kept);
+      start = c.in_ok-take_turn.ensures.start ∙ c.loop-self.invariant.start;
+      kept = begins_trans (waiting c.args.self.now) (waiting x) (waiting y) c.loop-self.invariant.kept
+          c.take_turn.ensures.kept;
       way = λ texts pairs later rest first.
           let h = c.loop-self.invariant.way texts pairs later rest first in
           let g = turned_on c.in_ok-take_turn.field-0 x y texts h.0 h.1 h.2 c.in-GoesOn.is
-          (c.in_ok-take_turn.ensures.turn texts h.0 h.1 h.2 h.3) in (
-            _,
-            g.1,
-            g.2,
-            gathered y z texts _ g.1 g.2 refl refl refl c.in_ok-gather-in-GoesOn.ensures.start
-                (λ early stands. c.in_ok-gather-in-GoesOn.ensures.stands texts.taken early _ stands) g.3,
-          );
+          (c.in_ok-take_turn.ensures.turn texts h.0 h.1 h.2 h.3) in
+          (_, g.1, g.2, g.3);
     }
-
-pub returns-in_err-gather-in-GoesOn-clause-cut : goal.returns-in_err-gather-in-GoesOn-clause-cut
-returns-in_err-gather-in-GoesOn-clause-cut c =
-    on_err c.from_residual-in_err-gather-in-GoesOn.result (λ texts pairs later rest first.
-    let h = c.loop-self.invariant.way texts pairs later rest first in
-    cut_at c.loop-self.self texts h.0 h.1 h.2 c.gather.new.self.decided.lines.items
-    (options_of c.args.self.now.dialogue) c.loop-self.invariant.start
-    (c.in_err-gather-in-GoesOn.ensures.cut ∙ ap (λ (k : Decided). k.lines.items) c.take_turn.ensures.decided) h.3)
 
 pub settle-requires : goal.settle-requires
 settle-requires c =
@@ -129,10 +87,14 @@ settle-requires c =
 pub returns-in_err-settle-in-Waits-clause-cut : goal.returns-in_err-settle-in-Waits-clause-cut
 returns-in_err-settle-in-Waits-clause-cut c =
     on_err c.from_residual-in_err-settle-in-Waits.result (λ texts pairs later rest first.
+    let x = c.loop-self.self in
+    let y = c.take_turn.new.self in
     let h = c.loop-self.invariant.way texts pairs later rest first in
-    cut_at c.loop-self.self texts h.0 h.1 h.2 c.settle.new.self.decided.lines.items
-    (options_of c.args.self.now.dialogue) c.loop-self.invariant.start
-    (c.in_err-settle-in-Waits.ensures.cut ∙ ap (λ (k : Decided). k.lines.items) c.take_turn.ensures.decided) h.3)
+    let t = subst (λ (turn : Turn). IsTurned turn x y texts h.0 h.1 h.2) c.in-Waits.is
+    (c.in_ok-take_turn.ensures.turn texts h.0 h.1 h.2 h.3) in
+    cut_at y texts h.0 h.1 h.2 c.settle.new.self.decided.lines.items
+    (options_of c.args.self.now.dialogue) (c.in_ok-take_turn.ensures.start ∙ c.loop-self.invariant.start)
+    c.in_err-settle-in-Waits.ensures.cut t.0)
 
 pub returns-in-Waits-clause-advanced : goal.returns-in-Waits-clause-advanced
 returns-in-Waits-clause-advanced c = λ texts pairs later rest first.
@@ -216,34 +178,24 @@ pub returns-then-has_enough-clause-advanced : goal.returns-then-has_enough-claus
 returns-then-has_enough-clause-advanced c = λ texts pairs later rest first.
     let x = c.loop-self.self in
     let y = c.take_turn.new.self in
-    let z = record y { dialogue = c.gather.new.self } in
     let h = c.loop-self.invariant.way texts pairs later rest first in
     let g = turned_on c.in_ok-take_turn.field-0 x y texts h.0 h.1 h.2 c.in-GoesOn.is
-    (c.in_ok-take_turn.ensures.turn texts h.0 h.1 h.2 h.3) in (
-      _,
-      g.1,
-      g.2,
-      gathered y z texts _ g.1 g.2 refl refl refl c.in_ok-gather-in-GoesOn.ensures.start
-          (λ early stands. c.in_ok-gather-in-GoesOn.ensures.stands texts.taken early _ stands) g.3,
-      c.in_ok-gather-in-GoesOn.ensures.start ∙ c.in_ok-take_turn.ensures.start ∙ c.loop-self.invariant.start,
-    )
+    (c.in_ok-take_turn.ensures.turn texts h.0 h.1 h.2 h.3) in
+    (_, g.1, g.2, g.3, c.in_ok-take_turn.ensures.start ∙ c.loop-self.invariant.start)
 
 pub returns-then-has_enough-clause-paused : goal.returns-then-has_enough-clause-paused
 returns-then-has_enough-clause-paused c =
     let x = c.loop-self.self in
     let y = c.take_turn.new.self in
-    let z = record y { dialogue = c.gather.new.self } in
     let w = c.requires.way in
     let h = c.loop-self.invariant.way w.0 w.1 w.2 w.3 w.4 in
     let g = turned_on c.in_ok-take_turn.field-0 x y w.0 h.0 h.1 h.2 c.in-GoesOn.is
-    (c.in_ok-take_turn.ensures.turn w.0 h.0 h.1 h.2 h.3) in
-    let on = gathered y z w.0 _ g.1 g.2 refl refl refl c.in_ok-gather-in-GoesOn.ensures.start
-    (λ early stands. c.in_ok-gather-in-GoesOn.ensures.stands w.0.taken early _ stands) g.3 in (
+    (c.in_ok-take_turn.ensures.turn w.0 h.0 h.1 h.2 h.3) in (
       c.if-has_enough.ensures refl,
-      omega (arith, c.loop-self.invariant.commands, one_more x z w.0 h.0 g.0 h.1 h.2 g.1 g.2 h.3 on),
+      omega (arith, c.loop-self.invariant.commands, one_more x y w.0 h.0 g.0 h.1 h.2 g.1 g.2 h.3 g.3),
       omega (
         arith,
-        commands_at_most c.trees_are_few.ensures.few z w.0 _ g.1 g.2 on,
+        commands_at_most c.trees_are_few.ensures.few y w.0 _ g.1 g.2 g.3,
         c.take_turn.ensures.script_fed,
         c.loop-self.invariant.script_fed,
         c.requires.script_room,

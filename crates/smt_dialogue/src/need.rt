@@ -1,0 +1,64 @@
+//! What commands need of the answers. This file knows no answer, no pairs, and nothing that is in force.
+
+ghost use Rattle.std.specs.Prelude.{◌≡◌, if◌then◌else◌};
+ghost use Rattle.smt_dialogue.specs.Answers as answers;
+
+use smt_script::Kind;
+
+/// Which answers a command takes (SMT-LIB 2.6, section 3.9.1).
+#[derive(Clone, Copy)]
+pub enum AnswerForm {
+    /// `success`, `unsupported` or an error.
+    General,
+    /// `success`.
+    Success,
+    /// `unsupported`.
+    Unsupported,
+    /// `sat`, `unsat`, `unknown`, `unsupported` or an error.
+    Check,
+    /// A list, an error among them, or `unsupported`.
+    Model,
+    /// A string, `unsupported` or an error.
+    Echo,
+    /// Every tree but `success`.
+    Other,
+}
+
+/// What a command needs of the answers.
+#[derive(Clone, Copy)]
+pub enum Need {
+    /// It takes none.
+    Nothing,
+    /// It takes the next one exactly where that has this form.
+    Optional(AnswerForm),
+    /// It takes the next one, which has to have this form.
+    Needed(AnswerForm),
+}
+
+/// What a command of this kind needs of the answers, where `success` is printed for a command that has no
+/// answer of its own, or is not (SMT-LIB 2.6, section 4.1.7).
+pub(crate) fn need_of(print_success: bool, kind: Kind) -> Need
+    ensures { result ≡ answers.need_of_kind print_success kind }
+{
+    match kind {
+        Kind::Check => Need::Needed(AnswerForm::Check),
+        Kind::Model => Need::Needed(AnswerForm::Model),
+        Kind::Echo => Need::Needed(AnswerForm::Echo),
+        Kind::Query => Need::Needed(AnswerForm::Other),
+        Kind::Exit => Need::Optional(AnswerForm::Success),
+        Kind::PrintSuccess { on } => needed_or(on, Need::Optional(AnswerForm::General)),
+        Kind::Setting => needed_or(print_success, Need::Optional(AnswerForm::Unsupported)),
+        Kind::Logic | Kind::Change | Kind::Reset => needed_or(print_success, Need::Nothing),
+    }
+}
+
+// A general answer is needed where `success` is printed, or else this.
+fn needed_or(print_success: bool, otherwise: Need) -> Need
+    ensures { result ≡ (if print_success then answers.general_need else otherwise) }
+{
+    if print_success {
+        Need::Needed(AnswerForm::General)
+    } else {
+        otherwise
+    }
+}
