@@ -7,7 +7,8 @@ use Rattle.std.specs.Io.KnownBytes.{Appends, Consumes, IsAtEnd}
 use Rattle.std.specs.Prelude.{nat_eq}
 use Rattle.smt_dialogue.proofs.ReadSoFarLemmas.{so_far_is_report}
 use Rattle.smt_dialogue.proofs.SessionVerdictLemmas.{reported}
-use Rattle.smt_dialogue.proofs.SessionLemmas.{any_first, first_going, going_fed}
+use Rattle.smt_dialogue.proofs.SessionGrowthLemmas.{any_first}
+use Rattle.smt_dialogue.proofs.SessionTurnLemmas.{first_going, going_fed}
 use Rattle.smt_dialogue.specs.History.{AreDecided, AreFirstDecided, History, IsLong, begun, with_more, with_taken}
 use Rattle.smt_dialogue.specs.Report.{IsReport}
 use Rattle.smt_dialogue.specs.SoFar.{IsBeginning, IsSoFar}
