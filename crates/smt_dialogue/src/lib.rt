@@ -17,6 +17,7 @@ mod judgement;
 pub mod laws;
 mod live;
 mod options;
+mod outlet;
 mod session;
 mod turn;
 mod validation;
