@@ -29,6 +29,9 @@ pub mod TurnLemmas
 pub mod ExchangeLemmas
 pub mod AdvanceLemmas
 pub mod FeedLemmas
+pub mod SessionGrowthLemmas
+pub mod SessionTurnLemmas
+pub mod SessionFeedLemmas
 pub mod SessionLemmas
 pub mod SessionVerdictLemmas
 pub mod RunLemmas

@@ -1,21 +1,25 @@
 -- Runs: what was pulled and put so far, and what a fault leaves.
 use Rattle.std.proofs.Common.{◌≡◌, ◌≤◌, ℕ, ◌+◌, Bool, true, false, List, [], ◌∷◌, ◌++◌, length, drop, take, Option, Some}
-use Rattle.std.proofs.Common.{Result, Ok, Err, IfErr, OnOk, None, refl, ap, sym, ◌∙◌, subst, append_assoc}
+use Rattle.std.proofs.Common.{Result, Ok, Err, IfErr, OnOk, None, refl, ap, sym, ◌∙◌, subst, append_assoc, arith}
+use Rattle.std.proofs.Common.{length-append}
 use Rattle.std.proofs.Math.Seq.{take-append-add}
 use Rattle.std.proofs.lemmas.List.{append-nil, length-take-le, take-append-drop}
 use Rattle.std.specs.Io.KnownBytes.{Appends, Consumes, IsAtEnd}
 use Rattle.std.specs.Prelude.{nat_eq}
 use Rattle.smt_dialogue.proofs.ReadSoFarLemmas.{so_far_is_report}
 use Rattle.smt_dialogue.proofs.SessionVerdictLemmas.{reported}
-use Rattle.smt_dialogue.proofs.SessionLemmas.{any_first, first_going, going_fed}
-use Rattle.smt_dialogue.specs.History.{AreDecided, AreFirstDecided, History, IsLong, begun, with_more, with_taken}
+use Rattle.smt_dialogue.proofs.SessionGrowthLemmas.{any_first}
+use Rattle.smt_dialogue.proofs.SessionTurnLemmas.{first_going, going_fed}
+use Rattle.smt_dialogue.specs.History.{AreDecided, AreFirstDecided, History, IsLong, Told, begun, text_at, whole}
+use Rattle.smt_dialogue.specs.History.{with_more, with_taken}
 use Rattle.smt_dialogue.specs.Report.{IsReport}
 use Rattle.smt_dialogue.specs.SoFar.{IsBeginning, IsSoFar}
 use Rattle.smt_dialogue.specs.Run.{Devices, HasRun, HasStopped, IsBlamed, IsPulled, IsPut, Tap, text_of_lines}
 use Rattle.smt_dialogue.specs.Session.{AreLines, IsVerdictIn, StandsFor, failure_of, lines_waiting}
 use Rattle.smt_dialogue.specs.Validity.{IsInvalid, IsValid}
-use Rattle.smt_dialogue.specs.Internal.RunStep.{HasStepped, IsFailure, IsFedRun, IsSound, IsOutputFailure, IsPutFault, IsPutRun}
-use Rattle.smt_dialogue.specs.Internal.RunStep.{IsRunning, IsRunningBy, fault_at, history, with_tap}
+use Rattle.smt_dialogue.specs.Internal.RunStep.{AreAtEnd, HasSettled, HasStepped, IsAtRest, IsCutOff, IsFailure, IsFedRun}
+use Rattle.smt_dialogue.specs.Internal.RunStep.{IsOutputFailure, IsPutFault, IsPutRun, IsRunning, IsRunningBy, IsSound}
+use Rattle.smt_dialogue.specs.Internal.RunStep.{fault_at, history, with_tap}
 use Rattle.smt_dialogue.specs.Internal.SessionStep.{IsFed, IsGoingOn, IsLeftOpen}
 use Rattle.smt_dialogue.specs.declared.live.RunFault.{RunFault}
 use Rattle.smt_dialogue.specs.declared.live.RunFault.TheVariants as faults
@@ -86,12 +90,13 @@ running_new options now s script answers k = record {
       (subst (λ b. StandsFor s (record (begun options) { answers = record { bytes = []; ended = b } })) (sym answers) k);
 }
 
--- this was pulled of a source, and the session was told it
-pub running_text : (side : Side) (options : Options) (before all : Devices) (s t : Session) (old new : Tap)
+-- this was pulled of a source
+running_pulled : (P Q : History → Type 0) (side : Side) (options : Options) (before all : Devices) (old new : Tap)
     (out : Option (List ℕ)) (given : List ℕ) → IsPulled old new given
-    → ((h : History) → StandsFor s h → IsFed t (with_more side h given new.ended))
-    → IsRunning options before (with_tap side old out all) s → IsFedRun options before (with_tap side new out all) t
-running_text Script options before all s t old new out given pulls told r = record {
+    → ((h : History) → (text_at side h).ended ≡ old.ended → P h → Q (with_more side h given new.ended))
+    → IsRunningBy P options before (with_tap side old out all)
+    → IsRunningBy Q options before (with_tap side new out all)
+running_pulled P Q Script options before all old new out given pulls told r = record {
   script = r.script ++ given;
   answers = r.answers;
   taken = r.taken;
@@ -100,9 +105,9 @@ running_text Script options before all s t old new out given pulls told r = reco
     answers_given = r.pulled.answers_given;
   };
   written = r.written;
-  stands = told _ r.stands;
+  stands = told (history options (with_tap Script old out all) r.script r.answers r.taken) refl r.stands;
 }
-running_text Answers options before all s t old new out given pulls told r = record {
+running_pulled P Q Answers options before all old new out given pulls told r = record {
   script = r.script;
   answers = r.answers ++ given;
   taken = r.taken;
@@ -112,8 +117,46 @@ running_text Answers options before all s t old new out given pulls told r = rec
         consumes_both before.answers.to_come old.to_come new.to_come r.answers given r.pulled.answers_given pulls;
   };
   written = r.written;
-  stands = told _ r.stands;
+  stands = told (history options (with_tap Answers old out all) r.script r.answers r.taken) refl r.stands;
 }
+
+-- and the session was told it
+pub running_text : (side : Side) (options : Options) (before all : Devices) (s t : Session) (old new : Tap)
+    (out : Option (List ℕ)) (given : List ℕ) → IsPulled old new given
+    → ((h : History) → StandsFor s h → IsFed t (with_more side h given new.ended))
+    → IsRunning options before (with_tap side old out all) s → IsFedRun options before (with_tap side new out all) t
+running_text side options before all s t old new out given pulls told r =
+    running_pulled (StandsFor s) (IsFed t) side options before all old new out given pulls (λ h same k. told h k) r
+
+nothing_told : (told : Told) (ended : Bool) → told.ended ≡ ended
+    → told ≡ record { bytes = told.bytes ++ []; ended = ended }
+nothing_told told ended same =
+    subst (λ bs. told ≡ record { bytes = bs; ended = ended }) (sym (append-nil told.bytes))
+    (subst (λ b. told ≡ record { bytes = told.bytes; ended = b }) same refl)
+
+nothing_more : (side : Side) (h : History) (ended : Bool) → (text_at side h).ended ≡ ended
+    → h ≡ with_more side h [] ended
+nothing_more Script h ended same =
+    ap (λ (told : Told). record h { script = told }) (nothing_told h.script ended same)
+nothing_more Answers h ended same =
+    ap (λ (told : Told). record h { answers = told }) (nothing_told h.answers ended same)
+
+-- a source has failed, and gave nothing
+cut_running : (side : Side) (options : Options) (before all : Devices) (s : Session) (old new : Tap)
+    (out : Option (List ℕ)) → IsPulled old new [] → old.ended ≡ new.ended
+    → IsRunning options before (with_tap side old out all) s → IsRunning options before (with_tap side new out all) s
+cut_running side options before all s old new out pulls same r =
+    running_pulled (StandsFor s) (StandsFor s) side options before all old new out [] pulls
+    (λ h ended k. subst (StandsFor s) (nothing_more side h new.ended (ended ∙ same)) k) r
+
+pub cut_source : (done : Session → Type 0) (side : Side) (options : Options) (before all : Devices) (s : Session)
+    (old new : Tap) (out : Option (List ℕ)) → IsAtRest done s → IsPulled old new [] → old.ended ≡ new.ended
+    → IsRunning options before (with_tap side old out all) s
+    → IsCutOff done (fault_at side) options before (with_tap side new out all) s
+cut_source done Script options before all s old new out rest pulls same r =
+    (cut_running Script options before all s old new out pulls same r, rest)
+cut_source done Answers options before all s old new out rest pulls same r =
+    (cut_running Answers options before all s old new out pulls same r, rest)
 
 -- an empty piece is the end
 pub pulled_end : (told ended : Bool) (block : List ℕ) (count : ℕ) → count ≤ length block
@@ -161,39 +204,32 @@ all_put options before now s empty r =
     subst (λ ls. Appends before.out now.out (text_of_lines ls))
     (sym (ap (λ ls. r.taken ++ ls) empty ∙ append-nil r.taken)) r.written
 
--- a source has failed, and every line was put
-pub stopped_source : (side : Side) (options : Options) (before all : Devices) (s : Session) (old new : Tap)
-    (out : Option (List ℕ)) → failure_of s ≡ None → lines_waiting s ≡ [] → IsPulled old new []
-    → old.ended ≡ new.ended → IsRunning options before (with_tap side old out all) s
-    → HasStopped options before (with_tap side new out all) (fault_at side)
-stopped_source Script options before all s old new out none empty pulls same r = record {
+-- a fault but want of bytes of a text stopped the run, and every line was put
+rested_at : (fault : RunFault) (options : Options) (before now : Devices) (s : Session)
+    → ((text : List ℕ) → Appends before.out now.out text → IsPut fault before.out now.out text)
+    → (fault ≡ faults.Long → ⊥) → failure_of s ≡ None → lines_waiting s ≡ [] → IsRunning options before now s
+    → HasStopped options before now fault
+rested_at fault options before now s put short none empty r = record {
   script = r.script;
   answers = r.answers;
-  pulled = record {
-    script_given = subst (Consumes before.script.to_come new.to_come) (append-nil r.script)
-        (consumes_both before.script.to_come old.to_come new.to_come r.script [] r.pulled.script_given pulls);
-    answers_given = r.pulled.answers_given;
-  };
+  pulled = record { script_given = r.pulled.script_given; answers_given = r.pulled.answers_given };
   lines = r.taken ++ lines_waiting s;
-  so_far = subst (λ b. IsSoFar options b r.script all.answers.ended r.answers (r.taken ++ lines_waiting s)) same
-      (all_lines options before (with_tap Script old out all) s none r);
-  written = all_put options before (with_tap Script old out all) s empty r;
-  long = λ is. absurd (cc);
+  so_far = all_lines options before now s none r;
+  written = put _ (all_put options before now s empty r);
+  long = λ is. absurd (short is);
 }
-stopped_source Answers options before all s old new out none empty pulls same r = record {
-  script = r.script;
-  answers = r.answers;
-  pulled = record {
-    script_given = r.pulled.script_given;
-    answers_given = subst (Consumes before.answers.to_come new.to_come) (append-nil r.answers)
-        (consumes_both before.answers.to_come old.to_come new.to_come r.answers [] r.pulled.answers_given pulls);
-  };
-  lines = r.taken ++ lines_waiting s;
-  so_far = subst (λ b. IsSoFar options all.script.ended r.script b r.answers (r.taken ++ lines_waiting s)) same
-      (all_lines options before (with_tap Answers old out all) s none r);
-  written = all_put options before (with_tap Answers old out all) s empty r;
-  long = λ is. absurd (cc);
-}
+
+-- a run that puts lines is stopped
+pub stopped_at : (done : Session → Type 0) (fault : RunFault) (options : Options) (before now : Devices) (s : Session)
+    → ((t : Session) → done t → lines_waiting t ≡ []) → IsCutOff done fault options before now s
+    → HasStopped options before now fault
+stopped_at done faults.Script options before now s puts h =
+    rested_at faults.Script options before now s (λ text put. put) (λ is. cc) h.1.failure (puts s h.1.done) h.0
+stopped_at done faults.Answers options before now s puts h =
+    rested_at faults.Answers options before now s (λ text put. put) (λ is. cc) h.1.failure (puts s h.1.done) h.0
+stopped_at done faults.Output options before now s puts h = h
+stopped_at done faults.Memory options before now s puts h = h
+stopped_at done faults.Long options before now s puts h = h
 
 -- what begins bytes are the first of them
 first_bytes : (before after : Option (List ℕ)) (xs ys all : List ℕ) → all ≡ xs ++ ys → Appends before after xs
@@ -283,6 +319,11 @@ stopped_failed options before now s t failed fault is some stands r =
     (failed_lines t failed some) (failed_long fault t failed is some) (appends_none now.out)
     (running_so (IsFed s) (StandsFor t) options before now stands r)
 
+-- the session has come to rest, and no line was put
+pub stands_settled : (options : Options) (before now : Devices) (s t : Session)
+    → ((h : History) → IsFed s h → StandsFor t h) → IsFedRun options before now s → IsRunning options before now t
+stands_settled options before now s t stands r = running_so (IsFed s) (StandsFor t) options before now stands r
+
 -- lines were not put, or not all
 open_lines : (more : Bool) (s : Session) → failure_of s ≡ None → (h : History) → IsLeftOpen more s h
     → AreFirstDecided h (h.taken ++ lines_waiting s)
@@ -369,21 +410,32 @@ pub map_err : {T E : Type 0} {P Q : E → Type 0} (r : Result T E) → IfErr r P
 map_err (Ok x) p f = tt
 map_err (Err e) p f = f e p
 
-pub on_ok : {T E P : Type 0} (r : Result T E) → P → OnOk r P
-on_ok (Ok x) p = p
-on_ok (Err e) p = tt
+pub map_both : {T E P Q S : Type 0} (r : Result T E) → OnOk r P → OnOk r Q → (P → Q → S) → OnOk r S
+map_both (Ok x) p q f = f p q
+map_both (Err e) p q f = tt
 
--- lines were put, or a fault stopped it
-pub stepped : (r : Result Unit RunFault) (options : Options) (before now : Devices) (s : Session)
+-- turns were taken, or a fault stopped that
+pub settled : (r : Result Unit RunFault) (options : Options) (before now : Devices) (s : Session)
     → OnOk r (IsRunning options before now s) → IfErr r (λ fault. HasStopped options before now fault)
-    → HasStepped r options before now s
-stepped (Ok unit) options before now s on stopped = on
-stepped (Err fault) options before now s on stopped = stopped
+    → HasSettled r options before now s
+settled (Ok unit) options before now s on stopped = on
+settled (Err fault) options before now s on stopped = stopped
 
-pub ok_stepped : (r : Result Unit RunFault) (options : Options) (before now : Devices) (s : Session)
-    → HasStepped r options before now s → OnOk r (IsRunning options before now s)
-ok_stepped (Ok unit) options before now s h = h
-ok_stepped (Err fault) options before now s h = tt
+cut_settling : (done : Session → Type 0) (fault : RunFault) (broken : Bool) (options : Options) (before now : Devices)
+    (s : Session) → IsPutFault fault broken → HasStopped options before now fault
+    → IsCutOff done fault options before now s
+cut_settling done faults.Script broken options before now s is h = absurd is
+cut_settling done faults.Answers broken options before now s is h = absurd is
+cut_settling done faults.Output broken options before now s is h = h
+cut_settling done faults.Memory broken options before now s is h = h
+cut_settling done faults.Long broken options before now s is h = h
+
+pub settled_step : (done : Session → Type 0) (r : Result Unit RunFault) (broken : Bool) (options : Options)
+    (before now : Devices) (s : Session) → IfErr r (λ fault. IsPutFault fault broken)
+    → HasSettled r options before now s → HasStepped done r options before now s
+settled_step done (Ok unit) broken options before now s blamed h = h
+settled_step done (Err fault) broken options before now s blamed h =
+    cut_settling done fault broken options before now s blamed h
 
 pub sound_kept : (told now_told : Bool) (now : Tap) (broken : Bool) → now_told ≡ told → IsSound told now broken
     → IsSound now_told now broken
@@ -408,32 +460,91 @@ report_at options before now s none script answers r =
     (all_lines options before now s none r)))
 
 -- the session has a verdict where both ends were told
-pub told_verdict : (options : Options) (before now : Devices) (s : Session) → failure_of s ≡ None
-    → now.script.ended ≡ true → now.answers.ended ≡ true → (r : IsRunning options before now s)
-    → IsVerdictIn None (r.taken ++ lines_waiting s) → ⊥
-told_verdict options before now s none script answers r silent =
-    reported options r.script r.answers (r.taken ++ lines_waiting s) (report_at options before now s none script answers r)
-    silent
+pub told_verdict : (options : Options) (before now : Devices) (s : Session) → failure_of s ≡ None → AreAtEnd now
+    → (r : IsRunning options before now s) → IsVerdictIn None (r.taken ++ lines_waiting s) → ⊥
+told_verdict options before now s none ends r silent =
+    reported options r.script r.answers (r.taken ++ lines_waiting s)
+    (report_at options before now s none ends.script ends.answers r) silent
 
 pub has_run : (options : Options) (before now : Devices) (s : Session) (v : Verdict) → failure_of s ≡ None
-    → lines_waiting s ≡ [] → now.script.ended ≡ true → now.answers.ended ≡ true → IsAtEnd now.script.to_come
-    → IsAtEnd now.answers.to_come → (r : IsRunning options before now s)
+    → lines_waiting s ≡ [] → AreAtEnd now → (r : IsRunning options before now s)
     → ((h : History) → StandsFor s h → IsVerdictIn (Some v) (h.taken ++ lines_waiting s))
     → ((h : History) → StandsFor s h → v ≡ Valid → IsValid h.options h.script.bytes h.answers.bytes)
     → ((h : History) → StandsFor s h → v ≡ Invalid
     → IsInvalid h.options h.script.bytes h.answers.bytes (h.taken ++ lines_waiting s))
     → HasRun options before now v
-has_run options before now s v none empty script answers script_end answers_end r told valid invalid = record {
+has_run options before now s v none empty ends r told valid invalid = record {
   script = r.script;
   answers = r.answers;
   pulled = r.pulled;
-  script_end = script_end;
-  answers_end = answers_end;
+  script_end = ends.script_end;
+  answers_end = ends.answers_end;
   lines = r.taken ++ lines_waiting s;
-  report = report_at options before now s none script answers r;
+  report = report_at options before now s none ends.script ends.answers r;
   verdict_is = told _ r.stands;
   valid = valid _ r.stands;
   invalid = invalid _ r.stands;
-  written = subst (λ ls. Appends before.out now.out (text_of_lines ls))
-      (sym (ap (λ ls. r.taken ++ ls) empty ∙ append-nil r.taken)) r.written;
+  written = all_put options before now s empty r;
 }
+
+-- ---- texts in memory, of which all is pulled and nothing is put
+
+all_given : (o p : Option (List ℕ)) (all given : List ℕ) → o ≡ Some all → IsAtEnd p → Consumes o p given → given ≡ all
+all_given None p all given is end took = absurd (cc)
+all_given (Some xs) None all given is end took = absurd took
+all_given (Some xs) (Some left) all given is end took =
+    let same : xs ≡ all = cc in sym (append-nil given) ∙ ap (λ l. given ++ l) (sym end) ∙ sym took ∙ same
+
+some_text : (xs : List Line) → [] ≡ text_of_lines xs → xs ≡ []
+some_text [] is = refl
+some_text (x ∷ xs) is =
+    absurd (omega (
+      arith,
+      ap length is,
+      length-append (text_of x ++ 10 ∷ []) (text_of_lines xs),
+      length-append (text_of x) (10 ∷ []),
+    ))
+
+none_put : (o p : Option (List ℕ)) (ls : List Line) → o ≡ Some [] → p ≡ Some [] → Appends o p (text_of_lines ls)
+    → ls ≡ []
+none_put None p ls is put_is put = absurd (cc)
+none_put (Some xs) None ls is put_is put = absurd put
+none_put (Some xs) (Some ys) ls is put_is put =
+    let none : xs ≡ [] = cc in
+    let none_then : ys ≡ [] = cc in
+    some_text ls (sym none_then ∙ put ∙ ap (λ l. l ++ text_of_lines ls) none)
+
+-- the devices are two texts in memory, and nothing is put
+pub record AreTexts (before now : Devices) (script answers : List ℕ) : Type 0 where
+  pub script_is : before.script.to_come ≡ Some script
+  pub answers_is : before.answers.to_come ≡ Some answers
+  pub nothing : before.out ≡ Some []
+  pub nothing_then : now.out ≡ Some []
+
+told_whole : (options : Options) (before now : Devices) (s : Session) (script answers : List ℕ)
+    → AreTexts before now script answers → AreAtEnd now → IsRunning options before now s
+    → StandsFor s (whole options script answers)
+told_whole options before now s script answers texts ends r =
+    let all = all_given before.script.to_come now.script.to_come script r.script texts.script_is ends.script_end
+    r.pulled.script_given in
+    let all_answers = all_given before.answers.to_come now.answers.to_come answers r.answers texts.answers_is
+    ends.answers_end r.pulled.answers_given in
+    let none = none_put before.out now.out r.taken texts.nothing texts.nothing_then r.written in
+    subst (λ bs. StandsFor s (whole options bs answers)) all
+    (subst (λ bs. StandsFor s (whole options r.script bs)) all_answers
+    (subst (λ ls. StandsFor s (record (whole options r.script r.answers) { taken = ls })) none
+    (subst (λ b. StandsFor s (record (whole options r.script r.answers) {
+      answers = record { bytes = r.answers; ended = b };
+      taken = r.taken;
+    })) ends.answers
+    (subst (λ b. StandsFor s (record (history options now r.script r.answers r.taken) {
+      script = record { bytes = r.script; ended = b };
+    })) ends.script r.stands))))
+
+pub whole_told : (done : Session → Type 0) (r : Result Unit RunFault) (before now : Devices) (s t : Session)
+    (script answers : List ℕ) → AreTexts before now script answers → OnOk r (AreAtEnd now)
+    → ((options : Options) → StandsFor s (begun options) → HasStepped done r options before now t)
+    → OnOk r ((options : Options) → StandsFor s (begun options) → StandsFor t (whole options script answers))
+whole_told done (Err fault) before now s t script answers texts ends followed = tt
+whole_told done (Ok unit) before now s t script answers texts ends followed = λ options k.
+    told_whole options before now t script answers texts ends (followed options k)

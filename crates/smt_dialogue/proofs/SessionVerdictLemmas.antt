@@ -7,7 +7,7 @@ use Rattle.smt_dialogue.proofs.CheckLineLemmas.{IsFaultTurn, IsToldTurn, fault_t
 use Rattle.smt_dialogue.proofs.ConfirmedLemmas.{Laws}
 use Rattle.smt_dialogue.proofs.FirstFaultLemmas.{invalid_lines, valid_lines}
 use Rattle.smt_dialogue.proofs.ReadSoFarLemmas.{so_far_is_report}
-use Rattle.smt_dialogue.proofs.SessionLemmas.{ended_verdict}
+use Rattle.smt_dialogue.proofs.SessionGrowthLemmas.{ended_verdict}
 use Rattle.smt_dialogue.proofs.ValidityLemmas.{OneForest, invalid_means, valid_means}
 use Rattle.smt_dialogue.specs.FirstFault.{Ends}
 use Rattle.smt_dialogue.specs.History.{History, whole}

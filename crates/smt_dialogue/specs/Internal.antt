@@ -9,4 +9,5 @@ pub mod ExchangeView
 pub mod SessionStep
 pub mod SessionView
 pub mod RunStep
+pub mod StreamsView
 pub mod Claims

@@ -18,6 +18,7 @@ pub mod laws;
 mod live;
 mod need;
 mod options;
+mod outlet;
 mod session;
 mod turn;
 mod validation;

@@ -264,22 +264,6 @@ impl Session {
         self.rest()
     }
 
-    /// Takes the next piece of a text, of which the end was not told, or its end where the piece is empty.
-    pub(crate) fn tell(&mut self, side: Side, piece: &[u8]) -> Result<(), Failed>
-        requires stands { (h : History) × StandsFor self.old h }
-        requires open { is_ended side self.old ≡ false }
-        requires failure { failure_of self.old ≡ None }
-        ensures stands { (h : History) → StandsFor self.old h
-            → StandsFor self.new (with_more side h piece.now (is_ended side self.new)) }
-        ensures failed { MatchResult result (λ _. failure_of self.new ≡ None)
-            (λ failed. failure_of self.new ≡ Some failed) }
-        ensures ended { is_ended side self.new ≡ nat_eq (length piece.now) 0 }
-        ensures other { is_ended (other_side side) self.new ≡ is_ended (other_side side) self.old }
-    {
-        self.take_next(side, piece);
-        self.rest()
-    }
-
     /// Takes in the next piece of a text, of which the end was not told, or its end where the piece is empty. No
     /// turn is taken.
     pub(crate) fn take_next(&mut self, side: Side, piece: &[u8])
@@ -398,8 +382,8 @@ impl Session {
         }
     }
 
-    // Takes turns as far as both texts have come.
-    fn rest(&mut self) -> Result<(), Failed>
+    /// Takes turns as far as both texts have come.
+    pub(crate) fn rest(&mut self) -> Result<(), Failed>
         requires fed { (h : History) × IsFed self.old h }
         ensures stands { (h : History) → IsFed self.old h
             → StandsFor self.new h }
@@ -411,6 +395,7 @@ impl Session {
         ensures kept { IsBeginning (lines_waiting self.old) (lines_waiting self.new) }
         ensures script_ended { is_script_ended self.new ≡ is_script_ended self.old }
         ensures answers_ended { is_answers_ended self.new ≡ is_answers_ended self.old }
+        ensures left { left_of self.new ≡ left_of self.old }
     {
         match self.take_turns(None) {
             Ok(false) => Ok(()),

@@ -1,5 +1,5 @@
 -- What the lines of a report come to. These are this project's rules.
-use Rattle.std.specs.Prelude.{◌≡◌, List, [], ◌∷◌, ◌++◌, Bool, true, false, count_by, if◌then◌else◌}
+use Rattle.std.specs.Prelude.{◌≡◌, ℕ, List, [], ◌∷◌, ◌++◌, Bool, true, false, count_by, if◌then◌else◌}
 use Rattle.std.specs.List.{list_any}
 use Rattle.smt_report.specs.declared.line.Line.{Line}
 use Rattle.smt_report.specs.declared.line.Line.TheVariants as lines
@@ -61,3 +61,15 @@ with_verdict ls = ls ++ lines.Verdict (verdict_of ls) (tally_of ls) ∷ []
 abbrev pub IsVerdictOf : Verdict → List Line → Type 0
 IsVerdictOf verdict ls =
     (prefix : List Line) × (tally : Tally) × (ls ≡ prefix ++ lines.Verdict verdict tally ∷ [])
+
+-- the exit status that tells a verdict
+abbrev pub status_of : Verdict → ℕ
+status_of verdicts.Valid = 0
+status_of verdicts.Invalid = 1
+status_of verdicts.NotDecided = 2
+status_of verdicts.Refused = 3
+
+-- and where a dialogue is valid only if every check of it is confirmed, and there is one
+abbrev pub strict_status_of : Verdict → (all_confirmed : Bool) → ℕ
+strict_status_of verdicts.Valid false = 2
+strict_status_of verdict _ = status_of verdict

@@ -99,6 +99,32 @@ pub enum Verdict {
     Refused,
 }
 
+impl Verdict {
+    /// The exit status that tells it: 0 for valid, 1 for invalid, 2 for not decided, 3 for refused.
+    pub fn status(self) -> u8
+        ensures status { result ≡ verdicts.status_of self }
+        ensures below { result < 4 }
+    {
+        match self {
+            Verdict::Valid => 0,
+            Verdict::Invalid => 1,
+            Verdict::NotDecided => 2,
+            Verdict::Refused => 3,
+        }
+    }
+
+    /// The exit status where a dialogue is valid only if every check of it is confirmed, and there is one: 2 in
+    /// place of 0 where that is not so.
+    pub fn strict_status(self, all_confirmed: bool) -> u8
+        ensures { result ≡ verdicts.strict_status_of self all_confirmed }
+    {
+        match self {
+            Verdict::Valid if !all_confirmed => Verdict::NotDecided.status(),
+            _ => self.status(),
+        }
+    }
+}
+
 impl fmt::Display for Verdict {
     ghost use Rattle.std.specs.Prelude.{Some};
     ghost use Rattle.smt_report.specs.LineText.{text_of_verdict};

@@ -3,7 +3,7 @@ use Rattle.std.specs.Prelude.{◌≡◌, ℕ, List, [], Bool, Option, Some, None
 use Rattle.std.specs.Io.KnownBytes.{Appends, IsAtEnd}
 use Rattle.smt_dialogue.specs.History.{History, of_side}
 use Rattle.smt_dialogue.specs.Run.{ArePulled, Devices, HasStopped, Tap, text_of_lines}
-use Rattle.smt_dialogue.specs.Session.{StandsFor, failure_of, lines_waiting}
+use Rattle.smt_dialogue.specs.Session.{StandsFor, failure_of}
 use Rattle.smt_dialogue.specs.Internal.SessionStep.{IsFed, IsLeftOpen}
 use Rattle.smt_dialogue.specs.declared.live.RunFault.{RunFault}
 use Rattle.smt_dialogue.specs.declared.live.RunFault.TheVariants as faults
@@ -45,10 +45,10 @@ IsFedRun options before now s = IsRunningBy (IsFed s) options before now
 abbrev pub IsPutRun : (more : Bool) → Options → (before now : Devices) → Session → Type 0
 IsPutRun more options before now s = IsRunningBy (IsLeftOpen more s) options before now
 
--- no call of the session has failed, and every line that is decided was put
-pub record IsAtRest (s : Session) : Type 0 where
+-- no call of the session has failed, and no line of it is left to put
+pub record IsAtRest (is_done : Session → Type 0) (s : Session) : Type 0 where
   pub failure : failure_of s ≡ None
-  pub waiting : lines_waiting s ≡ []
+  pub done : is_done s
 
 -- a source has not failed, and where it has told its end, the session was told it, and nothing is left to come
 pub record IsSound (told : Bool) (now : Tap) (broken : Bool) : Type 0 where
@@ -56,10 +56,29 @@ pub record IsSound (told : Bool) (now : Tap) (broken : Bool) : Type 0 where
   pub sound : broken ≡ false
   pub end : now.ended ≡ true → IsAtEnd now.to_come
 
--- a step of a run comes to this
-abbrev pub HasStepped : Result Unit RunFault → Options → (before now : Devices) → Session → Type 0
-HasStepped (Ok unit) options before now s = IsRunning options before now s
-HasStepped (Err fault) options before now s = HasStopped options before now fault
+-- both sources have come to their ends, and have told them
+pub record AreAtEnd (now : Devices) : Type 0 where
+  pub script : now.script.ended ≡ true
+  pub answers : now.answers.ended ≡ true
+  pub script_end : IsAtEnd now.script.to_come
+  pub answers_end : IsAtEnd now.answers.to_come
+
+-- turns were taken as far as both texts have come, or a fault stops the run
+abbrev pub HasSettled : Result Unit RunFault → Options → (before now : Devices) → Session → Type 0
+HasSettled (Ok unit) options before now s = IsRunning options before now s
+HasSettled (Err fault) options before now s = HasStopped options before now fault
+
+-- a fault stops the run: where a source has failed the session is as it was, and at rest
+abbrev pub IsCutOff : (is_done : Session → Type 0) → RunFault → Options → (before now : Devices) → Session → Type 0
+IsCutOff is_done faults.Script options before now s = IsRunning options before now s × IsAtRest is_done s
+IsCutOff is_done faults.Answers options before now s = IsRunning options before now s × IsAtRest is_done s
+IsCutOff is_done fault options before now s = HasStopped options before now fault
+
+-- steps of a run come to this
+abbrev pub HasStepped : (is_done : Session → Type 0) → Result Unit RunFault → Options → (before now : Devices)
+    → Session → Type 0
+HasStepped is_done (Ok unit) options before now s = IsRunning options before now s
+HasStepped is_done (Err fault) options before now s = IsCutOff is_done fault options before now s
 
 -- with another source on this side, and with another sink
 abbrev pub with_tap : Side → Tap → (out : Option (List ℕ)) → Devices → Devices

@@ -84,3 +84,13 @@ abbrev pub left_of : Session → ℕ
 left_of s =
     (2 ^ 64 - script_count s) + (if is_script_ended s then 0 else 1)
     + ((2 ^ 64 - answers_count s) + (if is_answers_ended s then 0 else 1))
+
+-- a session that has failed has failed for good
+abbrev pub StaysFailed : (before after : Session) → Type 0
+StaysFailed before after = (failed : Failed) → failure_of before ≡ Some failed → failure_of after ≡ Some failed
+
+-- no more was told of a text meanwhile
+pub record SameTexts (before after : Session) : Type 0 where
+  pub script : is_script_ended after ≡ is_script_ended before
+  pub answers : is_answers_ended after ≡ is_answers_ended before
+  pub left : left_of after ≡ left_of before

@@ -1,26 +1,20 @@
 -- what was pulled and put so far
-use Rattle.std.proofs.Common.{◌≡◌, false}
 use Rattle.smt_dialogue.specs.History.{begun}
-use Rattle.smt_dialogue.specs.Run.{devices, tap}
-use Rattle.smt_dialogue.specs.Session.{StandsFor, is_answers_ended, is_script_ended}
-use Rattle.smt_dialogue.specs.Internal.RunStep.{IsAtRest, IsRunning, IsSound}
+use Rattle.smt_dialogue.specs.Session.{StandsFor}
+use Rattle.smt_dialogue.specs.Internal.RunStep.{IsAtRest, IsRunning}
 use Rattle.smt_dialogue.specs.Internal.SessionStep.{left_of}
+use Rattle.smt_dialogue.specs.Internal.StreamsView.{AreSound, SameReferences, devices_of}
 use Rattle.smt_dialogue.specs.declared.options.Options.{Options}
 use Rattle.smt_dialogue.proofs.live.follow.Given as goal
 
 abbrev pub invariant-loop-side : goal.invariant-loop-side
 invariant-loop-side g l = record {
-  rest : IsAtRest l.session;
-  script : IsSound (is_script_ended l.session)
-      (tap (g.R1.Source.to_come l.script) (g.R1.Source.has_ended l.script)) (g.R1.Source.is_broken l.script);
-  answers : IsSound (is_answers_ended l.session)
-      (tap (g.R2.Source.to_come l.answers) (g.R2.Source.has_ended l.answers)) (g.R2.Source.is_broken l.answers);
-  out_sound : g.W.Sink.is_broken l.out ≡ false;
+  rest : IsAtRest g.L.Outlet.is_done l.session;
+  sound : AreSound g.R1.Source g.R2.Source g.L.Outlet l.session l.streams;
+  references : SameReferences g.L.Outlet l.fn.streams l.streams;
   running : (options : Options) → StandsFor l.fn.session (begun options) → IsRunning options
-      (devices (tap (g.R1.Source.to_come l.fn.script) (g.R1.Source.has_ended l.fn.script))
-      (tap (g.R2.Source.to_come l.fn.answers) (g.R2.Source.has_ended l.fn.answers)) (g.W.Sink.taken l.fn.out))
-      (devices (tap (g.R1.Source.to_come l.script) (g.R1.Source.has_ended l.script))
-      (tap (g.R2.Source.to_come l.answers) (g.R2.Source.has_ended l.answers)) (g.W.Sink.taken l.out)) l.session;
+      (devices_of g.R1.Source g.R2.Source g.L.Outlet l.fn.streams)
+      (devices_of g.R1.Source g.R2.Source g.L.Outlet l.streams) l.session;
 }
 
 abbrev pub decreases-loop-side : goal.decreases-loop-side

@@ -1,6 +1,7 @@
 use Rattle.std.proofs.Common.{◌∙◌, refl, sym}
-use Rattle.smt_dialogue.proofs.SessionLemmas.{end_counted, end_fed, end_grows, ended_stands, failed_stands, fed_ended}
-use Rattle.smt_dialogue.proofs.SessionLemmas.{fed_failed, going_fed, left_end, none_by, some_by, told_end}
+use Rattle.smt_dialogue.proofs.SessionFeedLemmas.{end_counted, end_fed, end_grows, left_end, told_end}
+use Rattle.smt_dialogue.proofs.SessionGrowthLemmas.{ended_stands, failed_stands}
+use Rattle.smt_dialogue.proofs.SessionTurnLemmas.{fed_ended, fed_failed, going_fed, none_by, some_by}
 use Rattle.smt_dialogue.specs.History.{with_end}
 use Rattle.smt_dialogue.proofs.session.Session.take_end.Goals as goal
 

@@ -1,7 +1,7 @@
 use Rattle.std.proofs.Common.{◌∙◌, arith, length, refl, sym}
-use Rattle.smt_dialogue.proofs.SessionLemmas.{ended_stands, failed_stands, fed_ended, fed_failed, going_fed, left_piece}
-use Rattle.smt_dialogue.proofs.SessionLemmas.{long_stands, none_by, piece_counted, piece_fed, piece_grows, piece_long, some_by}
-use Rattle.smt_dialogue.proofs.SessionLemmas.{told_piece}
+use Rattle.smt_dialogue.proofs.SessionFeedLemmas.{left_piece, piece_counted, piece_fed, piece_grows, piece_long, told_piece}
+use Rattle.smt_dialogue.proofs.SessionGrowthLemmas.{ended_stands, failed_stands, stopped_stands}
+use Rattle.smt_dialogue.proofs.SessionTurnLemmas.{fed_ended, fed_failed, going_fed, none_by, some_by}
 use Rattle.smt_dialogue.specs.History.{with_piece}
 use Rattle.smt_dialogue.specs.declared.session.Failed.TheVariants.{Long}
 use Rattle.smt_dialogue.proofs.session.Session.take_in.Goals as goal
@@ -22,10 +22,10 @@ returns-in_default-clause-fed c = λ h k.
     let side = c.args.side in
     let piece = c.args.piece.now in
     let none = none_by s.failure c.if-is_some.ensures in
+    let long = piece_long side s h piece (k.counted none) (omega (arith, c.in_default.ensures, c.bytes.ensures)) in
     fed_failed _ (with_piece side h piece) Long refl
-    (long_stands c.text_laws.ensures s _ h (with_piece side h piece) none refl refl refl
-    (told_piece side s _ h piece refl refl k) (piece_grows side s h piece c.requires.open k) refl
-    (piece_long side s h piece (k.counted none) (omega (arith, c.in_default.ensures, c.bytes.ensures))) k)
+    (stopped_stands c.text_laws.ensures s _ h (with_piece side h piece) Long refl refl refl
+    (told_piece side s _ h piece refl refl k) (piece_grows side s h piece c.requires.open k) refl (λ _. long) k)
 
 pub returns-then-is_some-2-clause-fed : goal.returns-then-is_some-2-clause-fed
 returns-then-is_some-2-clause-fed c = λ h k.

@@ -5,7 +5,7 @@ use Rattle.smt_dialogue.specs.Run.{text_of_lines}
 use Rattle.smt_report.specs.LineText.{text_of}
 use Rattle.smt_report.specs.declared.line.CheckAnswer.TheVariants.{Unsat}
 use Rattle.smt_report.specs.declared.line.Line.TheVariants.{Unchecked}
-use Rattle.smt_dialogue.proofs.live.text_of_lines.Goals as goal
+use Rattle.smt_dialogue.proofs.outlet.text_of_lines.Goals as goal
 
 pub loop-line-preserved : goal.loop-line-preserved
 loop-line-preserved c =

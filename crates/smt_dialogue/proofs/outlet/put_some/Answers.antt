@@ -1,6 +1,6 @@
 use Rattle.smt_dialogue.proofs.RunLemmas.{put_fed, put_run, stopped_failed, stopped_put}
 use Rattle.smt_dialogue.specs.Run.{Devices}
-use Rattle.smt_dialogue.proofs.live.put_some.Goals as goal
+use Rattle.smt_dialogue.proofs.outlet.put_some.Goals as goal
 
 pub returns-in-Ok-put_lines-clause-put : goal.returns-in-Ok-put_lines-clause-put
 returns-in-Ok-put_lines-clause-put g c = λ options before now r.
