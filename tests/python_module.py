@@ -77,7 +77,18 @@ class Main(Files):
         for word in ("-V", "--version"):
             done = run(word)
             self.assertEqual((done.stdout.decode(), done.stderr), (f"smtcheck {smtcheck.version()}\n", b""))
-            self.assertIn(done.returncode, (0, 5))
+            self.assertEqual(done.returncode, 0)
+
+    def test_an_explanation(self) -> None:
+        done = run("--print-success=off", "--explain", *self.files)
+        report, told = (made(SCRIPT, WRONG, print_success=False) for made in (smtcheck.check, smtcheck.explain))
+        self.assertEqual((done.returncode, done.stdout.decode()), (1, f"{report}{told}"))
+        self.assertIn("claim: script:1:22", str(told))
+
+    def test_a_strict_status(self) -> None:
+        for answers, status in ((RIGHT, 0), (WRONG, 1), ("unsat", 3), ("unsat ()", 2)):
+            pathlib.Path(self.files[1]).write_text(answers)
+            self.assertEqual(run("--print-success=off", "--strict", *self.files).returncode, status, answers)
 
 
 class Arguments(Files):
@@ -192,6 +203,9 @@ class Explanations(unittest.TestCase):
         self.assertEqual([each.spot for each in fault.details], [smtcheck.Spot("script", 2, 2), smtcheck.Spot("script", 1, 1)])
         (fault,) = smtcheck.explain("(assert (f q))", "", print_success=False).told
         self.assertEqual((fault.details[1].kind, fault.details[1].text), ("unknown", "q"))
+        (fault,) = smtcheck.explain("(assert (= 1 true))", "", print_success=False).told
+        self.assertEqual((fault.details[1].kind, fault.details[1].text), ("ill sorted", "(= 1 true)"))
+        self.assertEqual(fault.details[2].text, "argument 2, true, is of sort Bool, and Int is needed")
         check, fault = smtcheck.explain("(check-sat)(frob)", "unsat", print_success=False).told
         self.assertEqual((check.details[0].kind, check.details[0].text), ("answer", "unsat"))
 

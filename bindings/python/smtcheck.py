@@ -46,13 +46,13 @@ import operator
 import os
 import re
 import sys
-from typing import Iterator, List, NamedTuple, NoReturn, Optional, Sequence, Tuple, Union
+from typing import Callable, Iterator, List, NamedTuple, NoReturn, Optional, Sequence, Tuple, Union
 
 __all__ = [
     "Detail", "Explained", "Explanation", "Item", "LibraryError", "Line", "Part", "Place", "Report", "STEPS", "Session", "Spot", "VERDICTS", "Value",
     "check", "check_files", "explain", "explanation_of", "line_of", "main", "version",
 ]
-__version__ = "0.5.0"
+__version__ = "0.6.0"
 
 VERDICTS = ("valid", "invalid", "not decided", "refused")
 MEMORY, OPTIONS, OPEN, LONG = 4, 5, 6, 7
@@ -336,6 +336,21 @@ def version() -> str:
         room = wanted
 
 
+def _filled(call: Callable[..., int]) -> Tuple[int, str]:
+    """What a call answers, and the text that it fills: at the second time, if there was no room for it at the first."""
+    room = 4096
+    while True:
+        buffer, wanted = ctypes.create_string_buffer(room), ctypes.c_size_t()
+        outcome = call(buffer, room, wanted)
+        if outcome == MEMORY:
+            raise MemoryError("smtcheck: memory")
+        if outcome == OPTIONS:
+            raise ValueError("smtcheck: options")
+        if wanted.value <= room:
+            return outcome, buffer.raw[: wanted.value].decode("ascii")
+        room = wanted.value
+
+
 def check(script: Text, answers: Text, print_success: bool = True, steps: int = STEPS) -> Report:
     """The report on a dialogue: the script that a solver read, and the text that it printed, in order.
 
@@ -351,22 +366,11 @@ def check(script: Text, answers: Text, print_success: bool = True, steps: int = 
     MemoryError is raised where memory was refused, ValueError for a number of steps out of range, and TypeError for an argument of another
     type, which it names.
     """
-    options, summary, wanted = _options_of(print_success, steps), _Summary(), ctypes.c_size_t()
+    options, summary = _options_of(print_success, steps), _Summary()
     texts = [_bytes_of(script, "script"), _bytes_of(answers, "answers")]
-    room = 4096
-    while True:
-        buffer = ctypes.create_string_buffer(room)
-        outcome = _library().smtcheck_validate(
-            texts[0], len(texts[0]), texts[1], len(texts[1]), options, summary, buffer, room, wanted
-        )
-        if outcome == MEMORY:
-            raise MemoryError("smtcheck: memory")
-        if outcome == OPTIONS:
-            raise ValueError("smtcheck: options")
-        if wanted.value <= room:
-            break
-        room = wanted.value
-    text = buffer.raw[: wanted.value].decode("ascii")
+    outcome, text = _filled(
+        lambda *room: _library().smtcheck_validate(texts[0], len(texts[0]), texts[1], len(texts[1]), options, summary, *room)
+    )
     lines = tuple(line_of(line) for line in text.splitlines()[:-1])
     return Report(
         VERDICTS[outcome], summary.confirmed, summary.refuted, summary.undecided, summary.unchecked, lines, text
@@ -386,20 +390,9 @@ def explain(script: Text, answers: Text, print_success: bool = True, steps: int 
     >>> explain("(check-sat)(get-model)", "sat ()", print_success=False)
     Explanation(verdict='valid', told=(), text='')
     """
-    options, wanted = _options_of(print_success, steps), ctypes.c_size_t()
+    options = _options_of(print_success, steps)
     texts = [_bytes_of(script, "script"), _bytes_of(answers, "answers")]
-    room = 4096
-    while True:
-        buffer = ctypes.create_string_buffer(room)
-        outcome = _library().smtcheck_explain(texts[0], len(texts[0]), texts[1], len(texts[1]), options, buffer, room, wanted)
-        if outcome == MEMORY:
-            raise MemoryError("smtcheck: memory")
-        if outcome == OPTIONS:
-            raise ValueError("smtcheck: options")
-        if wanted.value <= room:
-            break
-        room = wanted.value
-    text = buffer.raw[: wanted.value].decode("ascii")
+    outcome, text = _filled(lambda *room: _library().smtcheck_explain(texts[0], len(texts[0]), texts[1], len(texts[1]), options, *room))
     return Explanation(VERDICTS[outcome], explanation_of(text), text)
 
 
@@ -588,7 +581,7 @@ _SPOT = r"(script|answers):(\d+):(\d+)"
 _TOLD = re.compile(rf"(?:check (\d+)|fault): {_SPOT}(?:, command (\d+))?(?:: (.*))?")
 _PART = re.compile(rf"  (true|false|open|value): (?!the (?:outermost )?list at )(.*?)(?:   at {_SPOT}, in (.*))?")
 _DETAIL = re.compile(rf"  ([a-z][a-z ]*?(?:,? \d+)?)(?:: the [a-z ]+)?(?:: | at ){_SPOT}(?:, command (\d+))?(?:: (.*))?")
-_NAMED = re.compile(r"  (unknown|bound twice|claim|also false|too long|no model): (.*)")
+_NAMED = re.compile(r"  (unknown|bound twice|claim|also false|too long|no model|ill sorted|parameters declared): (.*)")
 _ITEM = re.compile(rf"(.*) at {_SPOT}")
 _TOKEN = re.compile(r'\|[^|]*\||"[^"]*"|[()]|[^\s()|",]+|\s')
 
@@ -730,11 +723,13 @@ def main(words: Optional[Sequence[str]] = None) -> int:
     parser.add_argument("answers", metavar="ANSWERS", help="what the solver printed")
     parser.add_argument("--print-success", action=_Once, choices=("on", "off"), default="on", help="whether it prints `success`, from the start")
     parser.add_argument("--steps", action=_Once, metavar="N", type=_steps, default=STEPS, help="how many steps the evaluation of a model may take")
+    parser.add_argument("--explain", action="store_true", help="tells behind the report where and why, and calls the files `script` and `answers`")
+    parser.add_argument("--strict", action="store_true", help="ends with 2 in place of 0 unless each check is confirmed, and there is one")
     parser.add_argument("-V", "--version", action="store_true", help="prints the version")
     try:
         given_words = sys.argv[1:] if words is None else list(words)
         if given_words in (["-V"], ["--version"]):
-            return 5 if _print(f"smtcheck {version()}\n") else _said("output")
+            return 0 if _print(f"smtcheck {version()}\n") else _said("output")
         given = parser.parse_args(given_words)
         if given.version:
             parser.error("--version stands alone")
@@ -745,8 +740,13 @@ def main(words: Optional[Sequence[str]] = None) -> int:
                     texts.append(file.read())
             except (OSError, ValueError):
                 return _said(name)
-        report = check(texts[0], texts[1], given.print_success == "on", given.steps)
-        return report.status if _print(report.text) else _said("output")
+        options = given.print_success == "on", given.steps
+        report = check(texts[0], texts[1], *options)
+        explanation = explain(texts[0], texts[1], *options).text if given.explain else ""
+        if not _print(report.text + explanation):
+            return _said("output")
+        is_strict_failure = given.strict and report.status == 0 and (report.unchecked > 0 or report.confirmed == 0)
+        return 2 if is_strict_failure else report.status
     except LibraryError as error:
         return _said(f"library: {error}")
     except MemoryError:

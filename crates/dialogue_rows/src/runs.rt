@@ -34,6 +34,8 @@ struct Ran {
     written: Vec<u8>,
     /// Whether the call that fails was made.
     met: bool,
+    /// How many calls the two readers and the writer got.
+    calls: [u64; 3],
 }
 
 /// Prints the report on a dialogue, and how many bytes it has. Then each further field says what fails: its
@@ -117,9 +119,9 @@ fn print_runs<W: Write>(
 
 fn failing_of(field: &Field) -> Result<Failing> {
     match (field.key, field.text.as_str()) {
-        ("fails", "script") => Ok(Failing::Script),
-        ("fails", "answers") => Ok(Failing::Answers),
-        ("fails", "output") => Ok(Failing::Output),
+        ("fails" | "counts", "script") => Ok(Failing::Script),
+        ("fails" | "counts", "answers") => Ok(Failing::Answers),
+        ("fails" | "counts", "output") => Ok(Failing::Output),
         ("stops", "output") => Ok(Failing::Stops),
         _ => bail!("line {}: no device of a run fails so", field.line),
     }
@@ -150,10 +152,12 @@ fn run_failing(
     );
     let outcome = run_over(alloc, &mut script, &mut answers, &mut out, dialogue.options);
     let met = script.is_failed() || answers.is_failed() || out.is_failed();
+    let calls = [script.made(), answers.made(), out.made()];
     Ok(Ran {
         outcome,
         written: out.into_bytes(),
         met,
+        calls,
     })
 }
 
@@ -196,7 +200,12 @@ fn write_ran<W: Write>(
     }
     let device = field.text.as_str();
     if ran.met {
-        write!(out, "{device}, call {number} {}: ", field.key)?;
+        let verb = if field.key == "counts" {
+            "fails"
+        } else {
+            field.key
+        };
+        write!(out, "{device}, call {number} {verb}: ")?;
     } else {
         write!(out, "{device}, no call {number}: ")?;
     }
@@ -204,6 +213,14 @@ fn write_ran<W: Write>(
         Ok(_) => write!(out, "status {}", status_of(&ran.outcome))?,
         Err(fault) => write!(out, "{fault}")?,
     }
-    writeln!(out, ", {} bytes", ran.written.len())?;
+    write!(out, ", {} bytes", ran.written.len())?;
+    if field.key == "counts" {
+        let [script, answers, output] = ran.calls;
+        write!(
+            out,
+            ", calls: script {script}, answers {answers}, output {output}"
+        )?;
+    }
+    writeln!(out)?;
     Ok(())
 }

@@ -10,6 +10,8 @@ pub(crate) struct Calls {
     before: u64,
     /// Whether that was made.
     failed: bool,
+    /// How many were made.
+    made: u64,
 }
 
 impl Calls {
@@ -18,6 +20,7 @@ impl Calls {
         Calls {
             before: number.saturating_sub(1),
             failed: false,
+            made: 0,
         }
     }
 
@@ -26,11 +29,13 @@ impl Calls {
         Calls {
             before: u64::MAX,
             failed: false,
+            made: 0,
         }
     }
 
     // Counts a call, and answers whether it fails.
     fn fails(&mut self) -> bool {
+        self.made = self.made.saturating_add(1);
         if self.before == 0 {
             self.failed = true;
             return true;
@@ -55,6 +60,11 @@ impl<'a> Text<'a> {
     /// Whether the call that fails was made.
     pub(crate) fn is_failed(&self) -> bool {
         self.calls.failed
+    }
+
+    /// How many calls were made.
+    pub(crate) fn made(&self) -> u64 {
+        self.calls.made
     }
 }
 
@@ -92,6 +102,11 @@ impl Narrow {
     /// Whether the call that fails was made.
     pub(crate) fn is_failed(&self) -> bool {
         self.calls.failed
+    }
+
+    /// How many calls with bytes were made.
+    pub(crate) fn made(&self) -> u64 {
+        self.calls.made
     }
 
     /// The bytes that were taken.
