@@ -46,7 +46,7 @@ impl Decided {
         ensures kept { OnErr result (self.new.lines.items ≡ self.old.lines.items) }
     {
         match (new.ended, new.own) {
-            (None, None) => self.add_all(&[]),
+            (None, None) => Ok(()),
             (Some(line), None) | (None, Some(line)) => self.add_all(&[line]),
             (Some(ended), Some(own)) => self.add_all(&[ended, own]),
         }
