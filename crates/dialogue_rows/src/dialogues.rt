@@ -8,7 +8,6 @@ use crate::dialogues::pieces::{Dialogue, print_other};
 use anyhow::{Result, bail};
 use row_texts::{Field, is_on, want_key};
 use smt_dialogue::{Limit, Options, Report, validate};
-use smtcheck_status::status_of;
 use std::alloc::{AllocError, Global};
 use std::io;
 use std::io::Write;
@@ -100,5 +99,5 @@ fn write_report<W: Write>(out: &mut W, report: &Report) -> io::Result<()> {
     for line in &report.lines {
         writeln!(out, "{line}")?;
     }
-    writeln!(out, "status {}", status_of(&Ok(report.verdict)))
+    writeln!(out, "status {}", report.verdict.status())
 }

@@ -10,7 +10,6 @@ use anyhow::{Result, bail};
 use row_texts::{Field, is_on, want_key};
 use smt_dialogue::{Options, RunFault, Verdict, run, validate};
 use smt_streams::Device;
-use smtcheck_status::status_of;
 use std::alloc::Global;
 use std::io::Write;
 
@@ -210,7 +209,7 @@ fn write_ran<W: Write>(
         write!(out, "{device}, no call {number}: ")?;
     }
     match &ran.outcome {
-        Ok(_) => write!(out, "status {}", status_of(&ran.outcome))?,
+        Ok(verdict) => write!(out, "status {}", verdict.status())?,
         Err(fault) => write!(out, "{fault}")?,
     }
     write!(out, ", {} bytes", ran.written.len())?;

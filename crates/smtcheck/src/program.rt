@@ -1,16 +1,18 @@
 //! The program: from the words of the command line to the exit status. This file opens no file, and knows no
 //! verdict.
 
-ghost use Rattle.std.specs.Prelude.{◌<◌, ◌-◌, ◌^◌};
+ghost use Rattle.std.specs.Prelude.{◌≡◌, ◌<◌, ◌-◌, ◌^◌};
 
 use crate::files::{Ran, run};
 use crate::room::has_room;
-use smt_dialogue::{RunFault, Verdict};
+use smt_dialogue::RunFault;
 use smtcheck_command_line::{LineFault, Settings, settings};
-use smtcheck_status::{status_of, strict_status};
 use std::alloc::{AllocError, Global};
 use std::rt::{Env, Files};
 use std::{env, io};
+
+/// The status where there is no report.
+const NO_REPORT: u8 = 4;
 
 /// The status of a command line that was refused, or asked for help.
 const REFUSED: u8 = 5;
@@ -28,11 +30,11 @@ pub(crate) fn run_program<R: Files + Env + AllocGlobal + Print + Eprint>(
             let _ = eprintln!(rt; "error: invalid UTF-8 was detected in one or more arguments");
             return REFUSED;
         }
-        Err(_) => return status(rt, Err(RunFault::Memory)),
+        Err(_) => return tell_fault(rt, RunFault::Memory),
     };
     match as_strs(rt.alloc(), words.as_slice()) {
         Ok(words) => run_words(rt, words.as_slice(), on_terminal),
-        Err(_) => status(rt, Err(RunFault::Memory)),
+        Err(_) => tell_fault(rt, RunFault::Memory),
     }
 }
 
@@ -43,7 +45,7 @@ pub(crate) fn run_words<R: Files + AllocGlobal + Print + Eprint>(
     on_terminal: bool,
 ) -> u8 {
     match settings(rt.alloc(), words) {
-        Ok(_) if !has_room(rt) => status(rt, Err(RunFault::Memory)),
+        Ok(_) if !has_room(rt) => tell_fault(rt, RunFault::Memory),
         Ok(settings) => run_settings(rt, settings, on_terminal),
         Err(fault) => refuse(rt, fault),
     }
@@ -60,12 +62,13 @@ fn run_settings<R: Files + AllocGlobal + Print + Eprint>(
     match run(rt, settings, settings.explain || on_terminal) {
         Ok(ran) => {
             tell_beside(rt, ran);
-            strict_status(
-                status(rt, Ok(ran.verdict)),
-                ran.all_confirmed || !settings.strict,
-            )
+            if settings.strict {
+                ran.verdict.strict_status(ran.all_confirmed)
+            } else {
+                ran.verdict.status()
+            }
         }
-        Err(fault) => status(rt, Err(fault)),
+        Err(fault) => tell_fault(rt, fault),
     }
 }
 
@@ -84,7 +87,7 @@ fn tell_beside<R: Eprint>(rt: &R, ran: Ran) {
 fn refuse<R: Print + Eprint>(rt: &R, fault: LineFault) -> u8 {
     let is_version = fault.asks_for_version();
     match fault {
-        LineFault::Memory => status(rt, Err(RunFault::Memory)),
+        LineFault::Memory => tell_fault(rt, RunFault::Memory),
         LineFault::Refused(error) => {
             let _ = error.print(rt);
             if is_version { 0 } else { REFUSED }
@@ -92,12 +95,12 @@ fn refuse<R: Print + Eprint>(rt: &R, fault: LineFault) -> u8 {
     }
 }
 
-// The status of a run, whose fault is told, if it has one.
-fn status<R: Eprint>(rt: &R, outcome: Result<Verdict, RunFault>) -> u8 {
-    if let Err(fault) = &outcome {
-        let _ = eprintln!(rt; "{fault}");
-    }
-    status_of(&outcome)
+// Tells on standard error why there is no report, and answers the status of that.
+fn tell_fault<R: Eprint>(rt: &R, fault: RunFault) -> u8
+    ensures { result ≡ 4 }
+{
+    let _ = eprintln!(rt; "{fault}");
+    NO_REPORT
 }
 
 // The words of the command line, the program's name first.

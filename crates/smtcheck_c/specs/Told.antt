@@ -1,14 +1,13 @@
 -- What C is told of a dialogue.
-use Rattle.std.specs.Prelude.{◌≡◌, ◌<◌, ◌≤◌, ℕ, List, ◌++◌, Ok, count_by, drop, length}
+use Rattle.std.specs.Prelude.{◌≡◌, ◌<◌, ◌≤◌, ℕ, List, ◌++◌, count_by, drop, length}
 use Rattle.smt_dialogue.specs.Report.{IsReport}
 use Rattle.smt_dialogue.specs.Run.{text_of_lines}
 use Rattle.smt_dialogue.specs.Validity.{IsInvalid, IsValid}
 use Rattle.smt_dialogue.specs.declared.options.Options.{Options}
 use Rattle.smt_report.specs.Verdict.{IsVerdictOf, is_confirmed_line, is_refuted_line, is_unchecked_line}
-use Rattle.smt_report.specs.Verdict.{is_undecided_line}
+use Rattle.smt_report.specs.Verdict.{is_undecided_line, status_of}
 use Rattle.smt_report.specs.declared.line.Line.{Line}
 use Rattle.smt_report.specs.declared.verdict.Verdict.{Verdict}
-use Rattle.smtcheck_status.specs.Status.{status_number}
 use Rattle.smtcheck_c.specs.Given.{AreGiven}
 use Rattle.smtcheck_c.specs.declared.options.SmtcheckOptions.{SmtcheckOptions}
 use Rattle.smtcheck_c.specs.declared.summary.SmtcheckSummary.{SmtcheckSummary}
@@ -34,7 +33,7 @@ pub record IsTelling (options : Options) (script answers : List ℕ) (number : �
   pub report : IsReport options script answers lines
   pub verdict : Verdict
   pub verdict_is : IsVerdictOf verdict lines
-  pub number_is : number ≡ status_number (Ok verdict)
+  pub number_is : number ≡ status_of verdict
   pub summary_is : IsSummaryOf summary lines
   pub text_is : text ≡ text_of_lines lines
   pub valid : number ≡ 0 → IsValid options script answers
@@ -70,7 +69,7 @@ pub record IsNumbered (options : Options) (script answers : List ℕ) (number : 
   pub report : IsReport options script answers lines
   pub verdict : Verdict
   pub verdict_is : IsVerdictOf verdict lines
-  pub number_is : number ≡ status_number (Ok verdict)
+  pub number_is : number ≡ status_of verdict
 
 -- C is told a text about these texts, and the number of their verdict: so many bytes are wanted for it, and it
 -- stands in the buffer if there is room for all of it. Nothing is said of what the text is

@@ -32,7 +32,8 @@ pub extern "C" fn smtcheck_explain(
     text: &mut [u8],
     wanted: &mut usize,
 ) -> u32
-    ensures told { result < 4 → IsExplained options.now script.now answers.now result wanted.new text.old text.new }
+    ensures told { result < 4
+        → IsExplained options.now script.now answers.now result wanted.new text.old text.new }
     ensures outcome { result ≤ 5 }
     ensures options { (result ≡ 5) ↔ (options.now.steps ≡ 2 ^ 64 - 1) }
     ensures text { 4 ≤ result → text.new ≡ text.old }

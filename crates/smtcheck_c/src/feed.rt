@@ -1,12 +1,12 @@
 //! A session, with the lines that were taken of it and that C was not given: its buffer had no room for their text,
 //! or memory was refused. This file knows no pointer.
 
-ghost use Rattle.std.specs.Prelude.{◌≡◌, ◌≢◌, ◌<◌, ◌⊎◌, [], false, true, IfOk, OnErr};
+ghost use Rattle.std.specs.Prelude.{◌≡◌, ◌≢◌, ◌<◌, ◌⊎◌, false, true, IfOk, OnErr};
 ghost use Rattle.smt_dialogue.specs.History.{History, begun, with_answers, with_answers_end, with_script};
 ghost use Rattle.smt_dialogue.specs.History.{with_script_end};
-ghost use Rattle.smt_dialogue.specs.Session.{failure_of, lines_waiting};
-ghost use Rattle.smtcheck_c.specs.Feed.{AreEndsOf, AreGivenLines, Feeds, IsAnswerOf, IsNumberOf};
-ghost use Rattle.smtcheck_c.specs.Feed.{IsTellingNumber, StaysFailed, is_answers_over, is_script_over};
+ghost use Rattle.smt_dialogue.specs.Session.{failure_of};
+ghost use Rattle.smtcheck_c.specs.Feed.{AreEndsOf, AreGivenLines, AreNextLines, Feeds, FeedsThen, IsAnswerOf};
+ghost use Rattle.smtcheck_c.specs.Feed.{IsNumberOf, IsTellingNumber, StaysFailed, is_answers_over, is_script_over};
 
 use crate::outcome::{LONG, MEMORY, OPEN, number_of};
 use crate::text::{put_text, text_of_lines};
@@ -37,7 +37,7 @@ impl Feed {
     pub(crate) fn script(&mut self, piece: &[u8]) -> u32
         requires feeds { (h : History) × Feeds self.old h }
         requires open { is_script_over self.old ≡ false }
-        ensures feeds { (h : History) → Feeds self.old h → Feeds self.new (with_script h piece.now) }
+        ensures feeds { FeedsThen self.old self.new (λ h. with_script h piece.now) }
         ensures script { is_script_over self.new ≡ false }
         ensures answers { is_answers_over self.new ≡ is_answers_over self.old }
         ensures outcome { (h : History) → Feeds self.new h → IsNumberOf result self.new h }
@@ -52,7 +52,7 @@ impl Feed {
     pub(crate) fn answers(&mut self, piece: &[u8]) -> u32
         requires feeds { (h : History) × Feeds self.old h }
         requires open { is_answers_over self.old ≡ false }
-        ensures feeds { (h : History) → Feeds self.old h → Feeds self.new (with_answers h piece.now) }
+        ensures feeds { FeedsThen self.old self.new (λ h. with_answers h piece.now) }
         ensures script { is_script_over self.new ≡ is_script_over self.old }
         ensures answers { is_answers_over self.new ≡ false }
         ensures outcome { (h : History) → Feeds self.new h → IsNumberOf result self.new h }
@@ -67,7 +67,7 @@ impl Feed {
     pub(crate) fn end_script(&mut self) -> u32
         requires feeds { (h : History) × Feeds self.old h }
         requires open { is_script_over self.old ≡ false }
-        ensures feeds { (h : History) → Feeds self.old h → Feeds self.new (with_script_end h) }
+        ensures feeds { FeedsThen self.old self.new with_script_end }
         ensures script { is_script_over self.new ≡ true }
         ensures answers { is_answers_over self.new ≡ is_answers_over self.old }
         ensures outcome { (h : History) → Feeds self.new h → IsNumberOf result self.new h }
@@ -82,7 +82,7 @@ impl Feed {
     pub(crate) fn end_answers(&mut self) -> u32
         requires feeds { (h : History) × Feeds self.old h }
         requires open { is_answers_over self.old ≡ false }
-        ensures feeds { (h : History) → Feeds self.old h → Feeds self.new (with_answers_end h) }
+        ensures feeds { FeedsThen self.old self.new with_answers_end }
         ensures script { is_script_over self.new ≡ is_script_over self.old }
         ensures answers { is_answers_over self.new ≡ true }
         ensures outcome { (h : History) → Feeds self.new h → IsNumberOf result self.new h }
@@ -120,8 +120,9 @@ impl Feed {
 
     /// Gives the text of the next lines, if there is room for all of it, and answers its length.
     pub(crate) fn give(&mut self, alloc: Global, room: &mut [u8]) -> Result<usize, Memory>
-        ensures given { IfOk result (λ wanted. AreGivenLines self.old self.new wanted room.old room.new) }
-        ensures kept { OnErr result ((h : History) → Feeds self.old h → Feeds self.new h) }
+        ensures given { IfOk result (λ wanted.
+            AreGivenLines self.old self.new wanted room.old room.new) }
+        ensures kept { OnErr result (FeedsThen self.old self.new (λ h. h)) }
         ensures room { OnErr result (room.new ≡ room.old) }
         ensures over { AreEndsOf self.old self.new }
     {
@@ -137,9 +138,8 @@ impl Feed {
 
     // Takes the lines of the session, where none waits here.
     fn gather(&mut self)
-        ensures feeds { (h : History) → Feeds self.old h → Feeds self.new h }
-        ensures first { self.old.waiting.items ≡ [] → self.new.waiting.items ≡ lines_waiting self.old.session }
-        ensures waiting { self.old.waiting.items ≢ [] → self.new.waiting.items ≡ self.old.waiting.items }
+        ensures feeds { FeedsThen self.old self.new (λ h. h) }
+        ensures next { AreNextLines self.old self.new.waiting.items }
         ensures over { AreEndsOf self.old self.new }
     {
         if self.waiting.is_empty() {

@@ -17,7 +17,8 @@ pub struct SmtcheckOptions {
 
 /// The options that C has given, or none where the limit is none: costs are counted up to 2^64 - 1.
 pub(crate) fn options_of(given: &SmtcheckOptions) -> Option<Options>
-    ensures { MatchOption result (given.now.steps ≡ 2 ^ 64 - 1) (λ options. AreGiven given.now options) }
+    ensures { MatchOption result (given.now.steps ≡ 2 ^ 64 - 1)
+        (λ options. AreGiven given.now options) }
 {
     let steps = given.steps;
     if steps == u64::MAX {

@@ -1,11 +1,10 @@
 //! What an export answers: the number of a verdict, which is the program's exit status, or another where there is
 //! none.
 
-ghost use Rattle.std.specs.Prelude.{◌≡◌, ◌<◌, Ok};
-ghost use Rattle.smtcheck_status.specs.Status.{status_number};
+ghost use Rattle.std.specs.Prelude.{◌≡◌, ◌<◌};
+ghost use Rattle.smt_report.specs.Verdict.{status_of};
 
 use smt_dialogue::Verdict;
-use smtcheck_status::status_of;
 
 /// Memory was refused, and nothing was told.
 pub(crate) const MEMORY: u32 = 4;
@@ -19,10 +18,10 @@ pub(crate) const OPEN: u32 = 6;
 /// A text has more than 2^64 - 1 bytes.
 pub(crate) const LONG: u32 = 7;
 
-/// The number of a verdict: 0 for valid, 1 for invalid, 2 for not decided, 3 for refused.
+/// The number of a verdict, which is its exit status.
 pub(crate) fn number_of(verdict: Verdict) -> u32
-    ensures number { result ≡ status_number (Ok verdict) }
+    ensures number { result ≡ status_of verdict }
     ensures below { result < 4 }
 {
-    u32::from(status_of(&Ok(verdict)))
+    u32::from(verdict.status())
 }

@@ -1,13 +1,11 @@
 //! Sessions that C tells a dialogue piece by piece, by a handle. This file decides nothing.
 
 ghost use Rattle.std.specs.Prelude.{◌≡◌, ◌≢◌, ◌-◌, ◌^◌, ◌⊎◌, ◌↔◌, None, Some, false, true};
-ghost use Rattle.smt_dialogue.specs.History.{History, begun, with_answers, with_answers_end, with_script};
+ghost use Rattle.smt_dialogue.specs.History.{History, with_answers, with_answers_end, with_script};
 ghost use Rattle.smt_dialogue.specs.History.{with_script_end};
 ghost use Rattle.smt_dialogue.specs.Session.{failure_of};
-ghost use Rattle.smt_dialogue.specs.declared.options.Options.{Options as Given};
-ghost use Rattle.smtcheck_c.specs.Feed.{AreEndsOf, AreGivenLines, Feeds, Holds, IfHeld, IsNumberOf};
-ghost use Rattle.smtcheck_c.specs.Feed.{IsTellingNumber, StaysFailed, is_answers_over, is_script_over};
-ghost use Rattle.smtcheck_c.specs.Given.{AreGiven};
+ghost use Rattle.smtcheck_c.specs.Feed.{AreEndsOf, AreGivenLines, HasBegun, Holds, HoldsThen, IfHeld};
+ghost use Rattle.smtcheck_c.specs.Feed.{IsNumberHeld, IsTellingNumber, StaysFailed, is_answers_over, is_script_over};
 ghost use Rattle.smtcheck_c.specs.declared.feed.Feed.{Feed as Fed};
 
 use crate::feed::Feed;
@@ -26,7 +24,7 @@ pub extern "C" fn smtcheck_session_new(
     session: &mut SmtcheckSession,
 ) -> u32
     requires { session.old.feed ≡ None }
-    ensures begun { result ≡ 6 → (given : Given) × AreGiven options.now given × Holds session.new.feed (begun given) }
+    ensures begun { result ≡ 6 → HasBegun options.now session.new.feed }
     ensures script { IfHeld session.new.feed (λ f. is_script_over f ≡ false) }
     ensures answers { IfHeld session.new.feed (λ f. is_answers_over f ≡ false) }
     ensures none { result ≢ 6 → session.new.feed ≡ None }
@@ -56,8 +54,8 @@ pub extern "C" fn smtcheck_session_script(
 ) -> u32
     requires feeds { (h : History) × Holds session.old.feed h }
     requires open { IfHeld session.old.feed (λ f. is_script_over f ≡ false) }
-    ensures feeds { (h : History) → Holds session.old.feed h → Holds session.new.feed (with_script h piece.now) }
-    ensures outcome { IfHeld session.new.feed (λ f. (h : History) → Feeds f h → IsNumberOf result f h) }
+    ensures feeds { HoldsThen session.old.feed session.new.feed (λ h. with_script h piece.now) }
+    ensures outcome { IsNumberHeld result session.new.feed }
     ensures failed { IfHeld session.new.feed (λ f. IsTellingNumber result (failure_of f.session)) }
     ensures stays { IfHeld session.old.feed (λ f. IfHeld session.new.feed (StaysFailed f)) }
     ensures over { IfHeld session.new.feed (λ f. is_script_over f ≡ false) }
@@ -79,8 +77,8 @@ pub extern "C" fn smtcheck_session_answers(
 ) -> u32
     requires feeds { (h : History) × Holds session.old.feed h }
     requires open { IfHeld session.old.feed (λ f. is_answers_over f ≡ false) }
-    ensures feeds { (h : History) → Holds session.old.feed h → Holds session.new.feed (with_answers h piece.now) }
-    ensures outcome { IfHeld session.new.feed (λ f. (h : History) → Feeds f h → IsNumberOf result f h) }
+    ensures feeds { HoldsThen session.old.feed session.new.feed (λ h. with_answers h piece.now) }
+    ensures outcome { IsNumberHeld result session.new.feed }
     ensures failed { IfHeld session.new.feed (λ f. IsTellingNumber result (failure_of f.session)) }
     ensures stays { IfHeld session.old.feed (λ f. IfHeld session.new.feed (StaysFailed f)) }
     ensures over { IfHeld session.new.feed (λ f. is_answers_over f ≡ false) }
@@ -98,8 +96,8 @@ pub extern "C" fn smtcheck_session_answers(
 pub extern "C" fn smtcheck_session_end_script(alloc: Global, session: &mut SmtcheckSession) -> u32
     requires feeds { (h : History) × Holds session.old.feed h }
     requires open { IfHeld session.old.feed (λ f. is_script_over f ≡ false) }
-    ensures feeds { (h : History) → Holds session.old.feed h → Holds session.new.feed (with_script_end h) }
-    ensures outcome { IfHeld session.new.feed (λ f. (h : History) → Feeds f h → IsNumberOf result f h) }
+    ensures feeds { HoldsThen session.old.feed session.new.feed with_script_end }
+    ensures outcome { IsNumberHeld result session.new.feed }
     ensures failed { IfHeld session.new.feed (λ f. IsTellingNumber result (failure_of f.session)) }
     ensures stays { IfHeld session.old.feed (λ f. IfHeld session.new.feed (StaysFailed f)) }
     ensures over { IfHeld session.new.feed (λ f. is_script_over f ≡ true) }
@@ -117,8 +115,8 @@ pub extern "C" fn smtcheck_session_end_script(alloc: Global, session: &mut Smtch
 pub extern "C" fn smtcheck_session_end_answers(alloc: Global, session: &mut SmtcheckSession) -> u32
     requires feeds { (h : History) × Holds session.old.feed h }
     requires open { IfHeld session.old.feed (λ f. is_answers_over f ≡ false) }
-    ensures feeds { (h : History) → Holds session.old.feed h → Holds session.new.feed (with_answers_end h) }
-    ensures outcome { IfHeld session.new.feed (λ f. (h : History) → Feeds f h → IsNumberOf result f h) }
+    ensures feeds { HoldsThen session.old.feed session.new.feed with_answers_end }
+    ensures outcome { IsNumberHeld result session.new.feed }
     ensures failed { IfHeld session.new.feed (λ f. IsTellingNumber result (failure_of f.session)) }
     ensures stays { IfHeld session.old.feed (λ f. IfHeld session.new.feed (StaysFailed f)) }
     ensures over { IfHeld session.new.feed (λ f. is_answers_over f ≡ true) }
@@ -135,7 +133,7 @@ pub extern "C" fn smtcheck_session_end_answers(alloc: Global, session: &mut Smtc
 #[unsafe(no_mangle)]
 pub extern "C" fn smtcheck_session_verdict(alloc: Global, session: &mut SmtcheckSession) -> u32
     requires { (f : Fed) × (session.old.feed ≡ Some f) }
-    ensures outcome { IfHeld session.new.feed (λ f. (h : History) → Feeds f h → IsNumberOf result f h) }
+    ensures outcome { IsNumberHeld result session.new.feed }
     ensures same { session.new.feed ≡ session.old.feed }
 {
     let feed = take(alloc, session);
@@ -159,8 +157,8 @@ pub extern "C" fn smtcheck_session_text(
     ensures held { (f : Fed) × (session.new.feed ≡ Some f) }
     ensures given { result ≢ 4 → IfHeld session.old.feed (λ f.
         IfHeld session.new.feed (λ g. AreGivenLines f g wanted.new text.old text.new)) }
-    ensures outcome { result ≢ 4 → IfHeld session.new.feed (λ f. (h : History) → Feeds f h → IsNumberOf result f h) }
-    ensures kept { result ≡ 4 → (h : History) → Holds session.old.feed h → Holds session.new.feed h }
+    ensures outcome { result ≢ 4 → IsNumberHeld result session.new.feed }
+    ensures kept { result ≡ 4 → HoldsThen session.old.feed session.new.feed (λ h. h) }
     ensures text { result ≡ 4 → text.new ≡ text.old }
     ensures wanted { result ≡ 4 → wanted.new ≡ wanted.old }
     ensures over { IfHeld session.old.feed (λ f. IfHeld session.new.feed (λ g. AreEndsOf f g)) }

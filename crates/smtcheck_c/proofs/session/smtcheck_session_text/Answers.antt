@@ -1,7 +1,4 @@
-use Rattle.std.proofs.Common.{◌∙◌, subst, sym}
-use Rattle.smtcheck_c.specs.Feed.{Feeds}
-use Rattle.smtcheck_c.specs.declared.feed.Feed.{Feed}
-use Rattle.smtcheck_c.proofs.FeedLemmas.{one_held}
+use Rattle.smtcheck_c.proofs.FeedLemmas.{held_feeds}
 use Rattle.smtcheck_c.proofs.session.smtcheck_session_text.Goals as goal
 
 pub returns-in-Ok-clause-kept : goal.returns-in-Ok-clause-kept
@@ -14,12 +11,12 @@ pub returns-in-Ok-clause-wanted : goal.returns-in-Ok-clause-wanted
 returns-in-Ok-clause-wanted c = λ e. absurd (c.verdict-outcome.ensures.told e)
 
 pub returns-in-Err-clause-kept : goal.returns-in-Err-clause-kept
-returns-in-Err-clause-kept c = λ _ h held.
-    let same = one_held c.args.session.now.feed held.0 c.take-feed.result.value held.1 c.take-feed.ensures.taken in (
-      c.give-given.new.self,
-      c.put.ensures,
-      c.in-Err.ensures.kept h (subst (λ (f : Feed). Feeds f h) (same ∙ sym c.deref_mut.ensures.value) held.2),
-    )
+returns-in-Err-clause-kept c = λ _ h held. (
+  c.give-given.new.self,
+  c.put.ensures,
+  c.in-Err.ensures.kept h (held_feeds c.args.session.now.feed c.take-feed.result.value _ h c.take-feed.ensures.taken
+      c.deref_mut.ensures.value held),
+)
 
 pub returns-in-Ok-clause-held : goal.returns-in-Ok-clause-held
 returns-in-Ok-clause-held c = (c.give-given.new.self, c.put.ensures)
