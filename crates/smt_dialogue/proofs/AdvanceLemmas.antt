@@ -11,8 +11,8 @@ use Rattle.smt_trees.specs.Sexp.{Sexp, Sexps, Nil, Cons, count}
 use Rattle.smt_faults.specs.declared.text_flaw.TextFlaw.{TextFlaw}
 use Rattle.smt_script.specs.CommandView.{command_view}
 use Rattle.smt_script.specs.declared.command.Command.{Command}
-use Rattle.smt_dialogue.proofs.DialogueLemmas.{begins_trans, decided_first, lines_silent}
-use Rattle.smt_dialogue.proofs.ExchangeLemmas.{early_closed}
+use Rattle.smt_dialogue.proofs.AcceptedLemmas.{begins_trans, decided_first, lines_silent}
+use Rattle.smt_dialogue.proofs.PairingLemmas.{early_closed}
 use Rattle.smt_dialogue.proofs.LinesStayLemmas.{begins_so}
 use Rattle.smt_dialogue.proofs.PairLemmas.{answers_taken-le, checks_in-le}
 use Rattle.smt_dialogue.proofs.ReadSoFarLemmas.{TreesStay}
@@ -27,11 +27,11 @@ use Rattle.smt_dialogue.specs.Pairing.{AreCommands}
 use Rattle.smt_dialogue.specs.Pairs.{Pair, answer_count, answers_taken, answers_then, with_answer}
 use Rattle.smt_dialogue.specs.Report.{ArePaired, IsTurn, lines_at_end}
 use Rattle.smt_dialogue.specs.SoFar.{IsBeginning, is_verdict_line, lines_at}
-use Rattle.smt_dialogue.specs.Internal.DialogueState.{Stands, options_of, state_behind}
-use Rattle.smt_dialogue.specs.Internal.ExchangeView.{HasRested, IsClosing, IsCut, IsInTurn, IsTurned, IsUnderWay}
-use Rattle.smt_dialogue.specs.Internal.ExchangeView.{Texts, turn_of, waiting}
-use Rattle.smt_dialogue.specs.Internal.FrontView.{HasFront}
-use Rattle.smt_dialogue.specs.declared.exchange.Exchange.{Exchange}
+use Rattle.smt_dialogue.specs.Internal.AcceptedState.{Fits, options_of, state_behind}
+use Rattle.smt_dialogue.specs.Internal.PairingView.{HasRested, IsClosing, IsCut, IsInTurn, IsTurned, IsUnderWay}
+use Rattle.smt_dialogue.specs.Internal.PairingView.{Texts, turn_of, waiting}
+use Rattle.smt_dialogue.specs.Internal.TreeQueueView.{HasQueue}
+use Rattle.smt_dialogue.specs.declared.pairing.Pairing.{Pairing}
 use Rattle.smt_dialogue.specs.declared.options.Options.{Options}
 use Rattle.smt_dialogue.specs.declared.turn.Turn.{Turn}
 use Rattle.smt_dialogue.specs.declared.turn.Turn.TheVariants as turns
@@ -63,7 +63,7 @@ few_told every stay few false bytes trees f h =
     (subst (λ bs. Reads limit true bs all.0 all.1) (sym (append-nil bytes)) all.2) in
     omega (arith, few limit bytes all.0 all.1 all.2, ap count more.1, count-append trees more.0)
 
-pub bounded : TreesAreFew → (x : Exchange) (texts : Texts) (pairs : List Pair)
+pub bounded : TreesAreFew → (x : Pairing) (texts : Texts) (pairs : List Pair)
     (later rest : Sexps) → IsUnderWay x texts pairs later rest
     → length pairs + count later ≤ bytes_fed x.script.reader
 bounded few x texts pairs later rest h =
@@ -74,13 +74,13 @@ bounded few x texts pairs later rest h =
       h.script_front.stands.0,
     )
 
-pub commands_at_most : TreesAreFew → (x : Exchange) (texts : Texts) (pairs : List Pair)
+pub commands_at_most : TreesAreFew → (x : Pairing) (texts : Texts) (pairs : List Pair)
     (later rest : Sexps) → IsUnderWay x texts pairs later rest → x.dialogue.commands ≤ bytes_fed x.script.reader
 commands_at_most few x texts pairs later rest h =
     omega (arith, bounded few x texts pairs later rest h, h.stands.commands)
 
 -- a tree that is left is one command more
-pub room_for_one : TreesAreFew → (x : Exchange) (texts : Texts) (pairs : List Pair) (t : Sexp) (left later rest : Sexps)
+pub room_for_one : TreesAreFew → (x : Pairing) (texts : Texts) (pairs : List Pair) (t : Sexp) (left later rest : Sexps)
     → later ≡ Cons t left → IsUnderWay x texts pairs later rest
     → x.dialogue.commands + 1 ≤ bytes_fed x.script.reader
 room_for_one few x texts pairs t left later rest is h =
@@ -97,7 +97,7 @@ answers_counted (p ∷ ps) rest =
     omega (arith, taken_count p.answer (answers_then ps rest), answers_counted ps rest)
 
 -- and so is an answer that is left
-pub room_for_answer : TreesAreFew → (x : Exchange) (texts : Texts) (pairs : List Pair) (t : Sexp)
+pub room_for_answer : TreesAreFew → (x : Pairing) (texts : Texts) (pairs : List Pair) (t : Sexp)
     (left later rest : Sexps) → rest ≡ Cons t left → IsUnderWay x texts pairs later rest
     → x.dialogue.answers + 1 ≤ bytes_fed x.answers.reader
 room_for_answer few x texts pairs t left later rest is h =
@@ -111,18 +111,18 @@ room_for_answer few x texts pairs t left later rest is h =
       ap count is,
     )
 
-pub answers_at_most : (x : Exchange) (texts : Texts) (pairs : List Pair) (later rest : Sexps)
+pub answers_at_most : (x : Pairing) (texts : Texts) (pairs : List Pair) (later rest : Sexps)
     → IsUnderWay x texts pairs later rest → x.dialogue.answers ≤ x.dialogue.commands
 answers_at_most x texts pairs later rest h =
     omega (arith, h.stands.answers, h.stands.commands, answers_taken-le pairs)
 
-pub checks_at_most : (x : Exchange) (texts : Texts) (pairs : List Pair) (later rest : Sexps)
+pub checks_at_most : (x : Pairing) (texts : Texts) (pairs : List Pair) (later rest : Sexps)
     → IsUnderWay x texts pairs later rest → x.dialogue.checks.count ≤ x.dialogue.commands
 checks_at_most x texts pairs later rest h =
     omega (arith, h.stands.checks, h.stands.commands, checks_in-le pairs)
 
 -- one more pair, and so one more command
-pub one_more : (x y : Exchange) (texts : Texts) (pairs : List Pair) (p : Pair) (later rest left after : Sexps)
+pub one_more : (x y : Pairing) (texts : Texts) (pairs : List Pair) (p : Pair) (later rest left after : Sexps)
     → IsUnderWay x texts pairs later rest → IsUnderWay y texts (pairs ++ p ∷ []) left after
     → y.dialogue.commands ≡ x.dialogue.commands + 1
 one_more x y texts pairs p later rest left after h g =
@@ -130,7 +130,7 @@ one_more x y texts pairs p later rest left after h g =
 
 -- ---- what goes on
 
-pub turned_on : (turn : Turn) (old new : Exchange) (texts : Texts) (pairs : List Pair) (later rest : Sexps)
+pub turned_on : (turn : Turn) (old new : Pairing) (texts : Texts) (pairs : List Pair) (later rest : Sexps)
     → turn ≡ turns.GoesOn → IsTurned turn old new texts pairs later rest
     → (p : Pair) × (left : Sexps) × (after : Sexps) × IsUnderWay new texts (pairs ++ p ∷ []) left after
 turned_on turn old new texts pairs later rest is h =
@@ -138,7 +138,7 @@ turned_on turn old new texts pairs later rest is h =
 
 -- ---- rest
 
-turn_kept : (x y : Exchange) (texts : Texts) (pairs : List Pair) (later rest : Sexps)
+turn_kept : (x y : Pairing) (texts : Texts) (pairs : List Pair) (later rest : Sexps)
     → options_of y.dialogue ≡ options_of x.dialogue
     → turn_of y texts pairs later rest ≡ turn_of x texts pairs later rest
 turn_kept x y texts pairs later rest same =
@@ -146,16 +146,16 @@ turn_kept x y texts pairs later rest same =
     texts.script.fault later) same
 
 -- y is x with what it keeps of the dialogue settled
-pub settled : (x y : Exchange) (texts : Texts) (pairs : List Pair) (later rest : Sexps) (closed : Bool)
+pub settled : (x y : Pairing) (texts : Texts) (pairs : List Pair) (later rest : Sexps) (closed : Bool)
     → y.script ≡ x.script → y.answers ≡ x.answers → y.command ≡ x.command
     → options_of y.dialogue ≡ options_of x.dialogue
-    → Stands closed (state_behind texts.taken y.dialogue) pairs → (closed ≡ true → IsClosing x.command texts later)
+    → Fits closed (state_behind texts.taken y.dialogue) pairs → (closed ≡ true → IsClosing x.command texts later)
     → IsUnderWay x texts pairs later rest → IsUnderWay y texts pairs later rest
 settled x y texts pairs later rest closed script answers command start stands closing h = record {
   left = h.left;
   in_turn = subst (λ o. IsInTurn o pairs later h.left) (sym command) h.in_turn;
-  script_front = subst (λ f. HasFront f texts.script_bytes texts.script h.left) (sym script) h.script_front;
-  answers_front = subst (λ f. HasFront f texts.answers_bytes texts.answers rest) (sym answers) h.answers_front;
+  script_front = subst (λ f. HasQueue f texts.script_bytes texts.script h.left) (sym script) h.script_front;
+  answers_front = subst (λ f. HasQueue f texts.answers_bytes texts.answers rest) (sym answers) h.answers_front;
   early = closed;
   stands = stands;
   closing = λ e. subst (λ o. IsClosing o texts later) (sym command) (closing e);
@@ -164,12 +164,12 @@ settled x y texts pairs later rest closed script answers command start stands cl
 }
 
 -- the dialogue waits, with the lines that are decided
-pub waits_at : (old x y : Exchange) (texts : Texts) (pairs : List Pair) (later rest : Sexps) (options : Options)
+pub waits_at : (old x y : Pairing) (texts : Texts) (pairs : List Pair) (later rest : Sexps) (options : Options)
     (closed : Bool) → options_of old.dialogue ≡ options → options_of x.dialogue ≡ options_of old.dialogue
     → y.script ≡ x.script → y.answers ≡ x.answers → y.command ≡ x.command
     → options_of y.dialogue ≡ options_of x.dialogue
-    → ((early : Bool) → Stands early (state_behind texts.taken x.dialogue) pairs → (early ≡ true → closed ≡ true)
-    → Stands closed (state_behind texts.taken y.dialogue) pairs
+    → ((early : Bool) → Fits early (state_behind texts.taken x.dialogue) pairs → (early ≡ true → closed ≡ true)
+    → Fits closed (state_behind texts.taken y.dialogue) pairs
     × (texts.taken ++ waiting y ≡ lines_in y.dialogue.checks.limit.steps closed [] pairs []))
     → IsTurned (turns.Waits closed) old x texts pairs later rest
     → HasRested None options y texts
@@ -188,7 +188,7 @@ waits_at old x y texts pairs later rest options closed begun kept script answers
     )
 
 -- the dialogue has ended behind the pairs
-pub ends_at : (old new : Exchange) (texts : Texts) (pairs : List Pair) (later rest : Sexps) (options : Options)
+pub ends_at : (old new : Pairing) (texts : Texts) (pairs : List Pair) (later rest : Sexps) (options : Options)
     (fault : Option Line) → options_of old.dialogue ≡ options
     → IsUnderWay old texts pairs later rest → IsTurned (turns.Ends fault) old new texts pairs later rest
     → IsTurn options.print_success texts.script texts.answers pairs (first_fault.Ends fault)
@@ -217,7 +217,7 @@ next_pair start texts (Some c) pairs later left rest turn h w =
     texts.script.fault w.turn_is w.rests
 
 -- what is decided begins the lines so far
-pub cut_at : (x : Exchange) (texts : Texts) (pairs : List Pair) (later rest : Sexps) (ls : List Line)
+pub cut_at : (x : Pairing) (texts : Texts) (pairs : List Pair) (later rest : Sexps) (ls : List Line)
     (options : Options)
     → options_of x.dialogue ≡ options → ls ≡ waiting x → IsUnderWay x texts pairs later rest
     → IsCut options ls texts

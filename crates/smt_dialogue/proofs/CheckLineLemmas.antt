@@ -17,7 +17,7 @@ use Rattle.smt_dialogue.specs.Answers.{Taken, taken}
 use Rattle.smt_dialogue.specs.FirstFault.{Ends, GoesOn, TextSoFar, Turn, Waits, is_over, turn_at, turn_of_command}
 use Rattle.smt_dialogue.specs.FirstFault.{turn_of_flaw, turn_of_rest, turn_of_taken, want_of_answer}
 use Rattle.smt_dialogue.specs.InForce.{flaw_of_pair, has_exited_after, need_after, signature_after}
-use Rattle.smt_dialogue.specs.Internal.DecidedView.{IsFaultLine}
+use Rattle.smt_dialogue.specs.Internal.LineQueueView.{IsFaultLine}
 use Rattle.smt_dialogue.specs.Judgement.{Claimed, judgement_of}
 use Rattle.smt_dialogue.specs.Lines.{claims_of_check, confirmed_line, is_empty, line_of_judgement, lines_in}
 use Rattle.smt_dialogue.specs.Lines.{lines_of_answer, lines_of_pair, lines_of_sat, sat_lines, unchecked_answer}

@@ -33,7 +33,7 @@ use Rattle.smt_dialogue.specs.declared.answer.Answer.TheVariants as says
 use Rattle.smt_report.specs.declared.line.CheckAnswer.{CheckAnswer}
 use Rattle.smt_report.specs.declared.line.Line.{Line}
 use Rattle.smt_report.specs.declared.line.Line.TheVariants as lines
-use Rattle.smt_dialogue.specs.declared.window.PendingCheck.{PendingCheck}
+use Rattle.smt_dialogue.specs.declared.checks.PendingCheck.{PendingCheck}
 
 -- the lines of a check whose window ends
 abbrev pub closing_lines : Option PendingCheck → List Line

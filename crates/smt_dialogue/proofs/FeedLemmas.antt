@@ -15,12 +15,12 @@ use Rattle.smt_dialogue.specs.History.{of_side}
 use Rattle.smt_dialogue.specs.Pairs.{Pair}
 use Rattle.smt_dialogue.specs.Report.{ArePaired, IsRead}
 use Rattle.smt_dialogue.specs.SoFar.{IsGrown}
-use Rattle.smt_dialogue.specs.Internal.DialogueState.{Stands, state_behind}
-use Rattle.smt_dialogue.specs.Internal.ExchangeView.{GoesOnWith, IsClosing, IsInTurn, IsUnderWay, Texts, bytes_at}
-use Rattle.smt_dialogue.specs.Internal.ExchangeView.{front_at, with_read}
-use Rattle.smt_dialogue.specs.Internal.FrontView.{GoesOnFrom, HasFront, next_trees}
-use Rattle.smt_dialogue.specs.declared.exchange.Exchange.{Exchange}
-use Rattle.smt_dialogue.specs.declared.front.Front.{Front}
+use Rattle.smt_dialogue.specs.Internal.AcceptedState.{Fits, state_behind}
+use Rattle.smt_dialogue.specs.Internal.PairingView.{GoesOnWith, IsClosing, IsInTurn, IsUnderWay, Texts, bytes_at}
+use Rattle.smt_dialogue.specs.Internal.PairingView.{queue_at, with_read}
+use Rattle.smt_dialogue.specs.Internal.TreeQueueView.{GoesOnFrom, HasQueue, next_trees}
+use Rattle.smt_dialogue.specs.declared.pairing.Pairing.{Pairing}
+use Rattle.smt_dialogue.specs.declared.tree_queue.TreeQueue.{TreeQueue}
 use Rattle.smt_report.specs.declared.line.Side.{Side}
 use Rattle.smt_report.specs.declared.line.Side.TheVariants.{Answers, Script}
 
@@ -34,11 +34,11 @@ no_more text = record {
 }
 
 -- what is left of a text with more of it
-pub front_more : (f g : Front) (bytes more_bytes : List ℕ) (text grown : TextSoFar) (rest : Sexps)
+pub front_more : (f g : TreeQueue) (bytes more_bytes : List ℕ) (text grown : TextSoFar) (rest : Sexps)
     (s : IsGrown text grown) → g.next ≡ f.next
     → ((taken : Sexps) → readers.StandsFor f.reader bytes taken → readers.StandsFor g.reader more_bytes taken)
     → IsRead (is_finished g.reader) more_bytes grown
-    → HasFront f bytes text rest → HasFront g more_bytes grown (append rest s.later)
+    → HasQueue f bytes text rest → HasQueue g more_bytes grown (append rest s.later)
 front_more f g bytes more_bytes text grown rest s same stands read h = record {
   taken = h.taken;
   stands = subst (λ o. readers.StandsFor g.reader more_bytes (append h.taken (next_trees o))) (sym same)
@@ -67,12 +67,12 @@ closing_more None texts grown later s h =
     (ap (λ ts. append ts s.later) h.0 ∙ over.0, over.1 ∙ h.1, s.told h.2)
 
 -- both texts have more, or one of them
-both_more : (x y : Exchange) (texts grown : Texts) (pairs : List Pair) (later rest : Sexps)
+both_more : (x y : Pairing) (texts grown : Texts) (pairs : List Pair) (later rest : Sexps)
     → grown.taken ≡ texts.taken → y.dialogue ≡ x.dialogue → y.command ≡ x.command
     → (h : IsUnderWay x texts pairs later rest)
     → (s : IsGrown texts.script grown.script) → (a : IsGrown texts.answers grown.answers)
-    → HasFront y.script grown.script_bytes grown.script (append h.left s.later)
-    → HasFront y.answers grown.answers_bytes grown.answers (append rest a.later)
+    → HasQueue y.script grown.script_bytes grown.script (append h.left s.later)
+    → HasQueue y.answers grown.answers_bytes grown.answers (append rest a.later)
     → IsUnderWay y grown pairs (append later s.later) (append rest a.later)
 both_more x y texts grown pairs later rest taken dialogue command h s a script_front answers_front = record {
   left = append h.left s.later;
@@ -81,8 +81,8 @@ both_more x y texts grown pairs later rest taken dialogue command h s a script_f
   script_front = script_front;
   answers_front = answers_front;
   early = h.early;
-  stands = subst (λ ls. Stands h.early (state_behind ls y.dialogue) pairs) (sym taken)
-      (subst (λ d. Stands h.early (state_behind texts.taken d) pairs) (sym dialogue) h.stands);
+  stands = subst (λ ls. Fits h.early (state_behind ls y.dialogue) pairs) (sym taken)
+      (subst (λ d. Fits h.early (state_behind texts.taken d) pairs) (sym dialogue) h.stands);
   closing = λ e. subst (λ o. IsClosing o grown (append later s.later)) (sym command)
       (closing_more x.command texts grown later s (h.closing e));
   paired = subst (λ d. ArePaired (initial_print_success_of d.stack) grown.script grown.answers pairs
@@ -91,16 +91,16 @@ both_more x y texts grown pairs later rest taken dialogue command h s a script_f
       pairs later rest s a h.paired);
 }
 
-front_same : (f g : Front) (bytes : List ℕ) (text : TextSoFar) (rest : Sexps) → g ≡ f → HasFront f bytes text rest
-    → HasFront g bytes text (append rest Nil)
+front_same : (f g : TreeQueue) (bytes : List ℕ) (text : TextSoFar) (rest : Sexps) → g ≡ f → HasQueue f bytes text rest
+    → HasQueue g bytes text (append rest Nil)
 front_same f g bytes text rest same h =
-    subst (HasFront g bytes text) (sym (append_nil rest)) (subst (λ f'. HasFront f' bytes text rest) (sym same) h)
+    subst (HasQueue g bytes text) (sym (append_nil rest)) (subst (λ f'. HasQueue f' bytes text rest) (sym same) h)
 
 -- the text of this side has more, and the other stays
-pub goes_on_with : (side : Side) (x y : Exchange) (texts : Texts) (told : Bool) (bytes : List ℕ)
+pub goes_on_with : (side : Side) (x y : Pairing) (texts : Texts) (told : Bool) (bytes : List ℕ)
     → y.dialogue ≡ x.dialogue → y.command ≡ x.command
     → of_side side y.answers y.script ≡ of_side side x.answers x.script
-    → GoesOnFrom (front_at side x) (front_at side y) (bytes_at side texts) told bytes
+    → GoesOnFrom (queue_at side x) (queue_at side y) (bytes_at side texts) told bytes
     → GoesOnWith side x y texts told bytes
 goes_on_with Script x y texts told bytes dialogue command same goes = λ pairs later rest text h read.
     let f = goes texts.script text h.left h.script_front read in (
@@ -120,8 +120,8 @@ goes_on_with Answers x y texts told bytes dialogue command same goes = λ pairs 
     )
 
 -- what is read of a text whose end was not told
-pub read_open : (f : Front) (bytes : List ℕ) (text : TextSoFar) (rest : Sexps) → is_finished f.reader ≡ false
-    → HasFront f bytes text rest → IsRead false bytes text
+pub read_open : (f : TreeQueue) (bytes : List ℕ) (text : TextSoFar) (rest : Sexps) → is_finished f.reader ≡ false
+    → HasQueue f bytes text rest → IsRead false bytes text
 read_open f bytes text rest open' h =
     let told : text.told ≡ false = h.told ∙ open' in
     record {

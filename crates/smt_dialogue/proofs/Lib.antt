@@ -4,7 +4,7 @@ pub mod PairLemmas
 pub mod AnswerLemmas
 pub mod ChecksLemmas
 pub mod CheckLineLemmas
-pub mod DialogueLemmas
+pub mod AcceptedLemmas
 pub mod StepLemmas
 pub mod JudgementLemmas
 pub mod TooLongLemmas
@@ -23,10 +23,10 @@ pub mod VerdictLawLemmas
 pub mod WindowLemmas
 pub mod StructureLemmas
 pub mod TreesLemmas
-pub mod FrontLemmas
-pub mod AnsweringLemmas
+pub mod TreeQueueLemmas
+pub mod NextAnswerLemmas
 pub mod TurnLemmas
-pub mod ExchangeLemmas
+pub mod PairingLemmas
 pub mod AdvanceLemmas
 pub mod FeedLemmas
 pub mod SessionGrowthLemmas

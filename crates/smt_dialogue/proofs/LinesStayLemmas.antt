@@ -14,7 +14,7 @@ use Rattle.smt_dialogue.proofs.WaitLemmas.{ClosesNext}
 use Rattle.smt_dialogue.specs.FirstFault.{Ends, GoesOn, IsRest, Turn, Waits}
 use Rattle.smt_dialogue.specs.InForce.{signature_after}
 use Rattle.smt_dialogue.specs.Judgement.{Claimed, judgement_of}
-use Rattle.smt_dialogue.specs.Internal.DialogueState.{Closing}
+use Rattle.smt_dialogue.specs.Internal.AcceptedState.{Closing}
 use Rattle.smt_dialogue.specs.Lines.{claims_of_check, is_empty, line_of_judgement, lines_in, lines_of_answer}
 use Rattle.smt_dialogue.specs.Lines.{lines_of_pair, lines_of_sat, sat_lines, unchecked_answer}
 use Rattle.smt_dialogue.specs.Lines.{unchecked_line_or, unconfirmed_line}

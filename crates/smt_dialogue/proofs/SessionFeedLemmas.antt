@@ -13,12 +13,12 @@ use Rattle.smt_dialogue.specs.History.{HasGrown, HasMore, History, IsLong, Told,
 use Rattle.smt_dialogue.specs.History.{with_end, with_more, with_piece, with_text}
 use Rattle.smt_dialogue.specs.Session.{AreCounted, IsCounted, StandsFor, is_answers_ended, is_ended, is_script_ended}
 use Rattle.smt_dialogue.specs.SoFar.{IsBeginning}
-use Rattle.smt_dialogue.specs.Internal.DialogueState.{options_of}
-use Rattle.smt_dialogue.specs.Internal.ExchangeView.{GoesOnWith, IsUnderWay, Texts, bytes_at, front_at, waiting}
-use Rattle.smt_dialogue.specs.Internal.ExchangeView.{with_read}
+use Rattle.smt_dialogue.specs.Internal.AcceptedState.{options_of}
+use Rattle.smt_dialogue.specs.Internal.PairingView.{GoesOnWith, IsUnderWay, Texts, bytes_at, queue_at, waiting}
+use Rattle.smt_dialogue.specs.Internal.PairingView.{with_read}
 use Rattle.smt_dialogue.specs.Internal.SessionStep.{IsFed, IsGoingOn, TextLaws, fed_at, left_of, with_fed}
 use Rattle.smt_dialogue.specs.Internal.SessionView.{GoesOn, IsOpen, IsToldText, texts_of}
-use Rattle.smt_dialogue.specs.declared.exchange.Exchange.{Exchange}
+use Rattle.smt_dialogue.specs.declared.pairing.Pairing.{Pairing}
 use Rattle.smt_dialogue.specs.declared.session.Fed.{Fed}
 use Rattle.smt_dialogue.specs.declared.session.Session.{Session}
 use Rattle.smt_report.specs.declared.line.Side.{Side}
@@ -132,7 +132,7 @@ same_texts Script h script answers text told = refl
 same_texts Answers h script answers text told = refl
 
 -- the dialogue is under way with more of a text
-open_with : TextLaws → (side : Side) (x y : Exchange) (h : History) (told : Told) → y.dialogue ≡ x.dialogue
+open_with : TextLaws → (side : Side) (x y : Pairing) (h : History) (told : Told) → y.dialogue ≡ x.dialogue
     → ((texts : Texts) → bytes_at side texts ≡ (text_at side h).bytes
     → GoesOnWith side x y texts told.ended told.bytes)
     → IsOpen x h → IsOpen y (with_text side told h)
@@ -164,7 +164,7 @@ is_under_way s h none unset k =
 -- ---- more of a text, counted
 
 -- m is s with another text on this side, and its exchange goes on to y
-takes_more : TextLaws → (side : Side) (s m : Session) (y : Exchange) (h : History) (fed : Fed) (told : Told)
+takes_more : TextLaws → (side : Side) (s m : Session) (y : Pairing) (h : History) (fed : Fed) (told : Told)
     → m.failure ≡ None → false ≡ is_some m.verdict → m ≡ with_fed side fed s → AreTold m (with_text side told h)
     → (AreCounted s h → AreCounted m (with_text side told h)) → y.dialogue ≡ m.exchange.dialogue
     → ((texts : Texts) → bytes_at side texts ≡ (text_at side h).bytes
@@ -187,7 +187,7 @@ takes_more laws side s m y h fed told none unset is ends counts dialogue goes k 
     }
 
 -- and a piece of it
-pub piece_fed : TextLaws → (side : Side) (s m : Session) (y : Exchange) (h : History) (piece : List ℕ)
+pub piece_fed : TextLaws → (side : Side) (s m : Session) (y : Pairing) (h : History) (piece : List ℕ)
     (before after : ℕ) → m.failure ≡ None → false ≡ is_some m.verdict → is_ended side s ≡ false
     → m ≡ with_fed side (record (fed_at side s) { bytes = after }) s → AreTold m (with_piece side h piece)
     → before ≡ (fed_at side s).bytes → (before + length piece < 2 ^ 64) × (after ≡ before + length piece)
@@ -204,7 +204,7 @@ piece_fed laws side s m y h piece before after none unset open' is ends read sum
     (subst (λ bs. GoesOnWith side m.exchange y texts false (bs ++ piece)) same (goes texts))) k
 
 -- or its end
-pub end_fed : TextLaws → (side : Side) (s m : Session) (y : Exchange) (h : History) → m.failure ≡ None
+pub end_fed : TextLaws → (side : Side) (s m : Session) (y : Pairing) (h : History) → m.failure ≡ None
     → false ≡ is_some m.verdict → m ≡ with_fed side (record (fed_at side s) { ended = true }) s
     → AreTold m (with_end side h) → y.dialogue ≡ m.exchange.dialogue
     → ((texts : Texts) → GoesOnWith side m.exchange y texts true (bytes_at side texts))
@@ -217,33 +217,33 @@ end_fed laws side s m y h none unset is ends dialogue goes k =
 
 -- the reader of this side is open, and has read what was counted
 pub is_open_front : (side : Side) (s : Session) (h : History) → IsOpen s.exchange h → is_ended side s ≡ false
-    → StandsFor s h → is_finished (front_at side s.exchange).reader ≡ false
+    → StandsFor s h → is_finished (queue_at side s.exchange).reader ≡ false
 is_open_front Script s h o open' k =
     sym o.way.script_front.told ∙ o.read.script_read.told_so ∙ sym k.script_ended ∙ open'
 is_open_front Answers s h o open' k =
     sym o.way.answers_front.told ∙ o.read.answers_read.told_so ∙ sym k.answers_ended ∙ open'
 
 pub has_read : (side : Side) (s : Session) (h : History) → IsOpen s.exchange h → AreCounted s h
-    → bytes_fed (front_at side s.exchange).reader ≡ (fed_at side s).bytes
+    → bytes_fed (queue_at side s.exchange).reader ≡ (fed_at side s).bytes
 has_read Script s h o k = o.way.script_front.stands.0 ∙ sym k.script.bytes
 has_read Answers s h o k = o.way.answers_front.stands.0 ∙ sym k.answers.bytes
 
-pub kept_same : (x y : Exchange) → y ≡ x → IsBeginning (waiting x) (waiting y)
+pub kept_same : (x y : Pairing) → y ≡ x → IsBeginning (waiting x) (waiting y)
 kept_same x y same = ([], ap waiting same ∙ sym (append-nil (waiting x)))
 
 -- the reader of this side takes more, where m has the texts of s
 pub open_at : (side : Side) (s m : Session) (h : History) → m.exchange ≡ s.exchange → s.failure ≡ None
     → false ≡ is_some s.verdict → is_ended side s ≡ false → StandsFor s h
-    → is_finished (front_at side m.exchange).reader ≡ false
+    → is_finished (queue_at side m.exchange).reader ≡ false
 open_at side s m h same none unset open' k =
-    ap (λ x. is_finished (front_at side x).reader) same
+    ap (λ x. is_finished (queue_at side x).reader) same
     ∙ is_open_front side s h (is_under_way s h none unset k) open' k
 
 pub fed_so_far : (side : Side) (s m : Session) (h : History) → m.exchange ≡ s.exchange → s.failure ≡ None
     → false ≡ is_some s.verdict → StandsFor s h
-    → bytes_fed (front_at side m.exchange).reader ≡ (fed_at side s).bytes
+    → bytes_fed (queue_at side m.exchange).reader ≡ (fed_at side s).bytes
 fed_so_far side s m h same none unset k =
-    ap (λ x. bytes_fed (front_at side x).reader) same
+    ap (λ x. bytes_fed (queue_at side x).reader) same
     ∙ has_read side s h (is_under_way s h none unset k) (k.counted none)
 
 -- less is to come

@@ -3,7 +3,7 @@ use Rattle.std.proofs.Common.{◌≡◌, ℕ, Bool, true, false, List, [], ◌�
 use Rattle.std.proofs.Common.{sym, ◌∙◌, subst, arith, inl, inr, length-append}
 use Rattle.std.proofs.lemmas.List.{append-nil}
 use Rattle.smt_text.specs.Grammar.{limit}
-use Rattle.smt_dialogue.proofs.DialogueLemmas.{begins_trans}
+use Rattle.smt_dialogue.proofs.AcceptedLemmas.{begins_trans}
 use Rattle.smt_dialogue.proofs.ReadSoFarLemmas.{grown_text, some_so_far}
 use Rattle.smt_dialogue.proofs.SoFarLemmas.{ends_stay, lines_stay}
 use Rattle.smt_dialogue.specs.FirstFault.{Ends, TextSoFar}
@@ -13,10 +13,10 @@ use Rattle.smt_dialogue.specs.Report.{IsRead, IsTurn, lines_at_end, lines_of_end
 use Rattle.smt_dialogue.specs.Session.{AreCounted, AreLines, IsVerdictIn, StandsFor, is_answers_ended}
 use Rattle.smt_dialogue.specs.Session.{is_script_ended, lines_waiting}
 use Rattle.smt_dialogue.specs.SoFar.{AreGrown, AreLinesSoFar, IsBeginning, IsGrown}
-use Rattle.smt_dialogue.specs.Internal.ExchangeView.{waiting}
+use Rattle.smt_dialogue.specs.Internal.PairingView.{waiting}
 use Rattle.smt_dialogue.specs.Internal.SessionStep.{TextLaws}
 use Rattle.smt_dialogue.specs.Internal.SessionView.{AreRead, GoesOn, HasEnded}
-use Rattle.smt_dialogue.specs.declared.exchange.Exchange.{Exchange}
+use Rattle.smt_dialogue.specs.declared.pairing.Pairing.{Pairing}
 use Rattle.smt_dialogue.specs.declared.options.Options.{Options}
 use Rattle.smt_dialogue.specs.declared.session.Failed.{Failed}
 use Rattle.smt_dialogue.specs.declared.session.Failed.TheVariants.{Long}
@@ -136,7 +136,7 @@ ended_verdict verdict h ls e =
 
 -- ---- a call behind a failure, or behind the end
 
-goes_behind : TextLaws → (verdict : Option Verdict) (failure : Option Failed) (failed : Failed) (x : Exchange)
+goes_behind : TextLaws → (verdict : Option Verdict) (failure : Option Failed) (failed : Failed) (x : Pairing)
     (h g : History) → HasGrown h g → g.taken ≡ h.taken → GoesOn verdict failure x h → GoesOn verdict (Some failed) x g
 goes_behind laws None failure failed x h g s taken on = tt
 goes_behind laws (Some v) failure failed x h g s taken on =
@@ -150,7 +150,7 @@ pub record AreTold (t : Session) (g : History) : Type 0 where
 same_lines : (s t : Session) (h g : History) → t.exchange ≡ s.exchange → g.taken ≡ h.taken
     → g.taken ++ lines_waiting t ≡ h.taken ++ lines_waiting s
 same_lines s t h g exchange taken =
-    ap (λ ls. ls ++ lines_waiting t) taken ∙ ap (λ (x : Exchange). h.taken ++ waiting x) exchange
+    ap (λ ls. ls ++ lines_waiting t) taken ∙ ap (λ (x : Pairing). h.taken ++ waiting x) exchange
 
 same_verdict : (s t : Session) (h g : History) → t.verdict ≡ s.verdict → t.exchange ≡ s.exchange → g.taken ≡ h.taken
     → StandsFor s h → IsVerdictIn t.verdict (g.taken ++ lines_waiting t)

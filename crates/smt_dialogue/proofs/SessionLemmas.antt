@@ -15,11 +15,11 @@ use Rattle.smt_dialogue.specs.Report.{IsRead}
 use Rattle.smt_dialogue.specs.Session.{AreCounted, AreLines, IsVerdictIn, StandsFor, is_answers_ended}
 use Rattle.smt_dialogue.specs.Session.{is_script_ended, lines_waiting}
 use Rattle.smt_dialogue.specs.SoFar.{is_verdict_line}
-use Rattle.smt_dialogue.specs.Internal.DialogueState.{options_of}
-use Rattle.smt_dialogue.specs.Internal.ExchangeView.{IsUnderWay, Texts, waiting}
+use Rattle.smt_dialogue.specs.Internal.AcceptedState.{options_of}
+use Rattle.smt_dialogue.specs.Internal.PairingView.{IsUnderWay, Texts, waiting}
 use Rattle.smt_dialogue.specs.Internal.SessionStep.{IsGoingOn}
 use Rattle.smt_dialogue.specs.Internal.SessionView.{GoesOn, HasEnded, IsOpen, texts_of}
-use Rattle.smt_dialogue.specs.declared.exchange.Exchange.{Exchange}
+use Rattle.smt_dialogue.specs.declared.pairing.Pairing.{Pairing}
 use Rattle.smt_dialogue.specs.declared.options.Options.{Options}
 use Rattle.smt_dialogue.specs.declared.session.Failed.{Failed}
 use Rattle.smt_dialogue.specs.declared.session.Fed.{Fed}
@@ -109,12 +109,12 @@ new_stands one none s options no_verdict no_failure open' answers_open zero answ
 -- ---- lines are taken
 
 -- these lines were taken of x, which is y then
-pub record IsTakenOf (x y : Exchange) (ls : List Line) : Type 0 where
+pub record IsTakenOf (x y : Pairing) (ls : List Line) : Type 0 where
   pub start : options_of y.dialogue ≡ options_of x.dialogue
   pub way : (texts : Texts) (pairs : List Pair) (later rest : Sexps) → IsUnderWay x texts pairs later rest
       → IsUnderWay y (record texts { taken = texts.taken ++ ls }) pairs later rest
 
-taken_on : (x y : Exchange) (h : History) (ls : List Line) → IsTakenOf x y ls → IsOpen x h → IsOpen y (with_taken h ls)
+taken_on : (x y : Pairing) (h : History) (ls : List Line) → IsTakenOf x y ls → IsOpen x h → IsOpen y (with_taken h ls)
 taken_on x y h ls takes o = record {
   script = o.script;
   answers = o.answers;
@@ -139,7 +139,7 @@ ended_taken v h ls ms ns same e = record {
   verdict_is = e.verdict_is;
 }
 
-goes_taken : (v : Option Verdict) (f : Option Failed) (x y : Exchange) (h : History) (ls : List Line)
+goes_taken : (v : Option Verdict) (f : Option Failed) (x y : Pairing) (h : History) (ls : List Line)
     → (h.taken ++ waiting x) ≡ ((h.taken ++ ls) ++ waiting y) → IsTakenOf x y ls
     → GoesOn v f x h → GoesOn v f y (with_taken h ls)
 goes_taken (Some v) f x y h ls same takes on =

@@ -10,12 +10,12 @@ use Rattle.smt_dialogue.specs.History.{AreDecided, AreFirstDecided, History, Tol
 use Rattle.smt_dialogue.specs.Report.{ArePaired}
 use Rattle.smt_dialogue.specs.Session.{AreCounted, AreLines, IsCounted, IsVerdictIn, StandsFor, lines_waiting}
 use Rattle.smt_dialogue.specs.SoFar.{is_verdict_line}
-use Rattle.smt_dialogue.specs.Internal.ExchangeView.{HasAdvanced, HasRested, IsAdvance, IsCut, waiting}
+use Rattle.smt_dialogue.specs.Internal.PairingView.{HasAdvanced, HasRested, IsAdvance, IsCut, waiting}
 use Rattle.smt_dialogue.specs.Internal.SessionStep.{IsFed, IsFedBy, IsGoingOn}
 use Rattle.smt_dialogue.specs.Internal.SessionView.{AreRead, GoesOn, HasEnded, texts_of}
-use Rattle.smt_dialogue.specs.declared.exchange.Advance.{Advance}
-use Rattle.smt_dialogue.specs.declared.exchange.Advance.TheVariants.{Pauses, Rests}
-use Rattle.smt_dialogue.specs.declared.exchange.Exchange.{Exchange}
+use Rattle.smt_dialogue.specs.declared.pairing.Advance.{Advance}
+use Rattle.smt_dialogue.specs.declared.pairing.Advance.TheVariants.{Pauses, Rests}
+use Rattle.smt_dialogue.specs.declared.pairing.Pairing.{Pairing}
 use Rattle.smt_dialogue.specs.declared.options.Options.{Options}
 use Rattle.smt_dialogue.specs.declared.session.Failed.{Failed}
 use Rattle.smt_dialogue.specs.declared.session.Fed.{Fed}
@@ -26,7 +26,7 @@ use Rattle.smt_report.specs.declared.verdict.Verdict.{Verdict}
 
 -- ---- the turns come to rest
 
-rested_lines : (h : History) (script answers : TextSoFar) (x : Exchange) (ls : List Line) → AreRead h script answers
+rested_lines : (h : History) (script answers : TextSoFar) (x : Pairing) (ls : List Line) → AreRead h script answers
     → HasRested None h.options x (texts_of h script answers) → ls ≡ h.taken ++ waiting x
     → AreDecided h ls × (list_any is_verdict_line ls ≡ false)
 rested_lines h script answers x ls r o is = (

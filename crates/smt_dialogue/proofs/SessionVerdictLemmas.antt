@@ -16,7 +16,7 @@ use Rattle.smt_dialogue.specs.Report.{AreLinesOf, IsRead, IsReport, lines_of_end
 use Rattle.smt_dialogue.specs.Session.{AreLines, StandsFor, failure_of, lines_waiting}
 use Rattle.smt_dialogue.specs.SoFar.{is_verdict_line}
 use Rattle.smt_dialogue.specs.Validity.{IsInvalid, IsValid}
-use Rattle.smt_dialogue.specs.Internal.DecidedView.{IsFaultLine}
+use Rattle.smt_dialogue.specs.Internal.LineQueueView.{IsFaultLine}
 use Rattle.smt_dialogue.specs.Internal.SessionView.{GoesOn, HasEnded}
 use Rattle.smt_dialogue.specs.declared.options.Options.{Options}
 use Rattle.smt_dialogue.specs.declared.session.Session.{Session}

@@ -13,30 +13,30 @@ use Rattle.smt_dialogue.specs.FirstFault.{TextSoFar, is_over, turn_of_taken, wan
 use Rattle.smt_dialogue.specs.InForce.{print_success_after}
 use Rattle.smt_dialogue.specs.Pairs.{Pair, answers_taken, next_of, pair_of}
 use Rattle.smt_dialogue.specs.Internal.AnswerView.{tree_of}
-use Rattle.smt_dialogue.specs.Internal.Answering.{IsTaken, answering_view}
-use Rattle.smt_dialogue.specs.Internal.DialogueState.{Stands, State}
-use Rattle.smt_dialogue.specs.Internal.FrontView.{HasFront}
+use Rattle.smt_dialogue.specs.Internal.NextAnswerView.{IsTaken, answering_view}
+use Rattle.smt_dialogue.specs.Internal.AcceptedState.{Fits, State}
+use Rattle.smt_dialogue.specs.Internal.TreeQueueView.{HasQueue}
 use Rattle.smt_dialogue.specs.Internal.Turns.{IsDone, IsTakenUp, taken_for, turn_of_line}
 use Rattle.smt_dialogue.specs.declared.need.Need.{Need}
 use Rattle.smt_dialogue.specs.declared.answer.TakenAnswer.{TakenAnswer}
-use Rattle.smt_dialogue.specs.declared.answering.Answering.{Answering}
-use Rattle.smt_dialogue.specs.declared.answering.Answering.TheVariants as found
-use Rattle.smt_dialogue.specs.declared.front.Front.{Front}
+use Rattle.smt_dialogue.specs.declared.next_answer.NextAnswer.{NextAnswer}
+use Rattle.smt_dialogue.specs.declared.next_answer.NextAnswer.TheVariants as found
+use Rattle.smt_dialogue.specs.declared.tree_queue.TreeQueue.{TreeQueue}
 use Rattle.smt_dialogue.specs.declared.turn.Turn.{Turn}
 use Rattle.smt_dialogue.specs.declared.turn.Turn.TheVariants as turns
 use Rattle.smt_report.specs.declared.line.Line.{Line}
 use Rattle.smt_report.specs.declared.line.Line.TheVariants as lines
 
 -- what the command takes, by what it needs
-pub takes_so : (initial on : Bool) (pairs : List Pair) (c : Command) (need : Need) (a : Answering)
-    (text : TextSoFar) (rest : Sexps) (bytes : List ℕ) (front : Front)
+pub takes_so : (initial on : Bool) (pairs : List Pair) (c : Command) (need : Need) (a : NextAnswer)
+    (text : TextSoFar) (rest : Sexps) (bytes : List ℕ) (front : TreeQueue)
     → need ≡ need_of on c → on ≡ print_success_after initial pairs → IsTaken a need text rest bytes front
     → taken_for initial pairs c text rest ≡ answering_view a
 takes_so initial on pairs c need a text rest bytes front is same h =
     ap (λ n. taken (is_over text) n (next_of rest)) (ap (λ b. need_of b c) (sym same) ∙ sym is) ∙ sym h.taken_so
 
 by_line : (early initial : Bool) (pairs : List Pair) (c : Command) (o : Option TakenAnswer) (text : TextSoFar) (rest : Sexps)
-    (bytes : List ℕ) (front : Front) (need : Need) (new : State) (line : Option Line)
+    (bytes : List ℕ) (front : TreeQueue) (need : Need) (new : State) (line : Option Line)
     → IsTaken (found.Takes o) need text rest bytes front
     → taken_for initial pairs c text rest ≡ answers.Takes (option_map tree_of o)
     → IsDone line early pairs (pair_of c (option_map tree_of o)) new
@@ -54,16 +54,16 @@ by_line early initial pairs c o text rest bytes front need new (Some line) h tak
     (ap (turn_of_taken pairs c text.fault) takes ∙ accepted.0, accepted.1)
 
 pub taken_with : (r : Result Turn Memory) (initial on : Bool) (c : Command) (o : Option TakenAnswer) (need : Need)
-    (before after : Front) (old new : List Line → State) → need ≡ need_of on c
-    → ((taken' : List Line) (early : Bool) (pairs : List Pair) → Stands early (old taken') pairs
+    (before after : TreeQueue) (old new : List Line → State) → need ≡ need_of on c
+    → ((taken' : List Line) (early : Bool) (pairs : List Pair) → Fits early (old taken') pairs
     → on ≡ print_success_after initial pairs)
-    → ((bytes : List ℕ) (text : TextSoFar) (rest : Sexps) → HasFront before bytes text rest
+    → ((bytes : List ℕ) (text : TextSoFar) (rest : Sexps) → HasQueue before bytes text rest
     → IsTaken (found.Takes o) need text rest bytes after)
-    → IfOk r (λ turn. (taken' : List Line) (early : Bool) (pairs : List Pair) → Stands early (old taken') pairs
+    → IfOk r (λ turn. (taken' : List Line) (early : Bool) (pairs : List Pair) → Fits early (old taken') pairs
     → (early ≡ true → is_check c ≡ true) → (line : Option Line) × (turn ≡ turn_of_line line)
     × IsDone line early pairs (pair_of c (option_map tree_of o)) (new taken'))
     → IfOk r (λ turn. (bytes : List ℕ) (text : TextSoFar) (rest : Sexps) (taken' : List Line) (early : Bool)
-    (pairs : List Pair) → HasFront before bytes text rest → Stands early (old taken') pairs
+    (pairs : List Pair) → HasQueue before bytes text rest → Fits early (old taken') pairs
     → (early ≡ true → is_check c ≡ true)
     → IsTakenUp turn early initial pairs c text rest bytes after (new taken'))
 taken_with (Err e) initial on c o need before after old new is on_is takes h = tt
@@ -77,22 +77,22 @@ taken_with (Ok turn) initial on c o need before after old new is on_is takes h =
     up.2)
 
 pub taken_waits : (early initial on : Bool) (pairs : List Pair) (c : Command) (need : Need) (text : TextSoFar)
-    (rest : Sexps) (bytes : List ℕ) (front : Front) (new : State) (closed : Bool)
+    (rest : Sexps) (bytes : List ℕ) (front : TreeQueue) (new : State) (closed : Bool)
     → need ≡ need_of on c → on ≡ print_success_after initial pairs → closed ≡ is_check c
-    → IsTaken found.Waits need text rest bytes front → Stands early new pairs
+    → IsTaken found.Waits need text rest bytes front → Fits early new pairs
     → IsTakenUp (turns.Waits closed) early initial pairs c text rest bytes front new
 taken_waits early initial on pairs c need text rest bytes front new closed is same check h stands =
     let takes = takes_so initial on pairs c need found.Waits text rest bytes front is same h in (
       ap (turn_of_taken pairs c text.fault) takes ∙ ap first_fault.Waits (sym check),
-      subst (HasFront front bytes text) (sym h.left_is) h.front_is,
+      subst (HasQueue front bytes text) (sym h.left_is) h.front_is,
       stands,
     )
 
 pub taken_missing : (early initial on : Bool) (pairs : List Pair) (c : Command) (need : Need) (text : TextSoFar)
-    (rest : Sexps) (bytes : List ℕ) (front : Front) (new : State) (fault : Option TextFlaw) (n : ℕ) (line : Line)
+    (rest : Sexps) (bytes : List ℕ) (front : TreeQueue) (new : State) (fault : Option TextFlaw) (n : ℕ) (line : Line)
     → need ≡ need_of on c → on ≡ print_success_after initial pairs
     → n ≡ length pairs + 1 → line ≡ want_of_answer n fault
-    → IsTaken (found.Missing fault) need text rest bytes front → Stands early new pairs
+    → IsTaken (found.Missing fault) need text rest bytes front → Fits early new pairs
     → IsTakenUp (turns.Ends (Some line)) early initial pairs c text rest bytes front new
 taken_missing early initial on pairs c need text rest bytes front new fault n line is same count told h stands =
     let takes = takes_so initial on pairs c need (found.Missing fault) text rest bytes front is same h in (
@@ -104,10 +104,10 @@ taken_missing early initial on pairs c need text rest bytes front new fault n li
     )
 
 pub taken_unfit : (early initial on : Bool) (pairs : List Pair) (c : Command) (need : Need) (text : TextSoFar)
-    (rest : Sexps) (bytes : List ℕ) (front : Front) (new : State) (n m : ℕ)
+    (rest : Sexps) (bytes : List ℕ) (front : TreeQueue) (new : State) (n m : ℕ)
     → need ≡ need_of on c → on ≡ print_success_after initial pairs
     → n ≡ length pairs + 1 → m ≡ answers_taken pairs
-    → IsTaken found.Unexpected need text rest bytes front → Stands early new pairs
+    → IsTaken found.Unexpected need text rest bytes front → Fits early new pairs
     → IsTakenUp (turns.Ends (Some (lines.UnexpectedAnswer n (m + 1)))) early initial pairs c text rest bytes front new
 taken_unfit early initial on pairs c need text rest bytes front new n m is same count answered h stands =
     let takes = takes_so initial on pairs c need found.Unexpected text rest bytes front is same h in (

@@ -1,11 +1,11 @@
 pub mod AnswerView
 pub mod ChecksState
-pub mod DecidedView
-pub mod DialogueState
-pub mod FrontView
-pub mod Answering
+pub mod LineQueueView
+pub mod AcceptedState
+pub mod TreeQueueView
+pub mod NextAnswerView
 pub mod Turns
-pub mod ExchangeView
+pub mod PairingView
 pub mod SessionStep
 pub mod SessionView
 pub mod RunStep

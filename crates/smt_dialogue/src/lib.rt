@@ -6,26 +6,26 @@
 //! unsat` and that of the verdict, which is valid.
 #![tactic(auto)]
 
+mod accepted;
 mod answer;
-mod answering;
+mod checks;
 mod claims;
-mod decided;
-mod dialogue;
-mod exchange;
-mod front;
 mod judgement;
 pub mod laws;
-mod live;
+mod line_queue;
 mod need;
+mod next_answer;
 mod options;
 mod outlet;
+mod pairing;
+mod run;
 mod session;
+mod tree_queue;
 mod turn;
 mod validation;
-mod window;
 
-pub use live::{RunFault, run};
 pub use options::{Limit, Options};
+pub use run::{RunFault, run};
 pub use session::{Failed, Session};
 pub use smt_eval::Memory;
 pub use smt_report::{CheckAnswer, Claim, Line, Report, Side, Tally, Verdict};

@@ -14,8 +14,8 @@ ghost use Rattle.smt_dialogue.specs.Internal.SessionStep.{HasTurned, IsFed, IsGo
 ghost use Rattle.smt_dialogue.specs.Internal.SessionStep.{fed_at, left_of, turns_left, with_fed};
 ghost use Rattle.smt_dialogue.specs.declared.session.Failed.{Failed as Failure};
 
-use crate::exchange::{Advance, Exchange};
 use crate::options::Options;
+use crate::pairing::{Advance, Pairing};
 use smt_eval::Memory;
 use smt_eval::laws::{known_values_are_true, models_are_complete, models_give_structures};
 use smt_report::{Line, Side, Verdict};
@@ -50,7 +50,7 @@ fn text_laws()
 /// is decided, and none is taken back.
 #[derive(Drop)]
 pub struct Session {
-    exchange: Exchange,
+    exchange: Pairing,
     script: Fed,
     answers: Fed,
     verdict: Option<Verdict>,
@@ -81,7 +81,7 @@ impl Session {
             ended: false,
         };
         Session {
-            exchange: Exchange::new(alloc, options),
+            exchange: Pairing::new(alloc, options),
             script: nothing,
             answers: nothing,
             verdict: None,

@@ -12,16 +12,16 @@ ghost use Rattle.smt_dialogue.specs.FirstFault.{TextSoFar};
 ghost use Rattle.smt_dialogue.specs.Pairs.{Pair};
 ghost use Rattle.smt_dialogue.specs.SoFar.{IsBeginning};
 ghost use Rattle.smt_dialogue.specs.Internal.AnswerView.{AreKnown};
-ghost use Rattle.smt_dialogue.specs.Internal.DialogueState.{Stands, answered, options_of, state_behind};
-ghost use Rattle.smt_dialogue.specs.Internal.FrontView.{HasFront};
+ghost use Rattle.smt_dialogue.specs.Internal.AcceptedState.{Fits, answered, options_of, state_behind};
+ghost use Rattle.smt_dialogue.specs.Internal.TreeQueueView.{HasQueue};
 ghost use Rattle.smt_dialogue.specs.Internal.Turns.{IsDone, IsTakenUp, turn_of_line};
 ghost use Rattle.smt_report.specs.declared.line.Line.{Line as ReportLine};
 
+use crate::accepted::AcceptedPairs;
 use crate::answer::TakenAnswer;
-use crate::answering::{Answering, take_answer};
-use crate::dialogue::Dialogue;
-use crate::front::Front;
 use crate::need::need_of;
+use crate::next_answer::{NextAnswer, take_answer};
+use crate::tree_queue::TreeQueue;
 use smt_eval::Memory;
 use smt_faults::TextFlaw;
 use smt_report::{Line, Side};
@@ -40,23 +40,23 @@ pub enum Turn {
 
 /// Takes up a command with what it takes of the answers, or tells why not.
 pub(crate) fn take_up(
-    dialogue: &mut Dialogue,
+    dialogue: &mut AcceptedPairs,
     command: &Command,
-    answers: &mut Front,
+    answers: &mut TreeQueue,
 ) -> Result<Turn, Memory>
     requires commands { dialogue.old.commands + 1 < 2 ^ 64 }
     requires answers { dialogue.old.answers + 1 < 2 ^ 64 }
     requires checks { dialogue.old.checks.count + 1 < 2 ^ 64 }
     requires last { last_of dialogue.old.stack ≤ dialogue.old.commands }
     requires stands { (taken : List ReportLine) × (early : Bool) × (pairs : List Pair)
-        × Stands early (state_behind taken dialogue.old) pairs
+        × Fits early (state_behind taken dialogue.old) pairs
         × (early ≡ true → commands.is_check (command_view command.now) ≡ true) }
     requires front { (bytes : List ℕ) × (text : TextSoFar) × (rest : Sexps)
-        × HasFront answers.old bytes text rest }
+        × HasQueue answers.old bytes text rest }
     ensures turn { IfOk result (λ turn. (bytes : List ℕ) (text : TextSoFar) (rest : Sexps)
         (taken : List ReportLine) (early : Bool) (pairs : List Pair)
-        → HasFront answers.old bytes text rest
-        → Stands early (state_behind taken dialogue.old) pairs
+        → HasQueue answers.old bytes text rest
+        → Fits early (state_behind taken dialogue.old) pairs
         → (early ≡ true → commands.is_check (command_view command.now) ≡ true)
         → IsTakenUp turn early (initial_print_success_of dialogue.old.stack) pairs
         (command_view command.now)
@@ -74,12 +74,12 @@ pub(crate) fn take_up(
     let kind = command.kind();
     let need = need_of(dialogue.stack.print_success(), kind);
     match take_answer(need, answers)? {
-        Answering::Takes(mut answer) => take_up_with(dialogue, command, kind, &mut answer),
-        Answering::Waits => Ok(Turn::Waits {
+        NextAnswer::Takes(mut answer) => take_up_with(dialogue, command, kind, &mut answer),
+        NextAnswer::Waits => Ok(Turn::Waits {
             closed: is_check(kind),
         }),
-        Answering::Missing(fault) => Ok(Turn::Ends(Some(want_of_answer(number, fault)))),
-        Answering::Unexpected => Ok(Turn::Ends(Some(Line::UnexpectedAnswer {
+        NextAnswer::Missing(fault) => Ok(Turn::Ends(Some(want_of_answer(number, fault)))),
+        NextAnswer::Unexpected => Ok(Turn::Ends(Some(Line::UnexpectedAnswer {
             command: number,
             answer: dialogue.answers + 1,
         }))),
@@ -88,7 +88,7 @@ pub(crate) fn take_up(
 
 // Takes up a command with this answer, or tells the fault of its effect.
 fn take_up_with(
-    dialogue: &mut Dialogue,
+    dialogue: &mut AcceptedPairs,
     command: &Command,
     kind: Kind,
     answer: &mut Option<TakenAnswer>,
@@ -98,12 +98,12 @@ fn take_up_with(
     requires checks { dialogue.old.checks.count + 1 < 2 ^ 64 }
     requires last { last_of dialogue.old.stack ≤ dialogue.old.commands }
     requires stands { (taken : List ReportLine) × (early : Bool) × (pairs : List Pair)
-        × Stands early (state_behind taken dialogue.old) pairs
+        × Fits early (state_behind taken dialogue.old) pairs
         × (early ≡ true → commands.is_check (command_view command.now) ≡ true) }
     requires kind { kind ≡ commands.kind_of (command_view command.now) }
     requires known { AreKnown answer.old }
     ensures turn { IfOk result (λ turn. (taken : List ReportLine) (early : Bool) (pairs : List Pair)
-        → Stands early (state_behind taken dialogue.old) pairs
+        → Fits early (state_behind taken dialogue.old) pairs
         → (early ≡ true → commands.is_check (command_view command.now) ≡ true)
         → (line : Option ReportLine) × (turn ≡ turn_of_line line)
         × IsDone line early pairs (answered command.now answer.old)

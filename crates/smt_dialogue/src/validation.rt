@@ -8,9 +8,9 @@ ghost use Rattle.smt_dialogue.specs.Validity.{IsValid, IsInvalid};
 ghost use Rattle.smt_dialogue.specs.declared.options.Options.{Options as Given};
 ghost use Rattle.smt_report.specs.Verdict.{IsVerdictOf};
 
-use crate::live::{PIECE, RunFault, Streams, follow};
 use crate::options::Options;
 use crate::outlet::Kept;
+use crate::run::{PIECE, RunFault, Streams, follow};
 use crate::session::Session;
 use smt_eval::Memory;
 use smt_report::{Report, Verdict};

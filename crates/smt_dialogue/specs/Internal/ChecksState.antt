@@ -17,9 +17,9 @@ use Rattle.smt_report.specs.declared.line.CheckAnswer.{CheckAnswer}
 use Rattle.smt_report.specs.declared.line.Line.{Line}
 use Rattle.smt_report.specs.declared.line.Line.TheVariants as lines
 use Rattle.smt_dialogue.specs.declared.answer.Answer.{Answer}
-use Rattle.smt_dialogue.specs.declared.window.Checks.{Checks}
-use Rattle.smt_dialogue.specs.declared.window.NewLines.{NewLines}
-use Rattle.smt_dialogue.specs.declared.window.PendingCheck.{PendingCheck}
+use Rattle.smt_dialogue.specs.declared.checks.Checks.{Checks}
+use Rattle.smt_dialogue.specs.declared.checks.NewLines.{NewLines}
+use Rattle.smt_dialogue.specs.declared.checks.PendingCheck.{PendingCheck}
 
 -- how many steps a model may take, how many checks there were, and the one whose window has not ended
 pub record ChecksState : Type 0 where

@@ -6,9 +6,9 @@ use Rattle.smt_dialogue.specs.History.{History, Told}
 use Rattle.smt_dialogue.specs.Lines.{lines_in}
 use Rattle.smt_dialogue.specs.Pairs.{Pair}
 use Rattle.smt_dialogue.specs.Report.{IsRead, IsTurn, lines_at_end, lines_of_end}
-use Rattle.smt_dialogue.specs.Internal.DialogueState.{options_of}
-use Rattle.smt_dialogue.specs.Internal.ExchangeView.{IsUnderWay, Texts, waiting}
-use Rattle.smt_dialogue.specs.declared.exchange.Exchange.{Exchange}
+use Rattle.smt_dialogue.specs.Internal.AcceptedState.{options_of}
+use Rattle.smt_dialogue.specs.Internal.PairingView.{IsUnderWay, Texts, waiting}
+use Rattle.smt_dialogue.specs.declared.pairing.Pairing.{Pairing}
 use Rattle.smt_dialogue.specs.declared.session.Failed.{Failed}
 use Rattle.smt_report.specs.Verdict.{verdict_of}
 use Rattle.smt_report.specs.declared.line.Line.{Line}
@@ -33,7 +33,7 @@ texts_of h script answers = record {
 }
 
 -- the dialogue is under way
-pub record IsOpen (exchange : Exchange) (h : History) : Type 0 where
+pub record IsOpen (exchange : Pairing) (h : History) : Type 0 where
   pub script : TextSoFar
   pub answers : TextSoFar
   pub read : AreRead h script answers
@@ -55,7 +55,7 @@ pub record HasEnded (verdict : Verdict) (h : History) (ls : List Line) : Type 0 
   pub verdict_is : verdict ≡ verdict_of (lines_in h.options.limit.steps true [] pairs [] ++ lines_of_end fault)
 
 -- it has ended, or is under way; or a call has failed before, and it goes no further
-abbrev pub GoesOn : Option Verdict → Option Failed → Exchange → History → Type 0
+abbrev pub GoesOn : Option Verdict → Option Failed → Pairing → History → Type 0
 GoesOn (Some verdict) failure exchange h = HasEnded verdict h (h.taken ++ waiting exchange)
 GoesOn None None exchange h = IsOpen exchange h
 GoesOn None (Some failed) exchange h = Unit {0}

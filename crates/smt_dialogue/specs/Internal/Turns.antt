@@ -7,9 +7,9 @@ use Rattle.smt_dialogue.specs.FirstFault as first_fault
 use Rattle.smt_dialogue.specs.FirstFault.{TextSoFar, is_over, turn_of_flaw, turn_of_taken}
 use Rattle.smt_dialogue.specs.InForce.{flaw_of_pair, need_after}
 use Rattle.smt_dialogue.specs.Pairs.{Pair, next_of, pair_of, with_answer}
-use Rattle.smt_dialogue.specs.Internal.DialogueState.{Stands, State, StandsFor}
-use Rattle.smt_dialogue.specs.Internal.FrontView.{HasFront}
-use Rattle.smt_dialogue.specs.declared.front.Front.{Front}
+use Rattle.smt_dialogue.specs.Internal.AcceptedState.{Fits, State, StandsFor}
+use Rattle.smt_dialogue.specs.Internal.TreeQueueView.{HasQueue}
+use Rattle.smt_dialogue.specs.declared.tree_queue.TreeQueue.{TreeQueue}
 use Rattle.smt_dialogue.specs.declared.turn.Turn.{Turn}
 use Rattle.smt_dialogue.specs.declared.turn.Turn.TheVariants as turns
 use Rattle.smt_report.specs.declared.line.Line.{Line}
@@ -32,10 +32,10 @@ taken_for initial pairs command text rest =
 
 -- the command was taken up with an answer, or with none, and the others are left
 pub record GoesOn (initial : Bool) (pairs : List Pair) (command : Command) (text : TextSoFar) (rest : Sexps)
-    (bytes : List ℕ) (front : Front) (new : State) : Type 0 where
+    (bytes : List ℕ) (front : TreeQueue) (new : State) : Type 0 where
   pub answer : Option Sexp
   pub left : Sexps
-  pub front_is : HasFront front bytes text left
+  pub front_is : HasQueue front bytes text left
   pub next : rest ≡ with_answer answer left
   pub taken_so : taken_for initial pairs command text rest ≡ Takes answer
   pub faultless : flaw_of_pair pairs (pair_of command answer) ≡ None
@@ -43,20 +43,20 @@ pub record GoesOn (initial : Bool) (pairs : List Pair) (command : Command) (text
 
 -- the turn of the command behind pairs: it was taken up; or it waits, and nothing is taken; or the dialogue
 -- ends with it. `early` says that windows were ended before
-abbrev pub IsTakenUp : Turn → (early initial : Bool) → List Pair → Command → TextSoFar → Sexps → List ℕ → Front
+abbrev pub IsTakenUp : Turn → (early initial : Bool) → List Pair → Command → TextSoFar → Sexps → List ℕ → TreeQueue
     → State → Type 0
 IsTakenUp turns.GoesOn early initial pairs command text rest bytes front new =
     GoesOn initial pairs command text rest bytes front new
 IsTakenUp (turns.Waits closed) early initial pairs command text rest bytes front new =
     (turn_of_taken pairs command text.fault (taken_for initial pairs command text rest)
-    ≡ first_fault.Waits closed) × HasFront front bytes text rest × Stands early new pairs
+    ≡ first_fault.Waits closed) × HasQueue front bytes text rest × Fits early new pairs
 IsTakenUp (turns.Ends fault) early initial pairs command text rest bytes front new =
     (turn_of_taken pairs command text.fault (taken_for initial pairs command text rest)
-    ≡ first_fault.Ends fault) × Stands early new pairs
+    ≡ first_fault.Ends fault) × Fits early new pairs
 
 -- the pair was accepted, or its command has a fault, with this line
 abbrev pub IsDone : Option Line → Bool → List Pair → Pair → State → Type 0
 IsDone None early pairs pair new = (flaw_of_pair pairs pair ≡ None) × StandsFor new (pairs ++ pair ∷ [])
 IsDone (Some line) early pairs pair new =
     (turn_of_flaw (length pairs + 1) (flaw_of_pair pairs pair) ≡ first_fault.Ends (Some line))
-    × Stands early new pairs
+    × Fits early new pairs

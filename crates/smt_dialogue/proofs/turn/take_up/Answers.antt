@@ -4,10 +4,10 @@ use Rattle.smt_script.specs.CommandView.{command_view}
 use Rattle.smt_script.specs.StackView.{initial_print_success_of}
 use Rattle.smt_dialogue.proofs.TurnLemmas.{taken_missing, taken_unfit, taken_waits, taken_with}
 use Rattle.smt_dialogue.specs.Answers.{need_of_kind}
-use Rattle.smt_dialogue.specs.Internal.Answering.{IsKnown, IsTaken}
-use Rattle.smt_dialogue.specs.Internal.DialogueState.{state_behind}
+use Rattle.smt_dialogue.specs.Internal.NextAnswerView.{IsKnown, IsTaken}
+use Rattle.smt_dialogue.specs.Internal.AcceptedState.{state_behind}
 use Rattle.smt_dialogue.specs.Pairs.{effective_commands}
-use Rattle.smt_dialogue.specs.declared.answering.Answering.{Answering}
+use Rattle.smt_dialogue.specs.declared.next_answer.NextAnswer.{NextAnswer}
 use Rattle.smt_dialogue.proofs.turn.take_up.Goals as goal
 
 pub take_up_with-requires-clause-known : goal.take_up_with-requires-clause-known
@@ -22,7 +22,7 @@ returns-in-Takes-clause-turn c =
     (c.need_of-need.ensures ∙ ap (need_of_kind c.print_success.result) c.kind-kind.ensures)
     (λ taken early pairs stands. c.print_success.ensures (effective_commands pairs) stands.stack)
     (λ bytes text rest h.
-    subst (λ (a : Answering). IsTaken a c.need_of-need.result text rest bytes c.take_answer.new.answers) c.in-Takes.is
+    subst (λ (a : NextAnswer). IsTaken a c.need_of-need.result text rest bytes c.take_answer.new.answers) c.in-Takes.is
     (c.in_ok-answer.ensures.taken bytes text rest h))
     c.take_up_with.ensures.turn
 
@@ -34,7 +34,7 @@ returns-in-Waits-clause-turn c = λ bytes text rest taken early pairs h stands c
     (state_behind taken dialogue) c.is_check.result
     (c.need_of-need.ensures ∙ ap (need_of_kind c.print_success.result) c.kind-kind.ensures)
     (c.print_success.ensures (effective_commands pairs) stands.stack) (c.is_check.ensures ∙ ap asks_check c.kind-kind.ensures)
-    (subst (λ (a : Answering). IsTaken a c.need_of-need.result text rest bytes c.take_answer.new.answers) c.in-Waits.is
+    (subst (λ (a : NextAnswer). IsTaken a c.need_of-need.result text rest bytes c.take_answer.new.answers) c.in-Waits.is
     (c.in_ok-answer.ensures.taken bytes text rest h)) stands
 
 pub returns-in-Missing-clause-turn : goal.returns-in-Missing-clause-turn
@@ -46,7 +46,7 @@ returns-in-Missing-clause-turn c = λ bytes text rest taken early pairs h stands
     (c.need_of-need.ensures ∙ ap (need_of_kind c.print_success.result) c.kind-kind.ensures)
     (c.print_success.ensures (effective_commands pairs) stands.stack)
     (c.next_number-number.ensures ∙ ap (λ n. n + 1) stands.commands) c.want_of_answer.ensures
-    (subst (λ (a : Answering). IsTaken a c.need_of-need.result text rest bytes c.take_answer.new.answers)
+    (subst (λ (a : NextAnswer). IsTaken a c.need_of-need.result text rest bytes c.take_answer.new.answers)
     c.in-Missing.is (c.in_ok-answer.ensures.taken bytes text rest h)) stands
 
 pub returns-in-Unexpected-clause-turn : goal.returns-in-Unexpected-clause-turn
@@ -58,5 +58,5 @@ returns-in-Unexpected-clause-turn c = λ bytes text rest taken early pairs h sta
     (c.need_of-need.ensures ∙ ap (need_of_kind c.print_success.result) c.kind-kind.ensures)
     (c.print_success.ensures (effective_commands pairs) stands.stack)
     (c.next_number-number.ensures ∙ ap (λ n. n + 1) stands.commands) stands.answers
-    (subst (λ (a : Answering). IsTaken a c.need_of-need.result text rest bytes c.take_answer.new.answers)
+    (subst (λ (a : NextAnswer). IsTaken a c.need_of-need.result text rest bytes c.take_answer.new.answers)
     c.in-Unexpected.is (c.in_ok-answer.ensures.taken bytes text rest h)) stands

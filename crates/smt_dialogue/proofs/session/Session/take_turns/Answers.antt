@@ -1,6 +1,6 @@
 use Rattle.std.proofs.Common.{refl, subst}
 use Rattle.smt_dialogue.proofs.SessionTurnLemmas.{cut_stands, open_fed, pause_less, paused_going, rests_stands}
-use Rattle.smt_dialogue.specs.Internal.ExchangeView.{HasAdvanced, IsCut}
+use Rattle.smt_dialogue.specs.Internal.PairingView.{HasAdvanced, IsCut}
 use Rattle.smt_dialogue.specs.Internal.SessionView.{texts_of}
 use Rattle.smt_dialogue.proofs.session.Session.take_turns.Goals as goal
 

@@ -1,8 +1,0 @@
-use Rattle.smt_dialogue.proofs.AdvanceLemmas.{few_told}
-use Rattle.smt_dialogue.proofs.exchange.trees_are_few.Goals as goal
-
-pub returns : goal.returns
-returns c = record {
-  few = few_told c.every_text_reads.ensures.some c.read_trees_stay.ensures.stay
-      c.trees_are_no_more_than_bytes.ensures.few;
-}

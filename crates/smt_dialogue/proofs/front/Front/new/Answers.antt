@@ -1,6 +1,0 @@
-use Rattle.std.proofs.Common.{refl}
-use Rattle.smt_dialogue.proofs.FrontLemmas.{front_new}
-use Rattle.smt_dialogue.proofs.front.Front.new.Goals as goal
-
-pub returns-clause-front : goal.returns-clause-front
-returns-clause-front c = λ text read. front_new _ text refl c.new.ensures.stands c.new.ensures.finished read

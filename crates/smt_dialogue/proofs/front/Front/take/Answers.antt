@@ -1,7 +1,0 @@
-use Rattle.std.proofs.Common.{refl}
-use Rattle.smt_dialogue.proofs.FrontLemmas.{take_matches}
-use Rattle.smt_dialogue.proofs.front.Front.take.Goals as goal
-
-pub returns-clause-taken : goal.returns-clause-taken
-returns-clause-taken c =
-    take_matches c.args.self.now _ c.take.result refl c.take.ensures.value c.take.ensures.after

@@ -1,0 +1,99 @@
+//! Lines that are decided, in their order: those that were not handed out are kept, and all are counted. This
+//! file knows no dialogue.
+
+ghost use Rattle.std.specs.Prelude.{◌≡◌, ◌<◌, ◌+◌, ◌^◌, ◌++◌, List, [], false, length, IfOk, OnOk, OnErr};
+ghost use Rattle.std.specs.List.{list_any};
+ghost use Rattle.smt_dialogue.specs.Report.{lines_of_end};
+ghost use Rattle.smt_dialogue.specs.SoFar.{IsBeginning};
+ghost use Rattle.smt_dialogue.specs.Internal.ChecksState.{new_lines};
+ghost use Rattle.smt_dialogue.specs.Internal.LineQueueView.{IsFaultLine, IsPartOf};
+ghost use Rattle.smt_report.specs.Verdict.{is_fault_line, tally_of, verdict_of, with_verdict};
+ghost use Rattle.smt_report.specs.declared.line.Line.{Line as ReportLine};
+
+use crate::checks::NewLines;
+use smt_eval::Memory;
+use smt_report::{Line, Tally, Verdict};
+use std::alloc::Global;
+use std::mem;
+
+/// Lines that are decided and were not handed out, and how many of each kind were decided in all.
+#[derive(Drop)]
+pub struct LineQueue {
+    alloc: Global,
+    pub lines: Vec<Line>,
+    pub tally: Tally,
+}
+
+impl LineQueue {
+    /// No line.
+    pub(crate) fn new(alloc: Global) -> Self
+        ensures lines { result.lines.items ≡ [] }
+        ensures tally { result.tally ≡ tally_of [] }
+    {
+        LineQueue {
+            alloc,
+            lines: Vec::new(alloc),
+            tally: Tally::new(),
+        }
+    }
+
+    /// Adds the lines that a command decided. Where memory is refused, nothing is changed.
+    pub(crate) fn add(&mut self, new: NewLines) -> Result<(), Memory>
+        ensures lines { OnOk result (self.new.lines.items ≡ self.old.lines.items ++ new_lines new) }
+        ensures tally { OnOk result ((earlier : List ReportLine) → self.old.tally ≡ tally_of earlier
+            → length earlier + length (new_lines new) < 2 ^ 64
+            → self.new.tally ≡ tally_of (earlier ++ new_lines new)) }
+        ensures kept { OnErr result (self.new.lines.items ≡ self.old.lines.items) }
+    {
+        match (new.ended, new.own) {
+            (None, None) => Ok(()),
+            (Some(line), None) | (None, Some(line)) => self.add_all(&[line]),
+            (Some(ended), Some(own)) => self.add_all(&[ended, own]),
+        }
+    }
+
+    // Adds lines, behind those that there are.
+    fn add_all(&mut self, lines: &[Line]) -> Result<(), Memory>
+        ensures lines { OnOk result (self.new.lines.items ≡ self.old.lines.items ++ lines.now) }
+        ensures tally { OnOk result ((earlier : List ReportLine) → self.old.tally ≡ tally_of earlier
+            → length earlier + length lines.now < 2 ^ 64
+            → self.new.tally ≡ tally_of (earlier ++ lines.now)) }
+        ensures kept { OnErr result (self.new.lines.items ≡ self.old.lines.items) }
+    {
+        let tally = self.tally.with_lines(lines);
+        self.lines.extend_from_slice(lines)?;
+        self.tally = tally;
+        Ok(())
+    }
+
+    /// Ends with the line of a fault or without one, and that of the verdict.
+    pub(crate) fn end(&mut self, fault: Option<Line>) -> Result<Verdict, Memory>
+        requires { IsFaultLine fault }
+        ensures ended { IfOk result (λ verdict. (earlier : List ReportLine)
+            → self.old.tally ≡ tally_of (earlier ++ self.old.lines.items)
+            → list_any is_fault_line (earlier ++ self.old.lines.items) ≡ false
+            → let all = (earlier ++ self.old.lines.items) ++ lines_of_end fault in
+            (earlier ++ self.new.lines.items ≡ with_verdict all) × (verdict ≡ verdict_of all)) }
+        ensures kept { OnErr result
+            (IsPartOf self.old.lines.items (lines_of_end fault) self.new.lines.items) }
+        ensures more { IsBeginning self.old.lines.items self.new.lines.items }
+    {
+        // (the line of a fault is none of those that are counted)
+        let tally = self.tally;
+        let verdict = tally.verdict(fault.is_some());
+        if let Some(line) = fault {
+            self.lines.push(line)?;
+        }
+        self.lines.push(Line::Verdict { verdict, tally })?;
+        Ok(verdict)
+    }
+
+    /// Hands the lines out.
+    pub(crate) fn take(&mut self) -> Vec<Line>
+        ensures taken { result.items ≡ self.old.lines.items }
+        ensures rest { self.new.lines.items ≡ [] }
+        ensures tally { self.new.tally ≡ self.old.tally }
+    {
+        mem::replace(&mut self.lines, Vec::new(self.alloc))
+    }
+}

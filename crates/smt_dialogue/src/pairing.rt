@@ -1,0 +1,325 @@
+//! The exchange of commands and answers, as far as both texts have come. What a command does is not known here.
+
+ghost use Rattle.std.specs.Prelude.{◌≡◌, ◌<◌, ◌≤◌, ◌+◌, ◌^◌, ◌++◌, Bool, List, [], ℕ, Option, IfOk, OnErr, None};
+ghost use Rattle.std.specs.Prelude.{is_some, false, length, true};
+ghost use Rattle.smt_text.specs.Grammar.{limit};
+ghost use Rattle.smt_text.specs.Reading.{Reads};
+ghost use Rattle.smt_text.specs.Reader.{bytes_fed, is_finished};
+ghost use Rattle.smt_trees.specs.Sexp.{Nil, Sexps, count};
+ghost use Rattle.smt_dialogue.specs.FirstFault.{TextSoFar};
+ghost use Rattle.smt_dialogue.specs.Pairs.{Pair};
+ghost use Rattle.smt_dialogue.specs.Report.{IsRead};
+ghost use Rattle.smt_dialogue.specs.SoFar.{IsBeginning};
+ghost use Rattle.smt_dialogue.specs.Internal.AcceptedState.{options_of};
+ghost use Rattle.smt_dialogue.specs.Internal.PairingView.{GoesOnWith, HasAdvanced, IsAdvance, IsCut, IsNext};
+ghost use Rattle.smt_dialogue.specs.Internal.PairingView.{IsTurned, IsUnderWay, Texts, bytes_at, queue_at, waiting};
+ghost use Rattle.smt_faults.specs.declared.text_flaw.TextFlaw.{TextFlaw};
+
+use crate::accepted::AcceptedPairs;
+use crate::options::Options;
+use crate::tree_queue::{Ahead, TreeQueue};
+use crate::turn::{Turn, refused, take_up};
+use smt_eval::Memory;
+use smt_report::{Line, Side, Verdict};
+use smt_script::{Command, CommandFlaw, read_command};
+use smt_text::laws::{every_text_reads, read_trees_stay, trees_are_no_more_than_bytes};
+use std::alloc::Global;
+
+// A law: of a text no more trees are read than it has bytes, whether its end was told or not.
+fn trees_are_few()
+    ensures few { (told : Bool) (bytes : List ℕ) (trees : Sexps) (fault : Option TextFlaw)
+        → Reads limit told bytes trees fault → count trees ≤ length bytes }
+{
+    every_text_reads();
+    read_trees_stay();
+    trees_are_no_more_than_bytes();
+}
+
+/// How far turns were taken.
+#[derive(Clone, Copy)]
+pub enum Advance {
+    /// More may be left: lines are decided that are worth handing out before.
+    Pauses,
+    /// As far as both texts have come, or to the end of the dialogue, with this verdict.
+    Rests(Option<Verdict>),
+}
+
+/// Both texts so far, and the dialogue of what was taken up of them.
+#[derive(Drop)]
+pub struct Pairing {
+    pub dialogue: AcceptedPairs,
+    pub script: TreeQueue,
+    pub answers: TreeQueue,
+    /// The command in turn, where it was read and waits for its answer.
+    pub command: Option<Command>,
+}
+
+impl Pairing {
+    /// Of texts of which nothing has come.
+    pub(crate) fn new(alloc: Global, options: Options) -> Self
+        ensures way { (script answers : TextSoFar) → IsRead false [] script
+            → IsRead false [] answers
+            → IsUnderWay result (record {
+              script_bytes = [];
+              script = script;
+              answers_bytes = [];
+              answers = answers;
+              taken = [];
+            }) [] script.trees answers.trees }
+        ensures waiting { waiting result ≡ [] }
+        ensures start { options_of result.dialogue ≡ options }
+        ensures script_fed { bytes_fed result.script.reader ≡ 0 }
+        ensures answers_fed { bytes_fed result.answers.reader ≡ 0 }
+        ensures script_open { is_finished result.script.reader ≡ false }
+        ensures answers_open { is_finished result.answers.reader ≡ false }
+    {
+        Pairing {
+            dialogue: AcceptedPairs::new(alloc, options),
+            script: TreeQueue::new(alloc),
+            answers: TreeQueue::new(alloc),
+            command: None,
+        }
+    }
+
+    /// Returns the lines that are decided.
+    pub(crate) fn take_lines(&mut self) -> Vec<Line>
+        ensures lines { result.items ≡ waiting self.old }
+        ensures rest { waiting self.new ≡ [] }
+        ensures way { (texts : Texts) (pairs : List Pair) (later rest : Sexps)
+            → IsUnderWay self.old texts pairs later rest
+            → IsUnderWay self.new (record texts { taken = texts.taken ++ result.items }) pairs later
+            rest }
+        ensures start { options_of self.new.dialogue ≡ options_of self.old.dialogue }
+        ensures script { self.new.script ≡ self.old.script }
+        ensures answers { self.new.answers ≡ self.old.answers }
+        ensures command { self.new.command ≡ self.old.command }
+        ensures commands { self.new.dialogue.commands ≡ self.old.dialogue.commands }
+    {
+        self.dialogue.decided.take()
+    }
+
+    /// Takes turns until more of a text is waited for, or the dialogue ends; but no further than to a check whose
+    /// models may come next, where so many lines wait by then. Where memory is refused, the lines that wait are
+    /// the first of those that are decided.
+    pub(crate) fn advance(&mut self, enough: Option<usize>) -> Result<Advance, Memory>
+        requires script_room { bytes_fed self.old.script.reader < 2 ^ 64 }
+        requires answers_room { bytes_fed self.old.answers.reader < 2 ^ 64 }
+        requires way { (texts : Texts) × (pairs : List Pair) × (later : Sexps) × (rest : Sexps)
+            × IsUnderWay self.old texts pairs later rest }
+        ensures advanced { IfOk result (λ advance. (texts : Texts) (pairs : List Pair)
+            (later rest : Sexps)
+            → IsUnderWay self.old texts pairs later rest
+            → HasAdvanced advance (options_of self.old.dialogue) self.new texts) }
+        ensures paused { IfOk result (λ advance.
+            IsAdvance advance enough self.old.dialogue.commands self.new.dialogue.commands) }
+        ensures cut { OnErr result ((texts : Texts) (pairs : List Pair) (later rest : Sexps)
+            → IsUnderWay self.old texts pairs later rest
+            → IsCut (options_of self.old.dialogue) (waiting self.new) texts) }
+        ensures kept { IsBeginning (waiting self.old) (waiting self.new) }
+    {
+        // A law: there are no more pairs than bytes, so that the turns come to an end.
+        trees_are_few();
+        loop {
+            match self.take_turn()? {
+                Turn::GoesOn => {
+                    if self.dialogue.has_enough(enough) {
+                        return Ok(Advance::Pauses);
+                    }
+                }
+                Turn::Waits { closed } => {
+                    self.dialogue.settle(closed)?;
+                    return Ok(Advance::Rests(None));
+                }
+                Turn::Ends(fault) => {
+                    let verdict = self.dialogue.end(fault)?;
+                    return Ok(Advance::Rests(Some(verdict)));
+                }
+            }
+        }
+    }
+
+    /// Feeds a piece of a text.
+    pub(crate) fn feed(&mut self, side: Side, piece: &[u8])
+        requires open { is_finished (queue_at side self.old).reader ≡ false }
+        requires room { bytes_fed (queue_at side self.old).reader + length piece.now < 2 ^ 64 }
+        ensures way { (texts : Texts)
+            → GoesOnWith side self.old self.new texts false (bytes_at side texts ++ piece.now) }
+        ensures dialogue { self.new.dialogue ≡ self.old.dialogue }
+    {
+        match side {
+            Side::Script => self.script.feed(piece),
+            Side::Answers => self.answers.feed(piece),
+        }
+    }
+
+    /// Tells the end of a text.
+    pub(crate) fn finish(&mut self, side: Side)
+        requires open { is_finished (queue_at side self.old).reader ≡ false }
+        ensures way { (texts : Texts) → GoesOnWith side self.old self.new texts true
+            (bytes_at side texts) }
+        ensures dialogue { self.new.dialogue ≡ self.old.dialogue }
+    {
+        match side {
+            Side::Script => self.script.finish(),
+            Side::Answers => self.answers.finish(),
+        }
+    }
+
+    /// One turn: the next command is taken up with what it takes of the answers, or it is told why not.
+    pub(crate) fn take_turn(&mut self) -> Result<Turn, Memory>
+        requires script_room { bytes_fed self.old.script.reader < 2 ^ 64 }
+        requires answers_room { bytes_fed self.old.answers.reader < 2 ^ 64 }
+        requires way { (texts : Texts) × (pairs : List Pair) × (later : Sexps) × (rest : Sexps)
+            × IsUnderWay self.old texts pairs later rest }
+        ensures turn { IfOk result (λ turn. (texts : Texts) (pairs : List Pair) (later rest : Sexps)
+            → IsUnderWay self.old texts pairs later rest
+            → IsTurned turn self.old self.new texts pairs later rest) }
+        ensures script_fed { bytes_fed self.new.script.reader ≡ bytes_fed self.old.script.reader }
+        ensures answers_fed { bytes_fed self.new.answers.reader
+            ≡ bytes_fed self.old.answers.reader }
+        ensures start { IfOk result (λ _. options_of self.new.dialogue
+            ≡ options_of self.old.dialogue) }
+        ensures kept { IsBeginning (waiting self.old) (waiting self.new) }
+        ensures cut { OnErr result (waiting self.new ≡ waiting self.old) }
+    {
+        match self.ready_command()? {
+            Some(turn) => Ok(turn),
+            None => self.take_up_command(),
+        }
+    }
+
+    // Has a command in turn, or tells what comes in its place.
+    fn ready_command(&mut self) -> Result<Option<Turn>, Memory>
+        requires script_room { bytes_fed self.old.script.reader < 2 ^ 64 }
+        requires answers_room { bytes_fed self.old.answers.reader < 2 ^ 64 }
+        requires way { (texts : Texts) × (pairs : List Pair) × (later : Sexps) × (rest : Sexps)
+            × IsUnderWay self.old texts pairs later rest }
+        ensures dialogue { self.new.dialogue ≡ self.old.dialogue }
+        ensures script_fed { bytes_fed self.new.script.reader ≡ bytes_fed self.old.script.reader }
+        ensures answers_fed { bytes_fed self.new.answers.reader
+            ≡ bytes_fed self.old.answers.reader }
+        ensures next { IfOk result (λ turn. (texts : Texts) (pairs : List Pair) (later rest : Sexps)
+            → IsUnderWay self.old texts pairs later rest
+            → IsNext turn self.old self.new texts pairs later rest) }
+    {
+        if self.command.is_some() {
+            return Ok(None);
+        }
+        self.next_command()
+    }
+
+    // Reads the next command of the script, or tells what comes in its place.
+    fn next_command(&mut self) -> Result<Option<Turn>, Memory>
+        requires none { self.old.command ≡ None }
+        requires script_room { bytes_fed self.old.script.reader < 2 ^ 64 }
+        requires answers_room { bytes_fed self.old.answers.reader < 2 ^ 64 }
+        requires way { (texts : Texts) × (pairs : List Pair) × (later : Sexps) × (rest : Sexps)
+            × IsUnderWay self.old texts pairs later rest }
+        ensures dialogue { self.new.dialogue ≡ self.old.dialogue }
+        ensures script_fed { bytes_fed self.new.script.reader ≡ bytes_fed self.old.script.reader }
+        ensures answers_fed { bytes_fed self.new.answers.reader
+            ≡ bytes_fed self.old.answers.reader }
+        ensures next { IfOk result (λ turn. (texts : Texts) (pairs : List Pair) (later rest : Sexps)
+            → IsUnderWay self.old texts pairs later rest
+            → IsNext turn self.old self.new texts pairs later rest) }
+    {
+        trees_are_few();
+        match self.script.look()? {
+            Ahead::Tree => Ok(self.read_next()),
+            Ahead::Wait => Ok(Some(Turn::Waits { closed: false })),
+            Ahead::End(Some(flaw)) => Ok(Some(Turn::Ends(Some(Line::TextFault {
+                side: Side::Script,
+                flaw,
+            })))),
+            Ahead::End(None) => Ok(Some(self.end_of_script()?)),
+        }
+    }
+
+    // Behind the last command of a script that has ended: what comes of the answers.
+    fn end_of_script(&mut self) -> Result<Turn, Memory>
+        requires none { self.old.command ≡ None }
+        requires answers_room { bytes_fed self.old.answers.reader < 2 ^ 64 }
+        requires way { (texts : Texts) × (pairs : List Pair) × (later : Sexps) × (rest : Sexps)
+            × IsUnderWay self.old texts pairs later rest }
+        ensures dialogue { self.new.dialogue ≡ self.old.dialogue }
+        ensures script_fed { bytes_fed self.new.script.reader ≡ bytes_fed self.old.script.reader }
+        ensures answers_fed { bytes_fed self.new.answers.reader
+            ≡ bytes_fed self.old.answers.reader }
+        ensures turn { IfOk result (λ turn. (texts : Texts) (pairs : List Pair) (later rest : Sexps)
+            → IsUnderWay self.old texts pairs later rest
+            → later ≡ Nil → texts.script.fault ≡ None → texts.script.told ≡ true
+            → IsTurned turn self.old self.new texts pairs later rest) }
+    {
+        // A law: no more answers were taken than the answers have bytes.
+        trees_are_few();
+        match self.answers.look()? {
+            Ahead::Tree => Ok(Turn::Ends(Some(Line::ExtraAnswer {
+                answer: self.dialogue.answers + 1,
+            }))),
+            Ahead::Wait => Ok(Turn::Waits { closed: true }),
+            Ahead::End(Some(flaw)) => Ok(Turn::Ends(Some(Line::TextFault {
+                side: Side::Answers,
+                flaw,
+            }))),
+            Ahead::End(None) => Ok(Turn::Ends(None)),
+        }
+    }
+
+    // Reads the tree that stands ready as the command in turn.
+    fn read_next(&mut self) -> Option<Turn>
+        requires none { self.old.command ≡ None }
+        requires ready { is_some self.old.script.next ≡ true }
+        requires commands { self.old.dialogue.commands + 1 < 2 ^ 64 }
+        ensures dialogue { self.new.dialogue ≡ self.old.dialogue }
+        ensures script_fed { bytes_fed self.new.script.reader ≡ bytes_fed self.old.script.reader }
+        ensures answers_fed { bytes_fed self.new.answers.reader
+            ≡ bytes_fed self.old.answers.reader }
+        ensures next { (texts : Texts) (pairs : List Pair) (later rest : Sexps)
+            → IsUnderWay self.old texts pairs later rest
+            → IsNext result self.old self.new texts pairs later rest }
+    {
+        let number = self.dialogue.next_number();
+        if self.dialogue.stack.exited() {
+            return Some(Turn::Ends(Some(refused(number, CommandFlaw::AfterExit))));
+        }
+        let Some(tree) = self.script.take() else {
+            unreachable!()
+        };
+        match read_command(tree) {
+            Ok(command) => {
+                self.command = Some(command);
+                None
+            }
+            Err(flaw) => Some(Turn::Ends(Some(refused(number, flaw)))),
+        }
+    }
+
+    // Takes up the command in turn.
+    fn take_up_command(&mut self) -> Result<Turn, Memory>
+        requires some { is_some self.old.command ≡ true }
+        requires script_room { bytes_fed self.old.script.reader < 2 ^ 64 }
+        requires answers_room { bytes_fed self.old.answers.reader < 2 ^ 64 }
+        requires way { (texts : Texts) × (pairs : List Pair) × (later : Sexps) × (rest : Sexps)
+            × IsUnderWay self.old texts pairs later rest }
+        ensures turn { IfOk result (λ turn. (texts : Texts) (pairs : List Pair) (later rest : Sexps)
+            → IsUnderWay self.old texts pairs later rest
+            → IsTurned turn self.old self.new texts pairs later rest) }
+        ensures script_fed { bytes_fed self.new.script.reader ≡ bytes_fed self.old.script.reader }
+        ensures answers_fed { bytes_fed self.new.answers.reader
+            ≡ bytes_fed self.old.answers.reader }
+        ensures start { IfOk result (λ _. options_of self.new.dialogue
+            ≡ options_of self.old.dialogue) }
+        ensures kept { IsBeginning (waiting self.old) (waiting self.new) }
+        ensures cut { OnErr result (waiting self.new ≡ waiting self.old) }
+    {
+        trees_are_few();
+        let Some(command) = &self.command else {
+            unreachable!()
+        };
+        let turn = take_up(&mut self.dialogue, command, &mut self.answers)?;
+        if let Turn::GoesOn = turn {
+            self.command = None;
+        }
+        Ok(turn)
+    }
+}

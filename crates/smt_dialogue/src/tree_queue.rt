@@ -1,0 +1,117 @@
+//! Texts whose trees are taken as their pieces come. This file knows no commands.
+
+ghost use Rattle.std.specs.Prelude.{◌≡◌, ◌<◌, ◌+◌, ◌++◌, ◌^◌, List, [], ℕ, IfOk, MatchOption, None, Some, false};
+ghost use Rattle.std.specs.Prelude.{length, true};
+ghost use Rattle.smt_text.specs.Reader.{bytes_fed, is_finished};
+ghost use Rattle.smt_trees.specs.Sexp.{Cons, Sexps};
+ghost use Rattle.smt_trees.specs.Tree.{sexp_of};
+ghost use Rattle.smt_dialogue.specs.FirstFault.{TextSoFar};
+ghost use Rattle.smt_dialogue.specs.Report.{IsRead};
+ghost use Rattle.smt_dialogue.specs.Internal.TreeQueueView.{GoesOnFrom, HasQueue, IsAhead};
+
+use smt_eval::Memory;
+use smt_faults::TextFlaw;
+use smt_text::laws::{one_reading, read_faults_stay, read_trees_stay};
+use smt_text::{Next, Reader};
+use smt_trees::Tree;
+use std::alloc::Global;
+
+/// A text so far: what is read of its pieces, and the next tree, once it was looked at.
+#[derive(Drop)]
+pub struct TreeQueue {
+    pub reader: Reader,
+    pub next: Option<Tree>,
+}
+
+/// What comes next of a text so far.
+#[derive(Clone, Copy)]
+pub enum Ahead {
+    /// A tree, which stands ready.
+    Tree,
+    /// No tree is complete, and more of the text may come.
+    Wait,
+    /// No tree comes: the fault behind the last, if there is one.
+    End(Option<TextFlaw>),
+}
+
+impl TreeQueue {
+    /// A text of which nothing has come.
+    pub(crate) fn new(alloc: Global) -> Self
+        ensures front { (text : TextSoFar) → IsRead false [] text
+            → HasQueue result [] text text.trees }
+        ensures fed { bytes_fed result.reader ≡ 0 }
+        ensures open { is_finished result.reader ≡ false }
+    {
+        TreeQueue {
+            reader: Reader::new(alloc),
+            next: None,
+        }
+    }
+
+    /// Feeds a piece of the text.
+    pub(crate) fn feed(&mut self, piece: &[u8])
+        requires open { is_finished self.old.reader ≡ false }
+        requires room { bytes_fed self.old.reader + length piece.now < 2 ^ 64 }
+        ensures goes_on { (bytes : List ℕ)
+            → GoesOnFrom self.old self.new bytes false (bytes ++ piece.now) }
+        ensures next { self.new.next ≡ self.old.next }
+    {
+        // Laws: what is read of a text is one answer, and trees and faults that are read stay.
+        one_reading();
+        read_faults_stay();
+        read_trees_stay();
+        self.reader.feed(piece);
+    }
+
+    /// Tells the end of the text.
+    pub(crate) fn finish(&mut self)
+        requires open { is_finished self.old.reader ≡ false }
+        ensures goes_on { (bytes : List ℕ) → GoesOnFrom self.old self.new bytes true bytes }
+        ensures next { self.new.next ≡ self.old.next }
+    {
+        one_reading();
+        read_faults_stay();
+        read_trees_stay();
+        self.reader.finish();
+    }
+
+    /// What comes next, which is not taken.
+    pub(crate) fn look(&mut self) -> Result<Ahead, Memory>
+        ensures ahead { IfOk result (λ ahead. (bytes : List ℕ) (text : TextSoFar) (rest : Sexps)
+            → HasQueue self.old bytes text rest
+            → HasQueue self.new bytes text rest × IsAhead ahead self.new.next text rest) }
+        ensures fed { bytes_fed self.new.reader ≡ bytes_fed self.old.reader }
+        ensures finished { is_finished self.new.reader ≡ is_finished self.old.reader }
+    {
+        // A law: what is read of a text is one answer.
+        one_reading();
+        if self.next.is_some() {
+            return Ok(Ahead::Tree);
+        }
+        match self.reader.next() {
+            Next::Tree(tree) => {
+                self.next = Some(tree);
+                Ok(Ahead::Tree)
+            }
+            Next::Wait => Ok(Ahead::Wait),
+            Next::End => Ok(Ahead::End(None)),
+            Next::Fault(fault) => match fault.flaw() {
+                Some(flaw) => Ok(Ahead::End(Some(flaw))),
+                None => Err(Memory),
+            },
+        }
+    }
+
+    /// Takes the tree that stands ready.
+    pub(crate) fn take(&mut self) -> Option<Tree>
+        ensures taken { MatchOption result (self.old.next ≡ None)
+            (λ tree. (self.old.next ≡ Some tree)
+            × ((bytes : List ℕ) (text : TextSoFar) (later : Sexps)
+            → HasQueue self.old bytes text (Cons (sexp_of tree) later)
+            → HasQueue self.new bytes text later)) }
+        ensures fed { bytes_fed self.new.reader ≡ bytes_fed self.old.reader }
+        ensures finished { is_finished self.new.reader ≡ is_finished self.old.reader }
+    {
+        self.next.take()
+    }
+}
