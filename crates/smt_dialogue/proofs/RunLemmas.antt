@@ -21,8 +21,8 @@ use Rattle.smt_dialogue.specs.Internal.RunStep.{AreAtEnd, HasSettled, HasStepped
 use Rattle.smt_dialogue.specs.Internal.RunStep.{IsOutputFailure, IsPutFault, IsPutRun, IsRunning, IsRunningBy, IsSound}
 use Rattle.smt_dialogue.specs.Internal.RunStep.{fault_at, history, with_tap}
 use Rattle.smt_dialogue.specs.Internal.SessionStep.{IsFed, IsGoingOn, IsLeftOpen}
-use Rattle.smt_dialogue.specs.declared.run.RunFault.{RunFault}
-use Rattle.smt_dialogue.specs.declared.run.RunFault.TheVariants as faults
+use Rattle.smt_dialogue.specs.declared.runs.RunFault.{RunFault}
+use Rattle.smt_dialogue.specs.declared.runs.RunFault.TheVariants as faults
 use Rattle.smt_dialogue.specs.declared.options.Options.{Options}
 use Rattle.smt_dialogue.specs.declared.session.Failed.{Failed}
 use Rattle.smt_dialogue.specs.declared.session.Session.{Session}

@@ -4,8 +4,8 @@ use Rattle.std.specs.Io.KnownBytes.{Appends, Consumes, IsAtEnd}
 use Rattle.smt_dialogue.specs.Report.{IsReport}
 use Rattle.smt_dialogue.specs.SoFar.{IsSoFar}
 use Rattle.smt_dialogue.specs.Validity.{IsInvalid, IsValid}
-use Rattle.smt_dialogue.specs.declared.run.RunFault.{RunFault}
-use Rattle.smt_dialogue.specs.declared.run.RunFault.TheVariants as faults
+use Rattle.smt_dialogue.specs.declared.runs.RunFault.{RunFault}
+use Rattle.smt_dialogue.specs.declared.runs.RunFault.TheVariants as faults
 use Rattle.smt_dialogue.specs.declared.options.Options.{Options}
 use Rattle.smt_report.specs.LineText.{text_of}
 use Rattle.smt_report.specs.Verdict.{IsVerdictOf}

@@ -18,14 +18,14 @@ mod next_answer;
 mod options;
 mod outlet;
 mod pairing;
-mod run;
+mod runs;
 mod session;
 mod tree_queue;
 mod turn;
 mod validation;
 
 pub use options::{Limit, Options};
-pub use run::{RunFault, run};
+pub use runs::{RunFault, run};
 pub use session::{Failed, Session};
 pub use smt_eval::Memory;
 pub use smt_report::{CheckAnswer, Claim, Line, Report, Side, Tally, Verdict};

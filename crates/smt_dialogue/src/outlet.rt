@@ -14,7 +14,7 @@ ghost use Rattle.smt_dialogue.specs.Internal.SessionStep.{IsFed, IsGoingOn, Same
 ghost use Rattle.smt_dialogue.specs.declared.options.Options.{Options as Given};
 ghost use Rattle.smt_dialogue.specs.declared.session.Session.{Session as State};
 
-use crate::run::RunFault;
+use crate::runs::RunFault;
 use crate::session::{Failed, Session};
 use smt_eval::Memory;
 use smt_report::Line;

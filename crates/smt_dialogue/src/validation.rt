@@ -10,7 +10,7 @@ ghost use Rattle.smt_report.specs.Verdict.{IsVerdictOf};
 
 use crate::options::Options;
 use crate::outlet::Kept;
-use crate::run::{PIECE, RunFault, Streams, follow};
+use crate::runs::{PIECE, RunFault, Streams, follow};
 use crate::session::Session;
 use smt_eval::Memory;
 use smt_report::{Report, Verdict};

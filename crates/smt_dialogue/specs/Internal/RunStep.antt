@@ -5,8 +5,8 @@ use Rattle.smt_dialogue.specs.History.{History, of_side}
 use Rattle.smt_dialogue.specs.Run.{ArePulled, Devices, HasStopped, Tap, text_of_lines}
 use Rattle.smt_dialogue.specs.Session.{StandsFor, failure_of}
 use Rattle.smt_dialogue.specs.Internal.SessionStep.{IsFed, IsLeftOpen}
-use Rattle.smt_dialogue.specs.declared.run.RunFault.{RunFault}
-use Rattle.smt_dialogue.specs.declared.run.RunFault.TheVariants as faults
+use Rattle.smt_dialogue.specs.declared.runs.RunFault.{RunFault}
+use Rattle.smt_dialogue.specs.declared.runs.RunFault.TheVariants as faults
 use Rattle.smt_dialogue.specs.declared.options.Options.{Options}
 use Rattle.smt_dialogue.specs.declared.session.Failed.{Failed}
 use Rattle.smt_dialogue.specs.declared.session.Failed.TheVariants.{Long, Memory}

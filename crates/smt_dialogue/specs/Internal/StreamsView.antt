@@ -4,8 +4,8 @@ use Rattle.smt_streams.specs.declared.source.Source.{Ghosts as SourceGhosts}
 use Rattle.smt_dialogue.specs.Run.{Devices, IsBlamed, Tap, devices, tap}
 use Rattle.smt_dialogue.specs.Session.{is_answers_ended, is_script_ended}
 use Rattle.smt_dialogue.specs.Internal.RunStep.{IsSound}
-use Rattle.smt_dialogue.specs.declared.run.RunFault.{RunFault}
-use Rattle.smt_dialogue.specs.declared.run.Streams.{Streams}
+use Rattle.smt_dialogue.specs.declared.runs.RunFault.{RunFault}
+use Rattle.smt_dialogue.specs.declared.runs.Streams.{Streams}
 use Rattle.smt_dialogue.specs.declared.outlet.Outlet.{Ghosts as OutletGhosts}
 use Rattle.smt_dialogue.specs.declared.session.Session.{Session}
 

@@ -6,7 +6,7 @@ use Rattle.smt_dialogue.specs.Session.{failure_of, is_ended}
 use Rattle.smt_dialogue.specs.Internal.RunStep.{IsCutOff, with_tap}
 use Rattle.smt_dialogue.specs.Internal.SessionStep.{IsFed, left_of}
 use Rattle.smt_dialogue.specs.Internal.StreamsView.{tap_of}
-use Rattle.smt_dialogue.proofs.run.step_text.Goals as goal
+use Rattle.smt_dialogue.proofs.runs.step_text.Goals as goal
 
 pub settle-requires-clause-fed : goal.settle-requires-clause-fed
 settle-requires-clause-fed g c = (_, c.take_next.ensures.fed c.requires.stands.0 c.requires.stands.1)

@@ -3,7 +3,7 @@ use Rattle.smt_dialogue.proofs.RunLemmas.{running_new}
 use Rattle.smt_dialogue.specs.Internal.SessionStep.{IsWanted}
 use Rattle.smt_dialogue.specs.Internal.StreamsView.{devices_of}
 use Rattle.smt_report.specs.declared.line.Side.{Side}
-use Rattle.smt_dialogue.proofs.run.follow.Goals as goal
+use Rattle.smt_dialogue.proofs.runs.follow.Goals as goal
 
 pub loop-side-init : goal.loop-side-init
 loop-side-init g c =

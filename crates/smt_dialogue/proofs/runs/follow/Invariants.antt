@@ -5,7 +5,7 @@ use Rattle.smt_dialogue.specs.Internal.RunStep.{IsAtRest, IsRunning}
 use Rattle.smt_dialogue.specs.Internal.SessionStep.{left_of}
 use Rattle.smt_dialogue.specs.Internal.StreamsView.{AreSound, SameReferences, devices_of}
 use Rattle.smt_dialogue.specs.declared.options.Options.{Options}
-use Rattle.smt_dialogue.proofs.run.follow.Given as goal
+use Rattle.smt_dialogue.proofs.runs.follow.Given as goal
 
 abbrev pub invariant-loop-side : goal.invariant-loop-side
 invariant-loop-side g l = record {

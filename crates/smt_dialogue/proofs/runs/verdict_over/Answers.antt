@@ -1,6 +1,6 @@
 use Rattle.std.proofs.Common.{Some, ap}
 use Rattle.smt_dialogue.proofs.RunLemmas.{has_run, stopped_at, told_verdict}
-use Rattle.smt_dialogue.proofs.run.verdict_over.Goals as goal
+use Rattle.smt_dialogue.proofs.runs.verdict_over.Goals as goal
 
 pub unreachable-requires : goal.unreachable-requires
 unreachable-requires g c =

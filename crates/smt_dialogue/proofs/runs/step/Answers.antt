@@ -1,7 +1,7 @@
 use Rattle.smt_dialogue.proofs.RunLemmas.{map_both, map_err, sound_kept}
 use Rattle.smt_dialogue.specs.Session.{is_answers_ended, is_script_ended}
 use Rattle.smt_dialogue.specs.Internal.StreamsView.{devices_of, tap_of}
-use Rattle.smt_dialogue.proofs.run.step.Goals as goal
+use Rattle.smt_dialogue.proofs.runs.step.Goals as goal
 
 pub returns-in-Script-clause-stepped : goal.returns-in-Script-clause-stepped
 returns-in-Script-clause-stepped g c = λ options before r.
