@@ -203,9 +203,6 @@ class Explanations(unittest.TestCase):
         self.assertEqual([each.spot for each in fault.details], [smtcheck.Spot("script", 2, 2), smtcheck.Spot("script", 1, 1)])
         (fault,) = smtcheck.explain("(assert (f q))", "", print_success=False).told
         self.assertEqual((fault.details[1].kind, fault.details[1].text), ("unknown", "q"))
-        (fault,) = smtcheck.explain("(assert (= 1 true))", "", print_success=False).told
-        self.assertEqual((fault.details[1].kind, fault.details[1].text), ("ill sorted", "(= 1 true)"))
-        self.assertEqual(fault.details[2].text, "argument 2, true, is of sort Bool, and Int is needed")
         check, fault = smtcheck.explain("(check-sat)(frob)", "unsat", print_success=False).told
         self.assertEqual((check.details[0].kind, check.details[0].text), ("answer", "unsat"))
 

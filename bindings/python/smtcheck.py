@@ -581,7 +581,7 @@ _SPOT = r"(script|answers):(\d+):(\d+)"
 _TOLD = re.compile(rf"(?:check (\d+)|fault): {_SPOT}(?:, command (\d+))?(?:: (.*))?")
 _PART = re.compile(rf"  (true|false|open|value): (?!the (?:outermost )?list at )(.*?)(?:   at {_SPOT}, in (.*))?")
 _DETAIL = re.compile(rf"  ([a-z][a-z ]*?(?:,? \d+)?)(?:: the [a-z ]+)?(?:: | at ){_SPOT}(?:, command (\d+))?(?:: (.*))?")
-_NAMED = re.compile(r"  (unknown|bound twice|claim|also false|too long|no model|ill sorted|parameters declared): (.*)")
+_NAMED = re.compile(r"  (unknown|bound twice|claim|also false|too long|no model): (.*)")
 _ITEM = re.compile(rf"(.*) at {_SPOT}")
 _TOKEN = re.compile(r'\|[^|]*\||"[^"]*"|[()]|[^\s()|",]+|\s')
 

@@ -1,4 +1,3 @@
 pub mod Internal
 pub mod Places
 pub mod Values
-pub mod Sorts

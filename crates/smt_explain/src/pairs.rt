@@ -184,58 +184,45 @@ fn option_of(text: &[u8]) -> Head {
 /// The atom of a list that stands behind so many others, if no list stands before it: its bytes, without bars.
 pub(crate) fn word(text: &[u8], place: usize) -> &[u8] {
     let mut skipped = 0usize;
-    let mut within = Within::Gap;
+    let mut begun: Option<usize> = None;
+    let mut barred = false;
+    let mut comment = false;
     for (index, byte) in text.iter().enumerate() {
-        match within {
-            Within::Word(from) | Within::Bars(from) if ends(within, *byte) => {
-                if skipped == place {
-                    return part(text, from, index);
+        match begun {
+            Some(from) => {
+                let ends = if barred {
+                    *byte == b'|'
+                } else {
+                    !is_word(*byte)
+                };
+                if ends {
+                    if skipped == place {
+                        return part(text, from, index);
+                    }
+                    skipped = skipped.saturating_add(1);
+                    begun = None;
+                    comment = !barred && *byte == b';';
+                    barred = false;
                 }
-                skipped = skipped.saturating_add(1);
             }
-            Within::Gap if *byte == b'(' && index > 0 => return &[],
-            _ => {}
+            None => {
+                if comment {
+                    comment = *byte != b'\n' && *byte != b'\r';
+                } else if *byte == b';' {
+                    comment = true;
+                } else if *byte == b'|' {
+                    barred = true;
+                    begun = Some(index.saturating_add(1));
+                } else if is_word(*byte) {
+                    begun = Some(index);
+                } else if *byte == b'(' && index > 0 {
+                    return &[];
+                }
+            }
         }
-        within = after(within, index, *byte);
     }
-    match within {
-        Within::Word(from) | Within::Bars(from) if skipped == place => part(text, from, text.len()),
+    match begun {
+        Some(from) if skipped == place => part(text, from, text.len()),
         _ => &[],
-    }
-}
-
-/// What a byte of a list stands within.
-#[derive(Clone, Copy)]
-enum Within {
-    Gap,
-    Comment,
-    /// An atom that begins at this byte.
-    Word(usize),
-    /// An atom between bars, the first byte of which is this.
-    Bars(usize),
-}
-
-// Whether an atom ends before this byte.
-fn ends(within: Within, byte: u8) -> bool {
-    match within {
-        Within::Word(_) => !is_word(byte),
-        Within::Bars(_) => byte == b'|',
-        _ => false,
-    }
-}
-
-// What the next byte stands within.
-fn after(within: Within, index: usize, byte: u8) -> Within {
-    match within {
-        Within::Gap => match byte {
-            b';' => Within::Comment,
-            b'|' => Within::Bars(index.saturating_add(1)),
-            _ if is_word(byte) => Within::Word(index),
-            _ => Within::Gap,
-        },
-        Within::Comment if matches!(byte, b'\n' | b'\r') => Within::Gap,
-        Within::Word(_) if byte == b';' => Within::Comment,
-        Within::Word(_) | Within::Bars(_) if ends(within, byte) => Within::Gap,
-        _ => within,
     }
 }
